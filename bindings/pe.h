@@ -179,6 +179,7 @@ enum pe_c_result {
     PE_C_EDIT_NO_HEADER_ROOM = 471, /* headers have no room for another section header */
     PE_C_EDIT_IMAGE_TOO_LARGE = 472, /* image with the resources ends after 4 GB */
     PE_C_EDIT_DEBUG_DATA = 473,     /* debug entries or their data lie where the resources go */
+    PE_C_EDIT_CONTENTS = 474,       /* contents of the resources, which share bytes, are too large for their array */
     PE_C_SIGNATURE_TRUNCATED = 501, /* element of a signature truncated before its content */
     PE_C_SIGNATURE_TAG_NUMBER = 502, /* element of a signature has a tag number above 30 */
     PE_C_SIGNATURE_INDEFINITE_LENGTH = 503, /* element of a signature has an indefinite length */
@@ -190,6 +191,8 @@ enum pe_c_result {
     PE_C_SIGNATURE_TRAILING = 509,  /* bytes follow the last field of an element of a signature */
     PE_C_SIGNATURE_CONTENT_TYPE = 510, /* content of a signature has another type */
     PE_C_SIGNATURE_BAD_TIME = 511,  /* time of a signature is not in the form of RFC 5280 */
+    PE_C_SIGNATURE_END_OF_CONTENTS = 512, /* element of a signature is an end of contents, which DER does not have */
+    PE_C_SIGNATURE_EMPTY_CONTENT = 513, /* element of a signature has no content, which its type does not allow */
     PE_C_DUMP_SIGNATURE = 551,      /* invalid signature of a minidump */
     PE_C_DUMP_VERSION = 552,        /* invalid version of a minidump */
     PE_C_DUMP_DIRECTORY = 553,      /* directory of the streams ends past the end of the file */
@@ -311,6 +314,7 @@ static inline const char *pe_c_message(uint32_t number)
     case PE_C_EDIT_NO_HEADER_ROOM: return "headers have no room for another section header";
     case PE_C_EDIT_IMAGE_TOO_LARGE: return "image with the resources ends after 4 GB";
     case PE_C_EDIT_DEBUG_DATA: return "debug entries or their data lie where the resources go";
+    case PE_C_EDIT_CONTENTS: return "contents of the resources, which share bytes, are too large for their array";
     case PE_C_SIGNATURE_TRUNCATED: return "element of a signature truncated before its content";
     case PE_C_SIGNATURE_TAG_NUMBER: return "element of a signature has a tag number above 30";
     case PE_C_SIGNATURE_INDEFINITE_LENGTH: return "element of a signature has an indefinite length";
@@ -322,6 +326,8 @@ static inline const char *pe_c_message(uint32_t number)
     case PE_C_SIGNATURE_TRAILING: return "bytes follow the last field of an element of a signature";
     case PE_C_SIGNATURE_CONTENT_TYPE: return "content of a signature has another type";
     case PE_C_SIGNATURE_BAD_TIME: return "time of a signature is not in the form of RFC 5280";
+    case PE_C_SIGNATURE_END_OF_CONTENTS: return "element of a signature is an end of contents, which DER does not have";
+    case PE_C_SIGNATURE_EMPTY_CONTENT: return "element of a signature has no content, which its type does not allow";
     case PE_C_DUMP_SIGNATURE: return "invalid signature of a minidump";
     case PE_C_DUMP_VERSION: return "invalid version of a minidump";
     case PE_C_DUMP_DIRECTORY: return "directory of the streams ends past the end of the file";
@@ -1122,10 +1128,10 @@ uint32_t pe_c_next_certificate(const uint8_t *bytes, size_t length, pe_c_range *
  * and length, which another call reads. It is {0, 0} where the field is absent. Offsets count from the start of `bytes`.
  *
  * Errors of all these calls: PE_C_SHORT where `range` or `walk` is not inside the bytes; of each element that is read
- * PE_C_SIGNATURE_TRUNCATED, _TAG_NUMBER, _INDEFINITE_LENGTH, _LENGTH_OCTETS, _TRUNCATED, _LENGTH_FORM, _PAST_PARENT; of a
- * field _MISSING before these, and _TAG after them; _TRAILING where bytes follow the last field. `failure` then has where
- * and what; else it is unchanged. Elements that a call returns whole are not read any further: an error there is that of
- * another call.
+ * PE_C_SIGNATURE_TRUNCATED, _TAG_NUMBER, _END_OF_CONTENTS, _INDEFINITE_LENGTH, _LENGTH_OCTETS, _TRUNCATED, _LENGTH_FORM,
+ * _PAST_PARENT, _EMPTY_CONTENT; of a field _MISSING before these, and _TAG after them; _TRAILING where bytes follow the
+ * last field. `failure` then has where and what; else it is unchanged. Elements that a call returns whole are not read any
+ * further: an error there is that of another call.
  *
  * A signature costs what its bytes cost: a call reads the head of each field once, and walks go through one list. A caller
  * that goes into nested signatures bounds how deep. */
@@ -1186,6 +1192,8 @@ enum {
     PE_C_OID_ECDSA_SHA512 = 217,                /* 1.2.840.10045.4.3.4 */
     PE_C_OID_DSA = 218,                         /* 1.2.840.10040.4.1: a key */
     PE_C_OID_DSA_SHA1 = 219,                    /* 1.2.840.10040.4.3 */
+    PE_C_OID_SHA1_RSA_OIW = 220,                /* 1.3.14.3.2.29: the older identifier of SHA1_RSA, sha1WithRSA of the OIW */
+    PE_C_OID_MD2_RSA = 221,                     /* 1.2.840.113549.1.1.2: PKCS #1 v1.5 */
     /* attributes of names */
     PE_C_OID_COMMON_NAME = 301,                 /* 2.5.4.3: CN */
     PE_C_OID_SERIAL_NUMBER = 302,               /* 2.5.4.5 */
@@ -1346,7 +1354,8 @@ typedef struct {
     uint32_t day;                   /* 1 to 31; that a month has fewer days is not tested */
     uint32_t hour;
     uint32_t minute;
-    uint32_t second;                /* 0 to 59; a fraction is left out */
+    uint32_t second;                /* 0 to 59; a fraction is left out. A time stamp may have one; that a certificate and a
+                                       signing time have none (RFC 5280, RFC 5652) is not tested */
 } pe_c_utc_time;
 
 /* What a time-stamp token says, TSTInfo. */
@@ -1706,7 +1715,7 @@ typedef struct {
 typedef struct {
     pe_c_view image;
     pe_c_range table;               /* of pe_c_function_table, on ARM64 pe_c_arm64_table; all 0 where that returned
-                                       PE_C_NOTHING: leaf functions alone */
+                                       PE_C_NOTHING: no records describe its functions */
     uint64_t base;                  /* address where it is loaded */
 } pe_c_module;
 
@@ -1724,12 +1733,17 @@ enum {
 /* Why a walk is over. */
 enum {
     PE_C_END_BOUND = 0,             /* as many frames were returned as the caller wants */
-    PE_C_END_BOTTOM = 1,            /* the stack is whole: its last frame returns to 0, and no frame is found there */
+    PE_C_END_BOTTOM = 1,            /* the stack is whole: by records its last frame returns to 0, no frame is found there,
+                                       and no frame is a guess */
     PE_C_END_NO_MODULE = 2,         /* no module has the last instruction pointer, and no return address is found */
-    PE_C_END_NO_FUNCTION = 3,       /* no function covers the call in the last frame */
+    PE_C_END_NO_FUNCTION = 3,       /* no function covers the call in the last frame, and no return address is found */
     PE_C_END_RECORDS = 4,           /* an unwind record of the last function cannot be read: `error` says why */
     PE_C_END_LONG_CHAIN = 5,        /* more than 32 of them are chained */
-    PE_C_END_STEP = 6               /* the step from the last frame is refused: `error` and `address` as in pe_c_step */
+    PE_C_END_STEP = 6,              /* the step from the last frame is refused: `error` and `address` as in pe_c_step */
+    PE_C_END_ZERO = 7,              /* the last frame returns to 0, but it is a guess, or no records describe its code:
+                                       frames may be missing or wrong */
+    PE_C_END_NO_RETURN_ADDRESS = 8  /* no records describe the code of the last frame, and where it would return to is no
+                                       executable code */
 };
 
 /* A walk of a stack, and the frame that was returned last. For a walk from the start set the registers to those of the
@@ -1747,10 +1761,13 @@ typedef struct {
     uint32_t is_searched;           /* 1 where a call found that the pieces of memory lie in it, ascend and do not overlap:
                                        later calls test only those that they read. 0 before the first call, and where the
                                        caller wants them tested again */
+    uint32_t is_guess;              /* 1 where the frame may be wrong: nothing proves that it is the caller, or it follows a
+                                       frame of which this holds */
+    uint32_t spare;                 /* 0 */
 } pe_c_stack_walk;
 
 PE_C_SIZE(pe_c_module, 80);
-PE_C_SIZE(pe_c_stack_walk, 432);
+PE_C_SIZE(pe_c_stack_walk, 440);
 PE_C_SIZE(pe_c_function, 12);
 PE_C_SIZE(pe_c_walk, 24);
 PE_C_SIZE(pe_c_record, 72);
@@ -1854,11 +1871,13 @@ uint32_t pe_c_step(const pe_c_view *view, const pe_c_range *table, const uint8_t
  * one of another piece that has the address; no byte outside of the memory is ever read.
  *
  * In each frame the function is looked up by rip, or by the byte before it where the function has called. Its epilogs are
- * known by their code in the image, and a jump out of it is followed. In the top frame, and in one that was interrupted, the
- * caller may have no records: then it is found by the return address at rsp, if a call ends there, else by the first of 128
- * words from rsp on that is after a call in an executable section: the last section of its module that starts at or before
- * the call's last byte is asked, so sections have to be in ascending order. Only past an interrupt may the stack pointer not
- * rise.
+ * known by their code in the image, and a jump out of it is followed. Where no records describe the code of the top frame, or
+ * of one that was interrupted, the caller is found by the return address at rsp, if a call ends there, else by the first of
+ * 128 words from rsp on that is after a call in an executable section: the last section of its module that starts at or
+ * before the call's last byte is asked, so sections have to be in ascending order. In a frame that has called it is the first
+ * such word. What is found so may be wrong: walk->is_guess says so of each frame, but not of the caller of code in a module
+ * with a table that has no function there, if a call ends at the return address: that is a leaf function. Only past an
+ * interrupt may the stack pointer not rise.
  * Errors, which change nothing: PE_C_SHORT where the table of a module is not inside its bytes, or, where walk->is_searched
  * is 0, a piece not inside the memory. */
 uint32_t pe_c_next_frame(const pe_c_module *modules, size_t module_count, const uint8_t *memory, size_t memory_length,
@@ -2084,15 +2103,17 @@ typedef struct {
     uint32_t end;                   /* PE_C_END_* of a walk that is over */
     uint32_t error;                 /* a result, for PE_C_END_RECORDS and _STEP; else 0 */
     uint32_t is_searched;           /* as in pe_c_stack_walk */
+    uint32_t is_guess;              /* as in pe_c_stack_walk */
+    uint32_t spare;                 /* 0 */
 } pe_c_arm64_stack_walk;
 
-PE_C_SIZE(pe_c_arm64_stack_walk, 368);
+PE_C_SIZE(pe_c_arm64_stack_walk, 376);
 
 /* As pe_c_next_frame, on ARM64. In each frame the function is looked up by pc, or by the call, four bytes before it, where
- * the function has called. In the top frame, and in one that was interrupted, the caller may have no unwind data: then it is
- * found by the link register, if a call ends there, else by the first of 128 words from the stack pointer on that is,
- * without its signature, after a call in an executable section. The stack pointer may stay where it is in these alone, and
- * sink past an interrupt alone.
+ * the function has called. Where no unwind data describe the code of the top frame, or of one that was interrupted, the
+ * caller is found by the link register, if a call ends there, else by the first of 128 words from the stack pointer on that
+ * is, without its signature, after a call in an executable section; in a frame that has called by the first such word. The
+ * stack pointer may stay where it is in the first two alone, and sink past an interrupt alone.
  * Errors, which change nothing: those of pe_c_next_frame. */
 uint32_t pe_c_next_arm64_frame(const pe_c_module *modules, size_t module_count, const uint8_t *memory, size_t memory_length,
                                const pe_c_memory_piece *pieces, size_t piece_count, pe_c_arm64_stack_walk *walk)
@@ -2246,7 +2267,8 @@ typedef struct {
 /* IMAGE_IMPORT_DESCRIPTOR. */
 typedef struct {
     pe_c_range name;                /* of the DLL: UTF-8, without its final zero */
-    pe_c_imports imports;           /* where a walk over its imports starts */
+    pe_c_imports imports;           /* where a walk over its imports starts; imports.left is {0, 0} where the RVA of the list is
+                                       unmapped, and nowhere else: the signature of the DOS header is at the offset 0 */
     uint32_t lookup_table_rva;      /* RVA of the list; where it is 0, the list is the address table */
     uint32_t time_date_stamp;       /* 0, or not 0 where the imports are bound */
     uint32_t forwarder_chain;       /* index of the first forwarder, or -1 */
@@ -2506,7 +2528,8 @@ typedef struct {
 
 PE_C_SIZE(pe_c_version_block, 64);
 
-/* Returns the fixed file information. PE_C_NOTHING also where version information has none. */
+/* Returns the fixed file information. PE_C_NOTHING also where version information has none. A damaged string is an error too: without
+ * the strings the same is read by pe_c_fixed_version_in, of the first 92 bytes of what pe_c_version_blocks returns. */
 uint32_t pe_c_fixed_version(const pe_c_view *view, pe_c_version *out) PE_C_RESULT(1, 2);
 
 /* Returns the value of a name, PE_C_COMMENTS .. PE_C_SPECIAL_BUILD: UTF-16 code units, little-endian, with the zeros after
@@ -2677,25 +2700,28 @@ uint32_t pe_c_edited_length(const pe_c_view *view, const pe_c_resource *resource
  * and the data if data_length is.
  * The resources are sorted by type, name and language: names before ids, names by their code units, ids and languages by
  * their numbers. No two have the same type, name and language.
- * They go over the data of their section if they fit there, and no byte of the file moves. Otherwise they go to the end of
- * the image, into their own section if it is the last or into a new one, and what follows the data of the sections in the
- * file moves by the bytes that are added, a multiple of the file alignment; so do the pointers to COFF symbols and to the
- * data of debug entries there.
+ * They go over the data of their section if they fit there, no other section follows it in memory before their end, and no
+ * debug data and no base relocation lie in it; then no byte of the file moves. Otherwise they go to the end of the image,
+ * into their own section if it is the last or into a new one, and what follows the data of the sections in the file moves
+ * by the bytes that are added, a multiple of the file alignment; so do the pointers to COFF symbols and to the data of
+ * debug entries there.
  * Errors: those of pe_c_image; PE_C_EDIT_RECORD where a range is not inside the data, or an id or a language is not below
  * 2^16; PE_C_EDIT_NAMES where the names have more than 16 MiB, each counted as often as a resource has it;
- * PE_C_NO_OPTIONAL_HEADER; PE_C_EDIT_NO_DIRECTORY where the image has fewer than three directories; PE_C_EDIT_SIGNED where
- * it has certificates; PE_C_EDIT_TOO_MANY, PE_C_EDIT_NAME, PE_C_EDIT_ORDER, PE_C_EDIT_TABLES_TOO_LARGE, PE_C_EDIT_TOO_LARGE
- * of the resources; PE_C_EDIT_HEADERS where the directories end after the start of the section table; PE_C_SHORT where that
- * is truncated; PE_C_EDIT_ALIGNMENT where that of sections is below 4096, or that of their data below 512 or no power of
- * two; of a new section, PE_C_EDIT_IMAGE_TOO_LARGE where its RVA or the offset of its data is not below 2^32, and
- * PE_C_EDIT_TOO_LARGE of the resources at its RVA; PE_C_EDIT_NO_HEADER_ROOM where no 40 zeros follow the section table in
- * the headers, there are 65,535 sections, or the PE signature lies in the DOS header; PE_C_EDIT_IMAGE_TOO_LARGE where the
- * image ends after 4 GB; PE_C_EDIT_SECTION where the data of the sections do not end in the file, at a multiple of the file
- * alignment; PE_C_EDIT_SHARED_SECTION where the entry point or a directory leads after the image in memory;
- * PE_C_EDIT_SYMBOLS where COFF symbols start before the end of the data and end after it; PE_C_EDIT_OVERLAP where a section
- * ends after the image in memory, or shares bytes with the headers; PE_C_EDIT_DEBUG_DATA where the debug entries do not lie
- * between the section headers and the data of that section, or the data of one neither end before these nor start after
- * those of all sections; PE_C_WRITE_FIT where the file does not fit into the array. */
+ * PE_C_EDIT_CONTENTS where the contents, counted likewise, have more than 16 times the bytes of the data and of 1 MiB,
+ * since each is written as often as a resource has it; PE_C_NO_OPTIONAL_HEADER; PE_C_EDIT_NO_DIRECTORY where the image has
+ * fewer than three directories; PE_C_EDIT_SIGNED where it has certificates; PE_C_EDIT_TOO_MANY, PE_C_EDIT_NAME,
+ * PE_C_EDIT_ORDER, PE_C_EDIT_TABLES_TOO_LARGE, PE_C_EDIT_TOO_LARGE of the resources; PE_C_EDIT_HEADERS where the
+ * directories end after the start of the section table; PE_C_SHORT where that is truncated; PE_C_EDIT_ALIGNMENT where that
+ * of sections is below 4096, or that of their data below 512 or no power of two; of a new section,
+ * PE_C_EDIT_IMAGE_TOO_LARGE where its RVA or the offset of its data is not below 2^32, and PE_C_EDIT_TOO_LARGE of the
+ * resources at its RVA; PE_C_EDIT_NO_HEADER_ROOM where no 40 zeros follow the section table in the headers, there are
+ * 65,535 sections, or the PE signature lies in the DOS header; PE_C_EDIT_IMAGE_TOO_LARGE where the image ends after 4 GB;
+ * PE_C_EDIT_SECTION where the data of the sections do not end in the file, at a multiple of the file alignment;
+ * PE_C_EDIT_SHARED_SECTION where the entry point or a directory leads after the image in memory; PE_C_EDIT_SYMBOLS where
+ * COFF symbols start before the end of the data and end after it; PE_C_EDIT_OVERLAP where a section ends after the image
+ * in memory, or shares bytes with the headers; PE_C_EDIT_DEBUG_DATA where the debug entries do not lie between the section
+ * headers and the data of that section, or the data of one neither end before these nor start after those of all sections;
+ * PE_C_WRITE_FIT where the file does not fit into the array. */
 uint32_t pe_c_edit(const pe_c_view *view, const pe_c_resource *resources, size_t resource_count, const uint8_t *data,
                    size_t data_length, uint8_t *room, size_t room_length, uint64_t *out) PE_C_RESULT(1, 8);
 
@@ -2755,9 +2781,10 @@ uint32_t pe_c_version_length(const pe_c_version *fixed, const pe_c_version_table
  * `translations` the languages and code pages that the file supports, each in its order; `texts` has the names and the
  * texts. The array overlaps none of the others; each may be NULL if its length is 0.
  * Errors: PE_C_SHORT where a range of a string is not inside the texts, or the strings of a table are not all there;
- * PE_C_BLOCK_KEY where a name has an odd number of bytes, or a code unit of zero; PE_C_BLOCK_TEXT where a text has an odd
- * number of bytes; PE_C_BLOCK_TOO_LONG where a string, a table, or a block of these has more than 65,535 bytes: of the
- * blocks the first refusal, each after those that are in it; PE_C_WRITE_FIT where it does not fit into the array. */
+ * PE_C_BLOCK_TOO_LONG where the tables have more than 65,535 bytes by the lengths of names and texts; PE_C_BLOCK_KEY where
+ * a name has an odd number of bytes, or a code unit of zero; PE_C_BLOCK_TEXT where a text has an odd number of bytes;
+ * PE_C_BLOCK_TOO_LONG where a string, a table, or a block of these has more than 65,535 bytes: of the blocks the first
+ * refusal, each after those that are in it; PE_C_WRITE_FIT where it does not fit into the array. */
 uint32_t pe_c_write_version(const pe_c_version *fixed, const pe_c_version_table *tables, size_t table_count,
                             const pe_c_version_string *strings, size_t string_count,
                             const pe_c_version_language *translations, size_t translation_count, const uint8_t *texts,

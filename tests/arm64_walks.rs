@@ -193,6 +193,10 @@ fn expect_walk_in<M: Memory>(
 
 const BOTTOM: &str = "bottom of the stack";
 
+const ZERO: &str = "0 after a guess";
+
+const NO_RETURN_ADDRESS: &str = "no return address";
+
 const NO_FUNCTION: &str = "no function covers the call";
 
 const NO_MODULE: &str = "no module has the instruction pointer";
@@ -337,7 +341,7 @@ fn wild_calls_return_to_the_link_register(rt: HostRuntime) -> Result<(), Fail> {
             ];
             let mut top = registers(pc, 0x2000, lr);
             top.general[FP] = 0x2000;
-            expect_walk(&rt, rt.alloc(), top, &memory, &frames, BOTTOM)?;
+            expect_walk(&rt, rt.alloc(), top, &memory, &frames, ZERO)?;
         }
     }
     for lr in [0, NT + 0x10C, NT + 0x11C, NT + 0x111, NT] {
@@ -355,7 +359,7 @@ fn wild_calls_return_to_the_link_register(rt: HostRuntime) -> Result<(), Fail> {
 }
 
 /// Where the link register is no return address, the first word of the stack that is one into executable code leads on, of 128; here
-/// with a signature. From a frame that has called no stack is scanned.
+/// with a signature.
 #[test]
 fn stacks_are_scanned(rt: HostRuntime) -> Result<(), Fail> {
     let signed = (APP + 0x190) | 0xAB5A << 48;
@@ -383,20 +387,19 @@ fn stacks_are_scanned(rt: HostRuntime) -> Result<(), Fail> {
             (pc, 0x2004, 0x2020, Way::Top, false),
             (APP + 0x190, 0x2020, 0x2020, Way::Scanned, true),
         ];
-        expect_walk_in(&code, &rt, rt.alloc(), top, &memory, &found, BOTTOM)?;
+        expect_walk_in(&code, &rt, rt.alloc(), top, &memory, &found, ZERO)?;
         // The last of 128 words, and the one after it.
         top.sp = 0x2018 - 127 * 8;
         let far = [(pc, top.sp, 0x2020, Way::Top, false), found[1]];
-        expect_walk_in(&code, &rt, rt.alloc(), top, &memory, &far, BOTTOM)?;
+        expect_walk_in(&code, &rt, rt.alloc(), top, &memory, &far, ZERO)?;
         top.sp -= 8;
-        let (lost, end) = if pc == 0x1234 {
-            ([(pc, top.sp, 0x2020, Way::Top, false); 2], NO_MODULE)
+        let lost = [(pc, top.sp, 0x2020, Way::Top, false)];
+        let end = if pc == 0x1234 {
+            NO_MODULE
         } else {
-            let wild = (7, top.sp, 0x2020, Way::Leaf, true);
-            ([(pc, top.sp, 0x2020, Way::Top, false), wild], NO_MODULE)
+            NO_RETURN_ADDRESS
         };
-        let count = if pc == 0x1234 { 1 } else { 2 };
-        expect_walk_in(&code, &rt, rt.alloc(), top, &memory, &lost[..count], end)?;
+        expect_walk_in(&code, &rt, rt.alloc(), top, &memory, &lost, end)?;
     }
     Ok(())
 }
@@ -431,16 +434,35 @@ fn a_walk_says_why_it_is_over(rt: HostRuntime) -> Result<(), Fail> {
     let top = |pc, lr| registers(pc, 0x2000, lr);
     let one = |pc| [(pc, 0x2000, 0, Way::Top, false)];
     // a leaf function, and one in its prolog, whose return address is 0
-    for pc in [APP + 0x1F0, APP + 0x180] {
-        expect_walk(&rt, rt.alloc(), top(pc, 0), &memory, &one(pc), BOTTOM)?;
+    for (pc, end) in [(APP + 0x1F0, ZERO), (APP + 0x180, BOTTOM)] {
+        expect_walk(&rt, rt.alloc(), top(pc, 0), &memory, &one(pc), end)?;
     }
-    // a leaf function that was called from no function, and from no module
-    for (lr, end) in [(APP + 0x1F8, NO_FUNCTION), (NT - 0x100, NO_MODULE)] {
-        let frames = [
-            (APP + 0x1F0, 0x2000, 0, Way::Top, false),
-            (lr, 0x2000, 0, Way::Leaf, true),
-        ];
-        expect_walk(&rt, rt.alloc(), top(APP + 0x1F0, lr), &memory, &frames, end)?;
+    // a leaf function that goes on in no function, and in no module: data, and what is no address of code, are no frame
+    let code = [SectionTable {
+        characteristics: 0x6000_0020,
+        ..sections::section(0x100, 0x100, 0x100, 0x100)
+    }];
+    let (leaf, lr) = (APP + 0x1F0, APP + 0x1F8);
+    let frames = [one(leaf)[0], (lr, 0x2000, 0, Way::Leaf, true)];
+    expect_walk_in(
+        &code,
+        &rt,
+        rt.alloc(),
+        top(leaf, lr),
+        &memory,
+        &frames,
+        NO_FUNCTION,
+    )?;
+    for lr in [NT - 0x100, APP + 0xF0, 0x30, u64::MAX] {
+        expect_walk_in(
+            &code,
+            &rt,
+            rt.alloc(),
+            top(leaf, lr),
+            &memory,
+            &one(leaf),
+            NO_RETURN_ADDRESS,
+        )?;
     }
     let pc = APP + 0x1A4;
     let end = "unwind code cannot be undone: CustomStack(TrapFrame)";

@@ -106,6 +106,8 @@ fn relocates_an_image(rt: HostRuntime) -> Result<(), Fail> {
 #[test]
 fn says_which_relocation_is_refused(rt: HostRuntime) {
     let mut image = [7; 16];
+    // shows: pe_directories/src/relocating.rt word_of RelocationOutside
+    // shows: pe_directories/src/relocating.rt word_of RelocationKind
     let outside = relocate(&mut image, None, b"\0\x10\0\0\x0C\0\0\0\x09\xA0\0\0", 1);
     assert!(rt; matches!(outside, Err(DirectoryError::RelocationOutside(0x1009))));
     let kind = relocate(&mut image, None, b"\0\x10\0\0\x0C\0\0\0\x09\x70\0\0", 1);
@@ -149,6 +151,7 @@ fn a_highadj_takes_the_next_entry(rt: HostRuntime) -> Result<(), Fail> {
     let Some(Ok(second)) = relocations.next() else {
         return Err(Fail::new("no second relocation"));
     };
+    // shows: pe_directories/src/base_relocation.rt first_relocation NoArgument
     assert_eq!(rt; second, relocation(3, 0xFFFF_FFFF));
     assert!(rt;
         matches!(
@@ -185,6 +188,8 @@ fn refusal_of(bytes: &[u8]) -> Result<DirectoryError, Fail> {
 
 #[test]
 fn refuses_blocks(rt: HostRuntime) -> Result<(), Fail> {
+    // shows: pe_directories/src/base_relocation.rt first_block BlockSize
+    // shows: pe_directories/src/base_relocation.rt first_block BlockTruncated
     for size in [0, 7, 9, 11] {
         let error = refusal_of(&[0, 0x10, 0, 0, size, 0, 0, 0, 0, 0, 0])?;
         assert!(rt; matches!(error, DirectoryError::BlockSize(n) if n == u32::from(size)));
@@ -277,6 +282,7 @@ fn reads_tls_of_pe32(rt: HostRuntime) -> Result<(), Fail> {
     // Other addresses of the table, and alignments 0 and 15.
     bytes[12..16].copy_from_slice(&[0xFF, 0xFF, 0x3F, 0]);
     bytes[22] = 0xF0;
+    // shows: pe_directories/src/image_bytes.rt offset_of_va_by VaBelowBase
     let below = TlsDirectory::parse(&image_of(&bytes, false), at(0x1000, 0))?;
     assert!(rt;
         matches!(
@@ -402,6 +408,7 @@ fn reads_ready_to_run_headers(rt: HostRuntime) -> Result<(), Fail> {
 
 #[test]
 fn refuses_clr_headers(rt: HostRuntime) -> Result<(), Fail> {
+    // shows: pe_directories/src/clr.rt parse ClrHeaderSize
     let small = image(rt.alloc(), 72, &[(0, &[71])])?;
     assert!(rt;
         matches!(
@@ -621,6 +628,7 @@ fn reads_delay_imports(rt: HostRuntime) -> Result<(), Fail> {
                 }))
             )
         );
+        // shows: pe_directories/src/delay_import.rt name_at DelayImportName
         bytes[0x7F] = 1;
         let parts = image_of(&bytes, is_64);
         assert!(rt;
@@ -760,6 +768,7 @@ fn walks_through_bound_imports(rt: HostRuntime) -> Result<(), Fail> {
         return Err(Fail::new("no second import"));
     };
     assert_eq!(rt; (second.time_date_stamp, second.name), (0x3F00_0003, 0x38));
+    // shows: pe_directories/src/bound_import.rt name BoundImportName
     assert!(rt; second.forwarders().next().is_none());
     assert!(rt;
         matches!(

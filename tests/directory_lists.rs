@@ -126,6 +126,7 @@ fn refusal_with(alloc: Global, pieces: &[(usize, &[u8])]) -> Result<DirectoryErr
 #[test]
 fn refuses_as_the_walk(rt: HostRuntime) -> Result<(), Fail> {
     let alloc = rt.alloc();
+    // shows: pe_directories/src/delay_import_list.rt named_dll DelayImportName
     // The names of the DLLs: the second is not UTF-8, then the first is not mapped.
     assert!(rt;
         matches!(
@@ -154,6 +155,7 @@ fn refuses_as_the_walk(rt: HostRuntime) -> Result<(), Fail> {
             DirectoryError::Image(Error::Malformed(Reason::Unmapped(0x3060)))
         )
     );
+    // shows: pe_directories/src/delay_import_list.rt named_function DelayImportName
     // The third name, then the first hint before it.
     assert!(rt;
         matches!(
@@ -417,6 +419,7 @@ fn names_of_bound_imports(rt: HostRuntime) -> Result<(), Fail> {
         bytes: b"one.dll\0\xFFtwo.dll\0six",
     };
     let names = directory.names(alloc)?;
+    // shows: pe_directories/src/bound_names.rt name BoundImportName
     for (offset, name) in [
         (0, Some("one.dll")),
         (4, Some("dll")),

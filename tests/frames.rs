@@ -184,6 +184,30 @@ fn reads_xmm_registers_by_the_frame_register(rt: HostRuntime) -> Result<(), Fail
     Ok(())
 }
 
+/// push rbp; sub rsp,72; mov [rsp+64],rbx; lea rbp,[rsp+32]: until the last instruction, which ends at 15, the save counts from
+/// rsp, and rbp is the caller's.
+#[test]
+fn counts_from_rsp_until_the_frame_register_is_set(rt: HostRuntime) -> Result<(), Fail> {
+    let record = [
+        1, 15, 5, 0x25, 15, 0x03, 10, 0x34, 8, 0, 5, 0x82, 1, 0x50, 0, 0,
+    ];
+    let caller = of_caller();
+    let words = [caller.general[RBX], caller.general[RBP], RETURN_ADDRESS];
+    let bytes = bytes_of(rt.alloc(), &words)?;
+    let stack = Stack {
+        start: ENTRY - 16,
+        bytes: &bytes,
+    };
+    for (offset, rsp, rbp) in [
+        (10, ENTRY - 80, caller.general[RBP]),
+        (15, ENTRY - 0x1000, ENTRY - 48),
+    ] {
+        let registers = changed(&[(RSP, rsp), (RBP, rbp), (RBX, 1)]);
+        assert_eq!(rt; step_at(&record, offset, registers, &stack)?, caller);
+    }
+    Ok(())
+}
+
 /// An interrupt pushed ss, rsp, flags, cs and rip, and perhaps an error code. Its stack may lie above the one it stopped.
 #[test]
 fn takes_rip_and_rsp_of_machine_frames(rt: HostRuntime) -> Result<(), Fail> {

@@ -324,6 +324,7 @@ fn records_alone(rt: HostRuntime) -> Result<(), Fail> {
         Some((row.virtual_address, row.size)),
         DIRECTORIES.first().copied()
     );
+    assert!(rt; DataDirectory::parse(&bytes[..0x78 + 104], 0x78 + 96)? == row);
     assert!(rt;
         matches!(
             CoffHeader::parse(&bytes, 0x1ED),

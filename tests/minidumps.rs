@@ -79,6 +79,7 @@ fn reads_the_header_and_the_directory(rt: HostRuntime) -> Result<(), Fail> {
         }
     );
     assert!(rt; dump.directory().get(8).is_none());
+    // shows: pe_minidump/src/location.rt located Location
     // The file ends after the directory.
     assert!(rt;
         refused(
@@ -117,6 +118,10 @@ fn header_has_each_field_at_its_offset(rt: HostRuntime) -> Result<(), Fail> {
 
 #[test]
 fn damaged_headers_are_refused(rt: HostRuntime) -> Result<(), Fail> {
+    // shows: pe_minidump/src/location.rt require_fields Short
+    // shows: pe_minidump/src/dump.rt parse Signature
+    // shows: pe_minidump/src/dump.rt parse Version
+    // shows: pe_minidump/src/dump.rt directory_bytes Directory
     let bytes = with_stream(rt.alloc(), 3, b"")?;
     let short = DumpError::Short {
         needed: 32,
@@ -229,6 +234,7 @@ fn lists_have_the_size_of_their_entries(rt: HostRuntime) -> Result<(), Fail> {
             rva: 0x2F2E_2D2C
         }
     );
+    // shows: pe_minidump/src/list.rt counted_list ListSize
     for length in [51usize, 53, 55] {
         let bytes = with_stream(rt.alloc(), 3, stream.get(..length).unwrap_or_default())?;
         let size = DumpError::ListSize {
@@ -411,6 +417,8 @@ fn offsets_past_64_bits_are_refused(rt: HostRuntime) -> Result<(), Fail> {
         &[(0, &[2]), (8, &[0xFD]), (24, &[0xFF; 8]), (40, &[1])],
     )?;
     let mut bytes = with_stream(rt.alloc(), 9, &stream)?;
+    // shows: pe_minidump/src/memory64.rt parse Location
+    // shows: pe_minidump/src/memory64.rt parse ListSize
     let wrong = DumpError::Location {
         rva: 0xFD,
         size: u64::MAX,
@@ -612,9 +620,30 @@ fn entries_may_be_larger_than_their_fields(rt: HostRuntime) -> Result<(), Fail> 
     Ok(())
 }
 
+/// A list shows how many records it has, which are 48 bytes each, and what is left of them where the next one is.
+#[test]
+fn shows_lists_by_their_numbers(rt: HostRuntime) -> Result<(), Fail> {
+    let bytes = with_stream(rt.alloc(), 3, counting(rt.alloc(), 148, 0)?.as_slice())?;
+    let bytes = crate::images::with_part(bytes, 44, &[3, 0, 0, 0]);
+    let list = Dump::parse(&bytes)?.threads()?.ok_or("no threads")?;
+    let mut records = list.iter();
+    let shown = format!(in rt.alloc(); "{list:?} {records:?}")?;
+    assert_eq!(rt;
+        shown.as_str(),
+        "DumpThreads { count: 3 } DumpThreads { next: 0, count: 3 }"
+    );
+    records.next();
+    records.next();
+    let shown = format!(in rt.alloc(); "{records:?}")?;
+    assert_eq!(rt; shown.as_str(), "DumpThreads { next: 2, count: 3 }");
+    Ok(())
+}
+
 #[test]
 fn damaged_headers_of_lists_are_refused(rt: HostRuntime) -> Result<(), Fail> {
     let mut bytes = with_stream(rt.alloc(), 12, &[0; 100])?;
+    // shows: pe_minidump/src/list.rt list_with EntrySize
+    // shows: pe_minidump/src/list.rt list_with ListSize
     for (part, error) in [
         (
             b"\x10\0\0\0\x1F\0\0\0\x02\0\0\0",
@@ -797,6 +826,7 @@ fn reads_names_of_threads(rt: HostRuntime) -> Result<(), Fail> {
     };
     assert!(rt; refused(dump.text(u64::MAX), past));
     let mut odd = bytes.clone()?;
+    // shows: pe_minidump/src/text.rt text_at Text
     crate::images::put(&mut odd, &[(60, &[3])]);
     assert!(rt;
         refused(
@@ -867,6 +897,8 @@ fn reads_contexts_of_x64(rt: HostRuntime) -> Result<(), Fail> {
     );
     crate::images::put(&mut bytes, &[(0x30, &[3])]);
     assert!(rt; ContextX64::parse(&bytes)?.xmm.is_none());
+    // shows: pe_minidump/src/context_x64.rt parse ContextFlags
+    // shows: pe_minidump/src/context_x64.rt parse Machine
     crate::images::put(&mut bytes, &[(0x30, &[0x0A])]);
     assert!(rt;
         refused(
@@ -922,6 +954,8 @@ fn reads_contexts_of_arm64(rt: HostRuntime) -> Result<(), Fail> {
     assert_eq!(rt; (v[0], v[31]), (5, 1 << 120));
     crate::images::put(&mut bytes, &[(0, &[3])]);
     assert!(rt; ContextArm64::parse(&bytes)?.v.is_none());
+    // shows: pe_minidump/src/context_arm64.rt parse ContextFlags
+    // shows: pe_minidump/src/context_arm64.rt parse Machine
     crate::images::put(&mut bytes, &[(0, &[5])]);
     assert!(rt;
         refused(
@@ -948,6 +982,7 @@ fn reads_contexts_of_arm64(rt: HostRuntime) -> Result<(), Fail> {
 /// minidump_cpu_arm64.h, with the flag 80000000h), and those of x86 (`CONTEXT` of winnt.h, with the flag 10000h).
 #[test]
 fn refuses_smaller_contexts(rt: HostRuntime) -> Result<(), Fail> {
+    // shows: pe_minidump/src/context_bytes.rt require_context ContextSize
     for (size, flags) in [(796, b"\x07\0\0\x80"), (716, b"\x3F\0\x01\0")] {
         let bytes = image(rt.alloc(), size, &[(0, flags)])?;
         let needed = 912;
@@ -1005,6 +1040,9 @@ fn finds_the_first_range_with_an_address(rt: HostRuntime) -> Result<(), Fail> {
         assert_eq!(rt; index.find(address), want);
     }
     assert_eq!(rt; AddressIndex::new(rt.alloc(), &[])?.find(0), None);
+    let one = AddressIndex::new(rt.alloc(), &ranges[1..2])?;
+    let found = [0xFF, 0x100, 0x5FF, 0x600].map(|address| one.find(address));
+    assert_eq!(rt; found, [None, Some(0), Some(0), None]);
     Ok(())
 }
 

@@ -62,6 +62,7 @@ fn in_the_order_of_entries(rt: HostRuntime) -> std::result::Result<(), Fail> {
         assert_eq!(rt; leaf.data_entry.size, size);
         assert_eq!(rt; leaf.data_entry.code_page, code_page);
     }
+    // shows: pe_resource/src/leaves.rt table_below NotDirectory
     assert!(rt;
         matches!(
             walk.next(),
@@ -116,6 +117,8 @@ fn goes_on_after_an_error(rt: HostRuntime) -> std::result::Result<(), Fail> {
             (0x58, &[1, 0, 0, 0, 0x48, 0, 0, 0x80]),
         ],
     )?;
+    // shows: pe_resource/src/leaves.rt table_below NoEntries
+    // shows: pe_resource/src/leaves.rt leaf_of NotData
     let mut walk = leaves(&bytes)?;
     assert!(rt; matches!(walk.next(), Some(Err(ResourceTreeError::NoEntries(0x38)))));
     let short = walk.next();

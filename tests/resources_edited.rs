@@ -159,9 +159,14 @@ fn the_checksum_is_that_of_the_file(rt: HostRuntime) -> Result<(), Fail> {
 #[test]
 fn numbers_in_refusals(rt: HostRuntime) -> Result<(), Fail> {
     let leaves = [resource(1, &CONTENT)];
+    // shows: pe_rewrite/src/place.rt target_before NoDirectory
+    // shows: pe_rewrite/src/place.rt require_headers Headers
+    // shows: pe_rewrite/src/place.rt require_headers Alignment
+    // shows: pe_rewrite/src/room.rt room_with NoHeaderRoom
     for (offset, part, text) in [
         (0x8C, &[0, 0][..], "Image(Malformed(NoOptionalHeader))"),
         (0xFC, &[2][..], "NoDirectory(2)"),
+        (0xFC, &[1][..], "NoDirectory(1)"),
         (0x120, &[0, 6, 0, 0, 8][..], "Signed"),
         (0x8C, &[0x60][..], "Headers(240)"),
         (0x7E, &[255][..], "Image(Short { at: 0, needed: 10584 })"),
@@ -202,6 +207,10 @@ fn without_resources(alloc: Global) -> Result<Vec<u8>, Fail> {
 #[test]
 fn numbers_in_refusals_at_the_end(rt: HostRuntime) -> Result<(), Fail> {
     let leaves = [resource(1, &CONTENT)];
+    // shows: pe_rewrite/src/room.rt room_with Section
+    // shows: pe_rewrite/src/place.rt require_alone SharedSection
+    // shows: pe_rewrite/src/room.rt room_with Symbols
+    // shows: pe_rewrite/src/room.rt require_last Overlap
     for (offset, part, text) in [
         (0x1D0, &[1][..], "NoHeaderRoom(464)"),
         (0x1F7, &[1][..], "NoHeaderRoom(464)"),
@@ -212,6 +221,7 @@ fn numbers_in_refusals_at_the_end(rt: HostRuntime) -> Result<(), Fail> {
         (0x1B9, &[4][..], "Section(2)"),
         (0xA1, &[0x30][..], "SharedSection(12320)"),
         (0x100, &[0, 0x30][..], "SharedSection(12288)"),
+        (0x128, &[0, 0x30][..], "SharedSection(12288)"),
         (0x84, &[0, 5, 0, 0, 15][..], "Symbols(1280)"),
         (0x1B4, &[0, 0x40][..], "Overlap(1)"),
         (0x18A, &[1][..], "Overlap(0)"),
@@ -260,6 +270,7 @@ fn pointers_of_debug_data_move(rt: HostRuntime) -> Result<(), Fail> {
 #[test]
 fn debug_data_that_can_not_move(rt: HostRuntime) -> Result<(), Fail> {
     let leaves = [resource(1, &CONTENT)];
+    // shows: pe_rewrite/src/room.rt require_debug DebugData
     for (offset, part, text) in [
         (0x210, &[1][..], "DebugData(512)"),
         (0x234, &[0, 0xFE, 0xFF, 0xFF][..], "DebugData(540)"),
@@ -335,6 +346,147 @@ fn the_last_section_grows(rt: HostRuntime) -> Result<(), Fail> {
     let length = write_edited(&short, &header_of(&short)?, &list(&leaves[..1]), &mut out)?;
     assert_eq!(rt; length, LENGTH);
     assert_eq!(rt; &out[0xC8..0xCC], [0, 0x30, 0, 0].as_slice());
+    Ok(())
+}
+
+/// Where the resources of an image with room for a section header go: in place, or into a new section, and then the data of the
+/// old ones stay.
+fn is_in_place(alloc: Global, bytes: &[u8]) -> Result<bool, Fail> {
+    let mut out = vec![in alloc; OLD; LENGTH + 0x200]?;
+    let leaves = [resource(1, &CONTENT)];
+    let length = write_edited(bytes, &header_of(bytes)?, &list(&leaves), &mut out)?;
+    if length == LENGTH {
+        return Ok(true);
+    }
+    if length != LENGTH + 0x200 || out[0x7E] != bytes[0x7E] + 1 {
+        return Err("no new section".into());
+    }
+    if out[0x200..0x600] != bytes[0x200..0x600] || &out[0x800..] != b"after".as_slice() {
+        return Err("the old data have changed".into());
+    }
+    Ok(false)
+}
+
+/// Debug data stay where they are, in the resource section by their file offset or by their RVA.
+#[test]
+fn debug_data_in_the_resource_section(rt: HostRuntime) -> Result<(), Fail> {
+    for (rva, pointer, in_place) in [
+        ([0x80, 0x11], [0x80, 3], true),
+        ([0, 0], [0xFB, 3], true),
+        ([0, 0], [0xFC, 3], false),
+        ([0, 0], [0, 5], false),
+        ([0, 0], [0, 6], true),
+        ([0, 0x21], [0, 5], false),
+        ([0, 0x21], [0, 0], false),
+        ([0xFF, 0x1F], [0, 6], true),
+        ([0, 0x30], [0, 6], true),
+    ] {
+        let mut bytes = with_part(old_image(rt.alloc())?, 0xCC, &[0, 2]);
+        put(
+            &mut bytes,
+            &[
+                (0x130, &[0, 0x10, 0, 0, 28]),
+                (0x210, &[5, 0, 0, 0]),
+                (0x214, &rva),
+                (0x216, &[0, 0]),
+                (0x218, &pointer),
+                (0x21A, &[0, 0]),
+            ],
+        );
+        assert_eq!(rt; is_in_place(rt.alloc(), &bytes)?, in_place);
+    }
+    // The entries themselves: after the section headers; before the section, 17 of them; 19, of which the last reaches into it.
+    for (rva, size, in_place) in [
+        ([0xE4, 1], [28, 0], true),
+        ([0, 0x10], [0xF0, 1], true),
+        ([0, 0x10], [0x14, 2], false),
+    ] {
+        let mut bytes = with_part(old_image(rt.alloc())?, 0x200, &[0; 0x200]);
+        put(
+            &mut bytes,
+            &[(0xCC, &[0, 2]), (0x130, &rva), (0x134, &size)],
+        );
+        let leaves = [resource(1, &CONTENT)];
+        let length = edited_len(&bytes, &header_of(&bytes)?, &list(&leaves))?;
+        assert_eq!(rt; length == LENGTH, in_place);
+    }
+    Ok(())
+}
+
+/// The resources do not grow over a section that has no data, `.bss` at the RVA 0x3000.
+#[test]
+fn a_section_without_data_is_not_covered(rt: HostRuntime) -> Result<(), Fail> {
+    let content = vec![in rt.alloc(); 0x5A; 5120]?;
+    let leaves = [resource(1, &content)];
+    for (address, room) in [(0x30, "NoHeaderRoom(504)"), (0x40, "")] {
+        let mut bytes = old_image(rt.alloc())?;
+        bytes.resize(0x2400, 0)?;
+        put(
+            &mut bytes,
+            &[
+                (0x7E, &[3, 0]),
+                (0xC8, &[0, 0x50]),
+                (0x1B8, &[0, 0x20]),
+                (0x1D0, b".bss\0\0\0\0\0\x10\0\0\0"),
+                (0x1DD, &[address]),
+            ],
+        );
+        if room.is_empty() {
+            let length = edited_len(&bytes, &header_of(&bytes)?, &list(&leaves))?;
+            assert_eq!(rt; length, 0x2400);
+        } else {
+            let shown = refused(rt.alloc(), &bytes, &leaves)?;
+            assert_eq!(rt; shown.as_str(), room);
+        }
+    }
+    Ok(())
+}
+
+/// Without a resource directory a section at the RVA 0 has no resources: they go into a new one.
+#[test]
+fn a_section_at_rva_0_stays(rt: HostRuntime) -> Result<(), Fail> {
+    let mut bytes = without_resources(rt.alloc())?;
+    put(
+        &mut bytes,
+        &[
+            (0xA0, &[0, 0x20]),
+            (0x18C, &[0, 0]),
+            (0x200, b"IMPORTANT DATA"),
+        ],
+    );
+    assert!(rt; !is_in_place(rt.alloc(), &bytes)?);
+    Ok(())
+}
+
+/// Resources are not written over what a base relocation changes: the table, at the RVA 0x1000, has a block with one.
+#[test]
+fn base_relocations_in_the_resource_section(rt: HostRuntime) -> Result<(), Fail> {
+    for (page, size, relocation, in_place) in [
+        // DIR64 (10) of 8 bytes, HIGHLOW (3) of 4, ABSOLUTE (0) of none.
+        (0x20, 12, [0, 0xA1], false),
+        (0x20, 12, [0xFC, 0x3F], false),
+        (0x20, 12, [0, 1], true),
+        (0x10, 12, [0, 0xA1], true),
+        (0x10, 12, [0xF8, 0xAF], true),
+        (0x10, 12, [0xF9, 0xAF], false),
+        (0x10, 12, [0xFC, 0x3F], true),
+        (0x10, 12, [0xFD, 0x3F], false),
+        (0x30, 12, [0, 0xA0], true),
+        // The block ends after the table.
+        (0x10, 14, [0, 0xA1], false),
+    ] {
+        let mut bytes = with_part(old_image(rt.alloc())?, 0xCC, &[0, 2]);
+        put(
+            &mut bytes,
+            &[
+                (0x128, &[0, 0x10, 0, 0, 12]),
+                (0x200, &[0, page, 0, 0, size, 0, 0, 0]),
+                (0x208, &relocation),
+                (0x20A, &[0, 0]),
+            ],
+        );
+        assert_eq!(rt; is_in_place(rt.alloc(), &bytes)?, in_place);
+    }
     Ok(())
 }
 

@@ -4,7 +4,10 @@
 use crate::images::image;
 use crate::resources::flat;
 use pe_core::{DataDirectory, Error, MappedBytes, ParseMode, Reason};
-use pe_edit::{EditError, Leaves, Resource, ResourceKey, section_len, write_section};
+use pe_edit::{
+    EditError, Leaves, RecordError, RecordKey, RecordRange, Resource, ResourceKey, ResourceRecord,
+    require_records, section_len, write_section,
+};
 use pe_resource::ResourceData;
 use std::alloc::Global;
 use std::test::Fail;
@@ -174,6 +177,8 @@ fn numbers_in_refusals(rt: HostRuntime) -> Result<(), Fail> {
         name: ResourceKey::Name(b"C\0"),
         ..third
     };
+    // shows: pe_edit/src/section.rt require_names Name
+    // shows: pe_edit/src/section.rt require_order Order
     for (leaves, text) in [
         (&[first, second, odd][..], "Name(2)"),
         (&[first, second, third, second][..], "Order(3)"),
@@ -192,6 +197,74 @@ fn numbers_in_refusals(rt: HostRuntime) -> Result<(), Fail> {
     ] {
         let shown = refused(rt.alloc(), leaves)?;
         assert_eq!(rt; shown.as_str(), text);
+    }
+    Ok(())
+}
+
+const fn key(id: u32) -> RecordKey {
+    RecordKey {
+        name: bytes_at(0, 0),
+        id,
+        has_name: 0,
+    }
+}
+
+const fn bytes_at(offset: u64, length: u64) -> RecordRange {
+    RecordRange { offset, length }
+}
+
+/// One of three records has a range outside of the array, or an id or a language of more than 16 bits.
+#[test]
+fn records_that_do_not_fit(rt: HostRuntime) -> Result<(), Fail> {
+    let record = ResourceRecord {
+        resource_type: key(10),
+        name: key(1),
+        content: bytes_at(1, 3),
+        language: 0x409,
+        code_page: 0,
+    };
+    let named = RecordKey {
+        name: bytes_at(3, 2),
+        has_name: 1,
+        ..key(0)
+    };
+    // shows: pe_edit/src/record.rt require_fits Record
+    for (wrong, index) in [
+        (
+            ResourceRecord {
+                content: bytes_at(2, 3),
+                ..record
+            },
+            2,
+        ),
+        (
+            ResourceRecord {
+                name: named,
+                ..record
+            },
+            1,
+        ),
+        (
+            ResourceRecord {
+                resource_type: key(0x1_0000),
+                ..record
+            },
+            2,
+        ),
+        (
+            ResourceRecord {
+                language: 0x1_0000,
+                ..record
+            },
+            1,
+        ),
+    ] {
+        let mut records = [record; 3];
+        records[index] = wrong;
+        let Err(RecordError::Record(found)) = require_records(&records, b"abcd") else {
+            return Err("a record that does not fit is taken".into());
+        };
+        assert_eq!(rt; found, index);
     }
     Ok(())
 }
@@ -233,8 +306,13 @@ fn as_many_leaves_as_there_are_types(rt: HostRuntime) -> Result<(), Fail> {
     for kind in 0..=65_535u32 {
         leaves.push(resource(kind as u16, 1, 0, b""))?;
     }
+    // shows: pe_edit/src/section.rt section_layout TooMany
     let shown = refused(rt.alloc(), &leaves)?;
     assert_eq!(rt; shown.as_str(), "TooMany(65536)");
+    leaves.push(resource(65_535, 2, 0, b""))?;
+    let shown = refused(rt.alloc(), &leaves)?;
+    assert_eq!(rt; shown.as_str(), "TooMany(65537)");
+    leaves.truncate(65_536);
     let length = section_len(&list(&leaves[1..]), 0)?;
     // A directory of types, and for each type two directories of one entry, a data entry and eight zeros.
     assert_eq!(rt; length, 16 + 65_535 * (8 + 24 + 24 + 16 + 8));
@@ -273,6 +351,7 @@ fn names_of_two_gigabytes(rt: HostRuntime) -> Result<(), Fail> {
             ..resource(1, 1, 0, b"")
         })?;
     }
+    // shows: pe_edit/src/section.rt section_layout TablesTooLarge
     let shown = refused(rt.alloc(), &leaves)?;
     let size = 16 + 16_384usize * (8 + 24 + 24 + 16 + 131_072);
     let text = format!(in rt.alloc(); "TablesTooLarge({size})")?;

@@ -8,7 +8,7 @@ use pe_pkcs7::{
     MESSAGE_DIGEST, NESTED_SIGNATURE, NameAttributes, SIGNED_DATA, SIGNING_TIME, SPC_INDIRECT_DATA,
     SPC_PE_IMAGE_DATA, SPC_SP_OPUS_INFO, SignatureError, SignedData, SignerInfo, SpcIndirectData,
     SpcPeImageData, SpcSpOpusInfo, TIME_STAMP_TOKEN, TST_INFO, Time, ToBeSigned, TstInfo,
-    TypeAndValue, Validity, element_at,
+    TypeAndValue, Validity, algorithm_number, element_at,
 };
 use std::test::Fail;
 
@@ -204,10 +204,14 @@ fn what_stands_in_version_and_extensions(rt: HostRuntime) -> Result<(), Fail> {
         offset: 182,
         left: 1,
     };
+    // Without its octet, an INTEGER and an OCTET STRING.
     assert_eq!(rt;
         refused_certificate(signature(rt.alloc())?, 181, 0)?,
-        trailing
+        SignatureError::EmptyContent(180)
     );
+    let mut bytes = signature(rt.alloc())?;
+    bytes[180] = 4;
+    assert_eq!(rt; refused_certificate(bytes, 181, 0)?, trailing);
     let tag = SignatureError::Tag {
         offset: 395,
         expected: 0x30,
@@ -352,6 +356,16 @@ fn refused_elements(rt: HostRuntime) -> Result<(), Fail> {
         refused(b"\0\0\0\x30\x80\0\0")?,
         SignatureError::IndefiniteLength(3)
     );
+    // `openssl asn1parse` prints EOC.
+    for tag in [0x00, 0x20] {
+        let end = refused(&[0, 0, 0, tag, 0, 5, 0])?;
+        assert_eq!(rt; end, SignatureError::EndOfContents(3));
+    }
+    // It prints BAD INTEGER, BAD OBJECT, BAD BOOLEAN, BAD ENUMERATED; `openssl pkey` refuses a key of such bits.
+    for tag in [0x02, 0x06, 0x01, 0x0A, 0x03] {
+        let empty = refused(&[0, 0, 0, tag, 0, 5, 0])?;
+        assert_eq!(rt; empty, SignatureError::EmptyContent(3));
+    }
     let long = SignatureError::LengthOctets {
         offset: 3,
         octets: 8,
@@ -498,6 +512,14 @@ fn texts(rt: HostRuntime) -> Result<(), Fail> {
             "content type at offset 0x1a is another",
         ),
         (SignatureError::BadTime(0x1A), "no time at offset 0x1a"),
+        (
+            SignatureError::EndOfContents(0x1A),
+            "end of contents at offset 0x1a, which DER does not have",
+        ),
+        (
+            SignatureError::EmptyContent(0x1A),
+            "element at offset 0x1a has no content, which its type does not allow",
+        ),
     ] {
         assert_eq!(rt; error.to_string(rt.alloc())?.as_str(), want);
     }
@@ -507,6 +529,19 @@ fn texts(rt: HostRuntime) -> Result<(), Fail> {
 /// The time in a text: an element with this tag, and one byte before it.
 fn time(text: &[u8], tag: u8) -> std::result::Result<Time, SignatureError> {
     Time::parse(text, at(tag, 0, 1, text.len() - 1))
+}
+
+/// The octets that `openssl asn1parse -genstr OID:..` writes.
+#[test]
+fn older_algorithms(rt: HostRuntime) {
+    // sha1WithRSA, 1.3.14.3.2.29; md2WithRSAEncryption, 1.2.840.113549.1.1.2; shaWithRSAEncryption, 1.3.14.3.2.15, which has none.
+    for (octets, number) in [
+        (b"\x2B\x0E\x03\x02\x1D".as_slice(), 220),
+        (b"\x2A\x86\x48\x86\xF7\x0D\x01\x01\x02", 221),
+        (b"\x2B\x0E\x03\x02\x0F", 0),
+    ] {
+        assert_eq!(rt; algorithm_number(octets), number);
+    }
 }
 
 #[test]

@@ -2,7 +2,7 @@
 //! are those of `walks`.
 
 use crate::frames::bytes_of;
-use crate::images::image;
+use crate::images::{image, with_byte};
 use crate::minidumps::with_stream;
 use crate::refusing::Refusing;
 use crate::walks::{
@@ -98,6 +98,7 @@ fn a_walk_goes_through_modules_in_any_order(rt: HostRuntime) -> Result<(), Fail>
         registers,
         way: Way::Top,
         has_called: false,
+        is_guess: false,
     };
     let mut frames = ThreadFrames::new(&modules, &memory, top, 9);
     for (rip, rsp, rbx, way) in FRAMES {
@@ -194,7 +195,7 @@ fn dump_module(time_date_stamp: u32, size_of_image: u32) -> Module {
 #[test]
 fn images_are_those_of_modules(rt: HostRuntime) -> Result<(), Fail> {
     let alloc = rt.alloc();
-    let bytes = pe_images::with_functions(alloc)?;
+    let bytes = with_byte(pe_images::with_functions(alloc)?, 0x48, 9);
     let opts = ParseOptions::default();
     let header = Header::parse_with_opts(&bytes, &opts)?;
     let stamp = header.coff_header.time_date_stamp;
@@ -206,6 +207,7 @@ fn images_are_those_of_modules(rt: HostRuntime) -> Result<(), Fail> {
     let own = dump_module(stamp, size);
     assert!(rt; is_image_of(&header, &own));
     assert!(rt; !is_image_of(&header, &dump_module(stamp + 1, size)));
+    assert!(rt; !is_image_of(&header, &dump_module(8, size)));
     assert!(rt; !is_image_of(&header, &dump_module(stamp, size + 1)));
     let found = ModuleImage::parse(alloc, &bytes, &opts, &own)?.ok_or("an image")?;
     let loaded = found.loaded(&own);
@@ -305,6 +307,65 @@ fn memory_for_runs_is_refused(rt: HostRuntime) -> Result<(), Fail> {
         assert!(rt; matches!(answer, Err(Error::Memory(_))), "request {k}");
     }
     Err(Fail::new("there is no end of requests"))
+}
+
+/// Where an allocation fails, as many frames are left as before; a walk of no frame, and one that may return none, ask for no
+/// memory.
+#[test]
+fn refused_walks_keep_what_is_left(rt: HostRuntime) -> Result<(), Fail> {
+    let alloc = rt.alloc();
+    let bytes = file(alloc)?;
+    let pieces = [piece(0x1000, 0, 24)];
+    let memory = IndexedMemory::new(alloc, &bytes, &pieces)?;
+    let modules = IndexedModules::new(alloc, &[])?;
+    let top = StackFrame {
+        registers: registers(LIB + 0x70, 0x1000),
+        way: Way::Top,
+        has_called: false,
+    };
+    let mut stacks = Stacks::new(&modules, &memory, 8);
+    let refusing = Refusing::new(alloc, 0);
+    assert!(rt; stacks.walk(&refusing, top, 9).is_err());
+    assert_eq!(rt; stacks.left(), 8);
+    let refusing = Refusing::new(alloc, 0);
+    let none = stacks.walk(&refusing, top, 0)?;
+    assert_eq!(rt; (none.frames.len(), stacks.left()), (0, 8));
+    let mut over = Stacks::new(&modules, &memory, 0);
+    let none = over.walk(&refusing, top, 9)?;
+    assert!(rt; none.frames.is_empty());
+    let some = stacks.walk(alloc, top, 9)?;
+    assert!(rt; !some.frames.is_empty());
+    Ok(())
+}
+
+/// Memory is asked for only for the section headers of the module's own image.
+#[test]
+fn images_ask_for_their_sections_alone(rt: HostRuntime) -> Result<(), Fail> {
+    let alloc = rt.alloc();
+    let mut bytes = pe_images::with_functions(alloc)?;
+    // The size of the image, which the file leaves 0.
+    bytes[0x91] = 0x20;
+    let opts = ParseOptions::default();
+    let stamp = Header::parse_with_opts(&bytes, &opts)?
+        .coff_header
+        .time_date_stamp;
+    let own = dump_module(stamp, 0x2000);
+    let other = dump_module(stamp + 1, 0x2000);
+    let pieces = [piece(APP, 0, bytes.len() as u64)];
+    let memory = MemoryRuns::new(alloc, &bytes, &pieces)?;
+    for request in 0..2 {
+        let refusing = [0; 5].map(|_| Refusing::new(alloc, request));
+        let [first, second, third, fourth, fifth] = &refusing;
+        let parsed = ModuleImage::parse(first, &bytes, &opts, &own);
+        let found = ModuleImage::from_memory(second, &memory, &opts, &own);
+        assert_eq!(rt; matches!(parsed, Err(Error::Memory(_))), request == 0);
+        assert_eq!(rt; matches!(found, Err(Error::Memory(_))), request == 0);
+        assert!(rt; ModuleImage::parse(third, &bytes, &opts, &other)?.is_none());
+        assert!(rt; ModuleImage::from_memory(fourth, &memory, &opts, &other)?.is_none());
+        let short = ModuleImage::parse(fifth, &bytes[..60], &opts, &own);
+        assert!(rt; matches!(short, Err(Error::Short { .. })));
+    }
+    Ok(())
 }
 
 /// An image in the dump's own memory is read as loaded, and ends at the first gap.

@@ -126,12 +126,13 @@ fn searches_in_few_reads(rt: HostRuntime) -> Result<(), Fail> {
     Ok(())
 }
 
-/// In a table without an order the lookup goes the way of the search, and misses what a look at every entry finds.
+/// In a table without an order, where already the second start is below the first, the lookup goes the way of the search, and
+/// misses what a look at every entry finds.
 #[test]
 fn finds_as_the_search_does_without_order(rt: HostRuntime) -> Result<(), Fail> {
     let mut entries = Vec::new(rt.alloc());
     for i in 0..1000u32 {
-        let begin = 16 * (7 * i % 1000);
+        let begin = 16 * (7 * (i + 142) % 1000);
         entries.push(entry(begin, begin + 16, i))?;
     }
     let bytes = table_of(rt.alloc(), &entries)?;
@@ -701,6 +702,24 @@ fn unwinds_at_an_address_of_an_image(rt: HostRuntime) -> Result<(), Fail> {
     );
     assert!(rt; data.unwind_at(0x1010, &sections, &opts)?.is_none());
 
+    Ok(())
+}
+
+/// The raw data end at 0x400 in the file, which goblin rounds up to the file alignment: by one of 4096 the record at 0x720 lies in
+/// the section.
+#[test]
+fn maps_records_by_the_file_alignment(rt: HostRuntime) -> Result<(), Fail> {
+    let mut bytes = with_byte(with_functions(rt.alloc())?, 0x209, 0x15);
+    bytes.extend_from_slice(&[0; 0x310])?;
+    bytes.extend_from_slice(&[1, 4, 2, 0, 4, 0x42, 1, 0x50])?;
+    let opts = ParseOptions::default();
+    let header = Header::parse_with_opts(&bytes, &opts)?;
+    let sections = header.coff_header.sections(rt.alloc(), &bytes, 0x148)?;
+    for (file_alignment, size_of_prolog) in [(0x1000, Some(4)), (0x200, None)] {
+        let data = ExceptionData::parse(&bytes, FUNCTIONS, &sections, file_alignment)?;
+        let found = data.unwind_at(0x1005, &sections, &opts).unwrap_or(None);
+        assert_eq!(rt; found.map(|it| it.size_of_prolog), size_of_prolog);
+    }
     Ok(())
 }
 

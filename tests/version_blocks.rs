@@ -173,6 +173,9 @@ fn of_the_page(rt: HostRuntime) -> std::result::Result<(), Fail> {
 #[test]
 fn wrong_in_the_middle(rt: HostRuntime) -> std::result::Result<(), Fail> {
     let alloc = rt.alloc();
+    // shows: pe_resource/src/version_block.rt own_bytes BelowHead
+    // shows: pe_resource/src/version_block.rt own_bytes PastEnd
+    // shows: pe_resource/src/version_block.rt whole KeyEnd
     let short = page(alloc, &[(168, &[5])])?;
     let mut tables = root(&short)?.string_tables()?;
     let mut strings = following(&mut tables)?.children();

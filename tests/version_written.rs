@@ -110,6 +110,24 @@ fn refusals(rt: HostRuntime) -> Result<(), Fail> {
     Ok(())
 }
 
+/// A text `x` with the key `A` has 12 bytes before its value. A value above 65,535 bytes is the number itself.
+#[test]
+fn sizes_of_blocks_that_are_too_long(rt: HostRuntime) -> Result<(), Fail> {
+    let texts = vec![in rt.alloc(); 1u8; 70_000]?;
+    // shows: pe_version/src/block.rt measured TooLong
+    for (length, size) in [(65_524, 65_536), (65_530, 65_542), (70_000, 70_000)] {
+        let block = NewBlock {
+            value: &texts[..length],
+            ..STRING
+        };
+        let Err(VersionError::TooLong(found)) = block_len(&block) else {
+            return Err("a block of more than 65,535 bytes".into());
+        };
+        assert_eq!(rt; found, size);
+    }
+    Ok(())
+}
+
 /// What windres 2.40 makes of two tables and two translations. Each of its blocks has a multiple of four bytes, so that it does not
 /// matter that it counts no zeros after the last one.
 const WHOLE: &[&[u8]] = &[
@@ -411,12 +429,78 @@ fn records_that_are_too_long(rt: HostRuntime) -> Result<(), Fail> {
     }) else {
         return Err("a table of more than 65,535 bytes".into());
     };
-    let Err(VersionError::Key) = version_len(&VersionRecords {
+    // shows: pe_version/src/measure.rt whole_len TooLong
+    // A table of 24 bytes and strings of 12 each beside their texts, which by lengths alone would have 65,532 bytes.
+    for (count, first, others, size) in [(4, 16_376, 16_364, 65_540), (6, 10_908, 10_908, 65_544)] {
+        let text = RecordRange { offset: 0, length: others };
+        let mut strings = vec![in rt.alloc(); StringRecord { text, ..long }; count]?;
+        strings[0].text.length = first;
+        let Err(VersionError::TooLong(found)) = version_len(&VersionRecords {
+            tables: &[TableRecord { count: count as u64, ..table }],
+            strings: &strings,
+            ..value
+        }) else {
+            return Err("a table of more than 65,535 bytes".into());
+        };
+        assert_eq!(rt; found, size);
+    }
+    let languages = vec![in rt.alloc(); LANGUAGES[0]; 65_538]?;
+    // shows: pe_version/src/measure.rt variables_len TooLong
+    for count in [65_537, 65_538] {
+        let Err(VersionError::TooLong(found)) = version_len(&VersionRecords {
+            translations: &languages[..count],
+            ..value
+        }) else {
+            return Err("more translations than a block has bytes".into());
+        };
+        assert_eq!(rt; found, count);
+    }
+    // shows: pe_version/src/record.rt require_short TooLong
+    // By the lengths of names and texts alone, so that no name is read.
+    let Err(VersionError::TooLong(65_536)) = version_len(&VersionRecords {
         tables: &[TableRecord { count: 3, ..table }],
         strings: &[long, longer, odd],
         ..value
     }) else {
+        return Err("a name is read".into());
+    };
+    let Err(VersionError::Key) = version_len(&VersionRecords {
+        strings: &[long, odd],
+        ..value
+    }) else {
         return Err("a name of three bytes".into());
     };
+    Ok(())
+}
+
+/// Tables that share strings, which share a long name, are refused without a look at each.
+#[test]
+fn shared_names_are_not_read(rt: HostRuntime) -> Result<(), Fail> {
+    let texts = vec![in rt.alloc(); 1; 60_000]?;
+    let string = StringRecord {
+        name: RecordRange {
+            offset: 0,
+            length: 60_000,
+        },
+        text: RecordRange {
+            offset: 0,
+            length: 0,
+        },
+    };
+    let strings = vec![in rt.alloc(); string; 100_000]?;
+    let table = TableRecord {
+        first: 0,
+        count: 100_000,
+        language: LANGUAGES[0],
+    };
+    let tables = vec![in rt.alloc(); table; 100_000]?;
+    let value = VersionRecords {
+        fixed: &FIXED,
+        tables: &tables,
+        strings: &strings,
+        translations: &[],
+        texts: &texts,
+    };
+    assert!(rt; matches!(version_len(&value), Err(VersionError::TooLong(_))));
     Ok(())
 }

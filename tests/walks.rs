@@ -73,19 +73,20 @@ pub(crate) fn app(alloc: Global) -> Result<Vec<u8>, AllocError> {
 }
 
 /// A function that pushes rbx at 0x40, with a call that ends at 0x50, one that sets a frame register at 0x80, and two whose
-/// records are refused after it.
+/// records are refused after it, of which the last one ends with a call.
 pub(crate) fn lib(alloc: Global) -> Result<Vec<u8>, AllocError> {
     let table = [
         0x40, 0, 0, 0, 0x60, 0, 0, 0, 0x68, 0, 0, 0, 0x80, 0, 0, 0, 0x88, 0, 0, 0, 0x30, 0, 0, 0,
         0x88, 0, 0, 0, 0x90, 0, 0, 0, 0x60, 0, 0, 0, 0x90, 0, 0, 0, 0xA0, 0, 0, 0, 0x38, 0, 0, 0,
     ];
-    let parts: [(usize, &[u8]); 6] = [
+    let parts: [(usize, &[u8]); 7] = [
         (0, &table),
         (0x30, &SETS_RBP),
         (0x38, &ENDLESS),
         (0x4B, &CALL),
         (0x60, &OF_VERSION_3),
         (0x68, &PUSHES_RBX),
+        (0x9B, &CALL),
     ];
     image(alloc, SIZE as usize, &parts)
 }
@@ -269,7 +270,7 @@ fn a_walk_goes_through_all_modules(rt: HostRuntime) -> Result<(), Fail> {
     )
 }
 
-/// One step from this top frame, in the library alone, and why the walk is over after it.
+/// One step from this top frame, in the library alone, all of which is executable, and why the walk is over after it.
 fn end_of_step(
     rt: &impl Abort,
     alloc: Global,
@@ -279,7 +280,11 @@ fn end_of_step(
 ) -> Result<String, Fail> {
     let lib = lib(alloc)?;
     let data = exceptions(&lib, 4)?;
-    let modules = [module(LIB, &lib, &data)];
+    let sections = [section(0, SIZE, CODE)];
+    let modules = [Module {
+        sections: &sections,
+        ..module(LIB, &lib, &data)
+    }];
     let modules = Modules::new(&modules).map_err(|_| "one module ascends")?;
     let bytes = bytes_of(alloc, words)?;
     let memory = Stack {
@@ -304,9 +309,13 @@ fn a_walk_says_why_it_is_over(rt: HostRuntime) -> Result<(), Fail> {
         end.as_str(),
         "stack pointer 0x1008 of the caller is not above that of the function"
     );
-    // The caller is in the library, and in no function of it: one that has called is no leaf function.
+    // The caller is in the library, and in no function of it: one that has called is no leaf function. Data are no caller.
     let end = end_of_step(&rt, alloc, registers(LIB + 0x70, 0x1000), &[LIB + 0x74], 2)?;
     assert_eq!(rt; end.as_str(), "no function covers the call");
+    for word in [0x30, LIB + 0xA1, u64::MAX] {
+        let end = end_of_step(&rt, alloc, registers(LIB + 0x70, 0x1000), &[word], 1)?;
+        assert_eq!(rt; end.as_str(), "no return address");
+    }
     let end = end_of_step(&rt, alloc, registers(LIB + 0x8A, 0x1000), &[], 1)?;
     assert_eq!(rt; end.as_str(), "unknown unwind record version 3");
     let end = end_of_step(&rt, alloc, registers(LIB + 0x94, 0x1000), &[], 1)?;
@@ -341,6 +350,7 @@ fn a_frame_without_a_caller_stays(rt: HostRuntime) -> Result<(), Fail> {
         registers: top,
         way: Way::Top,
         has_called: false,
+        is_guess: false,
     };
     let mut position = WalkPosition::starting(frame, 9);
     assert!(rt; position.advance(&modules, &memory));
@@ -354,46 +364,68 @@ fn a_frame_without_a_caller_stays(rt: HostRuntime) -> Result<(), Fail> {
     Ok(())
 }
 
+/// All frames are guesses but the top frame: nothing says which functions are leaf functions, and where the stack ends.
 #[test]
-fn an_image_without_exception_data_has_leaf_functions_alone(rt: HostRuntime) -> Result<(), Fail> {
-    let plain = Module {
+fn an_image_without_exception_data_has_calls(rt: HostRuntime) -> Result<(), Fail> {
+    let program = program(rt.alloc())?;
+    let sections = [section(0x40, 0x80, CODE)];
+    let modules = [Module {
         base: APP,
-        size: SIZE,
-        bytes: &[],
-        sections: &[],
+        size: 0x100,
+        bytes: &program,
+        sections: &sections,
         index: &[],
         exceptions: None,
         opts: flat(),
-    };
-    let modules = [plain];
+    }];
     let modules = Modules::new(&modules).map_err(|_| "one module ascends")?;
-    let bytes = bytes_of(rt.alloc(), &[APP + 0x20])?;
-    let memory = Stack {
-        start: 0x1000,
-        bytes: &bytes,
-    };
-    let mut walk = StackFrames::new(modules, &memory, registers(APP + 0x10, 0x1000), 9);
-    assert!(rt; walk.next().is_some());
-    let leaf = walk.next().ok_or("the caller of a leaf function")?;
-    assert_eq!(rt; (leaf.registers.rip, leaf.way), (APP + 0x20, Way::Leaf));
-    assert!(rt; walk.next().is_none());
-    assert!(rt; matches!(walk.end(), Some(WalkEnd::NoFunction)));
+    let call = APP + 0x50;
+    for (words, frames) in [
+        (
+            [call, APP + 0x44, 7, call, 0],
+            [(0x1008, Way::Leaf), (0x1020, Way::Scanned)],
+        ),
+        (
+            [7, call, call, APP + 0x44, 0],
+            [(0x1010, Way::Scanned), (0x1018, Way::Scanned)],
+        ),
+    ] {
+        let bytes = bytes_of(rt.alloc(), &words)?;
+        let memory = Stack {
+            start: 0x1000,
+            bytes: &bytes,
+        };
+        let mut walk = StackFrames::new(modules, &memory, registers(APP + 0x90, 0x1000), 9);
+        let top = walk.next().ok_or("the top frame")?;
+        assert_eq!(rt; (top.way, top.is_guess), (Way::Top, false));
+        for (rsp, way) in frames {
+            let found = walk.next().ok_or("a caller")?;
+            assert_eq!(rt;
+                (found.registers.rip, found.way, found.is_guess),
+                (call, way, true)
+            );
+            assert_eq!(rt; found.registers.general[RSP], rsp);
+        }
+        assert!(rt; walk.next().is_none());
+        assert!(rt; matches!(walk.end(), Some(WalkEnd::NoFunction)));
+    }
     Ok(())
 }
 
 /// A program: a function that pushes rbx at 0x40, with a call that ends at 0x50; one at 0x60 that allocates 8 bytes, from where an
-/// interrupted thread goes on without a word of it in the record; a function without a record; one that pushes rbx at 0xA0; and
-/// at 0xD0 data that look like a call. Up to 0xC0 it is executable.
+/// interrupted thread goes on without a word of it in the record; a function without a record, with a call that ends at 0x98; one
+/// that pushes rbx at 0xA0; and at 0xD0 data that look like a call. Up to 0xC0 it is executable.
 fn program(alloc: Global) -> Result<Vec<u8>, AllocError> {
     let table = [
         0x40, 0, 0, 0, 0x60, 0, 0, 0, 0x24, 0, 0, 0, 0x60, 0, 0, 0, 0x80, 0, 0, 0, 0x2C, 0, 0, 0,
         0xA0, 0, 0, 0, 0xC0, 0, 0, 0, 0x24, 0, 0, 0,
     ];
-    let parts: [(usize, &[u8]); 5] = [
+    let parts: [(usize, &[u8]); 6] = [
         (0, &table),
         (0x24, &PUSHES_RBX),
         (0x2C, &ALLOCATES_8),
         (0x4B, &CALL),
+        (0x93, &CALL),
         (0xD0, &CALL),
     ];
     image(alloc, 0x100, &parts)
@@ -468,6 +500,8 @@ fn expect_frames(
 
 const BOTTOM: &str = "bottom of the stack";
 
+const ZERO: &str = "0 after a guess";
+
 const NO_MODULE: &str = "no module has the instruction pointer";
 
 /// The frame of the function that pushes rbx, at the call: its return address is 0.
@@ -486,7 +520,7 @@ fn a_call_of_a_null_pointer_has_a_caller(rt: HostRuntime) -> Result<(), Fail> {
             (pointer, 0x1000, Way::Top, false),
             at_the_call(0x1008, Way::Leaf),
         ];
-        expect_frames(&rt, alloc, (pointer, 0x1000), &OUTERMOST, &frames, BOTTOM)?;
+        expect_frames(&rt, alloc, (pointer, 0x1000), &OUTERMOST, &frames, ZERO)?;
     }
     // Under a dispatcher of exceptions, whose frame has 8 bytes.
     let words = [8, 0, APP + 0x50, 0, 0, 0, 0, 0xB0, 0];
@@ -495,7 +529,7 @@ fn a_call_of_a_null_pointer_has_a_caller(rt: HostRuntime) -> Result<(), Fail> {
         (0, 0x1010, Way::Records, false),
         at_the_call(0x1018, Way::Leaf),
     ];
-    expect_frames(&rt, alloc, (APP + 0x70, 0x1000), &words, &frames, BOTTOM)
+    expect_frames(&rt, alloc, (APP + 0x70, 0x1000), &words, &frames, ZERO)
 }
 
 /// A function without a record that has pushed two registers, as one that tests the stack does where the stack is used up.
@@ -507,13 +541,28 @@ fn a_scan_finds_the_caller_of_a_function_without_records(rt: HostRuntime) -> Res
         (APP + 0x90, 0x1000, Way::Top, false),
         at_the_call(0x1018, Way::Scanned),
     ];
-    expect_frames(&rt, alloc, (APP + 0x90, 0x1000), &words, &frames, BOTTOM)?;
+    expect_frames(&rt, alloc, (APP + 0x90, 0x1000), &words, &frames, ZERO)?;
     // The stack pointer is rounded up; the word at it, not aligned, is no return address.
     let frames = [
         (APP + 0x90, 0x1001, Way::Top, false),
         at_the_call(0x1018, Way::Scanned),
     ];
-    expect_frames(&rt, alloc, (APP + 0x90, 0x1001), &words, &frames, BOTTOM)
+    expect_frames(&rt, alloc, (APP + 0x90, 0x1001), &words, &frames, ZERO)
+}
+
+/// Nor do the callers of a call in such a function have records: the stack is scanned from there too, up to a function that has some.
+#[test]
+fn a_scan_finds_the_callers_of_calls_without_records(rt: HostRuntime) -> Result<(), Fail> {
+    let alloc = rt.alloc();
+    let words = [APP + 0x98, 7, APP + 0x98, APP + 0x50, 0, 0, 0, 0, 0xB0, 0];
+    let call = |rsp, way| (APP + 0x98, rsp, way, true);
+    let frames = [
+        (APP + 0x90, 0x1000, Way::Top, false),
+        call(0x1008, Way::Leaf),
+        call(0x1018, Way::Scanned),
+        at_the_call(0x1020, Way::Scanned),
+    ];
+    expect_frames(&rt, alloc, (APP + 0x90, 0x1000), &words, &frames, ZERO)
 }
 
 #[test]
@@ -599,7 +648,7 @@ fn the_bottom_is_no_lost_walk(rt: HostRuntime) -> Result<(), Fail> {
     expect_frames(&rt, alloc, start, &[8, 0], &[top], BOTTOM)?;
     expect_frames(&rt, alloc, start, &[8, 0, 7, 0, APP + 0x44], &[top], BOTTOM)?;
     let leaf = (APP + 0x90, 0x1000, Way::Top, false);
-    expect_frames(&rt, alloc, (APP + 0x90, 0x1000), &[0, 7], &[leaf], BOTTOM)?;
+    expect_frames(&rt, alloc, (APP + 0x90, 0x1000), &[0, 7], &[leaf], ZERO)?;
     // Any other address in no module is a lost walk, and so is a top frame there, whatever it would return to.
     for address in [1, APP - 1, APP + 0x101] {
         let frames = [top, (address, 0x1010, Way::Records, false)];
@@ -621,7 +670,7 @@ fn a_scan_reads_128_words(rt: HostRuntime) -> Result<(), Fail> {
     words[127] = APP + 0x50;
     words[133] = 0;
     let frames = [top, at_the_call(0x1400, Way::Scanned)];
-    expect_frames(&rt, alloc, (0, 0x1000), &words, &frames, BOTTOM)?;
+    expect_frames(&rt, alloc, (0, 0x1000), &words, &frames, ZERO)?;
     words[127] = 7;
     words[128] = APP + 0x50;
     expect_frames(&rt, alloc, (0, 0x1000), &words, &[top], NO_MODULE)?;
@@ -630,7 +679,7 @@ fn a_scan_reads_128_words(rt: HostRuntime) -> Result<(), Fail> {
         (0, 0xFE8, Way::Top, false),
         at_the_call(0x1008, Way::Scanned),
     ];
-    expect_frames(&rt, alloc, (0, 0xFE8), &OUTERMOST, &frames, BOTTOM)?;
+    expect_frames(&rt, alloc, (0, 0xFE8), &OUTERMOST, &frames, ZERO)?;
     for high in [
         u64::MAX,
         u64::MAX - 6,
@@ -653,7 +702,7 @@ fn a_scan_finds_executable_code_alone(rt: HostRuntime) -> Result<(), Fail> {
         (0, 0x1000, Way::Top, false),
         at_the_call(0x1018, Way::Scanned),
     ];
-    expect_frames(&rt, alloc, (0, 0x1000), &words, &frames, BOTTOM)
+    expect_frames(&rt, alloc, (0, 0x1000), &words, &frames, ZERO)
 }
 
 const CODE: u32 = 0x6000_0020;
@@ -816,7 +865,7 @@ fn calls_have_these_encodings(rt: HostRuntime) -> Result<(), Fail> {
     Ok(())
 }
 
-/// The bytes before an address are those of the module that has the last of them, and no others.
+/// The bytes before an address are those of the module that has the last of them, and no others. One without exception data has calls.
 #[test]
 fn calls_lie_in_one_module(rt: HostRuntime) -> Result<(), Fail> {
     let alloc = rt.alloc();
@@ -851,7 +900,8 @@ fn calls_lie_in_one_module(rt: HostRuntime) -> Result<(), Fail> {
         (APP + 0x41, false),
         (APP + 0x44, false),
         (APP + 0x45, false),
-        (APP + 0x105, false),
+        (APP + 0x105, true),
+        (APP + 0x106, false),
         (u64::MAX, false),
     ] {
         assert_eq!(rt; modules.is_after_call(address), is);

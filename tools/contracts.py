@@ -3,9 +3,9 @@
 A contract has one answer if it fixes the result and what each `&mut` argument holds after the call. For such a function f this
 module writes another one beside it: whatever meets the clauses of f is what f returns,
 
-    fn f_again(number: u32, other: Result<usize>) -> Result<usize>
-        requires again_0 { Returns other (half number) }
-        ensures same_0 { seen (λ x. x) kind_of result ≡ seen (λ x. x) kind_of other }
+    fn f_again(number: u32, again: Result<usize>) -> Result<usize>
+        requires again_0 { Returns again (half number) }
+        ensures same_0 { seen (λ x. x) kind_of result ≡ seen (λ x. x) kind_of again }
     {
         f(number)
     }
@@ -48,6 +48,10 @@ WRITTEN = re.compile(r"&(?:'\w+ )?mut ")
 # Types whose values may be used twice: those that a crate declares with Copy come to these.
 COPIED = re.compile(r"&|Option<&|(?:[ui](?:8|16|32|64|128|size)|bool|char|Global)\Z")
 DERIVES_COPY = re.compile(r"#\[derive\([^)]*\bCopy\b[^)]*\)\]\s*(?:#\[[^\n]*\]\s*)*(?:pub(?:\([a-z ]+\))? )?(?:struct|enum) (\w+)")
+# A reference or a lifetime without a name.
+ELIDED = re.compile(r"&(?!')|'_\b")
+# A type with a lifetime, other than a reference without a name.
+BORROWS = re.compile(r"'(?!static)|(?<=.)&(?!'static)")
 STRUCT = r"\bstruct {}(?:<[^{{(;]*?>)?\s*\{{(.*?)^\}}"
 CONDITIONAL = re.compile(r"→|↔")
 LAMBDA = re.compile(r"\([^()]*λ(?:[^()]|\([^()]*\))*\)")
@@ -133,6 +137,11 @@ def words_of(text):
     return [it for it in split_outside(text, " ") if it]
 
 
+def named(text):
+    """A type whose references have a lifetime with a name."""
+    return ELIDED.sub(lambda it: "&'again " if it[0] == "&" else "'again", text)
+
+
 class Contract:
     """A function's signature and clauses, and what they fix."""
 
@@ -166,7 +175,9 @@ class Contract:
                 self.types[f"{named[1]}.new"] = WRITTEN.sub("", named[2])
         if not self.result:
             del self.types["result"]
-        self.fixed = [it for clause in self.clauses if clause.kind == "ensures" for it in self.fixed_by(clause.text)]
+        fixed = [(clause.text, self.fixed_by(clause.text)) for clause in self.clauses if clause.kind == "ensures"]
+        self.fixing = [text for text, found in fixed if found]
+        self.fixed = [it for _, found in fixed for it in found]
 
     def is_public(self):
         return self.visible == "pub "
@@ -184,8 +195,10 @@ class Contract:
         sides = split_outside(clause, " ≡ ")
         if len(sides) == 2:
             for one, other in (sides, sides[::-1]):
-                if self.targets_in(one) and not self.targets_in(other) and not self.is_partial(one):
-                    return [Fixed(one, self.targets_in(one), "")]
+                if self.targets_in(one) and not self.targets_in(other):
+                    # The type of a tuple would have to be named: its parts are compared.
+                    parts = split_outside(one[1:-1], ",") if one[0] == "(" and "λ" not in one else [one]
+                    return [Fixed(it, self.targets_in(it), "") for it in parts if self.targets_in(it) and not self.is_partial(it)]
             return []
         name, *words = words_of(clause)
         if any(it.startswith("{") for it in words):
@@ -206,6 +219,8 @@ class Contract:
         """What the clauses do not fix of the result and of the written arguments: the first of it, or ''."""
         if not self.types:
             return "it has no result, and writes nothing"
+        if f"{self.crate.name}::{self.path}" in self.table["not_shown"]:
+            return self.table["not_shown"][f"{self.crate.name}::{self.path}"]
         for target, of in self.types.items():
             fields = [path for it in self.fixed if target in it.targets for path in self.fields(it.text, target)]
             if not ("" in fields or self.has_all_fields(of, fields)):
@@ -237,8 +252,8 @@ class Contract:
         """The function that shows that the contract has one answer, or None where a parameter is a pattern."""
         if any(not (RECEIVER.fullmatch(it) or PARAMETER.fullmatch(it)) for it in self.parameters):
             return None
-        head, clauses, body, compared = self.once() if [*self.types] == ["result"] else self.twice(copied)
-        lines = ["", "", f"{self.visible}fn {self.function.name}_again{self.generic}{head}", *[self.where] * bool(self.where)]
+        head, clauses, body, compared = self.twice(copied) if [*self.types] != ["result"] or self.is_generic() else self.once()
+        lines = ["", "", f"{self.visible}fn {self.function.name}_again{head}", *[self.where] * bool(self.where)]
         lines += [f"    {it.kind} {it.name or f'held_{at}'} {{ {it.text} }}" for at, it in enumerate(self.clauses)
                   if it.kind != "ensures"]
         lines += [f"    requires again_{at} {{ {it} }}" for at, it in enumerate(clauses)]
@@ -249,12 +264,19 @@ class Contract:
         words = {"◌≡◌", *re.findall(r"[A-Za-z_]\w*", " ".join([*compared, *clauses]))}
         return Shown(f"{self.path}_again", self.path, text, words)
 
-    def borrows(self):
-        """Whether the result's type has a lifetime."""
+    def impl(self):
+        """What stands in brackets after `impl` and after the type of the impl around the function."""
         text = self.crate.texts[self.crate.files[self.path]]
-        around = [it for it in IMPL.finditer(text) if it.start() < self.function.start]
-        own = around[-1]["args"] or "" if around and self.function.type else ""
-        return bool(re.search(r"'(?!static)", re.sub(r"\bSelf\b", own, self.result)))
+        around = [it for it in IMPL.finditer(text) if it.start() < self.function.start] if self.function.type else []
+        if not around:
+            return "", ""
+        front = text[around[-1].start() + len("impl"):]
+        return front[:end_of_bracket(front, 0)] if front[0] == "<" else "", around[-1]["args"] or ""
+
+    def is_generic(self):
+        """Whether the result's type has a type parameter, whose values a function may not let go."""
+        names = set(re.findall(r"\b([A-Z]\w*)\b\s*(?=[:,>])", f"{self.generic} {self.impl()[0]}"))
+        return bool(names & {*re.findall(r"\w+", re.sub(r"\bSelf\b", self.impl()[1], self.result))})
 
     def own(self):
         """What stands before the name in a call."""
@@ -266,16 +288,21 @@ class Contract:
 
     def once(self):
         """The call, beside a value that meets the same clauses."""
-        def other(text, name="other"):
+        def other(text, name="again"):
             return re.sub(r"(?<![\w.])result(?!\w)", name, text)
 
         # In a `requires` all is as it is on entry. In an `ensures` a value that borrows as the result does has what it was then.
-        clauses = [other(it.text).replace(".entry", "") for it in self.clauses if it.kind == "ensures"]
-        name = "other.entry" if self.borrows() else "other"
+        names = "|".join(["self", *self.arguments()])
+        clauses = [re.sub(rf"(?<![\w.])({names})\.entry\b", r"\1", other(it)) for it in self.fixing]
+        generic, parameters, result = self.generic, self.parameters, self.result
+        if ELIDED.search(result) and not any(it.startswith("&") for it in parameters):
+            parameters, result = ([named(it) for it in parameters], named(result))
+            generic = f"<'again, {generic[1:]}" if generic else "<'again>"
+        name = "again.entry" if BORROWS.search(re.sub(r"\bSelf\b", self.impl()[1], result)) else "again"
         compared = [self.unless(it, "result", name, f"{it.text} ≡ {other(it.text, name)}") for it in self.fixed]
-        given = ", ".join([*self.parameters, f"other: {self.result}"])
+        given = ", ".join([*parameters, f"again: {result}"])
         call = f"    {self.own()}{self.function.name}({', '.join(self.arguments())})"
-        return f"({given}) -> {self.result}", clauses, [call], compared
+        return f"{generic}({given}) -> {result}", clauses, [call], compared
 
     def twice(self, copied):
         """Two calls with the same arguments. 'copied' are the types that derive Copy."""
@@ -296,7 +323,7 @@ class Contract:
         calls = [first, f"{own}{self.function.name}({', '.join(second)})"]
         body = [f"    ({', '.join(calls)})"] if self.result else [f"    {it};" for it in calls]
         result = f" -> ({self.result}, {self.result})" if self.result else ""
-        return f"({', '.join(given)}){result}", same, body, [self.compared(it, again) for it in self.fixed]
+        return f"{self.generic}({', '.join(given)}){result}", same, body, [self.compared(it, again) for it in self.fixed]
 
     @staticmethod
     def unless(fixed, first, second, same):

@@ -1,10 +1,13 @@
 """Signatures by certificates that are unlike those of `signed_images`, for try_verify: keys for other purposes, certificates of one name,
-certificates of a stamp that stand beside it, a signer that says another type than its content has."""
+that are not valid now or that no authority signed, certificates of a stamp that stand beside it, a signer that says another type than
+its content has; and forgeries, whose digests fit."""
 
+import hashlib
 import os
+import struct
 import subprocess
 
-from signed_images import run, signature_of
+from signed_images import make_key, run, signature_of
 
 AUTHORITY = "basicConstraints=critical,CA:TRUE\nkeyUsage=critical,keyCertSign\nsubjectKeyIdentifier=hash\n"
 SIGNER = "keyUsage=critical,digitalSignature\n"
@@ -19,29 +22,68 @@ KEYS = [  # name, subject, issuer, extensions
     ("bare", "/CN=Leaf without identifiers", "second", SIGNER + "extendedKeyUsage=codeSigning\n" + NO_IDENTIFIERS),
     ("stamps", "/CN=Authority of stamps", "root", AUTHORITY),
     ("stamp", "/CN=Stamp", "stamps", SIGNER + "extendedKeyUsage=critical,timeStamping\n"),
+    ("below", "/CN=Below a signer", "rsa", SIGNER + "extendedKeyUsage=codeSigning\n"),
+    ("stranger", "/CN=Stranger", "other", SIGNER + "extendedKeyUsage=codeSigning\n"),
+    ("cipher", "/CN=Cipher", "root", "keyUsage=critical,keyEncipherment\nextendedKeyUsage=codeSigning\n"),
+    ("pss", "/CN=PSS", "root", SIGNER + "extendedKeyUsage=codeSigning\n"),
+    ("expired", "/CN=Expired", "root", SIGNER + "extendedKeyUsage=codeSigning\n"),
+    ("future", "/CN=Future", "root", SIGNER + "extendedKeyUsage=codeSigning\n"),
 ]
+# Of a key how `openssl x509` signs its certificate, where not as usual.
+SIGNED_BY = {"pss": ["-sha384", "-sigopt", "rsa_padding_mode:pss", "-sigopt", "rsa_pss_saltlen:48"]}
+# First and last time of a certificate, which `openssl ca` takes and `openssl x509` does not.
+TIMES = {"expired": ("20200101000000Z", "20210101000000Z"), "future": ("20400101000000Z", "20410101000000Z")}
+CA = """[ca]
+default_ca=d
+[d]
+database=index.txt
+serial=serial
+new_certs_dir=.
+default_md=sha256
+policy=p
+[p]
+commonName=supplied
+"""
 BOTH = ["-ac", "both.pem"]
 OUTSIDE = ["-ac", "stamps.pem", "-TSA-certs", "stamp.pem", "-TSA-key", "stamp.key"]
 # What it is, its key, what osslsigncode is given, whether it is whole. Where osslsigncode says otherwise, what it does not do, and what
-# `openssl verify` is asked in its place.
+# `openssl verify` is asked in its place. What is said of it besides: why its chain is wrong, or a warning.
 ODD = [
-    ("a key for servers", "server", [], False, None, None),
-    ("a key for any purpose", "any", [], False, None, None),
-    ("a key that says no purpose", "unsaid", [], True, None, None),
-    ("an issuer of two keys, by its identifier", "leaf", BOTH, True, None, None),
-    ("an issuer of two keys without identifiers", "bare", BOTH, True, "tries the first of one name alone", ("second.pem", "bare.pem")),
-    ("a stamp whose authority stands beside it", "rsa", OUTSIDE, True, "looks in the stamp alone", ("stamps.pem", "stamp.pem")),
+    ("a key for servers", "server", [], False, None, None, ""),
+    ("a key for any purpose", "any", [], False, None, None, ""),
+    ("a key that says no purpose", "unsaid", [], True, None, None, ""),
+    ("an issuer of two keys, by its identifier", "leaf", BOTH, True, None, None, ""),
+    ("an issuer of two keys without identifiers", "bare", BOTH, True, "tries the first of one name alone", ("second.pem", "bare.pem"), ""),
+    ("a stamp whose authority stands beside it", "rsa", OUTSIDE, True, "looks in the stamp alone", ("stamps.pem", "stamp.pem"), ""),
+    ("a certificate that has expired", "expired", [], False, None, None, "certificate has expired: CN=Expired"),
+    ("a certificate that is not valid yet", "future", [], False, None, None, "certificate is not yet valid: CN=Future"),
+    ("an issuer that is no authority", "below", ["-ac", "rsa.pem"], False, None, None, "CN=RSA signer"),
+    ("an unknown issuer", "stranger", [], False, None, None, "unable to get local issuer certificate: CN=Stranger"),
+    ("a root of its own", "other", [], False, None, None, "self-signed certificate: CN=Other root"),
+    ("a certificate signed with PSS", "pss", [], True, None, None, ""),
+    ("a key for ciphers", "cipher", [], True, None, None, "keyUsage"),
+    ("MD5", "rsa", ["-h", "md5"], False, "takes MD5 for good", None, "MD5"),
 ]
 
 
 def make_odd_keys():
+    make_key("other", "rsa", "/CN=Other root", None, None)
+    for name, text in (("ca.cnf", CA), ("index.txt", ""), ("serial", "1000\n")):
+        with open(name, "w", encoding="utf-8") as file:
+            file.write(text)
     for name, subject, issuer, extensions in KEYS:
         run("openssl", "genrsa", "-out", f"{name}.key", "2048")
         run("openssl", "req", "-new", "-key", f"{name}.key", "-out", f"{name}.csr", "-subj", subject)
         with open(f"{name}.ext", "w", encoding="utf-8") as file:
             file.write(extensions)
-        run("openssl", "x509", "-req", "-in", f"{name}.csr", "-CA", f"{issuer}.pem", "-CAkey", f"{issuer}.key", "-CAcreateserial",
-            "-out", f"{name}.pem", "-days", "800", "-extfile", f"{name}.ext")
+        ends = ["-in", f"{name}.csr", "-out", f"{name}.pem", "-extfile", f"{name}.ext"]
+        if name in TIMES:
+            start, end = TIMES[name]
+            run("openssl", "ca", "-batch", "-notext", "-config", "ca.cnf", "-cert", f"{issuer}.pem", "-keyfile", f"{issuer}.key",
+                "-startdate", start, "-enddate", end, *ends)
+        else:
+            run("openssl", "x509", "-req", "-CA", f"{issuer}.pem", "-CAkey", f"{issuer}.key", "-CAcreateserial", "-days", "800",
+                *SIGNED_BY.get(name, []), *ends)
     with open("both.pem", "w", encoding="utf-8") as file:
         file.write(run("cat", "first.pem", "second.pem"))
 
@@ -50,8 +92,25 @@ def sign_odd(image, index, folder):
     """The path of a copy that is signed as the row of ODD says."""
     _, key, more, *_ = ODD[index]
     out = os.path.join(folder, f"odd{index}.exe")
+    run("osslsigncode", "sign", "-certs", f"{key}.pem", "-key", f"{key}.key", *(more if "-h" in more else ["-h", "sha256", *more]), "-in", image, "-out", out)
+    return out
+
+
+def sign_plain(image, key, folder, *more):
+    """The path of a copy that is signed with SHA-256 by a key, and has nothing else but what these words ask for."""
+    out = os.path.join(folder, f"plain{''.join(more)}-{key}.exe")
     run("osslsigncode", "sign", "-certs", f"{key}.pem", "-key", f"{key}.key", "-h", "sha256", *more, "-in", image, "-out", out)
     return out
+
+
+def pages_of(image):
+    """How many pages have a hash: one of the headers, and of each section its raw data in pages of 4,096 bytes."""
+    with open(image, "rb") as file:
+        content = file.read()
+    pe = struct.unpack_from("<I", content, 60)[0]
+    count, optional = struct.unpack_from("<H", content, pe + 6)[0], struct.unpack_from("<H", content, pe + 20)[0]
+    sizes = [struct.unpack_from("<I", content, pe + 24 + optional + 40 * it + 16)[0] for it in range(count)]
+    return 1 + sum(-(-size // 4096) for size in sizes)
 
 
 def leads_to_root(between, last):
@@ -77,13 +136,18 @@ def children(data, at):
     return found
 
 
+def parts_of_signer(data):
+    """The first signer of a signature, and its parts."""
+    signed = children(data, children(data, 0)[1][2])
+    signer = children(data, signed[-1][1])[0]
+    return children(data, signer[1])
+
+
 def say_another_type(path):
     """A copy whose first signer, by the key rsa.key, says that its content is a list of certificates and not what Authenticode signs. Its
     signature is by the key again."""
     data = bytearray(signature_of(path))
-    signed = children(data, children(data, 0)[1][2])
-    signer = children(data, signed[-1][1])[0]
-    parts = children(data, signer[1])
+    parts = parts_of_signer(data)
     attributes = next(it for it in parts if it[0] == 0xA0)
     value = next(it for it in parts if it[0] == 0x04)
     kind = data.index(bytes.fromhex("0609" "2a864886f70d010903"), attributes[1], attributes[3])
@@ -95,7 +159,78 @@ def say_another_type(path):
         content = bytearray(file.read())
     at = content.rindex(signature_of(path))
     content[at:at + len(data)] = data
-    out = path + ".type"
-    with open(out, "wb") as file:
+    return written(path + ".type", content)
+
+
+# Forgeries of an image that is signed with SHA-256.
+
+
+def written(path, content):
+    with open(path, "wb") as file:
         file.write(content)
-    return out
+    return path
+
+
+def places(content):
+    """Where the checksum of an image is, the entry of its certificate table, and the table."""
+    pe = struct.unpack_from("<I", content, 60)[0]
+    entry = pe + 24 + (112 if struct.unpack_from("<H", content, pe + 24)[0] == 0x20B else 96) + 32
+    return pe + 88, entry, *struct.unpack_from("<II", content, entry)
+
+
+def digest_of(content):
+    checksum, entry, table, _ = places(content)
+    return hashlib.sha256(content[:checksum] + content[checksum + 4:entry] + content[entry + 8:table]).digest()
+
+
+def remade(path):
+    """A copy with another byte before its certificates, and with the digest of the image and that of the signer made anew."""
+    with open(path, "rb") as file:
+        content = bytearray(file.read())
+    table, old, signature = places(content)[2], digest_of(content), signature_of(path)
+    content[table - 16] ^= 1
+    signed = children(signature, children(signature, 0)[1][2])
+    said = children(signature, children(signature, signed[2][1])[1][2])
+    fields = signature[said[0][2]:said[0][3]] if len(said) == 1 else signature[said[0][1]:said[-1][3]]
+    made = signature.replace(old, digest_of(content))
+    new = fields.replace(old, digest_of(content))
+    made = made.replace(hashlib.sha256(fields).digest(), hashlib.sha256(new).digest())
+    at = content.rindex(signature)
+    content[at:at + len(signature)] = made
+    return written(path + ".remade", content)
+
+
+def another_signature(path):
+    """A copy with another last byte of the signer's signature."""
+    with open(path, "rb") as file:
+        content = bytearray(file.read())
+    signature = signature_of(path)
+    content[content.rindex(signature) + next(it for it in parts_of_signer(signature) if it[0] == 0x04)[3] - 1] ^= 1
+    return written(path + ".another", content)
+
+
+def with_two(path, first, second):
+    """A copy of an image with the certificates of two others, one after the other."""
+    with open(path, "rb") as file:
+        content = bytearray(file.read())
+    _, entry, table, _ = places(content)
+    tables = b""
+    for it in (first, second):
+        with open(it, "rb") as file:
+            one = file.read()
+        start, size = places(one)[2:]
+        tables += one[start:start + size]
+    content[table:] = tables
+    struct.pack_into("<I", content, entry + 4, len(tables))
+    return written(f"{path}.two{os.path.basename(first)[-3:]}", content)
+
+
+def with_bytes_after(path):
+    """A copy with eight bytes after the signed data, in its entry."""
+    with open(path, "rb") as file:
+        content = bytearray(file.read())
+    _, entry, table, size = places(content)
+    content += b"payload!"
+    struct.pack_into("<I", content, table, size + 8)
+    struct.pack_into("<I", content, entry + 4, size + 8)
+    return written(path + ".after", content)

@@ -25,6 +25,7 @@ import time
 import header_files
 from header import TOP, Header
 from limits import SECONDS, Failed, limited
+from needs import GROUPS, MINGW, missing
 from retarget import Compiler, Unlike, compiled, edited
 
 BINDINGS = os.path.join(TOP, "bindings")
@@ -35,26 +36,20 @@ TRIPLES = {"linux-x64": "x86_64-unknown-linux-gnu", "linux-arm64": "aarch64-unkn
            "wasm": "wasm64-unknown-unknown", "windows-x64": "x86_64-pc-windows-gnu"}
 # Those that have a folder beside the archive for Linux on x86-64.
 OTHERS = [it for it in TRIPLES if it != "linux-x64"]
-MINGW = "x86_64-w64-mingw32"
 # For every x86-64 processor.
 CPU = ["--cpu", "x86-64"]
 # From nothing, on a busy machine.
 SECONDS_TO_PROVE = 6 * 3600
-# What each target needs to be built, and in which of Debian's packages that is.
-NEEDS = {
-    "linux-x64": {},
-    "linux-arm64": {},
-    "wasm": {"wasm-opt": "binaryen"},
-    "windows-x64": {f"{MINGW}-gcc": "gcc-mingw-w64-x86-64", f"{MINGW}-windres": "binutils-mingw-w64-x86-64",
-                    "llvm-dlltool": "llvm"},
-}
 # What the module uses beside a memory of 64 bits; engines have had it since 2021.
 FEATURES = ["--enable-bulk-memory", "--enable-sign-ext", "--enable-mutable-globals", "--enable-nontrapping-float-to-int"]
 
 
-def missing(needs):
-    """The Debian packages of the programs that are not there."""
-    return sorted({package for program, package in needs.items() if not shutil.which(program)})
+def expect_there(what):
+    """Fails where a program is missing that a build needs: of a target, or of plain C."""
+    group = f"build-{what}"
+    lacking = missing(group) if group in GROUPS else []
+    if lacking:
+        raise Failed(f"{what}: programs of the Debian packages {', '.join(lacking)} are missing: ./setup {group} installs them")
 
 
 def run(words, seconds=SECONDS, **more):
@@ -202,9 +197,7 @@ FINISH = {"linux-x64": lambda folder: None, "linux-arm64": lambda folder: None, 
 def build(target, folder, code=None, words=()):
     """Builds the files of a target into a folder: of proved crates, by `rt lib` with these words more, or of the text
     of LLVM code, which is not proved. Returns the lines that say what was proved, or "not proved"."""
-    lacking = missing(NEEDS[target])
-    if lacking:
-        raise Failed(f"{target}: programs of the Debian packages {', '.join(lacking)} are missing")
+    expect_there(target)
     folder = os.path.realpath(folder)
     os.makedirs(folder, exist_ok=True)
     archive = os.path.join(folder, "libpe_c.a")
@@ -249,9 +242,7 @@ it ends the program: what the library does wrong there reaches no other memory. 
 
 def make_portable(wasm, folder):
     """Writes the C that wasm2c makes of the module of a folder, the calls of pe.h over it, and what both need, into another folder."""
-    lacking = missing({"wasm2c": "wabt"})
-    if lacking:
-        raise Failed(f"a program of the Debian package {lacking[0]} is missing")
+    expect_there("portable")
     os.makedirs(folder, exist_ok=True)
     run(["wasm2c", os.path.realpath(os.path.join(wasm, "pe_c.wasm")), "-n", "pe_c", "-o", "module.c"], cwd=folder)
     own = {it: os.path.join(SOURCES, "portable", it) for it in os.listdir(os.path.join(SOURCES, "portable"))}

@@ -99,6 +99,60 @@ END
   chmod +x -- "$own/toolchain/bin/clang"
 }
 
+# Builds the tests of a crate so that a function of theirs is one of C, and without LLVM's sanitizer, and runs none of them:
+#
+#     build_selectable_tests ROOM CRATE OBJECT
+#
+# The tests are ROOM/tests, and the code of them ROOM/kept.bc, as text. In that code pe_core::mutants::is_chosen is
+# is_chosen_mutant of the OBJECT. What the kit says is printed. The status is 1 where it compiled nothing.
+build_selectable_tests() {
+  local room=$1 crate=$2 object=$3 own=$1/kit
+  link_kit "$room"
+  keep_code "$room"
+  ln -s -- "$object" "$room/linked.o"
+  # The kit compiles a line or two first, to see whether it can: these stay.
+  cat >"$own/toolchain/bin/clang" <<'END'
+#!/bin/sh
+room=${0%/kit/toolchain/bin/clang} code=
+for word in "$@"; do
+  shift
+  case $word in
+    *.bc) [ "$(wc -c <"$word")" -lt 100000 ] || code=$word ;;
+    -O0) word=-O1 ;;
+    -fsanitize=address) continue ;;
+  esac
+  set -- "$@" "$word"
+done
+if [ "$code" ]; then
+  "$room/compilers/clang" --target=x86_64-unknown-linux-gnu -x ir -S -emit-llvm -O0 -Xclang -disable-llvm-passes -o - "$code" |
+    sed -e '/^define [^(]*@"pe_core::mutants::is_chosen"(/,/^}/c declare zeroext i1 @is_chosen_mutant(i32 noundef)' \
+      -e 's/@"pe_core::mutants::is_chosen"/@is_chosen_mutant/' >"$room/kept.bc"
+  cp "$room/kept.bc" "$code"
+fi
+exec "$room/compilers/clang" "$@"
+END
+  rm -f -- "$own/toolchain/bin/ld.lld"
+  cat >"$own/toolchain/bin/ld.lld" <<'END'
+#!/bin/sh
+room=${0%/kit/toolchain/bin/ld.lld} is_left_out=false before=
+for word in "$@"; do
+  shift
+  case $word in
+    --whole-archive) is_left_out=true ;;
+    --no-whole-archive) is_left_out=false ;;
+    *) "$is_left_out" || set -- "$@" "$word" ;;
+  esac
+  [ "$before" != -o ] || made=$word
+  before=$word
+done
+"$room/compilers/ld.lld" "$@" "$room/linked.o" && cp "$made" "$room/tests"
+exit 1
+END
+  chmod +x -- "$own/toolchain/bin/clang" "$own/toolchain/bin/ld.lld"
+  (cd "$crate" && TMPDIR=$room "$unproved_rt" try --test 2>&1 </dev/null) || :
+  [ -e "$room/tests" ]
+}
+
 # Makes the library for C of the code that `rt try --test` compiled in pe_c, whose tests call each of its calls:
 #
 #     archive_of_calls ROOM FILE
@@ -133,7 +187,9 @@ build_archive() {
   # The kit compiles a line or two first, to see whether it can. Of the crate's code nothing is made here.
   sed -i 's/^exec /[ "$(wc -c <"$room\/kept.bc")" -lt 100000 ] || exit 1\n&/' "$room/kit/toolchain/bin/clang"
   (cd "$room/copy/crates/pe_c" && TMPDIR=$room "$unproved_rt" try --test 2>&1 </dev/null) || :
-  [ -e "$room/kept.bc" ] && archive_of_calls "$room" "$file"
+  [ -e "$room/kept.bc" ] || return
+  echo "The kit was stopped on purpose once it had the code, of which it makes nothing here: if it speaks of a bug in rattle, that is why."
+  archive_of_calls "$room" "$file"
 }
 
 # Makes `rt try --test` by ROOM/kit, which link_kit has made, run several tests at a time:

@@ -52,13 +52,14 @@ def registry(room, sources):
 
 
 def words_of(room, sources, debian):
-    """The words of cargo. The folders of this machine and the time have no place in the program."""
+    """The words of cargo. The folders of this machine and the time have no place in the program. It goes without OpenSSL, of which Debian
+    has no archive for Windows."""
     names = {room: ".", os.path.expanduser("~"): "~"}
     if sources:
         names.update(dict.fromkeys((sources, os.path.realpath(sources)), "library"))
     flags = [f"--remap-path-prefix={path}={name}" for path, name in names.items()]
     flags += ["-C", "link-arg=-Wl,--no-insert-timestamp", "-C", "strip=symbols"]
-    words = ["--config", f"target.{TARGET}.rustflags = {json.dumps(flags)}", "--target", TARGET, "--release", "--quiet"]
+    words = ["--config", f"target.{TARGET}.rustflags = {json.dumps(flags)}", "--target", TARGET, "--release", "--quiet", "--no-default-features"]
     if sources:
         words += ["-Z", "build-std=std,panic_abort"]
     return words + (["--offline", *registry(room, sources)] if debian and sources else debian)

@@ -2,12 +2,10 @@
 
 import contextlib
 import os
-import shutil
 
 from limits import Failed, limited
+from needs import WINE
 
-# The program wine speaks of what is missing of 32 bits.
-WINE = shutil.which("wine64") or "/usr/lib/wine/wine64"
 # Wine makes its folder at the first program, which takes most of a minute on a busy machine.
 SECONDS = 600
 SECONDS_TO_END = 60

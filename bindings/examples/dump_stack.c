@@ -21,7 +21,8 @@ static uint64_t run_count;
 static pe_c_module module;
 
 /* Why a walk is over, by PE_C_END_*. */
-static const char *const ends[] = {"bound", "bottom", "no module", "no function", "records", "long chain", "step"};
+static const char *const ends[] = {"bound", "bottom", "no module", "no function", "records", "long chain", "step",
+                                   "zero", "no return address"};
 
 /* Reads the pieces of memory, of both kinds, as many as there is room for. */
 static uint32_t read_memory(void)

@@ -18,7 +18,8 @@ static size_t memory_length, piece_count;
 static pe_c_memory_piece pieces[MOST_PIECES];
 
 /* Why a walk is over, by PE_C_END_*. */
-static const char *const ends[] = {"bound", "bottom", "no module", "no function", "records", "long chain", "step"};
+static const char *const ends[] = {"bound", "bottom", "no module", "no function", "records", "long chain", "step",
+                                   "zero", "no return address"};
 
 int main(int argc, char **argv)
 {

@@ -1,5 +1,5 @@
 // How a call of pe.h is made: what is given goes into the memory of the instance, and what the call writes comes back.
-import { calls } from './layouts.mjs';
+import { calls, constants } from './layouts.mjs';
 import { PeError, whole, width } from './memory.mjs';
 
 const utf8 = new TextDecoder('utf-8'), utf16 = new TextDecoder('utf-16le');
@@ -46,6 +46,12 @@ export class Caller {
     } finally {
       this.#memory.free = kept;
     }
+  }
+
+  /** What a call that is refused so throws. */
+  refused(name, constant) {
+    const number = constants[constant];
+    return new PeError(name, number, this.#memory.text(number));
   }
 
   #called(name, given) {
@@ -112,8 +118,24 @@ export class Caller {
   }
 }
 
+/** The bytes of a file. */
+function bytesOf(given) {
+  if (given instanceof Uint8Array) return given;
+  if (given instanceof ArrayBuffer) return new Uint8Array(given);
+  throw new TypeError(`bytes are a Uint8Array, and not a ${typeof given === 'object' ? given?.constructor?.name : typeof given}`);
+}
+
 /** Puts a file into the memory of an instance: the arguments that it is for calls. */
-export const placed = (memory, bytes) => ({ bytes: BigInt(memory.put(bytes)), length: BigInt(bytes.length) });
+export function placed(memory, given) {
+  const bytes = bytesOf(given);
+  return { bytes: BigInt(memory.put(bytes)), length: BigInt(bytes.length) };
+}
+
+/** The entry of a table of lists by its name. */
+export function listOf(lists, name) {
+  if (!Object.hasOwn(lists, name)) throw new TypeError(`${name} is no list: ${Object.keys(lists).join(', ')}`);
+  return lists[name];
+}
 
 /** The bytes of a file in an instance of their own, and the calls of pe.h that take bytes alone. */
 export class File extends Caller {

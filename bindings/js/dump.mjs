@@ -1,8 +1,14 @@
 // Minidumps: their streams, and the records of each.
-import { File, placed } from './calls.mjs';
+import { File, listOf, placed } from './calls.mjs';
 import { constants } from './layouts.mjs';
+import * as names from './names.mjs';
 
 const ARM64 = 12;
+// Exceptions whose parameters say more, and what an access was.
+const ACCESS_VIOLATION = 0xC0000005, IN_PAGE_ERROR = 0xC0000006, FAST_FAIL = 0xC0000409;
+const ACCESSES = { 0: 'read', 1: 'write', 8: 'execution' };
+const digits = (number) => `0x${number.toString(16).padStart(8, '0')}`;
+const named = (number, table) => (table[number] ? `${table[number]} (${digits(number)})` : digits(number));
 
 // The lists of a dump: the stream of each, and the call that returns the record with an index.
 const LISTS = {
@@ -35,8 +41,12 @@ export class Dump extends File {
   }
 
   /** The records of a list, none where its stream is absent: see index.d.ts for the names. */
-  *list(name) {
-    const [kind, record] = LISTS[name], stream = this.stream(constants[`PE_C_${kind}_STREAM`]);
+  list(name) {
+    return this.#list(...listOf(LISTS, name));
+  }
+
+  *#list(kind, record) {
+    const stream = this.stream(constants[`PE_C_${kind}_STREAM`]);
     if (stream) yield* this.#records(`pe_c_dump_${record}_at`, { stream });
   }
 
@@ -56,6 +66,20 @@ export class Dump extends File {
   /** The exception that the dump was written for, or null. */
   exception() {
     return this.#one('EXCEPTION', 'pe_c_dump_exception');
+  }
+
+  /** Why the process crashed, in words: the exception by its name, and what its parameters say; or null. */
+  reason() {
+    const raised = this.exception();
+    if (!raised) return null;
+    const code = raised.exception_code, parameters = raised.exception_information.slice(0, raised.number_parameters).map(BigInt);
+    const said = named(code, names.EXCEPTIONS), access = ACCESSES[parameters[0]];
+    if ([ACCESS_VIOLATION, IN_PAGE_ERROR].includes(code) && parameters.length >= 2 && access) {
+      const status = code === IN_PAGE_ERROR && parameters.length > 2 ? `, ${named(parameters[2], names.EXCEPTIONS)}` : '';
+      return `${said}: ${access} at 0x${parameters[1].toString(16)}${status}`;
+    }
+    if (code !== FAST_FAIL || !parameters.length) return said;
+    return `${said}: ${names.FAST_FAILS[parameters[0]] ?? `__fastfail(${parameters[0]})`}`;
   }
 
   /** The system, or null. */
@@ -79,9 +103,18 @@ export class Dump extends File {
     return this.utf16(this.call('pe_c_dump_text', { rva }), { isWhole: true });
   }
 
-  /** The memory of both lists as pieces in ascending order, apart: an address is that of the first piece that has it. */
+  /** The stacks that the records of threads name, as far as the file has them. */
+  *#stacks() {
+    for (const { stack: { start_of_memory_range: start, memory } } of this.list('threads')) {
+      yield { start, offset: BigInt(memory.rva), length: BigInt(Math.max(0, Math.min(memory.size, this.length - memory.rva))) };
+    }
+  }
+
+  /** The memory of both lists, and the stacks of threads that these lack, as pieces in ascending order, apart: an address is that of the
+   * first piece that has it. */
   runs() {
-    const pieces = [...this.list('pieces'), ...this.fullPieces()].map((it) => it.memory);
+    const pieces = [...this.list('pieces'), ...this.fullPieces()].map((it) => it.memory), starts = new Set(pieces.map((it) => it.start));
+    for (const it of this.#stacks()) if (!starts.has(it.start)) pieces.push(it);
     const room = (most) => Array.from({ length: most * pieces.length }, () => ({})), runs = room(2);
     return runs.slice(0, Number(this.call('pe_c_memory_runs', { pieces, entries: room(4), runs })));
   }

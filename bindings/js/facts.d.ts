@@ -1,4 +1,4 @@
-import { Image, Library } from './index.mjs';
+import { Image, Library } from './index.js';
 
 /** What the program pe says of an image in JSON, without hashes and entropy: see its JSON.md. Numbers above 2^53 are
  * bigint. */

@@ -222,9 +222,11 @@ function imports(image) {
   const budget = new Budget(image);
   return listAfter('imports', image, 'pe_c_import_libraries', () => image.list('libraries'), (library) => {
     if (!budget.takes(ITEM + Number(library.name.length))) return null;
-    const own = name(image.slice(library.name));
+    const own = name(image.slice(library.name)), isUnmapped = image.hasUnmappedList(library);
+    const items = isUnmapped ? image.addressTable(library) : image.imports(library);
     return { name: own, name_lower: lower(own),
-      ...functionsOf(image, library, image.imports(library), budget, (it) => ({ slot_rva: number(it.rva) })) };
+      ...functionsOf(image, library, items, budget, (it) => ({ slot_rva: number(it.rva) })),
+      lookup_table_error: isUnmapped && library.lookup_table_rva ? refusal(image.refused('', 'PE_C_UNMAPPED')) : null };
   });
 }
 
@@ -358,16 +360,39 @@ function resources(image) {
 
 const four = (high, low) => [high >>> 16, high & 0xFFFF, low >>> 16, low & 0xFFFF].join('.');
 
+const VERSION_NAMES = ['Comments', 'CompanyName', 'FileDescription', 'FileVersion', 'InternalName', 'LegalCopyright', 'LegalTrademarks',
+  'OriginalFilename', 'PrivateBuild', 'ProductName', 'ProductVersion', 'SpecialBuild'];
+// How many bytes version information has up to the end of the fixed file information: lengths, a type, the key, the value.
+const UP_TO_FIXED = 6 + 32 + 2 + 52;
+
+/** The fixed file information of the first bytes, without the strings that follow. */
+function fixedAlone(image) {
+  const content = image.call('pe_c_version_blocks');
+  if (content && content.length > UP_TO_FIXED) content.length = BigInt(UP_TO_FIXED);
+  return content && image.call('pe_c_fixed_version_in', { content });
+}
+
+/** The texts of the blocks as far as they can be read, of which a text may be damaged. */
+function textsOfBlocks(image) {
+  const blocks = (walk) => list('blocks', image.items('pe_c_next_version_block', walk), (it) => it).blocks, found = {};
+  const below = (of, key) => of.flatMap((it) => (key === null || image.utf16(it.key) === key ? blocks({ ...it.children }) : []));
+  const [root] = blocks(attempt(() => image.call('pe_c_version_blocks')) ?? { offset: 0n, length: 0n });
+  for (const it of below(below(root ? blocks({ ...root.children }) : [], 'StringFileInfo'), null)) {
+    const key = image.utf16(it.key);
+    if (VERSION_NAMES.includes(key)) found[key] ??= image.utf16(it.value);
+  }
+  return found;
+}
+
 function version(image) {
-  const NAMES = ['Comments', 'CompanyName', 'FileDescription', 'FileVersion', 'InternalName', 'LegalCopyright', 'LegalTrademarks',
-    'OriginalFilename', 'PrivateBuild', 'ProductName', 'ProductVersion', 'SpecialBuild'];
+  const of = (it) => it && { file_version: four(it.file_version_ms, it.file_version_ls),
+    product_version: four(it.product_version_ms, it.product_version_ls) };
+  const whole = part('fixed', () => of(image.call('pe_c_fixed_version')));
+  const alone = whole.fixed_error && attempt(() => of(fixedAlone(image)));
+  if (alone) return { fixed: alone, fixed_error: null, strings_error: whole.fixed_error, texts: textsOfBlocks(image) };
   return {
-    ...part('fixed', () => {
-      const fixed = image.call('pe_c_fixed_version');
-      return fixed && { file_version: four(fixed.file_version_ms, fixed.file_version_ls),
-        product_version: four(fixed.product_version_ms, fixed.product_version_ls) };
-    }),
-    texts: Object.fromEntries(NAMES.map((text, i) => [text, attempt(() => image.call('pe_c_version_text', { name: i }))])
+    ...whole, strings_error: null,
+    texts: Object.fromEntries(VERSION_NAMES.map((text, i) => [text, attempt(() => image.call('pe_c_version_text', { name: i }))])
       .filter(([, range]) => range).map(([text, range]) => [text, image.utf16(range)])),
   };
 }

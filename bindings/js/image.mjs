@@ -1,5 +1,5 @@
 // An image: its headers and sections, all calls of pe.h over it, and its lists as iterators.
-import { File, memoryOf, ownOf, placed } from './calls.mjs';
+import { File, listOf, memoryOf, ownOf, placed } from './calls.mjs';
 import { constants } from './layouts.mjs';
 import { width } from './memory.mjs';
 import { recordsOf, resourcesOf } from './resources.mjs';
@@ -21,6 +21,7 @@ const LISTS = {
 
 /** Reads the headers and the section headers: the arguments that the image is for calls, and both as objects. */
 function opened(memory, bytes, mode) {
+  if (!Number.isInteger(mode)) throw new TypeError('mode is a number, PE_C_PERMISSIVE, PE_C_STRICT or these with PE_C_MAPPED');
   const own = placed(memory, bytes), info = memory.reserve(width('pe_c_image_info')), size = width('pe_c_section');
   memory.isDone('pe_c_image', memory.make('pe_c_image', [own.bytes, own.length, mode, BigInt(info)]));
   const found = memory.read('pe_c_image_info', info), count = found.number_of_sections, table = memory.reserve(count * size);
@@ -43,8 +44,12 @@ export class Image extends File {
   }
 
   /** The items of a list of the image, none where it is absent: see index.d.ts for the names. */
-  *list(name) {
-    const [start, next, place] = LISTS[name], walk = this.call(start);
+  list(name) {
+    return this.#items(...listOf(LISTS, name));
+  }
+
+  *#items(start, next, place) {
+    const walk = this.call(start);
     if (walk) yield* this.items(next, place ? { [place]: walk } : walk);
   }
 
@@ -76,6 +81,26 @@ export class Image extends File {
   /** The imports of a library. */
   imports(library) {
     return this.items('pe_c_next_import', { imports: structuredClone(library.imports) });
+  }
+
+  /** Whether the RVA of a library's list is unmapped, so that `imports` has nothing. A list at the file offset 0 is not empty: the DOS
+   * header starts there. */
+  hasUnmappedList({ imports: { left } }) {
+    return left.offset === 0n && left.length === 0n;
+  }
+
+  /** What the address table of a library names, up to a zero entry: until the loader has filled it, it has the entries of the lookup
+   * table. */
+  *addressTable({ address_table_rva: rva }) {
+    const offset = this.call('pe_c_offset', { rva }), size = this.info.width === 64 ? 8n : 4n, call = 'pe_c_next_import';
+    if (offset === null) throw this.refused(call, 'PE_C_UNMAPPED');
+    const walk = { imports: { left: { offset, length: BigInt(this.length) - offset }, rva: BigInt(rva) } };
+    for (;;) {
+      const { left } = walk.imports;
+      if (left.length < size) throw this.refused(call, 'PE_C_SHORT');
+      if (this.slice({ offset: left.offset, length: size }).every((it) => it === 0)) return;
+      yield this.call(call, { walk });
+    }
   }
 
   /** The functions of a DLL that is loaded when it is needed. */

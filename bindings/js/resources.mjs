@@ -62,7 +62,7 @@ export function resourcesOf(image) {
     if (leaf.language.has_name) refuse(constants.PE_C_EDIT_RECORD);
     // In a hostile image many leaves may share one content.
     left -= Number(leaf.content.length);
-    if (left < 0) refuse(constants.PE_C_EDIT_NO_ROOM);
+    if (left < 0) refuse(constants.PE_C_EDIT_CONTENTS);
     if (found.length === MOST) refuse(constants.PE_C_EDIT_TOO_MANY);
     found.push({ type: key(leaf.resource_type), name: key(leaf.name), language: leaf.language.id, codePage: leaf.code_page,
       content: image.slice(leaf.content) });

@@ -71,6 +71,34 @@ test('imports, by name and by ordinal', () => {
   assert.equal([...image.imports(dll)].length, [...image.imports(dll)].length);
 });
 
+test('an unmapped lookup table is said, and the address table is listed in its place', () => {
+  const bytes = Uint8Array.from(file('imports')), view = new DataView(bytes.buffer), whole = factsOf(library, bytes, 'a.dll');
+  const record = Number(opened('imports').call('pe_c_import_libraries').next);
+  view.setUint32(record + 16, view.getUint32(record, true), true);
+  for (const rva of [1, 0x7FFFFFFF, 0xFFFFFFFF]) {
+    view.setUint32(record, rva, true);
+    const image = library.open(bytes), [first, second] = image.list('libraries');
+    assert.deepEqual([image.hasUnmappedList(first), image.hasUnmappedList(second)], [true, false]);
+    assert.deepEqual([...image.imports(first)], []);
+    assert.deepEqual([...image.addressTable(first)].map((it) => (it.has_name ? image.utf8(it.name) : it.ordinal)), ['Sleep', 17]);
+    const [said, other] = factsOf(library, bytes, 'a.dll').imports, names = (it) => it.functions.map((one) => [one.name, one.ordinal]);
+    assert.deepEqual([said.lookup_table_error.name, other.lookup_table_error], ['UNMAPPED', null]);
+    assert.deepEqual(names(said), names(whole.imports[0]));
+  }
+  view.setUint32(record + 16, 0x7000, true);
+  const image = library.open(bytes), [first] = image.list('libraries');
+  assert.throws(() => [...image.addressTable(first)], (it) => it instanceof PeError && it.constant === 'PE_C_UNMAPPED');
+});
+
+test('a damaged version string costs neither the fixed information nor the other strings', () => {
+  const bytes = Uint8Array.from(file('resources')), whole = factsOf(library, bytes, 'a.dll').version;
+  const key = Buffer.from('ProductName\0', 'utf16le'), at = Buffer.from(bytes).indexOf(key);
+  new DataView(bytes.buffer).setUint16(at - 4, 0x4000, true);
+  const { version: said } = factsOf(library, bytes, 'a.dll');
+  assert.deepEqual([said.fixed, said.fixed_error, said.strings_error.name], [whole.fixed, null, 'RESOURCE_STRING']);
+  assert.deepEqual([whole.fixed.file_version, said.texts], ['3.11.3150.1013', whole.texts]);
+});
+
 test('a walk that is given is moved, and is over in the end', () => {
   const image = opened('imports'), walk = { libraries: image.call('pe_c_import_libraries') };
   assert.notEqual(image.call('pe_c_next_library', { walk }), null);
@@ -334,7 +362,7 @@ test('resources that cannot be written are refused as they are read', () => {
   assert.equal(refusal(64, 0x80000000), 'PE_C_EDIT_RECORD');
   assert.equal(refusal(72, 0x9000), 'PE_C_UNMAPPED');
   // one content of 0x400 bytes in three languages, of a file of 0x800
-  assert.equal(refusal(60, 3 << 16, 0x407, 88, 0x409, 88, 0x40C, 88, 0x1000, 0x400, 0, 0), 'PE_C_EDIT_NO_ROOM');
+  assert.equal(refusal(60, 3 << 16, 0x407, 88, 0x409, 88, 0x40C, 88, 0x1000, 0x400, 0, 0), 'PE_C_EDIT_CONTENTS');
 });
 
 test('version information is written, block by block', () => {
@@ -864,6 +892,50 @@ test('each stream of a minidump', () => {
     [0x20000n, [[0x20000n, 400n, 0x400n - 400n]]]);
   const bytes = Uint8Array.of(77, 68, 77, 80, ...new Uint8Array(28));
   assert.equal(refused(() => library.openDump(bytes)).constant, 'PE_C_DUMP_VERSION');
+});
+
+test('why a process crashed, in words', () => {
+  const bytes = Uint8Array.from(readFileSync(join(folder, 'x64.dmp'))), view = new DataView(bytes.buffer);
+  const at = Buffer.from(bytes).indexOf(Uint8Array.of(0x24, 0, 0, 0, 0, 0, 0, 0, 5, 0, 0, 0xC0));
+  const reasons = [
+    [0xC0000409, [2n], 'STATUS_STACK_BUFFER_OVERRUN (0xc0000409): FAST_FAIL_STACK_COOKIE_CHECK_FAILURE'],
+    [0xC0000409, [1000n], 'STATUS_STACK_BUFFER_OVERRUN (0xc0000409): __fastfail(1000)'],
+    [0xC0000006, [0n, 0x7000n, 0xC000009Cn],
+      'STATUS_IN_PAGE_ERROR (0xc0000006): read at 0x7000, STATUS_DEVICE_DATA_ERROR (0xc000009c)'],
+    [0xC0000005, [8n, 16n], 'STATUS_ACCESS_VIOLATION (0xc0000005): execution at 0x10'],
+    [0x20474343, [1n], 'an exception of GCC (0x20474343)'], [0x12345678, [], '0x12345678'],
+  ];
+  for (const [code, parameters, reason] of reasons) {
+    view.setUint32(at + 8, code, true);
+    view.setUint32(at + 32, parameters.length, true);
+    parameters.forEach((it, i) => view.setBigUint64(at + 40 + 8 * i, it, true));
+    assert.equal(library.openDump(bytes).reason(), reason);
+  }
+});
+
+test('the stack of a thread is memory without a list', () => {
+  const bytes = Uint8Array.from(readFileSync(join(folder, 'x64.dmp'))), view = new DataView(bytes.buffer), x64 = library.openDump(bytes);
+  const [piece] = x64.runs();
+  for (let i = 0, entry = view.getUint32(12, true); i < 12; i++, entry += 12) {
+    const kind = view.getUint32(entry, true), stream = view.getUint32(entry + 8, true);
+    if ([5, 9].includes(kind)) view.setUint32(entry, 0, true);
+    if (kind === 3) {
+      view.setBigUint64(stream + 28, piece.start, true);
+      view.setUint32(stream + 36, Number(piece.length), true);
+      view.setUint32(stream + 40, Number(piece.offset), true);
+    }
+  }
+  assert.deepEqual(library.openDump(bytes).runs(), [piece]);
+});
+
+test('what no file, no mode and no list is, is said', () => {
+  const bytes = file('imports'), says = (call, text) => assert.throws(call, (it) => it instanceof TypeError && it.message.includes(text));
+  says(() => library.open('a.dll'), 'bytes are a Uint8Array, and not a string');
+  says(() => library.open({}), 'bytes are a Uint8Array, and not a Object');
+  says(() => library.open(bytes, { mode: 'permissive' }), 'mode is a number, PE_C_PERMISSIVE, PE_C_STRICT or these with PE_C_MAPPED');
+  says(() => library.open(bytes).list('nope'), 'nope is no list: debugEntries, exports, libraries');
+  says(() => library.openDump(readFileSync(join(folder, 'x64.dmp'))).list('nope'), 'nope is no list: threads, modules');
+  assert.equal(library.open(Uint8Array.from(bytes).buffer).sections.length, 1);
 });
 
 test('the memory of a minidump in order, and what in it is an image', () => {

@@ -1,5 +1,5 @@
 // What differs between two images, as the program pe says it (`pe diff --json`): the same rows of sections, imports, delay
-// imports and exports, and of version information the two numbers and the texts of one language.
+// imports and exports, of version information the two numbers and the texts of one language, and the regions whose bytes differ.
 
 /** A character that stands for itself: neither a control character nor one that changes how others are laid out. */
 const PLAIN = /^[^\p{Cc}\u00ad\u061c\u180e\u200b-\u200f\u2028-\u202e\u2060-\u206f\ufeff\ufff9-\ufffb\u{e0000}-\u{e007f}]$/u;
@@ -82,6 +82,64 @@ export function differences(before, after) {
       { part, change: 'added', name, before: null, after: value }));
     return [...gone, ...added];
   });
+}
+
+// ---- bytes: each is of one region, as pe has them
+
+const DOS_HEADER = 64, SECTION_HEADER = 40, DANS = 0x536e6144, RICH = 0x68636952;
+const u32 = (bytes, at) => (at + 4 <= bytes.length ? new DataView(bytes.buffer, bytes.byteOffset + at, 4).getUint32(0, true) : null);
+
+/** The start and the end of the Rich header between the DOS header and the PE signature. */
+function richIn(bytes, signature) {
+  let end = signature - 8;
+  while (end >= DOS_HEADER && u32(bytes, end) !== RICH) end -= 1;
+  if (end < DOS_HEADER) return null;
+  const dans = (DANS ^ u32(bytes, end + 4)) >>> 0;
+  for (let start = DOS_HEADER; start <= end - 4; start += 1) if (u32(bytes, start) === dans) return [start, end + 8];
+  return null;
+}
+
+/** The regions that cover a file: name, start and end. Of two that overlap the first has the bytes. */
+function regionsOf(bytes, facts) {
+  const signature = u32(bytes, 60), word = (at) => u32(bytes, at) & 0xffff, optional = signature + 24;
+  const sections = optional + word(signature + 20), end = sections + SECTION_HEADER * word(signature + 6);
+  const hasOptional = word(signature + 20) >= 64, directories = optional + (word(optional) === 0x20b ? 112 : 96);
+  const all = Math.max(end, hasOptional ? u32(bytes, optional + 60) : 0), rich = signature > DOS_HEADER ? richIn(bytes, signature) : null;
+  const named = [['DOS header', 0, DOS_HEADER], ['DOS stub', DOS_HEADER, rich?.[0] ?? signature],
+    ...(rich ? [['Rich header', ...rich], ['after the Rich header', rich[1], signature]] : []), ['PE headers', signature, sections],
+    ['section headers', sections, end], ['header slack', end, all],
+    ...facts.sections.map((it) => [`section ${escaped(it.long_name ?? it.name)}`, it.file_offset, it.file_offset + it.file_size])];
+  const within = (it) => Math.min(it, bytes.length), last = Math.max(...named.map((it) => within(it[2])));
+  if (directories + 40 <= sections && u32(bytes, directories - 4) > 4) {
+    const start = u32(bytes, directories + 32);
+    if (start) named.push(['certificates', start, start + u32(bytes, directories + 36)]);
+  }
+  named.sort((one, other) => within(one[1]) - within(other[1]));
+  const cover = [];
+  let at = 0;
+  for (const [name, start, stop] of [...named, ['', bytes.length, bytes.length]]) {
+    const from = Math.max(at, within(start));
+    if (from > at) cover.push([at >= last ? 'overlay' : 'padding', at, from]);
+    at = Math.max(from, within(stop));
+    if (at > from) cover.push([name, from, at]);
+  }
+  return byName(cover.map(([name, start, stop]) => [name, bytes.subarray(start, stop)]));
+}
+
+/** How many bytes two parts have of each other's that differ; what one has more counts too. */
+function unlike(one, other) {
+  let count = Math.abs(one.length - other.length);
+  for (let i = Math.min(one.length, other.length) - 1; i >= 0; i -= 1) count += one[i] !== other[i];
+  return count;
+}
+
+/** The regions of two files that differ, in the order of their names. */
+export function regions(contents, facts) {
+  const [before, after] = contents.map((it, i) => regionsOf(it, facts[i])), none = new Uint8Array(0);
+  return [...new Set([...before.keys(), ...after.keys()])].sort().map((name) => {
+    const [one, other] = [before, after].map((it) => it.get(name) ?? none);
+    return { name, before: one.length, after: other.length, different: unlike(one, other) };
+  }).filter((it) => it.different);
 }
 
 /** Adds to the facts of a file the SHA-256 of each section, as pe has it: as many bytes are read as the file has. */

@@ -3,7 +3,7 @@
 // one that comes beside the first. Texts of a file, which may be hostile, reach the page as text alone, and never as markup.
 import { Library } from './library.mjs';
 import { factsOf } from './facts.mjs';
-import { addHashes, differences, escaped } from './diff.mjs';
+import { addHashes, differences, escaped, regions } from './diff.mjs';
 import { module as encoded } from './module.mjs';
 
 const LARGEST = 2 ** 31 - 2 ** 26, ROWS = 500, PERMISSIVE = 1;
@@ -105,6 +105,7 @@ function overview(to, { headers, version, debug, clr }) {
     ['Subsystem version', headers.optional?.subsystem_version],
   ]);
   refused(to, 'Version information', version.fixed_error);
+  refused(to, 'Version strings', version.strings_error);
   refused(to, 'Debug data', debug.entries_error ?? debug.pdb_error ?? debug.embedded_pdb_error ?? debug.pdb_checksum_error);
 }
 
@@ -135,6 +136,7 @@ function libraries(to, title, facts, key) {
   add(to, 'h3', `${title}: ${count(all.length, 'DLL')}`);
   for (const it of all) {
     folded(to, `${textOf(it.name)} (${it.functions.length.toLocaleString('en')})`, (box) => {
+      refused(box, `Lookup table of ${textOf(it.name)}, whose address table is listed`, it.lookup_table_error);
       refused(box, textOf(it.name), it.functions_error);
       table(box, null, it.functions.map(functionRow));
     });
@@ -250,31 +252,37 @@ async function read(file) {
 const PARTS = { sections: 'Sections', imports: 'Imports', delay_imports: 'Delay imports', exports: 'Exports', version: 'Version' };
 const SIGNS = { removed: '\u2212', added: '+', changed: '~' };
 
-/** A table for each part in which something differs, above all that is shown of the files. */
-function showDifferences(names, found) {
+/** A table for each part in which something differs, and one of the bytes, above all that is shown of the files. */
+function showDifferences(names, found, bytes) {
   const article = document.createElement('article');
   byId('found').prepend(article);
   article.id = 'differences';
   add(article, 'h2', `From ${names.map(escaped).join(' to ')}`);
-  if (!found.length) add(article, 'p', 'Sections, imports, exports and version information are the same.');
+  if (!bytes.length) add(article, 'p', 'All bytes are the same.');
   for (const [part, title] of Object.entries(PARTS)) {
     const rows = found.filter((it) => it.part === part).map((it) => [SIGNS[it.change], it.name, it.before ?? '', it.after ?? '']);
     if (!rows.length) continue;
     add(article, 'h3', `${title}: ${count(rows.length, 'difference')}`);
     table(article, ['', 'Name', 'Before', 'After'], rows);
   }
+  if (!bytes.length) return;
+  add(article, 'h3', `Bytes: ${count(bytes.length, 'region')}`);
+  table(article, ['Region', 'Bytes before', 'Bytes after', 'Different'],
+    bytes.map((it) => [it.name, it.before, it.after, it.different].map(String)));
 }
 
-/** Compares two files that were read. Returns what differs, or null where a file cannot be read again. */
+/** Compares two files that were read. Returns what differs, in facts and in bytes, or null where a file cannot be read again. */
 async function compare(pair) {
+  const contents = [];
   try {
-    for (const { file, facts } of pair) await addHashes(facts, new Uint8Array(await file.arrayBuffer()));
+    for (const { file } of pair) contents.push(new Uint8Array(await file.arrayBuffer()));
+    for (const [i, { facts }] of pair.entries()) await addHashes(facts, contents[i]);
   } catch (error) {
     add(byId('found'), 'p', `The files could not be compared: ${error.message}`, 'bad');
     return null;
   }
-  const found = differences(...pair.map((it) => it.facts));
-  showDifferences(pair.map((it) => it.file.name), found);
+  const facts = pair.map((it) => it.facts), found = { differences: differences(...facts), regions: regions(contents, facts) };
+  showDifferences(pair.map((it) => it.file.name), found.differences, found.regions);
   return found;
 }
 

@@ -56,13 +56,13 @@ const BOUND: u32 = 0;
 
 const BOTTOM: u32 = 1;
 
-const NO_MODULE: u32 = 2;
-
 const NO_FUNCTION: u32 = 3;
 
 const OF_RECORDS: u32 = 4;
 
 const STEP: u32 = 6;
+
+const ZERO: u32 = 7;
 
 /// Three functions of 32 bytes from RVA 0x1000 on, file offset 0: one that stores x29 and the link register in 32 bytes, points
 /// x29 there, and calls; one with a machine frame above 16 bytes; and one whose record has version 1. Then their table.
@@ -111,6 +111,8 @@ fn walk_from(pc: u64, sp: u64, fp: u64, lr: u64, most: u64) -> Arm64StackWalk {
         end: 0,
         error: 0,
         is_searched: 0,
+        is_guess: 0,
+        spare: 0,
     }
 }
 
@@ -246,14 +248,14 @@ fn a_walk_says_why_it_is_over(rt: HostRuntime) -> Result<(), Fail> {
     let mut walk = walk_from(DAMAGED, STACK, 0, 0, 9);
     let damaged = end_after(&modules, &stack, 1, &mut walk)?;
     assert_eq!(rt; damaged, ([0, 0], [OF_RECORDS, ARM64_VERSION]));
-    // After a call of a null pointer its return address is the link register. In a module without a table nothing calls.
+    // After a call of a null pointer its return address is the link register. In a module without a table too.
     let mut walk = walk_from(0, STACK, STACK, AFTER_CALL, 9);
     let called = end_after(&modules, &stack, 2, &mut walk)?;
-    assert_eq!(rt; called, ([0, 0], [BOTTOM, 0]));
+    assert_eq!(rt; (called, walk.is_guess), (([0, 0], [ZERO, 0]), 1));
     modules[0].table = range(0, 0);
     let mut walk = walk_from(0, STACK, STACK, AFTER_CALL, 9);
-    let lost = end_after(&modules, &stack, 1, &mut walk)?;
-    assert_eq!(rt; lost, ([0, 0], [NO_MODULE, 0]));
+    let lost = end_after(&modules, &stack, 2, &mut walk)?;
+    assert_eq!(rt; lost, ([0, 0], [NO_FUNCTION, 0]));
     let mut walk = walk_from(leaf, STACK, STACK, AFTER_CALL, 9);
     let lost = end_after(&modules, &stack, 2, &mut walk)?;
     assert_eq!(rt; lost, ([0, 0], [NO_FUNCTION, 0]));

@@ -151,6 +151,7 @@ fn entries_in_turn(rt: HostRuntime) -> Result<(), Fail> {
     let bytes = bytes_of(rt.alloc())?;
     let image = image(X64);
     let found = |left| (DONE, [[68, 5], [84, 44]], 1, ENTRY, left);
+    // shows: pe_c/src/delay_imports.rt name_range DelayImportName
     assert_eq!(rt; next(&bytes, &image, [4, 64]), found([36, 32]));
     assert_eq!(rt; next(&bytes, &image, [4, 32]), found([36, 0]));
     let nothing = |answer, left| (answer, [UNTOUCHED; 2], 7, NO_ENTRY, left);
@@ -186,6 +187,7 @@ fn names_and_tables(rt: HostRuntime) -> Result<(), Fail> {
         base: 0x40_0000,
         ..wide
     };
+    // shows: pe_c/src/delay_imports.rt rva_of VaBelowBase
     for (image, attributes, name, table, want) in [
         // shows: pe_c/src/delay_imports.rt address_offset Unmapped
         (&wide, 1, 0x2000, 0x1054, UNMAPPED),

@@ -141,6 +141,21 @@ fn forwarders_together(rt: HostRuntime) -> Result<(), Fail> {
             }
         }
     }
+    // The room has the texts of the call's own entries: of the first two, and of those after the fourth.
+    for (start, offsets) in [(0, [0x148, 0x175]), (4, [0x100, 0x152])] {
+        let (mut next, mut written) = (start, 77);
+        let (mut runs, mut entries) = ([RUN; 2], [NO_EXPORTED; 2]);
+        let answer = pe_c_list_export_addresses_together(
+            &view,
+            &table,
+            &mut next,
+            &mut runs,
+            &mut entries,
+            &mut written,
+        );
+        assert_eq!(rt; (answer, written, next), (DONE, 2, start + 2));
+        assert_eq!(rt; runs.map(|run| run.start), offsets);
+    }
     let (mut next, mut written) = (0, 77);
     let answer = pe_c_list_export_addresses_together(
         &view,

@@ -231,6 +231,18 @@ fn names_are_bounded(rt: HostRuntime) -> Result<(), Fail> {
     Ok(())
 }
 
+/// Records that share one content of 512 KiB: so many bytes are 16 times those of the array and of 1 MiB.
+#[test]
+fn shared_contents_are_bounded(rt: HostRuntime) -> Result<(), Fail> {
+    let bytes = old_image(rt.alloc(), 0, b"MZ")?;
+    let data = vec![in rt.alloc(); 1; 0x8_0000]?;
+    let record = resource(id(1), range(0, 0x8_0000));
+    assert_eq!(rt; refused(rt.alloc(), &bytes, &[record; 49], &data)?, 474);
+    // The next test is that of their order.
+    assert_eq!(rt; refused(rt.alloc(), &bytes, &[record; 48], &data)?, 453);
+    Ok(())
+}
+
 #[test]
 fn images_are_refused(rt: HostRuntime) -> Result<(), Fail> {
     let record = [resource(id(1), range(4, 3))];

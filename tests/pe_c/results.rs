@@ -194,9 +194,12 @@ fn results_have_texts(rt: HostRuntime) {
     check_text(&rt, 470, "version block has more than 65,535 bytes");
     check_text(&rt, 471, "headers have no room for another section");
     check_text(&rt, 473, "debug entries or their data lie where the");
+    check_text(&rt, 474, "contents of the resources, which share bytes,");
     check_text(&rt, 501, "element of a signature truncated before its");
     check_text(&rt, 508, "element of a signature has another tag");
     check_text(&rt, 511, "time of a signature is not in the form of RFC");
+    check_text(&rt, 512, "element of a signature is an end of contents");
+    check_text(&rt, 513, "element of a signature has no content");
     check_text(&rt, 551, "invalid signature of a minidump");
     check_text(&rt, 552, "invalid version of a minidump");
     check_text(&rt, 553, "directory of the streams ends past the end");
@@ -218,9 +221,9 @@ fn results_have_texts(rt: HostRuntime) {
         400,
         404,
         450,
-        474,
+        475,
         500,
-        512,
+        514,
         550,
         561,
         u32::MAX,
@@ -238,8 +241,8 @@ fn texts_differ(rt: HostRuntime) {
             || 206 < number && number < 301
             || 310 < number && number < 401
             || 403 < number && number < 451
-            || 473 < number && number < 501
-            || 511 < number && number < 551
+            || 474 < number && number < 501
+            || 513 < number && number < 551
     };
     for one in 0..=560 {
         for other in 0..one {

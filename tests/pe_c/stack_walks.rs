@@ -29,6 +29,9 @@ const DISPATCHER: u64 = BASE + 0x1030;
 
 const JUMPING: u64 = BASE + 0x1038;
 
+/// In no function.
+const NO_RECORD: u64 = BASE + 0x1050;
+
 /// The range of the function table.
 const TABLE: Range = Range {
     offset: 0x80,
@@ -48,9 +51,15 @@ const BOTTOM: u32 = 1;
 
 const NO_MODULE: u32 = 2;
 
+const NO_FUNCTION: u32 = 3;
+
 const OF_RECORDS: u32 = 4;
 
 const STEP: u32 = 6;
+
+const ZERO: u32 = 7;
+
+const NO_RETURN_ADDRESS: u32 = 8;
 
 /// Two functions of 32 bytes from RVA 0x1000 on, file offset 0: one that pushes rbx, allocates 32 bytes and calls; and one that
 /// allocates 8 bytes. Then their table.
@@ -104,6 +113,8 @@ fn walk_from(rip: u64, rsp: u64, most: u64) -> StackWalk {
         end: 0,
         error: 0,
         is_searched: 0,
+        is_guess: 0,
+        spare: 0,
     }
 }
 
@@ -282,7 +293,8 @@ fn frames_in_one_call(rt: HostRuntime) -> Result<(), Fail> {
     Ok(())
 }
 
-/// After a call of a null pointer the return address is at the stack pointer. In a module without a table nothing calls.
+/// After a call of a null pointer the return address is at the stack pointer, which is a guess. In a module without a table it is too,
+/// and the stack is scanned from there: it has no word more.
 #[test]
 fn a_call_of_a_null_pointer_has_a_caller(rt: HostRuntime) -> Result<(), Fail> {
     let (bytes, headers, sections) = (program(rt.alloc())?, image(X64), code());
@@ -295,18 +307,36 @@ fn a_call_of_a_null_pointer_has_a_caller(rt: HostRuntime) -> Result<(), Fail> {
             DONE
         );
         assert_eq!(rt; frame_of(&walk), frame);
+        assert_eq!(rt; [walk.is_guess, walk.spare], [frame.1[1], 0]);
     }
     modules[0].table = range(0, 0);
     let mut walk = walk_from(0, STACK, 9);
-    assert_eq!(rt;
-        pe_c_next_frame(&modules, &stack, &piece(STACK, &stack), &mut walk),
-        DONE
-    );
-    assert_eq!(rt;
-        pe_c_next_frame(&modules, &stack, &piece(STACK, &stack), &mut walk),
-        NOTHING
-    );
-    assert_eq!(rt; end_of(&walk), ([0, 0], [NO_MODULE, 0]));
+    for answer in [DONE, DONE, NOTHING] {
+        assert_eq!(rt;
+            pe_c_next_frame(&modules, &stack, &piece(STACK, &stack), &mut walk),
+            answer
+        );
+    }
+    assert_eq!(rt; end_of(&walk), ([0, 0], [NO_FUNCTION, 0]));
+    Ok(())
+}
+
+/// A walk that comes to 0 without records, or to no code: then the stack is not known to be whole.
+#[test]
+fn ends_without_records(rt: HostRuntime) -> Result<(), Fail> {
+    let (bytes, headers, sections) = (program(rt.alloc())?, image(X64), code());
+    let modules = [module(&bytes, &headers, &sections)];
+    for (word, end) in [(0, ZERO), (7, NO_RETURN_ADDRESS)] {
+        let stack = bytes_of_words(rt.alloc(), &[word])?;
+        let mut walk = walk_from(NO_RECORD, STACK, 9);
+        for answer in [DONE, NOTHING] {
+            assert_eq!(rt;
+                pe_c_next_frame(&modules, &stack, &piece(STACK, &stack), &mut walk),
+                answer
+            );
+        }
+        assert_eq!(rt; end_of(&walk), ([0, 0], [end, 0]));
+    }
     Ok(())
 }
 

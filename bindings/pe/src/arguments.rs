@@ -2,6 +2,7 @@
 
 use crate::extract::{ExtractedPart, Which};
 use crate::facts::Topic;
+use crate::new_file::Target;
 use clap::{Args, Parser, Subcommand, ValueEnum};
 use clap_complete::Shell;
 use pe_c::{Layout, Mode};
@@ -11,21 +12,22 @@ use std::path::{Path, PathBuf};
 pub const EXAMPLES: &str = "  pe program.exe                        what it is, in a screen of text
   pe show program.exe imports exports   two of its parts, whole
   pe --json -r C:/Windows               a line of JSON for each image below a folder
+  pe list --csv -r C:/Windows           a table of them, a row each
   pe find VirtualProtect -r C:/Windows  which images import or export it
   pe diff old.dll new.dll               what came, went and changed
   pe unwind program.exe 1a2b            how the function at an RVA is unwound
   pe stack crash.dmp --images C:/App    why a process crashed, and the stacks of its threads
   pe key program.exe                    where a symbol server has its PDB and itself
   pe digest program.exe                 what its signature signs, as SHA-256
-  pe verify program.exe                 by whom and when it was signed, and whether the digests fit
+  pe verify program.exe                 by whom and when it was signed, and whether digests and signatures fit
   pe extract program.exe manifest -     its manifest, on standard output
   pe detach program.exe unsigned.exe    the same without its certificates
   pe set-manifest a.exe b.exe app.xml   an image with another manifest
   pe report program.exe program.html    a page to look at: a map of the file, tables to search";
 
 pub const STATUSES: &str =
-    "0 done; 1 an image, or a part that was asked for, is refused, or diff found a difference; 2 misused arguments; \
-     3 an error of a file.";
+    "0 done; 1 an image, or a part that was asked for, is refused, verify found no good signature, diff a difference, or find \
+     nothing; 2 misused arguments; 3 an error of a file or of a stream, or out of memory; 4 stack lost a stack before its bottom.";
 
 fn after_help() -> String {
     format!("Examples:\n{EXAMPLES}\n\nExit status: {STATUSES}")
@@ -37,9 +39,10 @@ pub const ARCHIVE: &str = match option_env!("PE_ARCHIVE") {
     None => "not said by what built the program",
 };
 
-/// The version, and whether the library was proved.
+/// The version, whether the library was proved, and what checks signatures.
 fn version() -> &'static str {
-    format!("{}\nlibrary for C: {ARCHIVE}", env!("CARGO_PKG_VERSION")).leak()
+    let checked_by = crate::verify::checked::checked_by();
+    format!("{}\nlibrary for C: {ARCHIVE}\nsignatures: {checked_by}", env!("CARGO_PKG_VERSION")).leak()
 }
 
 /// Shows what is in Windows executables (.exe, .dll, .sys, .efi).
@@ -182,7 +185,19 @@ pub enum Command {
         #[command(flatten)]
         output: Output,
     },
-    /// Show who imports or exports a name.
+    /// Write a table of images as CSV (RFC 4180), a row each: machine, times, sizes, hashes, signer, version, counts.
+    List {
+        #[command(flatten)]
+        files: Files,
+        /// As CSV, which is the only form.
+        #[arg(long)]
+        csv: bool,
+        #[command(flatten)]
+        reading: Reading,
+        #[command(flatten)]
+        hashing: Hashing,
+    },
+    /// Show who imports or exports a name. The status is 1 where nobody does.
     Find {
         /// A part of the name of a function or of a DLL, in upper or lower case.
         #[arg(value_name = "WORD")]
@@ -194,7 +209,7 @@ pub enum Command {
         #[command(flatten)]
         output: Output,
     },
-    /// Show what came, went and changed between two images.
+    /// Show what came, went and changed between two images. The status is 0 where all their bytes are the same.
     Diff {
         /// The image before.
         #[arg(value_name = "A")]
@@ -204,8 +219,6 @@ pub enum Command {
         after: PathBuf,
         #[command(flatten)]
         reading: Reading,
-        #[command(flatten)]
-        hashing: Hashing,
         #[command(flatten)]
         output: Output,
     },
@@ -245,13 +258,16 @@ pub enum Command {
         #[command(flatten)]
         output: Output,
     },
-    /// Show what the signatures of images say, and whether it fits: the digests, and with OpenSSL the signatures.
+    /// Show what the signatures of images say, and whether it fits: the digests and the signatures, and with roots the chains.
     Verify {
         #[command(flatten)]
         files: Files,
-        /// The certificates, in PEM, that chains have to lead to. It needs a program that is built with the feature openssl.
+        /// The certificates, in PEM, that chains have to lead to.
         #[arg(long, value_name = "FILE")]
         roots: Option<PathBuf>,
+        /// Those that the system trusts, which are mostly for servers.
+        #[arg(long, conflicts_with = "roots")]
+        system_roots: bool,
         #[command(flatten)]
         reading: Reading,
         #[command(flatten)]
@@ -270,111 +286,113 @@ pub enum Command {
         #[command(flatten)]
         output: Output,
     },
-    /// Write the bytes of a part of an image to a file, which must not exist.
+    /// Write the bytes of a part of an image to a new file.
     Extract {
         /// The image.
         file: PathBuf,
         /// The part.
         #[arg(value_enum, ignore_case = true)]
         part: ExtractedPart,
-        /// The file to write, or - for standard output.
-        #[arg(value_name = "OUT")]
-        to: PathBuf,
+        #[command(flatten)]
+        to: Target,
         #[command(flatten)]
         which: Which,
         #[command(flatten)]
         reading: Reading,
     },
-    /// Write an image with a certificate to a file, which must not exist.
+    /// Write an image with a certificate to a new file.
     Attach {
         /// The image.
         file: PathBuf,
         /// Entries of a certificate table, or PKCS #7 signed data in DER, which gets a header.
         certificate: PathBuf,
-        /// The file to write, or - for standard output.
-        #[arg(value_name = "OUT")]
-        to: PathBuf,
+        #[command(flatten)]
+        to: Target,
         /// In place of the certificates that are there, and not after them.
         #[arg(long)]
         in_place: bool,
         #[command(flatten)]
         reading: Reading,
     },
-    /// Write an image without its certificates to a file, which must not exist.
+    /// Write an image without its certificates to a new file.
     Detach {
         /// The image.
         file: PathBuf,
-        /// The file to write, or - for standard output.
-        #[arg(value_name = "OUT")]
-        to: PathBuf,
+        #[command(flatten)]
+        to: Target,
         #[command(flatten)]
         reading: Reading,
     },
-    /// Write an image with other version information to a file, which must not exist. What is not named stays as it is.
+    /// Write an image with other version information to a new file. What is not named stays as it is.
     SetVersion {
         /// The image.
         file: PathBuf,
-        /// The file to write, or - for standard output.
-        #[arg(value_name = "OUT")]
-        to: PathBuf,
+        #[command(flatten)]
+        to: Target,
         #[command(flatten)]
         version: NewVersion,
         #[command(flatten)]
+        strong_name: StrongName,
+        #[command(flatten)]
         reading: Reading,
     },
-    /// Write an image with another manifest to a file, which must not exist.
+    /// Write an image with another manifest to a new file.
     SetManifest {
         /// The image.
         file: PathBuf,
-        /// The file to write, or - for standard output.
-        #[arg(value_name = "OUT")]
-        to: PathBuf,
+        #[command(flatten)]
+        to: Target,
         /// The manifest, an XML text.
         manifest: PathBuf,
         /// In this language alone, as 1033 or 0x409. Without it in those that the manifest has, at most 256 MiB for all.
         #[arg(long, value_parser = language)]
         language: Option<u16>,
         #[command(flatten)]
+        strong_name: StrongName,
+        #[command(flatten)]
         reading: Reading,
     },
-    /// Write an image with other icons to a file, which must not exist: in the place of those of its first group of icons.
+    /// Write an image with other icons to a new file: in the place of those of its first group of icons.
     SetIcon {
         /// The image.
         file: PathBuf,
-        /// The file to write, or - for standard output.
-        #[arg(value_name = "OUT")]
-        to: PathBuf,
+        #[command(flatten)]
+        to: Target,
         /// The icons, an .ico file.
         icon: PathBuf,
         /// In this language alone, as 1033 or 0x409. Without it in those that the group has, at most 256 MiB for all.
         #[arg(long, value_parser = language)]
         language: Option<u16>,
         #[command(flatten)]
+        strong_name: StrongName,
+        #[command(flatten)]
         reading: Reading,
     },
-    /// Write an image with a resource that has the content of a file to a file, which must not exist.
+    /// Write an image with a resource that has the content of a file to a new file.
     SetResource {
         /// The image.
         file: PathBuf,
-        /// The file to write, or - for standard output.
-        #[arg(value_name = "OUT")]
-        to: PathBuf,
+        #[command(flatten)]
+        to: Target,
         #[command(flatten)]
         which: OneResource,
         /// The file with the content.
         content: PathBuf,
         #[command(flatten)]
+        strong_name: StrongName,
+        #[command(flatten)]
         reading: Reading,
     },
-    /// Write an image without a resource to a file, which must not exist.
+    /// Write an image without a resource to a new file.
     RemoveResource {
         /// The image.
         file: PathBuf,
-        /// The file to write, or - for standard output.
-        #[arg(value_name = "OUT")]
-        to: PathBuf,
+        #[command(flatten)]
+        to: Target,
         #[command(flatten)]
         which: OneResource,
+        #[command(flatten)]
+        strong_name: StrongName,
         #[command(flatten)]
         reading: Reading,
     },
@@ -382,21 +400,23 @@ pub enum Command {
     Checksum {
         #[command(flatten)]
         files: Files,
-        /// Write the one image with the right checksum to a file, which must not exist, or to standard output (-).
+        /// Write the one image with the right checksum to a new file, or to standard output (-).
         #[arg(long, value_name = "OUT", conflicts_with = "json")]
         fix: Option<PathBuf>,
+        /// Replace OUT where it exists.
+        #[arg(long, requires = "fix")]
+        replace: bool,
         #[command(flatten)]
         reading: Reading,
         #[command(flatten)]
         output: Output,
     },
-    /// Write a page of HTML that shows an image, or the stacks of a minidump, to a file, which must not exist.
+    /// Write a page of HTML that shows an image, or the stacks of a minidump, to a new file.
     Report {
         /// The image or the minidump.
         file: PathBuf,
-        /// The file to write, or - for standard output.
-        #[arg(value_name = "OUT")]
-        to: PathBuf,
+        #[command(flatten)]
+        to: Target,
         /// Of a minidump: a folder below which the images of modules are, or a file, as of `pe stack`.
         #[arg(long, value_name = "FOLDER")]
         images: Vec<PathBuf>,
@@ -453,10 +473,10 @@ pub struct OneResource {
 /// What is new of version information.
 #[derive(Args, Clone, Debug)]
 pub struct NewVersion {
-    /// The version of the file, up to four numbers.
+    /// The version of the file, up to four numbers. The string FileVersion follows it, unless --string sets that too.
     #[arg(long, value_name = "1.2.3.4", value_parser = version_numbers)]
     pub file_version: Option<[u16; 4]>,
-    /// The version of the product.
+    /// The version of the product. The string ProductVersion follows it.
     #[arg(long, value_name = "1.2.3.4", value_parser = version_numbers)]
     pub product_version: Option<[u16; 4]>,
     /// A string, as CompanyName=Example, in each table of strings; the others stay.
@@ -465,6 +485,31 @@ pub struct NewVersion {
     /// In this language alone, as 1033 or 0x409. Without it in those that the version information has.
     #[arg(long, value_parser = language)]
     pub language: Option<u16>,
+}
+
+impl NewVersion {
+    /// The strings that are named, and before them those that follow the numbers.
+    pub fn all_strings(&self) -> impl Iterator<Item = (&str, String)> {
+        let is_named = |name: &str| self.strings.iter().any(|it| it.0.eq_ignore_ascii_case(name));
+        let numbers = [("FileVersion", self.file_version), ("ProductVersion", self.product_version)];
+        let text = |numbers: [u16; 4]| numbers.map(|it| it.to_string()).join(".");
+        let following = numbers.into_iter().filter(move |it| !is_named(it.0));
+        let following = following.filter_map(move |(name, numbers)| Some((name, text(numbers?))));
+        following.chain(self.strings.iter().map(|(name, text)| (name.as_str(), text.clone())))
+    }
+
+    /// Whether nothing is new.
+    pub fn is_empty(&self) -> bool {
+        self.all_strings().next().is_none()
+    }
+}
+
+/// What is done with a strong name.
+#[derive(Args, Clone, Copy, Debug)]
+pub struct StrongName {
+    /// Change an image with a strong name (.NET) too, which is no longer good then.
+    #[arg(long)]
+    pub break_strong_name: bool,
 }
 
 fn language(text: &str) -> Result<u16, String> {

@@ -1,7 +1,7 @@
-//! The table of a part as CSV: a line of heads, and one for each row (<https://www.rfc-editor.org/rfc/rfc4180>). Texts of an image
-//! are escaped as on a terminal.
+//! The table of a part as CSV: a line of heads, and one for each row (<https://www.rfc-editor.org/rfc/rfc4180>). Texts stand as the
+//! image has them, but on a terminal, where they are escaped.
 
-use crate::escape::escaped;
+use crate::escape::{escaped, raw};
 use crate::facts::{Facts, Part, Topic};
 use crate::tables::{self, Row, Table};
 
@@ -88,7 +88,7 @@ fn other_of(facts: &Facts, topic: Topic, name: &str) -> Option<Table> {
 }
 
 /// Writing to memory does not fail, and all texts are UTF-8.
-fn written<'a>(records: impl Iterator<Item = Vec<&'a str>>) -> String {
+pub fn written<'a>(records: impl Iterator<Item = Vec<&'a str>>) -> String {
     let mut writer = csv::Writer::from_writer(Vec::new());
     for record in records {
         let _ = writer.write_record(record);
@@ -105,9 +105,9 @@ pub struct Lines {
 /// The part as CSV, or the table of it that is named, with a first column of the file where that is wanted. Empty where the image
 /// lacks it.
 pub fn lines(facts: &Facts, (topic, name): (Topic, Option<&str>), has_file: bool) -> Lines {
-    let table = name.map_or_else(|| table_of(facts, topic), |name| other_of(facts, topic, name));
+    let table = raw(|| name.map_or_else(|| table_of(facts, topic), |name| other_of(facts, topic, name)));
     let Some(table) = table else { return Lines { head: String::new(), rows: String::new() } };
-    let file = escaped(&facts.file);
+    let file = raw(|| escaped(&facts.file));
     let first = |text| has_file.then_some(text).into_iter();
     let heads = first("file").chain(table.columns.iter().map(|it| it.head)).collect();
     let rows = table.rows.iter().map(|row| first(file.as_str()).chain(row.iter().map(String::as_str)).collect());

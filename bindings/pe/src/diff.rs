@@ -1,13 +1,18 @@
 //! What differs between two images: what came, went and changed. Both are taken as rows of a name and a value for each part, and
-//! rows of one name are compared.
+//! rows of one name are compared; and all their bytes, region by region (`regions`). Two files of the same bytes alone are the same.
+
+mod regions;
 
 use crate::escape::escaped;
 use crate::facts::resources::Label;
-use crate::facts::{Facts, Name, Part};
+use crate::facts::{Facts, Name, Origin, Part};
 use crate::page::Style;
 use crate::tables;
+use pe_c::Image;
+use regions::Changed;
 use serde::Serialize;
 use std::collections::BTreeMap;
+use std::path::Path;
 
 #[derive(Debug, Serialize)]
 pub struct Difference {
@@ -27,6 +32,7 @@ pub struct Differences {
     pub after: String,
     pub after_hex: Option<String>,
     pub differences: Vec<Difference>,
+    pub regions: Vec<Changed>,
 }
 
 /// The rows of a part, by their names. Of several with one name each has its number, from 0 on.
@@ -157,22 +163,30 @@ fn compare(part: &'static str, before: &Rows, after: &Rows, to: &mut Vec<Differe
     }
 }
 
-pub fn of(before: &Facts, after: &Facts) -> Differences {
+/// What differs between two images with these paths and facts.
+pub fn of(paths: [&Path; 2], images: [&Image<'_>; 2], [before, after]: [&Facts; 2]) -> Differences {
     let mut differences = Vec::new();
     for (part, rows_of) in PARTS {
         compare(part, &rows_of(before), &rows_of(after), &mut differences);
     }
-    Differences {
-        json_version: before.json_version,
-        before: before.file.clone(),
-        before_hex: before.file_hex.clone(),
-        after: after.file.clone(),
-        after_hex: after.file_hex.clone(),
-        differences,
-    }
+    Differences { differences, regions: regions::changed(images, [before, after]), ..Differences::none(paths) }
 }
 
 impl Differences {
+    /// Of two files of the same bytes.
+    pub fn none(paths: [&Path; 2]) -> Differences {
+        let [before, after] = paths.map(Origin::of);
+        Differences {
+            json_version: before.json_version,
+            before: before.file,
+            before_hex: before.file_hex,
+            after: after.file,
+            after_hex: after.file_hex,
+            differences: Vec::new(),
+            regions: Vec::new(),
+        }
+    }
+
     /// A line for each: `-` what went, `+` what came, `~` what changed.
     pub fn text(&self, style: Style) -> String {
         let (mut text, mut part) = (String::new(), "");
@@ -189,6 +203,10 @@ impl Differences {
                 _ => format!("+ {}{}", it.name, value(&it.after).unwrap_or_default()),
             };
             text += &format!("  {line}\n");
+        }
+        text += if self.regions.is_empty() { "" } else { "bytes\n" };
+        for it in &self.regions {
+            text += &format!("  ~ {}: {}\n", it.name, it.text());
         }
         style.fitted(text)
     }

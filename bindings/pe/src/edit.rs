@@ -2,10 +2,11 @@
 //! second one in another language is made, unless it is asked for.
 
 use crate::arguments::{NewVersion, OneResource};
-use crate::escape::escaped;
 use crate::facts::Refusal;
 use crate::files::{self, Report};
 use crate::icon::{self, Group, IconError, Icons};
+use crate::new_file::Target;
+use crate::streams::{complain, complaint};
 use crate::Status;
 use pe_c::{Error, Image, ResourceEditor, ResourceKey, VersionInfo};
 use std::path::{Path, PathBuf};
@@ -18,10 +19,19 @@ const OF_PROGRAM: u16 = 1;
 const OF_DLL: u16 = 2;
 /// `IMAGE_FILE_DLL`
 const DLL: u16 = 0x2000;
+/// `VOS_NT_WINDOWS32`, and `VFT_APP` and `VFT_DLL`
+const NT_WINDOWS32: u32 = 0x4_0004;
+const VFT_APP: u32 = 1;
+const VFT_DLL: u32 = 2;
+/// `COMIMAGE_FLAGS_STRONGNAMESIGNED`
+const STRONG_NAME_SIGNED: u32 = 8;
 /// US English, of a resource that is new.
 const NEW_LANGUAGE: u16 = 0x409;
 /// How many bytes may be read or written for all languages together. Resources of a hostile image share what they contain.
 const ALL_LANGUAGES: usize = 256 << 20;
+
+/// The image, and where the other one is written.
+pub type Paths<'a> = (&'a Path, &'a Target);
 
 /// Why no file is written.
 enum Failure {
@@ -42,9 +52,14 @@ impl From<Error> for Failure {
     }
 }
 
+/// Whether the image has a strong name, a signature of .NET over all but the checksum and the certificates.
+pub fn has_strong_name(image: &Image<'_>) -> bool {
+    image.clr().ok().flatten().is_some_and(|it| it.header().flags & STRONG_NAME_SIGNED != 0)
+}
+
 /// The image after a change of its resources, delivered.
 fn deliver(
-    paths: (&Path, &Path),
+    paths: Paths<'_>,
     image: Result<Image<'_>, Error>,
     change: impl FnOnce(&Image<'_>, &mut ResourceEditor<'_>) -> Result<(), Failure>,
 ) -> Report {
@@ -55,7 +70,11 @@ fn deliver(
         Ok(editor.write()?)
     };
     match made() {
-        Ok(file) => files::deliver(&file, paths.1, Status::Done),
+        Ok(file) => files::deliver_like(Some(paths.0), &file, paths.1, Status::Done),
+        Err(Failure::Refused(Error::EDIT_SIGNED)) => {
+            let refusal = Refusal::from(Error::EDIT_SIGNED);
+            Report::refused(paths.0, format_args!("{refusal}; pe detach writes it without them"))
+        }
         Err(Failure::Refused(error)) => Report::refused(paths.0, Refusal::from(error)),
         Err(Failure::File) => Report::of("", Status::FileError),
         Err(Failure::Missing) => Report::refused(paths.0, "the image has no such resource"),
@@ -66,7 +85,7 @@ fn deliver(
 
 fn content_of(path: &Path) -> Result<Vec<u8>, Failure> {
     files::whole(path).map_err(|error| {
-        eprintln!("pe: {}: {error}", escaped(&path.to_string_lossy()));
+        complain(complaint(path, error));
         Failure::File
     })
 }
@@ -123,36 +142,42 @@ fn require_few(sizes: impl Iterator<Item = usize>) -> Result<(), Failure> {
     Ok(())
 }
 
-fn changed(content: Option<&[u8]>, language: u16, new: &NewVersion) -> Result<Vec<u8>, Error> {
-    let there = content.map(VersionInfo::of).transpose()?.flatten();
-    let mut version = there.unwrap_or_else(|| VersionInfo::new(language));
+/// New version information of a program or a DLL.
+fn new_version(image: &Image<'_>, language: u16) -> VersionInfo {
+    let mut version = VersionInfo::new(language);
+    version.set_file_type(NT_WINDOWS32, if image.info().characteristics & DLL == 0 { VFT_APP } else { VFT_DLL });
+    version
+}
+
+fn changed(mut version: VersionInfo, language: u16, new: &NewVersion) -> Result<Vec<u8>, Error> {
     if let Some(numbers) = new.file_version {
         version.set_file_version(numbers);
     }
     if let Some(numbers) = new.product_version {
         version.set_product_version(numbers);
     }
-    for (name, text) in &new.strings {
-        if version.set_string(name, text)? == 0 {
+    for (name, text) in new.all_strings() {
+        if version.set_string(name, &text)? == 0 {
             version.add_table(language);
-            version.set_string(name, text)?;
+            version.set_string(name, &text)?;
         }
     }
     version.to_bytes()
 }
 
 /// The image with other version information.
-pub fn set_version(paths: (&Path, &Path), image: Result<Image<'_>, Error>, new: &NewVersion) -> Report {
-    deliver(paths, image, |_, editor| {
+pub fn set_version(paths: Paths<'_>, image: Result<Image<'_>, Error>, new: &NewVersion) -> Report {
+    deliver(paths, image, |image, editor| {
         let kind = ResourceKey::Id(VERSION);
         let name = names_of(editor, &kind).into_iter().next().unwrap_or(ResourceKey::Id(1));
         let languages = languages_of(editor, &kind, &name, new.language);
-        let strings: usize = new.strings.iter().map(|(name, text)| name.len() + text.len()).sum();
+        let strings: usize = new.all_strings().map(|(name, text)| name.len() + text.len()).sum();
         let size_of = |place| strings + editor.get(&place).map_or(0, |it| it.bytes.len());
         require_few(languages.iter().map(|language| size_of((kind.clone(), name.clone(), *language))))?;
         for language in languages {
             let place = (kind.clone(), name.clone(), language);
-            let content = changed(editor.get(&place).map(|it| &*it.bytes), language, new)?;
+            let there = editor.get(&place).map(|it| VersionInfo::of(&it.bytes)).transpose()?.flatten();
+            let content = changed(there.unwrap_or_else(|| new_version(image, language)), language, new)?;
             editor.set(kind.clone(), name.clone(), language, content);
         }
         Ok(())
@@ -175,7 +200,7 @@ fn set_in(
 
 /// The image with another manifest.
 pub fn set_manifest(
-    paths: (&Path, &Path),
+    paths: Paths<'_>,
     image: Result<Image<'_>, Error>,
     manifest: &Path,
     language: Option<u16>,
@@ -191,7 +216,7 @@ pub fn set_manifest(
 }
 
 /// The image with other icons in the place of those of its first group, which is the one that Windows shows.
-pub fn set_icon(paths: (&Path, &Path), image: Result<Image<'_>, Error>, file: &Path, language: Option<u16>) -> Report {
+pub fn set_icon(paths: Paths<'_>, image: Result<Image<'_>, Error>, file: &Path, language: Option<u16>) -> Report {
     deliver(paths, image, |_, editor| {
         let content = content_of(file)?;
         let of_file = |error| Failure::Icon(file.to_path_buf(), error);
@@ -217,12 +242,7 @@ fn keys_of(editor: &ResourceEditor<'_>, which: &OneResource) -> (ResourceKey, Re
 }
 
 /// The image with a resource of this content.
-pub fn set_resource(
-    paths: (&Path, &Path),
-    image: Result<Image<'_>, Error>,
-    which: &OneResource,
-    content: &Path,
-) -> Report {
+pub fn set_resource(paths: Paths<'_>, image: Result<Image<'_>, Error>, which: &OneResource, content: &Path) -> Report {
     deliver(paths, image, |_, editor| {
         let content = content_of(content)?;
         let (kind, name) = keys_of(editor, which);
@@ -232,7 +252,7 @@ pub fn set_resource(
 }
 
 /// The image without a resource: in one language, or in all.
-pub fn remove_resource(paths: (&Path, &Path), image: Result<Image<'_>, Error>, which: &OneResource) -> Report {
+pub fn remove_resource(paths: Paths<'_>, image: Result<Image<'_>, Error>, which: &OneResource) -> Report {
     deliver(paths, image, |_, editor| {
         let (kind, name) = keys_of(editor, which);
         let languages = match which.language {

@@ -1,11 +1,26 @@
 //! Names and texts of an image may hold anything: control characters that move the cursor, characters that turn the
 //! direction of a line, bytes that are no text. `Escaped` shows all of these as escapes, so that a name can't forge a line.
 
+use std::cell::Cell;
 use std::fmt::{self, Write};
+use std::io::{self, IsTerminal};
 
 /// A text of an image, as it may be printed: control characters as `\x1b` or `\u{202e}`, bytes that are not UTF-8 as
 /// `\xff`, a backslash as it is.
 pub struct Escaped<'a>(pub &'a [u8]);
+
+thread_local! {
+    /// Whether texts stand as they are, where nobody looks at them: see `raw`.
+    static IS_RAW: Cell<bool> = const { Cell::new(false) };
+}
+
+/// What is made here has texts as an image has them, and no escape but for bytes that are not UTF-8. A terminal is never given it.
+pub fn raw<T>(make: impl FnOnce() -> T) -> T {
+    IS_RAW.set(!io::stdout().is_terminal());
+    let made = make();
+    IS_RAW.set(false);
+    made
+}
 
 /// Whether a character stands for itself: neither a control character nor one that changes how others are laid out.
 fn is_plain(character: char) -> bool {
@@ -26,9 +41,12 @@ pub fn write_escaped(character: char, to: &mut impl Write) -> fmt::Result {
 
 impl fmt::Display for Escaped<'_> {
     fn fmt(&self, f: &mut fmt::Formatter<'_>) -> fmt::Result {
+        let is_raw = IS_RAW.get();
         for chunk in self.0.utf8_chunks() {
-            for character in chunk.valid().chars() {
-                write_escaped(character, f)?;
+            if is_raw {
+                f.write_str(chunk.valid())?;
+            } else {
+                chunk.valid().chars().try_for_each(|character| write_escaped(character, f))?;
             }
             for byte in chunk.invalid() {
                 write!(f, "\\x{byte:02x}")?;

@@ -1,16 +1,17 @@
 //! Parts of an image whose bytes are written to a file: the manifest, certificates, resources, and icons and cursors as the
 //! files that other programs open.
 
-use crate::escape::escaped;
 use crate::facts::resources::LEAVES;
-use crate::facts::{languages, Refusal};
+use crate::facts::{languages, overlay, sections, Refusal};
 use crate::files::{self, Report};
 use crate::names::{name_of, RESOURCE_TYPES};
+use crate::new_file::Target;
 use crate::Status;
 use clap::{Args, ValueEnum};
 use pe_c::{Error, Image, ResourceLeaf, ResourceName};
 use std::borrow::Cow;
 use std::collections::BTreeMap;
+use std::fs;
 use std::path::Path;
 
 #[derive(Clone, Copy, Debug, PartialEq, Eq, ValueEnum)]
@@ -27,6 +28,12 @@ pub enum ExtractedPart {
     Icon,
     /// A cursor as a .cur file, by its name and its language
     Cursor,
+    /// The bytes after the headers and all sections, without COFF symbols and certificates
+    Overlay,
+    /// The bytes of a section in the file, by its name or its number
+    Section,
+    /// All resources, each as a file TYPE-NAME-LANGUAGE in the new folder OUT
+    Resources,
 }
 
 /// Which of several. Where more than one is left the first counts.
@@ -35,13 +42,13 @@ pub struct Which {
     /// The type of the resource: a number of winuser.h, as 10 of raw data, or its name, as show has it.
     #[arg(long = "type", value_name = "TYPE")]
     kind: Option<String>,
-    /// The name of the resource, or its number.
+    /// The name of the resource, or its number; or the name of the section.
     #[arg(long)]
     name: Option<String>,
     /// The language of the resource by its identifier, as 1033 or 0x409, or its name, as show has it.
     #[arg(long)]
     language: Option<String>,
-    /// The certificate with this number in the table, from 1 on.
+    /// The certificate or the section with this number in its table, from 1 on.
     #[arg(long, value_parser = clap::value_parser!(u32).range(1..))]
     number: Option<u32>,
 }
@@ -186,8 +193,10 @@ impl ExtractedPart {
                 let leaves = leaves_of(image, which, None)?;
                 return leaves.first().map(|it| it.content().map(Cow::from)).transpose();
             }
+            ExtractedPart::Overlay => return Ok(overlay_of(image).map(Cow::from)),
+            ExtractedPart::Section => return Ok(section_of(image, which).map(Cow::from)),
             ExtractedPart::Icon => ICON,
-            ExtractedPart::Cursor => CURSOR,
+            ExtractedPart::Cursor | ExtractedPart::Resources => CURSOR,
         };
         match leaves_of(image, which, Some(kind + GROUP))?.first() {
             Some(group) => Ok(file_of_group(image, group, kind)?.map(Cow::from)),
@@ -196,17 +205,101 @@ impl ExtractedPart {
     }
 
     /// Writes the part. The text is for standard output.
-    pub fn write_to(self, (path, image): (&Path, Result<Image<'_>, Error>), which: &Which, to: &Path) -> Report {
+    pub fn write_to(self, (path, image): (&Path, Result<Image<'_>, Error>), which: &Which, to: &Target) -> Report {
+        if let (ExtractedPart::Resources, Ok(image)) = (self, &image) {
+            return write_resources((path, image), which, to);
+        }
         match image.and_then(|image| self.bytes_of(&image, which)) {
             Ok(Some(bytes)) => files::deliver(&bytes, to, Status::Done),
             Ok(None) => {
                 let part = self.to_possible_value().map_or(String::new(), |it| it.get_name().to_string());
-                eprintln!("pe: {}: the image has no such part: {part}", escaped(&path.to_string_lossy()));
-                Report::of("", Status::Refused)
+                Report::refused(path, format_args!("the image has no such part: {part}"))
             }
             Err(error) => Report::refused(path, Refusal::from(error)),
         }
     }
+}
+
+fn overlay_of<'a>(image: &Image<'a>) -> Option<&'a [u8]> {
+    let content = overlay::of(image)?.content?;
+    image.bytes().get(content.file_offset..)?.get(..content.size)
+}
+
+/// The first section with a name, or the one with a number, as far as it is in the file.
+fn section_of<'a>(image: &Image<'a>, which: &Which) -> Option<&'a [u8]> {
+    let names = sections::names_of(image);
+    let is_it = |number: usize| match (&which.name, which.number) {
+        (Some(name), _) => names.get(number).is_some_and(|it| it.0 == name.as_bytes()),
+        (None, wanted) => wanted.unwrap_or(1) as usize == number + 1,
+    };
+    let (_, section) = image.sections().iter().enumerate().find(|it| is_it(it.0))?;
+    let (range, length) = (sections::range_of(image.layout(), section), image.bytes().len() as u64);
+    image.bytes().get(range.start.min(length) as usize..range.end.min(length) as usize)
+}
+
+/// How many times the bytes of the image its resources may have together: those of a hostile one share what they contain.
+const READINGS: usize = 16;
+
+/// What a type, a name or a language is called in the name of a file: letters, digits, and a line in place of all else.
+fn in_file_name(name: ResourceName<'_>, named: Option<&'static str>) -> String {
+    let text = match (name, named) {
+        (ResourceName::Id(_), Some(named)) => named.to_lowercase(),
+        (ResourceName::Id(id), None) => id.to_string(),
+        (ResourceName::Name(name), _) => name.to_string_lossy(),
+    };
+    plain(&text)
+}
+
+fn plain(text: &str) -> String {
+    text.chars().take(CHARACTERS).map(|it| if it.is_alphanumeric() { it } else { '_' }).collect()
+}
+
+/// How many characters of a name stand in that of a file.
+const CHARACTERS: usize = 48;
+
+/// The names of files, and what they contain. Of several with one name each has its number.
+fn files_of<'a>(leaves: &[ResourceLeaf<'a>]) -> Vec<(String, Result<&'a [u8], Error>)> {
+    let (mut counts, mut files) = (BTreeMap::new(), Vec::new());
+    for leaf in leaves {
+        let kind = match leaf.resource_type {
+            ResourceName::Id(id) => name_of(id.into(), RESOURCE_TYPES),
+            ResourceName::Name(_) => None,
+        };
+        let parts = [(leaf.resource_type, kind), (leaf.name, None), (leaf.language, None)];
+        let name = parts.map(|it| in_file_name(it.0, it.1)).join("-");
+        let count: &mut usize = counts.entry(name.to_lowercase()).or_default();
+        *count += 1;
+        files.push((if *count == 1 { name } else { format!("{name}-{count}") }, leaf.content()));
+    }
+    files
+}
+
+/// All resources that are asked for, as files of a new folder. Of one that is refused it is said why.
+fn write_resources((path, image): (&Path, &Image<'_>), which: &Which, to: &Target) -> Report {
+    let files = match leaves_of(image, which, None).map(|leaves| files_of(&leaves)) {
+        Ok(files) if files.is_empty() => return Report::refused(path, "the image has no such part: resources"),
+        Ok(files) => files,
+        Err(error) => return Report::refused(path, Refusal::from(error)),
+    };
+    let sum = files.iter().fold(0usize, |sum, it| sum.saturating_add(it.1.map_or(0, <[u8]>::len)));
+    if sum > image.bytes().len().saturating_mul(READINGS) {
+        return Report::refused(path, "its resources share what they contain, and have more than 16 times its bytes");
+    }
+    match fs::create_dir(&to.to) {
+        Err(error) if !to.replace || !to.to.is_dir() => return Report::unread(&to.to, error),
+        _ => (),
+    }
+    let mut report = Report::of("", Status::Done);
+    for (name, content) in files {
+        let target = Target { to: to.to.join(&name), replace: to.replace };
+        let one = match content {
+            Ok(bytes) => files::deliver(bytes, &target, Status::Done),
+            Err(error) => Report::refused(path, format_args!("{name}: {}", Refusal::from(error))),
+        };
+        report.complaints += &one.complaints;
+        report.status = report.status.max(one.status);
+    }
+    report
 }
 
 /// The body of the certificate with a number, or of the first of type PKCS #7.
@@ -235,4 +328,17 @@ fn certificates_of<'a>(image: &Image<'a>) -> Result<Option<Cow<'a, [u8]>>, Error
         table.resize(table.len().next_multiple_of(ALIGNMENT), 0);
     }
     Ok((!table.is_empty()).then(|| Cow::from(table)))
+}
+
+#[cfg(test)]
+mod tests {
+    use super::*;
+
+    #[test]
+    fn names_of_files_stay_in_their_folder() {
+        assert_eq!(in_file_name(ResourceName::Id(16), Some("Version")), "version");
+        assert_eq!(in_file_name(ResourceName::Id(0x409), None), "1033");
+        assert_eq!(plain("../../etc/passwd\0\u{202e}"), "______etc_passwd__");
+        assert_eq!(plain(&"a".repeat(300)).len(), CHARACTERS);
+    }
 }

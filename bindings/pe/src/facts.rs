@@ -36,7 +36,7 @@ use crate::names::{name_of, MACHINES};
 use chrono::{TimeZone, Utc};
 use clap::ValueEnum;
 use others::Other;
-use pe_c::{DirectoryIndex, Error, Failure, Image};
+use pe_c::{DirectoryIndex, Error, Image};
 use serde::ser::SerializeMap;
 use serde::{Serialize, Serializer};
 use std::fmt;
@@ -51,7 +51,7 @@ pub enum Topic {
     Headers,
     /// What the headers ask of Windows to make attacks harder
     Hardening,
-    /// SHA-256, imphash, Rich hash, and the Authenticode digest
+    /// MD5, SHA-1, SHA-256, imphash, Rich hash, and the Authenticode digest
     Hashes,
     Sections,
     Imports,
@@ -156,9 +156,9 @@ fn is_machine(low: u8, high: u8) -> bool {
 /// What each line of JSON starts with, of a command that has no parts: whose file it is.
 #[derive(Clone, Debug, Serialize)]
 pub struct Origin {
-    json_version: u32,
+    pub json_version: u32,
     pub file: String,
-    file_hex: Option<String>,
+    pub file_hex: Option<String>,
 }
 
 impl Origin {
@@ -178,32 +178,29 @@ pub struct Refusal {
     pub number: u32,
     pub name: &'static str,
     pub text: String,
-    /// What is wrong with a directory, with its numbers, for text.
+    /// What is wrong, with its numbers, for text.
     #[serde(skip)]
-    pub failure: Option<Failure>,
+    pub said: Option<String>,
 }
 
 impl Refusal {
     /// The error of a directory, with its numbers where the directory itself is refused, and not an entry in it.
     fn of_directory(error: Error, image: &Image<'_>, index: DirectoryIndex) -> Refusal {
         let failure = image.directory_failure(index).filter(|it| it.error == error);
-        Refusal { failure, ..error.into() }
+        Refusal { said: failure.map(|it| it.to_string()), ..error.into() }
     }
 }
 
 impl From<Error> for Refusal {
     fn from(error: Error) -> Refusal {
         let name = error.name().unwrap_or("UNKNOWN");
-        Refusal { number: error.number(), name, text: error.to_string(), failure: None }
+        Refusal { number: error.number(), name, text: error.to_string(), said: None }
     }
 }
 
 impl fmt::Display for Refusal {
     fn fmt(&self, f: &mut fmt::Formatter<'_>) -> fmt::Result {
-        match &self.failure {
-            Some(failure) => write!(f, "{failure} ({})", self.name),
-            None => write!(f, "{} ({})", self.text, self.name),
-        }
+        write!(f, "{} ({})", self.said.as_ref().unwrap_or(&self.text), self.name)
     }
 }
 
@@ -372,6 +369,11 @@ impl Budget {
     /// For entries that have no RVA.
     pub fn without_rvas(bytes: &[u8]) -> Budget {
         Budget { left: bytes.len().saturating_mul(READINGS), sections: 0, refused: bytes.len() / REFUSED }
+    }
+
+    /// The same, and at most so many bytes.
+    pub fn at_most(self, most: usize) -> Budget {
+        Budget { left: self.left.min(most), ..self }
     }
 
     /// A list inside of an entry. One that is refused is paid for: a name in it may have been read to the end of the file, and entries
@@ -779,13 +781,14 @@ impl<'a> Facts<'a> {
     }
 
     /// All that is refused, each with the part that it is of.
-    pub fn refusals(&self) -> Vec<(&'static str, &Refusal)> {
+    pub fn refusals<'s>(&'s self) -> Vec<(&'static str, &'s Refusal)> {
         let mut found = Vec::new();
         found.extend(self.error.iter().map(|it| ("image", it)));
         if let Some(part) = &self.imports {
             found.extend(part.list_refusal().map(|it| ("imports", it)));
             let libraries = part.present().into_iter().flat_map(|it| &it.entries);
-            found.extend(libraries.filter_map(|it| it.functions.list_refusal()).map(|it| ("imports", it)));
+            let refusals = |it: &'s imports::Library<'_>| [it.lookup_table_error.as_ref(), it.functions.list_refusal()];
+            found.extend(libraries.flat_map(refusals).flatten().map(|it| ("imports", it)));
         }
         found.extend(self.exports.iter().filter_map(Part::refusal).map(|it| ("exports", it)));
         found.extend(self.debug.iter().flat_map(|it| it.refusals()).map(|it| ("debug data", it)));

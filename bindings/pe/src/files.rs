@@ -3,14 +3,17 @@
 //! few.
 
 use crate::arguments::{Arguments, Files};
+use crate::facts::Topic;
+use crate::new_file::Target;
+use crate::streams::{complain, complaint};
 use crate::system::{ask_for_large_pages, is_folder, is_loop, Progress};
 use crate::Status;
-use clap::CommandFactory;
+use clap::{CommandFactory, ValueEnum};
 use pe_c::{Error, Image, Mode};
 use rayon::prelude::*;
 use std::cell::Cell;
 use std::fmt::Display;
-use std::fs::{self, File, OpenOptions};
+use std::fs::{self, File};
 use std::io::{self, IsTerminal, Read, Write};
 use std::path::{Path, PathBuf};
 
@@ -35,8 +38,12 @@ pub struct Report {
 impl Report {
     /// Of a file that is refused, why, on standard error.
     pub fn refused(path: &Path, why: impl Display) -> Report {
-        let complaints = format!("pe: {}: {why}\n", crate::escape::escaped(&path.to_string_lossy()));
-        Report { complaints, ..Report::of("", Status::Refused) }
+        Report { complaints: complaint(path, why), ..Report::of("", Status::Refused) }
+    }
+
+    /// Of a file that can't be read or written, why.
+    pub fn unread(path: &Path, why: impl Display) -> Report {
+        Report { complaints: complaint(path, why), ..Report::of("", Status::FileError) }
     }
 
     pub fn of(text: impl Into<Vec<u8>>, status: Status) -> Report {
@@ -44,24 +51,20 @@ impl Report {
     }
 }
 
-/// What a command made, written to a file, which must not exist, or for `-` to standard output.
-pub fn deliver(bytes: &[u8], to: &Path, status: Status) -> Report {
-    if to == Path::new("-") {
-        return Report::of(bytes, status);
-    }
-    match write_new(to, bytes) {
-        Ok(()) => Report::of("", status),
-        Err(error) => {
-            eprintln!("pe: {}: {error}", crate::escape::escaped(&to.to_string_lossy()));
-            Report::of("", Status::FileError)
-        }
-    }
+/// What a command made, written to a file or for `-` to standard output.
+pub fn deliver(bytes: &[u8], to: &Target, status: Status) -> Report {
+    deliver_like(None, bytes, to, status)
 }
 
-/// Writes a file that must not exist, and removes what was begun of it if that fails.
-fn write_new(path: &Path, bytes: &[u8]) -> io::Result<()> {
-    let mut file = OpenOptions::new().write(true).create_new(true).open(path)?;
-    file.write_all(bytes).inspect_err(|_| drop(fs::remove_file(path)))
+/// The same, with the permissions of another file.
+pub fn deliver_like(like: Option<&Path>, bytes: &[u8], to: &Target, status: Status) -> Report {
+    if to.to == Path::new("-") {
+        return Report::of(bytes, status);
+    }
+    match to.write(bytes, like.filter(|it| *it != Path::new("-"))) {
+        Ok(()) => Report::of("", status),
+        Err(error) => Report::unread(&to.to, error),
+    }
 }
 
 /// A file, and whether it is one of those below a folder.
@@ -88,7 +91,7 @@ impl Skipped {
     fn put(&self, path: &Path, why: &str) {
         self.count.set(self.count.get() + 1);
         if self.is_verbose {
-            eprintln!("pe: {}: skipped, {why}", crate::escape::escaped(&path.to_string_lossy()));
+            complain(complaint(path, format_args!("skipped, {why}")));
         }
     }
 }
@@ -214,7 +217,7 @@ pub fn each(named: &Files, out: &mut dyn Write, report: impl Fn(&Path, &[u8]) ->
     bar.end();
     if skipped.count.get() > 0 {
         let what = if skipped.count.get() == 1 { "is no image" } else { "are no images" };
-        eprintln!("pe: {} {what}, and skipped", crate::facts::counted(skipped.count.get(), "file"));
+        complain(format_args!("pe: {} {what}, and skipped\n", crate::facts::counted(skipped.count.get(), "file")));
     }
     Ok(worst)
 }
@@ -228,7 +231,7 @@ fn write(
 ) -> io::Result<Option<Status>> {
     match report {
         Ok(Some(report)) if report.is_image || !found.is_below => {
-            eprint!("{}", report.complaints);
+            complain(&report.complaints);
             if !report.head.is_empty() && !*has_head {
                 out.write_all(report.head.as_bytes())?;
                 *has_head = true;
@@ -236,12 +239,32 @@ fn write(
             out.write_all(&report.text).map(|()| Some(report.status))
         }
         Ok(_) => Ok(None),
-        Err(error) => {
-            let name = found.path.to_string_lossy();
-            eprintln!("pe: {}: {error}{}", crate::escape::escaped(&name), hint(&found.path, &error));
-            Ok(Some(Status::FileError))
-        }
+        Err(error) => Ok(Some(unread(&found.path, &error))),
     }
+}
+
+/// Says why a file cannot be read.
+fn unread(path: &Path, error: &io::Error) -> Status {
+    complain(complaint(path, format_args!("{error}{}", hint(path, error))));
+    Status::FileError
+}
+
+/// Reads one file, of which `report` writes what it says as it goes.
+pub fn one(
+    path: &Path,
+    out: &mut dyn Write,
+    report: impl FnOnce(&[u8], &mut dyn Write) -> io::Result<Status>,
+) -> io::Result<Status> {
+    match whole(path) {
+        Ok(bytes) => report(&bytes, out),
+        Err(error) => Ok(unread(path, &error)),
+    }
+}
+
+/// Says which of these files and folders are not there.
+pub fn are_there(paths: &[PathBuf]) -> Status {
+    let missing = paths.iter().filter_map(|path| Some((path, fs::metadata(path).err()?)));
+    missing.map(|(path, error)| unread(path, &error)).max().unwrap_or(Status::Done)
 }
 
 /// What was meant by a folder, or by the name of a file that is not there.
@@ -253,6 +276,9 @@ fn hint(path: &Path, error: &io::Error) -> String {
         return String::new();
     }
     let (name, commands) = (path.to_string_lossy(), Arguments::command());
+    if Topic::from_str(&name, true).is_ok() {
+        return format!("; `pe show FILE {name}` shows that part");
+    }
     let meant = commands.get_subcommands().map(|it| it.get_name()).find(|it| is_like(&name, it));
     meant.map_or(String::new(), |it| format!("; is the command `{it}` meant?"))
 }

@@ -12,6 +12,7 @@ use crate::facts::debug::Debug;
 use crate::facts::regions::{self, Region};
 use crate::facts::{count_of, Facts, Part, Refusal, Wanted};
 use crate::files::{self, Report};
+use crate::new_file::Target;
 use crate::summary::kind_of;
 use crate::tables::{self, Row, Table};
 use crate::Status;
@@ -31,7 +32,7 @@ const OPEN_ROWS: usize = 40;
 const WARNINGS: usize = 100;
 
 /// Writes the page of a file. One of a file that is no image says why.
-pub fn write_to(file: (&Path, &[u8]), image: Result<Image<'_>, Error>, wanted: &Wanted, to: &Path) -> Report {
+pub fn write_to(file: (&Path, &[u8]), image: Result<Image<'_>, Error>, wanted: &Wanted, to: &Target) -> Report {
     let (path, bytes) = file;
     let facts = match &image {
         Ok(image) => Facts::of(path, image, wanted),

@@ -14,12 +14,15 @@ mod files;
 mod find;
 mod html;
 mod icon;
+mod list;
 mod man;
 mod names;
+mod new_file;
 mod page;
 mod show;
 mod sign;
 mod stack;
+mod streams;
 mod summary;
 mod system;
 mod tables;
@@ -35,34 +38,34 @@ use files::Report;
 use page::Style;
 use pe_c::{Error, Image, Placement};
 use serde::Serialize;
-use std::io::{self, BufWriter, Write};
+use std::io::{self, Write};
 use std::path::{Path, PathBuf};
 use std::process::ExitCode;
+use std::sync::atomic::{AtomicBool, Ordering};
+use streams::{complain, complaint};
 use verify::checked::Roots;
 
 /// What a run came to: the exit status. The worst of several files counts.
 #[derive(Clone, Copy, Debug, PartialEq, Eq, PartialOrd, Ord)]
 pub enum Status {
     Done = 0,
-    /// An image, or a part that was asked for, is refused; or two images differ.
+    /// An image, or a part that was asked for, is refused; two images differ; a signature is not good; nothing is found.
     Refused = 1,
-    /// A file cannot be read or written.
+    /// A file cannot be read or written, or memory ran out.
     FileError = 3,
+    /// A stack is lost before its bottom.
+    Lost = 4,
 }
 
 fn main() -> ExitCode {
-    let arguments = Arguments::parse();
-    let mut out = BufWriter::new(io::stdout().lock());
-    let status = run(&arguments, &mut out).and_then(|status| out.flush().map(|()| status));
-    match status {
-        Ok(status) => ExitCode::from(status as u8),
-        // Whoever read the output has seen enough, as `head` has.
-        Err(error) if error.kind() == io::ErrorKind::BrokenPipe => ExitCode::from(Status::FileError as u8),
-        Err(error) => {
-            eprintln!("pe: standard output: {error}");
-            ExitCode::from(Status::FileError as u8)
-        }
-    }
+    system::end_well_without_memory();
+    system::ignore_file_size_limit();
+    let arguments = match Arguments::try_parse() {
+        Ok(arguments) => arguments,
+        Err(error) => return ExitCode::from(streams::said_by_clap(&error)),
+    };
+    let mut out = streams::output();
+    streams::status_of(run(&arguments, &mut *out).and_then(|status| out.flush().map(|()| status)))
 }
 
 fn run(arguments: &Arguments, out: &mut dyn Write) -> io::Result<Status> {
@@ -116,11 +119,20 @@ fn run_command(command: &Command, out: &mut dyn Write) -> io::Result<Status> {
             let table = csv.then_some(table.as_deref());
             show_parts((words, *walk), table, How::of(reading, hashing, output), out)
         }
+        Command::List { files, reading, hashing, .. } => {
+            let text = |facts: &Facts, _| {
+                let (head, row) = list::lines(facts);
+                Said { head, ..Said::from(row) }
+            };
+            let wanted = list::wanted(hashing.has_hashes());
+            files::each(files, out, |path, bytes| shown(path, bytes, reading, &wanted, text))
+        }
         Command::Find { word, files, reading, output } => {
             find_word(word, files, How::without_hashes(reading, output), out)
         }
-        Command::Diff { before, after, reading, hashing, output } => {
-            compare([before.as_path(), after.as_path()], How::of(reading, hashing, output), out)
+        Command::Diff { before, after, reading, output } => {
+            let how = How { reading, has_hashes: true, is_json: output.json };
+            compare([before.as_path(), after.as_path()], how, out)
         }
         Command::Key { files, reading, hashing, output } => show_keys(files, How::of(reading, hashing, output), out),
         Command::Digest { files, reading, output } => {
@@ -129,12 +141,15 @@ fn run_command(command: &Command, out: &mut dyn Write) -> io::Result<Status> {
                 of_image(bytes, reading, |image| digest::report(path, image, output.json))
             })
         }
-        Command::Verify { files, roots, reading, output } => {
-            verify_signatures(files, roots.as_deref(), (reading, output), out)
+        Command::Verify { files, roots, system_roots, reading, output } => {
+            let of_system = system_roots.then(verify::checked::roots_of_system);
+            verify_signatures(files, roots.as_deref().or(of_system), (reading, output), out)
         }
         Command::Stack { dump, images, stacks, output } => {
-            let (known, asked) = (stack::Known::below(images), stacks.asked(output.json));
-            files::each(&Files::one(dump), out, |path, bytes| stack::report(path, bytes, &known, asked))
+            let (there, known, asked) =
+                (files::are_there(images), stack::Known::below(images), stacks.asked(output.json));
+            let status = files::one(dump, out, |bytes, out| stack::write(dump, bytes, &known, asked, out))?;
+            Ok(if there == Status::Done { status } else { there })
         }
         Command::Unwind { words, all, walk, reading, output } => {
             unwind_functions((words, *walk), *all, How::without_hashes(reading, output), out)
@@ -197,7 +212,7 @@ fn verify_signatures(
     refuse_mapped(reading, "a signature");
     let roots = match roots.map(|path| (path, Roots::read(path))) {
         Some((path, Err(why))) => {
-            eprintln!("pe: {}: {why}", escape::escaped(&path.to_string_lossy()));
+            complain(complaint(path, why));
             return Ok(Status::FileError);
         }
         Some((_, Ok(roots))) => Some(roots),
@@ -245,22 +260,25 @@ fn write_file(command: &Command, out: &mut dyn Write) -> io::Result<Status> {
                 of_image(bytes, reading, |image| sign::detach(path, image, to))
             })
         }
-        Command::Checksum { files, fix, reading, output } => {
+        Command::Checksum { files, fix, replace, reading, output } => {
             refuse_mapped(reading, "a checksum");
             if fix.is_some() && files.is_several() {
                 misused("--fix takes one file, since it writes one");
             }
-            files::each(files, out, |path, bytes| match fix {
+            let fix = fix.as_ref().map(|to| new_file::Target { to: to.clone(), replace: *replace });
+            files::each(files, out, |path, bytes| match &fix {
                 Some(to) => of_image(bytes, reading, |image| sign::fix(path, image, to)),
                 None => of_image(bytes, reading, |image| sign::checksum(path, image, output.json)),
             })
         }
         Command::Report { file, to, images, stacks, reading, hashing } => {
             let wanted = Wanted::parts(&[], hashing.has_hashes());
-            files::each(&Files::one(file), out, |path, bytes| match stack::is_dump(bytes) {
+            let there = files::are_there(images);
+            let status = files::each(&Files::one(file), out, |path, bytes| match stack::is_dump(bytes) {
                 true => html::dump::write_to((path, bytes), &stack::Known::below(images), stacks.asked(false), to),
                 false => html::write_to((path, bytes), parsed(bytes, reading), &wanted, to),
-            })
+            })?;
+            Ok(status.max(there))
         }
         _ => edit_file(command, out),
     }
@@ -268,18 +286,25 @@ fn write_file(command: &Command, out: &mut dyn Write) -> io::Result<Status> {
 
 /// The commands that write an image with other resources.
 fn edit_file(command: &Command, out: &mut dyn Write) -> io::Result<Status> {
-    let (Command::SetVersion { file, to, reading, .. }
-    | Command::SetManifest { file, to, reading, .. }
-    | Command::SetIcon { file, to, reading, .. }
-    | Command::SetResource { file, to, reading, .. }
-    | Command::RemoveResource { file, to, reading, .. }) = command
+    let (Command::SetVersion { file, to, strong_name, reading, .. }
+    | Command::SetManifest { file, to, strong_name, reading, .. }
+    | Command::SetIcon { file, to, strong_name, reading, .. }
+    | Command::SetResource { file, to, strong_name, reading, .. }
+    | Command::RemoveResource { file, to, strong_name, reading, .. }) = command
     else {
         return Ok(Status::Done);
     };
     refuse_mapped(reading, "a change of resources");
+    if matches!(command, Command::SetVersion { version, .. } if version.is_empty()) {
+        misused("nothing is new: --file-version, --product-version and --string say what");
+    }
     files::each(&Files::one(file), out, |path, bytes| {
-        let paths = (path, to.as_path());
+        let paths = (path, to);
         of_image(bytes, reading, |image| match command {
+            _ if !strong_name.break_strong_name && image.as_ref().is_ok_and(edit::has_strong_name) => Report::refused(
+                path,
+                "it has a strong name (.NET), which a change breaks; --break-strong-name changes it all the same",
+            ),
             Command::SetManifest { manifest, language, .. } => edit::set_manifest(paths, image, manifest, *language),
             Command::SetIcon { icon, language, .. } => edit::set_icon(paths, image, icon, *language),
             Command::SetResource { which, content, .. } => edit::set_resource(paths, image, which, content),
@@ -298,7 +323,8 @@ fn refuse_mapped(reading: &Reading, what: &str) {
 }
 
 fn misused(message: &str) -> ! {
-    Arguments::command().error(ErrorKind::ArgumentConflict, message).exit()
+    let error = Arguments::command().error(ErrorKind::ArgumentConflict, message);
+    std::process::exit(streams::said_by_clap(&error).into())
 }
 
 fn show_csv(
@@ -321,24 +347,36 @@ fn show_csv(
 
 fn find_word(word: &str, files: &Files, how: How, out: &mut dyn Write) -> io::Result<Status> {
     let wanted = Wanted::parts(&[Topic::Imports, Topic::DelayImports, Topic::Exports], how.has_hashes);
-    let text = |facts: &Facts, _| match how.is_json {
-        true => json(&find::matches_of(facts, word)).into(),
-        false => Said::apart(find::matches_of(facts, word).text(), facts),
+    let is_found = AtomicBool::new(false);
+    let text = |facts: &Facts, _| {
+        let found = find::matches_of(facts, word);
+        is_found.fetch_or(!found.matches.is_empty(), Ordering::Relaxed);
+        match how.is_json {
+            true => json(&found).into(),
+            false => Said::apart(found.text(), facts),
+        }
     };
-    files::each(files, out, |path, bytes| shown(path, bytes, how.reading, &wanted, text))
+    let worst = files::each(files, out, |path, bytes| shown(path, bytes, how.reading, &wanted, text))?;
+    Ok(if is_found.load(Ordering::Relaxed) { worst } else { worst.max(Status::Refused) })
 }
 
-/// What differs between two files. The status is 1 where something does, or where one is refused.
+/// What differs between two files. The status is 1 where a byte does.
 fn compare(paths: [&Path; 2], how: How, out: &mut dyn Write) -> io::Result<Status> {
     let mut contents = Vec::new();
     for path in paths {
         match files::whole(path) {
             Ok(bytes) => contents.push(bytes),
             Err(error) => {
-                eprintln!("pe: {}: {error}", escape::escaped(&path.to_string_lossy()));
+                complain(complaint(path, error));
                 return Ok(Status::FileError);
             }
         }
+    }
+    let mut say = |found: &diff::Differences| {
+        out.write_all(if how.is_json { json(found) } else { found.text(Style::of_stdout()) }.as_bytes())
+    };
+    if contents[0] == contents[1] {
+        return say(&diff::Differences::none(paths)).map(|()| Status::Done);
     }
     let images: Vec<_> = contents.iter().map(|bytes| parsed(bytes, how.reading)).collect();
     let wanted = Wanted::parts(&[], how.has_hashes);
@@ -349,14 +387,11 @@ fn compare(paths: [&Path; 2], how: How, out: &mut dyn Write) -> io::Result<Statu
             Err(error) => Facts::refused(path, bytes, *error),
         });
     }
-    facts.iter().for_each(|facts| eprint!("{}", show::complaints(facts)));
-    let [before, after] = facts.as_slice() else { return Ok(Status::Refused) };
-    if before.error.is_some() || after.error.is_some() {
-        return Ok(Status::Refused);
+    facts.iter().for_each(|facts| complain(show::complaints(facts)));
+    if let ([Ok(one), Ok(other)], [before, after]) = (images.as_slice(), facts.as_slice()) {
+        say(&diff::of(paths, [one, other], [before, after]))?;
     }
-    let found = diff::of(before, after);
-    out.write_all(if how.is_json { json(&found) } else { found.text(Style::of_stdout()) }.as_bytes())?;
-    Ok(if found.differences.is_empty() { Status::Done } else { Status::Refused })
+    Ok(Status::Refused)
 }
 
 /// What a command says of an image: its text, and lines for standard error.
@@ -410,7 +445,9 @@ fn of_image<'a>(bytes: &'a [u8], reading: &Reading, report: impl FnOnce(Result<I
     let image = parsed(bytes, reading);
     let is_image = image.as_ref().err().map_or(true, |error| !is_no_image(*error));
     let mut made = report(image);
-    if let (false, false, Some(kind)) = (is_image, made.complaints.is_empty(), facts::kind_of(bytes)) {
+    if let (false, Status::Refused, false, Some(kind)) =
+        (is_image, made.status, made.complaints.is_empty(), facts::kind_of(bytes))
+    {
         made.complaints = format!("{}; it is {kind}\n", made.complaints.trim_end());
     }
     Report { is_image, ..made }

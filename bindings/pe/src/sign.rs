@@ -4,6 +4,7 @@ use crate::escape::escaped;
 use crate::facts::headers::checksum_state;
 use crate::facts::{Origin, Refusal};
 use crate::files::{self, Report};
+use crate::new_file::Target;
 use crate::Status;
 use pe_c::{Error, Image, Placement};
 use serde::Serialize;
@@ -29,9 +30,9 @@ fn entry_of(given: &[u8]) -> Cow<'_, [u8]> {
     }
 }
 
-fn deliver(made: Result<Vec<u8>, Error>, of: &Path, to: &Path) -> Report {
+fn deliver(made: Result<Vec<u8>, Error>, of: &Path, to: &Target) -> Report {
     match made {
-        Ok(file) => files::deliver(&file, to, Status::Done),
+        Ok(file) => files::deliver_like(Some(of), &file, to, Status::Done),
         Err(error) => Report::refused(of, Refusal::from(error)),
     }
 }
@@ -41,14 +42,11 @@ pub fn attach(
     image: Result<Image<'_>, Error>,
     certificate: &Path,
     placement: Placement,
-    to: &Path,
+    to: &Target,
 ) -> Report {
     let given = match files::whole(certificate) {
         Ok(bytes) => bytes,
-        Err(error) => {
-            eprintln!("pe: {}: {error}", escaped(&certificate.to_string_lossy()));
-            return Report::of("", Status::FileError);
-        }
+        Err(error) => return Report::unread(certificate, error),
     };
     match image.map(|it| (it.attach(&entry_of(&given), placement), has_its_certificates(&it))) {
         // What is refused of a certificate is that of the image itself, or the one that is given.
@@ -67,7 +65,7 @@ fn is_of_certificate(error: Error) -> bool {
     Refusal::from(error).name.starts_with("CERTIFICATE")
 }
 
-pub fn detach(path: &Path, image: Result<Image<'_>, Error>, to: &Path) -> Report {
+pub fn detach(path: &Path, image: Result<Image<'_>, Error>, to: &Target) -> Report {
     deliver(image.and_then(|it| it.detach()), path, to)
 }
 
@@ -80,7 +78,7 @@ fn fixed(image: &Image<'_>) -> Result<Vec<u8>, Error> {
 }
 
 /// The image with the right checksum, as a new file.
-pub fn fix(path: &Path, image: Result<Image<'_>, Error>, to: &Path) -> Report {
+pub fn fix(path: &Path, image: Result<Image<'_>, Error>, to: &Target) -> Report {
     deliver(image.and_then(|it| fixed(&it)), path, to)
 }
 

@@ -9,17 +9,18 @@ pub mod text;
 mod told;
 
 use crate::facts::{Budget, List, Named, Origin, Part, Refusal, Stamp};
-use crate::files::Report;
-use crate::names::{EXCEPTIONS, PLATFORMS, PROCESSORS};
+use crate::names::{EXCEPTIONS, FAST_FAILS, PLATFORMS, PROCESSORS};
 use crate::page::Style;
+use crate::streams::{complain, complaint};
 use crate::Status;
 pub use files::Known;
 use pe_c::sys::{DumpException, DumpModule, DumpThread};
 use pe_c::{Dump, DumpImages, DumpMemory, Stacks};
 use std::collections::BTreeMap;
+use std::io::{self, Write};
 use std::path::Path;
 pub use told::Told;
-use told::{Exception, Memory, Process, System, Thread, Unloaded};
+use told::{Exception, Memory, Process, System, Thread, Unloaded, Written};
 
 /// How many UTF-16 code units of a text are shown. A path under Windows has mostly less than 260.
 const UNITS: usize = 1024;
@@ -32,6 +33,12 @@ const PDB_RECORD: usize = 2048;
 const FRAMES: usize = 100_000;
 /// `STATUS_ACCESS_VIOLATION` and `STATUS_IN_PAGE_ERROR`, whose parameters say what was done, and where.
 const ACCESSES: [u32; 2] = [0xC000_0005, 0xC000_0006];
+/// `STATUS_IN_PAGE_ERROR`, whose third parameter is the status of what was to read the page; and `STATUS_STACK_BUFFER_OVERRUN`, whose
+/// first says why `__fastfail` was called.
+const IN_PAGE_ERROR: u32 = ACCESSES[1];
+const FAST_FAIL: u32 = 0xC000_0409;
+/// How many bytes of texts are shown at most, however large a dump is: each stands in several places, and is copied on the way.
+const TEXTS: usize = 16 << 20;
 /// Bits of `MINIDUMP_MISC_INFO.Flags1`.
 const HAS_PROCESS_ID: u32 = 1;
 const HAS_PROCESS_TIMES: u32 = 2;
@@ -47,12 +54,20 @@ pub struct Asked {
     pub is_json: bool,
 }
 
-/// What is said of a dump, as text or JSON. The images of its modules come from its memory, or from these files.
-pub fn report(path: &Path, bytes: &[u8], known: &Known, asked: Asked) -> Report {
+/// Writes what is said of a dump, as text or JSON. The images of its modules come from its memory, or from these files.
+pub fn write(path: &Path, bytes: &[u8], known: &Known, asked: Asked, out: &mut dyn Write) -> io::Result<Status> {
     let told = told(path, bytes, known, asked);
-    let status = if told.is_refused() { Status::Refused } else { Status::Done };
-    let text = if asked.is_json { crate::json(&told) } else { text::of(&told, Style::of_stdout()) };
-    Report::of(text, status)
+    if asked.is_json {
+        serde_json::to_writer(&mut *out, &told)?;
+        out.write_all(b"\n")?;
+    } else {
+        out.write_all(text::of(&told, Style::of_stdout()).as_bytes())?;
+    }
+    if let Some(thread) = asked.thread.filter(|_| told.threads.present().is_some_and(|it| it.entries.is_empty())) {
+        complain(complaint(path, format_args!("no thread has the number {thread}")));
+        return Ok(Status::Refused);
+    }
+    Ok(told.status())
 }
 
 /// What is said of a dump, as records.
@@ -119,7 +134,7 @@ impl Loaded<'_> {
 }
 
 fn told_of(dump: &Dump<'_>, path: &Path, known: &Known, asked: Asked) -> Told {
-    let mut texts = Texts { dump, budget: Budget::without_rvas(dump.bytes()), is_over: false };
+    let mut texts = Texts { dump, budget: Budget::without_rvas(dump.bytes()).at_most(TEXTS), is_over: false };
     let modules: Vec<DumpModule> = dump.modules().into_iter().flatten().flatten().collect();
     let paths: Vec<Option<String>> = modules.iter().map(|it| texts.shown(it.module_name_rva.into(), TIMES)).collect();
     let names = paths.iter().map(|it| it.as_deref().map_or("", name_of));
@@ -128,9 +143,9 @@ fn told_of(dump: &Dump<'_>, path: &Path, known: &Known, asked: Asked) -> Told {
     let loaded = images.as_ref().map(|images| Loaded { images, paths: &paths });
     let loaded = loaded.as_ref();
     let memory = loaded.map_or_else(|_| memory_of(&DumpMemory::new(dump)), |it| memory_of(it.images.memory()));
-    Told {
+    let told = Told {
         origin: Origin::of(path),
-        written: Some(Stamp::of(dump.info().time_date_stamp)),
+        written: Written(Some(Stamp::of(dump.info().time_date_stamp))),
         flags: Some(dump.info().flags),
         system: system_of(dump, &mut texts),
         process: process_of(dump),
@@ -143,8 +158,10 @@ fn told_of(dump: &Dump<'_>, path: &Path, known: &Known, asked: Asked) -> Told {
             Err(error) => Part::Refused((**error).into()),
         },
         memory: Some(memory),
+        texts_is_limited: false,
         error: None,
-    }
+    };
+    Told { texts_is_limited: texts.is_over, ..told }
 }
 
 fn system_of(dump: &Dump<'_>, texts: &mut Texts<'_>) -> Part<System> {
@@ -187,12 +204,16 @@ fn exception_of(dump: &Dump<'_>, raised: &DumpException, loaded: Option<&Loaded<
     let count = raised.exception_information.len().min(raised.number_parameters as usize);
     let parameters = raised.exception_information[..count].to_vec();
     let is_access = ACCESSES.contains(&raised.exception_code) && parameters.len() >= 2;
+    let parameter = |code: u32, index: usize| parameters.get(index).filter(|_| raised.exception_code == code);
+    let named = |it: &u64, names| u32::try_from(*it).ok().map(|it| Named::of(it, names));
     let address = raised.exception_address;
     let (module, offset) = loaded.map_or((None, None), |it| it.place_of(address, address));
     Exception {
         code: Named::of(raised.exception_code, EXCEPTIONS),
         access: if is_access { access_of(parameters[0]) } else { None },
         access_va: is_access.then(|| parameters[1]),
+        in_page_status: parameter(IN_PAGE_ERROR, 2).and_then(|it| named(it, EXCEPTIONS)),
+        fast_fail: parameter(FAST_FAIL, 0).and_then(|it| named(it, FAST_FAILS)),
         thread_id: raised.thread_id,
         address_va: address,
         module,

@@ -125,7 +125,7 @@ fn hashes_of(facts: &Facts, page: &mut Page) {
     if let Some(hashes) = &facts.hashes {
         page.row("SHA-256", &hashes.sha256_hex);
     }
-    if let Some(imphash) = facts.hashes.as_ref().and_then(|it| it.imphash.as_ref()) {
+    if let Some(imphash) = facts.hashes.as_ref().and_then(|it| it.shown_imphash()) {
         page.row("imphash", imphash);
     }
 }

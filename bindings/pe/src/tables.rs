@@ -201,12 +201,14 @@ pub fn hardening(hardening: &Hardening) -> Vec<Row> {
 
 pub fn hashes(hashes: &Hashes) -> Vec<Row> {
     let rows = [
-        ("SHA-256", Some(&hashes.sha256_hex)),
-        ("imphash", hashes.imphash.as_ref()),
-        ("Rich hash", hashes.rich_hash.as_ref()),
-        ("Authenticode", hashes.authenticode_sha256_hex.as_ref()),
+        ("MD5", hashes.md5_hex.clone()),
+        ("SHA-1", hashes.sha1_hex.clone()),
+        ("SHA-256", Some(hashes.sha256_hex.clone())),
+        ("imphash", hashes.shown_imphash()),
+        ("Rich hash", hashes.rich_hash.clone()),
+        ("Authenticode", hashes.authenticode_sha256_hex.clone()),
     ];
-    rows.into_iter().filter_map(|(label, value)| Some((label, value?.clone()))).collect()
+    rows.into_iter().filter_map(|(label, value)| Some((label, value?))).collect()
 }
 
 pub fn directories(directories: &[Directory]) -> Table {

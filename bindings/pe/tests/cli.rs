@@ -55,10 +55,10 @@ fn imports_by_name_and_by_ordinal() {
             {"name": "KERNEL32.dll", "name_lower": "kernel32.dll", "functions": [
                 {"name": "Sleep", "hint": 0x2A, "ordinal": null, "slot_rva": 0x8000},
                 {"name": null, "hint": null, "ordinal": 17, "slot_rva": 0x8008},
-            ], "functions_error": null, "functions_is_limited": false},
+            ], "functions_error": null, "functions_is_limited": false, "lookup_table_error": null},
             {"name": "a.dll", "name_lower": "a.dll", "functions": [
                 {"name": "f", "hint": 0, "ordinal": null, "slot_rva": 0x103C},
-            ], "functions_error": null, "functions_is_limited": false},
+            ], "functions_error": null, "functions_is_limited": false, "lookup_table_error": null},
         ])
     );
 }
@@ -418,7 +418,8 @@ fn commands_take_several_files() {
 fn options_stand_where_they_do_something() {
     let folder = Folder::new("options");
     let file = folder.file("a.exe", made::SMALL);
-    let commands: [&[&str]; 6] = [
+    let commands: [&[&str]; 7] = [
+        &["diff", &file, &file],
         &["find", "x", &file],
         &["unwind", "--all", &file],
         &["digest", &file],
@@ -429,9 +430,7 @@ fn options_stand_where_they_do_something() {
     for command in commands {
         assert_eq!(run(&[command, &["--no-hashes"]].concat()).2, 2, "{command:?}");
     }
-    for command in
-        [["show", file.as_str()].as_slice(), &["key", &file], &["diff", &file, &file], &["report", &file, "-"]]
-    {
+    for command in [["show", file.as_str()].as_slice(), &["key", &file], &["report", &file, "-"]] {
         assert_eq!(run(&[command, &["--no-hashes"]].concat()).2, 0, "{command:?}");
     }
 }

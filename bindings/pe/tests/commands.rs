@@ -460,11 +460,69 @@ fn versions_are_changed() {
     let content = fs::read(path("0x407")).unwrap();
     let has = |text: &str| content.windows(2 * text.len()).any(|it| it == units(text));
     assert_eq!([has("Own\0\0y\0"), has("x\0"), has("CompanyName\0"), has("04070")], [true, false, true, true]);
+    // A name in other letters is that of the string that is there, as Windows looks it up.
+    assert_eq!(run(&["set-version", &second, &path("e.exe"), "--string", "companyname=B", "--string", "OWN=z"]).2, 0);
+    let which = ["extract", &path("e.exe"), "resource", "--type", "16", "--name", "1", &path("e")];
+    assert_eq!(run(&which).2, 0);
+    let content = fs::read(path("e")).unwrap();
+    let has = |text: &str| content.windows(2 * text.len()).any(|it| it == units(text));
+    assert_eq!([has("CompanyName\0\0B\0"), has("Own\0\0z\0")], [true, true]);
+    assert_eq!([has("companyname"), has("OWN"), has("hre=1")], [false; 3]);
+    // The strings follow the numbers, unless they are named.
+    let words = ["--file-version", "4.5", "--product-version", "6", "--string", "PRODUCTVERSION=six"];
+    let third = path("third.exe");
+    assert_eq!(run(&[&["set-version", &file, &third][..], &words].concat()).2, 0);
+    let said: Value = serde_json::from_str(&run(&["show", &third, "version", "--json"]).0).unwrap();
+    let strings = said["version"]["strings"].as_object().unwrap();
+    assert_eq!(strings.get("FileVersion"), Some(&json!("4.5.0.0")));
+    assert_eq!(strings.values().filter(|it| **it == "6.0.0.0").count(), 0);
+    assert_eq!(run(&["set-version", &file, &path("d.exe")]).2, 2);
+    assert_eq!(run(&["set-version", &file, &path("d.exe"), "--language", "1033"]).2, 2);
     for words in
         [["--file-version", "1.2.3.4.5"], ["--file-version", "65536"], ["--string", "=x"], ["--language", "no"]]
     {
         assert_eq!(run(&[&["set-version", &file, &path("d.exe")][..], &words].concat()).2, 2, "{words:?}");
     }
+}
+
+/// `VOS_NT_WINDOWS32`, 0x40004, and `VFT_APP`, 1, or `VFT_DLL`, 2, 32 bytes after the signature 0xFEEF04BD, as verrsrc.h has them.
+#[test]
+fn new_version_information_says_what_the_file_is() {
+    let folder = Folder::new("version-type");
+    let file = folder.file("a.exe", &made::editable());
+    for (characteristics, kind) in [(0u16, 1u8), (0x2000, 2)] {
+        let mut bytes = fs::read(&file).unwrap();
+        let signature = u32::from_le_bytes(bytes[60..64].try_into().unwrap()) as usize;
+        let own = u16::from_le_bytes([bytes[signature + 22], bytes[signature + 23]]);
+        put(&mut bytes, signature + 22, &(own & !0x2000 | characteristics).to_le_bytes());
+        let out = folder.0.join(format!("{kind}")).to_str().unwrap().to_string();
+        let image = folder.file("b.exe", &bytes);
+        assert_eq!(run(&["set-version", &image, &out, "--file-version", "1"]).2, 0);
+        let written = fs::read(out).unwrap();
+        let at = written.windows(4).position(|it| it == 0xFEEF_04BDu32.to_le_bytes()).unwrap();
+        assert_eq!(written[at + 32..at + 40], [4, 0, 4, 0, kind, 0, 0, 0]);
+    }
+}
+
+#[test]
+fn signatures_and_strong_names_are_not_broken_unasked() {
+    let folder = Folder::new("version-strong");
+    let (out, words) = (folder.0.join("b.exe").to_str().unwrap().to_string(), ["--file-version", "1"]);
+    let signed = folder.file("signed.exe", &made::with_certificates());
+    let (_, complaints, status) = run(&[&["set-version", &signed, &out][..], &words].concat());
+    assert_eq!((complaints.contains("pe detach"), status), (true, 1), "{complaints}");
+    let mut bytes = made::with_clr();
+    let said: Value = serde_json::from_str(&run(&["--json", &folder.file("clr.exe", &bytes)]).0).unwrap();
+    let flags = said["clr"]["flags"]["number"].as_u64().unwrap() as u32;
+    let token = said["clr"]["entry_point_token"].as_u64().unwrap() as u32;
+    let old = [flags, token].map(u32::to_le_bytes).concat();
+    let at = bytes.windows(8).position(|it| it == old).unwrap();
+    // COMIMAGE_FLAGS_STRONGNAMESIGNED
+    put(&mut bytes, at, &(flags | 8).to_le_bytes());
+    let strong = folder.file("strong.exe", &bytes);
+    let complaints_of = |more: &[&str]| run(&[&["set-version", &strong, &out][..], &words, more].concat()).1;
+    assert!(complaints_of(&[]).contains("strong name"));
+    assert!(!complaints_of(&["--break-strong-name"]).contains("strong name"));
 }
 
 /// A tree of resources: each a type, a name, and content, in the language 0x407.
@@ -522,6 +580,65 @@ fn resources_icons_and_cursors_are_extracted() {
 }
 
 #[test]
+fn all_resources_are_extracted_into_a_folder() {
+    let folder = Folder::new("extract-all");
+    let leaves: [(u32, u32, &[u8]); 3] = [(10, 5, b"raw"), (10, 6, b"more"), (999, 1, b"own")];
+    let file = folder.file("a.exe", &with_leaves(&leaves));
+    let to = folder.0.join("out");
+    let words = ["extract", &file, "resources", to.to_str().unwrap()];
+    assert_eq!(run(&words), (String::new(), String::new(), 0));
+    let wanted = [("raw_data-5-1031", "raw"), ("raw_data-6-1031", "more"), ("999-1-1031", "own")];
+    for (name, content) in wanted {
+        assert_eq!(fs::read_to_string(to.join(name)).unwrap(), content);
+    }
+    assert_eq!(fs::read_dir(&to).unwrap().count(), 3);
+    assert_eq!(run(&words).2, 3);
+    assert_eq!(run(&[&words[..], &["--replace", "--type", "999"]].concat()).2, 0);
+    let none = folder.0.join("none");
+    let words = ["extract", &file, "resources", none.to_str().unwrap(), "--type", "1"];
+    assert_eq!((run(&words).2, none.exists()), (1, false));
+    // One whose content is not in the file is named, and the others are written.
+    let mut bytes = with_leaves(&leaves);
+    let size_of_more = bytes.windows(12).rposition(|it| it == [4, 0, 0, 0, 0, 0, 0, 0, 0, 0, 0, 0]).unwrap();
+    put(&mut bytes, size_of_more - 4, &0x99_0000u32.to_le_bytes());
+    let (damaged, partly) = (folder.file("b.exe", &bytes), folder.0.join("partly"));
+    let (_, complaints, status) = run(&["extract", &damaged, "resources", partly.to_str().unwrap()]);
+    assert_eq!((complaints.contains("raw_data-6-1031: "), status), (true, 1), "{complaints}");
+    assert_eq!(fs::read_dir(&partly).unwrap().count(), 2);
+    // Leaves that share their content have more bytes than a file may ask for.
+    let content = vec![7; 4096];
+    let many: Vec<(u32, u32, &[u8])> = (1..=100).map(|it| (10, it, b"x".as_slice())).collect();
+    let mut shared = with_leaves(&[many, vec![(10, 500, &content)]].concat());
+    let entry = [0x1000u32, 1].map(u32::to_le_bytes).concat();
+    let at: Vec<usize> = (0x400..shared.len() - 8)
+        .filter(|at| shared[*at..].starts_with(&entry[4..]) && shared[*at - 2..*at] == [0, 0])
+        .collect();
+    at.iter().for_each(|at| shared[*at..at + 4].copy_from_slice(&4096u32.to_le_bytes()));
+    let (file, to) = (folder.file("c.exe", &shared), folder.0.join("shared"));
+    let (_, complaints, status) = run(&["extract", &file, "resources", to.to_str().unwrap()]);
+    assert_eq!((status, to.exists()), (1, false), "{complaints}");
+}
+
+#[test]
+fn sections_and_overlays_are_extracted() {
+    let folder = Folder::new("extract-bytes");
+    let bytes = [made::with_certificates(), b"PK\x03\x04".to_vec()].concat();
+    let file = folder.file("a.exe", &bytes);
+    let extracted = |words: &[&str]| {
+        let to = folder.0.join("extracted");
+        let _ = fs::remove_file(&to);
+        let ran = run(&[&["extract", &file], words, &[to.to_str().unwrap()]].concat());
+        (fs::read(&to).unwrap_or_default(), ran.2)
+    };
+    assert_eq!(extracted(&["overlay"]), (b"PK\x03\x04".to_vec(), 0));
+    let section = bytes[0x400..0x600].to_vec();
+    assert_eq!(extracted(&["section", "--name", ".rdata"]), (section.clone(), 0));
+    assert_eq!(extracted(&["section", "--number", "1"]), (section, 0));
+    assert_eq!(extracted(&["section", "--name", ".none"]), (Vec::new(), 1));
+    assert_eq!(extracted(&["section", "--number", "2"]), (Vec::new(), 1));
+}
+
+#[test]
 fn a_group_without_its_images_is_no_icon() {
     let folder = Folder::new("extract-lost");
     let group = [0, 0, 1, 0, 1, 0, 32, 16, 2, 0, 1, 0, 1, 0, 5, 0, 0, 0, 7, 0];
@@ -550,7 +667,7 @@ fn names_are_found_by_who_imports_or_exports_them() {
     let (out, _, _) = run(&["find", "--json", "first", &exports]);
     let found: Value = serde_json::from_str(&out).unwrap();
     assert_eq!(found["matches"], json!([{"part": "exports", "dll": null, "name": "first", "ordinal": 6}]));
-    assert_eq!(run(&["find", "nobody", &imports]), (String::new(), String::new(), 0));
+    assert_eq!(run(&["find", "nobody", &imports]), (String::new(), String::new(), 1));
 }
 
 #[test]
@@ -568,14 +685,87 @@ fn differences_are_what_came_went_and_changed() {
     assert_eq!(status, 1);
     assert!(out.contains("headers\n  ~ entry point: 0x1234 -> 0x1\n"), "{out}");
     assert!(out.contains("sections\n  ~ .rdata: ---, "), "{out}");
-    assert!(out.ends_with("exports\n  - second\n  + newest\n"), "{out}");
+    let bytes = "bytes\n  ~ PE headers: 2 of 264 bytes differ\n  ~ section .rdata: 5 of 512 bytes differ\n";
+    assert!(out.ends_with(&format!("exports\n  - second\n  + newest\n{bytes}")), "{out}");
     let (out, _, status) = run(&["diff", "--json", &one, &other]);
     let found: Value = serde_json::from_str(&out).unwrap();
     let last = json!({"part": "exports", "change": "added", "name": "newest", "before": null, "after": ""});
     assert_eq!((found["differences"].as_array().unwrap().last().unwrap(), status), (&last, 1));
+    let headers = json!({"name": "PE headers", "before": 264, "after": 264, "different": 2});
+    assert_eq!(found["regions"][0], headers);
+    assert_eq!(run(&["diff", "--no-hashes", &one, &other]).2, 2);
+    // Of what is no image the bytes are compared.
+    let text = folder.file("text", b"no image");
+    assert_eq!(run(&["diff", &text, &text]), (String::new(), String::new(), 0));
     let (_, error, status) = run(&["diff", &one, &folder.file("d.dll", b"MZ")]);
     assert_eq!((error.contains("d.dll: image: truncated (SHORT)"), status), (true, 1));
     assert_eq!(run(&["diff", &one, folder.0.join("none").to_str().unwrap()]).2, 3);
+}
+
+/// An image with all that a file may have beside headers and sections: a stub, a Rich header, slack, padding, an overlay, certificates
+/// and bytes after these. Where each is, by the name of its region.
+fn with_every_region() -> (Vec<u8>, Vec<(&'static str, usize, usize)>) {
+    let small = made::with_exports();
+    let signature = u32::from_le_bytes(small[60..64].try_into().unwrap()) as usize;
+    let (rich, moved, raw) = (0x80, 0x100, 0x800);
+    let mut bytes = vec![0; raw];
+    bytes[..64].copy_from_slice(&small[..64]);
+    put(&mut bytes, 60, &(moved as u32).to_le_bytes());
+    let key = 0x1234_5678u32;
+    put(&mut bytes, rich, &(u32::from_le_bytes(*b"DanS") ^ key).to_le_bytes());
+    (1..4).for_each(|it| put(&mut bytes, rich + 4 * it, &key.to_le_bytes()));
+    put(&mut bytes, rich + 24, b"Rich");
+    put(&mut bytes, rich + 28, &key.to_le_bytes());
+    put(&mut bytes, moved, &small[signature..0x400]);
+    let sections = moved + 24 + 240;
+    put(&mut bytes, sections + 20, &(raw as u32).to_le_bytes());
+    put(&mut bytes, moved + 24 + 60, &0x400u32.to_le_bytes());
+    bytes.extend(&small[0x400..0x600]);
+    let (overlay, certificates) = (bytes.len(), bytes.len() + 64);
+    bytes.extend([7; 64]);
+    bytes.extend([24, 0, 0, 0, 0, 2, 2, 0]);
+    bytes.extend([0x30; 16 + 8]);
+    put(&mut bytes, moved + 24 + 112 + 32, &[certificates as u32, 24].map(u32::to_le_bytes).concat());
+    let regions = vec![
+        ("DOS header", 2, 58),
+        ("DOS stub", 64, rich - 64),
+        ("Rich header", rich + 4, 20),
+        ("after the Rich header", rich + 32, moved - rich - 32),
+        ("PE headers", moved + 8, 4),
+        ("PE headers", moved + 24 + 64, 4),
+        ("section headers", sections + 24, 12),
+        ("header slack", sections + 40, 0x400 - sections - 40),
+        ("padding", 0x400, raw - 0x400),
+        ("section .rdata", raw, 0x200),
+        ("overlay", overlay, 64),
+        ("certificates", certificates + 8, 16),
+        ("overlay (2)", certificates + 24, 8),
+    ];
+    (bytes, regions)
+}
+
+/// A pair of files for the first, the middle and the last byte of each region.
+#[test]
+fn each_byte_that_differs_is_seen() {
+    let folder = Folder::new("diff-bytes");
+    let (bytes, regions) = with_every_region();
+    let one = folder.file("a.dll", &bytes);
+    assert_eq!(run(&[&one]).2, 0);
+    for (name, start, length) in regions {
+        for at in [start, start + length / 2, start + length - 1] {
+            let mut other = bytes.clone();
+            other[at] ^= 0x10;
+            let other = folder.file("b.dll", &other);
+            let (out, complaints, status) = run(&["diff", &one, &other]);
+            assert_eq!(status, 1, "{name} at {at:#x}");
+            // Of headers that are refused then no region is named.
+            let is_named = out.lines().any(|it| it.starts_with(&format!("  ~ {name}: 1 of ")));
+            assert!(is_named || !complaints.is_empty(), "{name} at {at:#x}: {out}{complaints}");
+        }
+    }
+    let longer = folder.file("c.dll", &[&bytes[..], &[1, 2, 3]].concat());
+    let out = run(&["diff", &one, &longer]).0;
+    assert!(out.ends_with("bytes\n  ~ overlay (2): 8 bytes -> 11 bytes, 3 differ\n"), "{out}");
 }
 
 #[test]
@@ -609,6 +799,31 @@ fn all_functions_are_unwound() {
     assert_eq!(run(&["unwind", &file, "1000", "--all"]).2, 2);
 }
 
+/// A row of each image has as many cells as there are heads, raw: a name with a comma, a quote and a control character stands as it is.
+#[test]
+fn a_list_has_a_row_of_each_image() {
+    let folder = Folder::new("list");
+    let named = folder.file("a,\"b\x1b.dll", &made::with_resources());
+    folder.file("b.exe", &made::with_imports());
+    folder.file("c.txt", b"no image");
+    folder.file("d.exe", &made::SMALL[..0x100]);
+    let (out, complaints, status) = run(&["list", "--csv", "-r", folder.0.to_str().unwrap()]);
+    assert_eq!((complaints.as_str(), status), ("pe: 2 files are no images, and skipped\n", 0));
+    let mut rows = csv::Reader::from_reader(out.as_bytes());
+    let heads = rows.headers().unwrap().clone();
+    let rows: Vec<csv::StringRecord> = rows.records().map(Result::unwrap).collect();
+    let cell = |row: usize, head: &str| rows[row][heads.iter().position(|it| it == head).unwrap()].to_string();
+    assert_eq!((rows.len(), cell(0, "file"), cell(1, "imports")), (2, named.clone(), "3".to_string()));
+    let numbers = ["machine", "machine_name", "is_dll", "file_version", "company_name"].map(|it| cell(0, it));
+    assert_eq!(numbers, ["34404", "x64", "false", "3.11.3150.1013", "Größe & Söhne \u{1F600}"]);
+    assert_eq!(
+        [cell(0, "md5_hex"), cell(0, "sha1_hex")],
+        ["md5sum", "sha1sum"].map(|it| sum_of(it, &made::with_resources()))
+    );
+    assert_eq!([cell(0, "signer"), cell(0, "pdb_key"), cell(1, "file_version")], ["", "", ""]);
+    assert_eq!(run(&["list", "--no-hashes", &named]).0.lines().count(), 2);
+}
+
 #[test]
 fn a_table_is_csv() {
     let folder = Folder::new("csv");
@@ -617,6 +832,10 @@ fn a_table_is_csv() {
     let wanted =
         "DLL,name or ordinal,hint,slot RVA\nKERNEL32.dll,Sleep,42,0x8000\nKERNEL32.dll,#17,,0x8008\na.dll,f,0,0x103c\n";
     assert_eq!((out.as_str(), status), (wanted, 0));
+    // Cells have texts as they are: in a file no terminal is moved by them.
+    let name = made::with_imports().iter().map(|it| if *it == b'S' { 0x1B } else { *it }).collect::<Vec<u8>>();
+    let named = run(&["show", "--csv", &folder.file("b.exe", &name), "imports"]).0;
+    assert!(named.contains(",\x1bleep,42,"), "{named}");
     assert_eq!(run(&["show", "--csv", &file, "tls"]).0, "");
     assert_eq!(run(&["show", "--csv", &file]).2, 2);
     assert_eq!(run(&["show", "--csv", "--json", &file, "imports"]).2, 2);
@@ -750,6 +969,8 @@ fn words_that_are_wrong_are_said_to_be() {
     let (_, error, status) = run(&["sho", &file]);
     assert!(error.starts_with("pe: sho: ") && error.contains("; is the command `show` meant?"), "{error}");
     assert_eq!(status, 3);
+    let (_, error, status) = run(&[&file, "imports"]);
+    assert_eq!((error.contains("; `pe show FILE imports` shows that part"), status), (true, 3), "{error}");
     for words in [["extract", "--json", &file, "manifest", "-"].as_slice(), &["report", "--json", &file, "-"]] {
         let (out, error, status) = run(words);
         assert_eq!((out.as_str(), error.contains("--json"), status), ("", true, 2), "{words:?}");
@@ -953,7 +1174,7 @@ fn overlays_are_what_they_are() {
 fn the_version_says_whether_the_library_was_proved() {
     let (out, _, status) = run(&["--version"]);
     let lines: Vec<&str> = out.lines().collect();
-    assert_eq!((lines.len(), lines[0], status), (2, concat!("pe ", env!("CARGO_PKG_VERSION")), 0));
+    assert_eq!((lines.len(), lines[0], status), (3, concat!("pe ", env!("CARGO_PKG_VERSION")), 0));
     assert!(lines[1].starts_with("library for C: "), "{out}");
 }
 
@@ -1051,6 +1272,54 @@ fn symbols_that_share_a_long_name_are_limited() {
 }
 
 #[test]
+fn an_unmapped_lookup_table_is_said_and_the_address_table_listed() {
+    let (folder, mut bytes) = (Folder::new("lookup"), made::with_imports());
+    let record = made::offset(made::ADDRESS + 36 + 24 + 16) as usize;
+    bytes.copy_within(record..record + 4, record + 16);
+    let named = json_of("lookup-before", &bytes);
+    bytes[record..record + 4].copy_from_slice(&0x7FFF_FFFF_u32.to_le_bytes());
+    let file = folder.file("a.exe", &bytes);
+    let (out, _, status) = run(&["--json", &file]);
+    let said: Value = serde_json::from_str(&out).unwrap();
+    assert_eq!(status, 1);
+    assert_eq!(named["imports"][0]["functions"].as_array().unwrap().len(), 2);
+    assert_eq!(said["imports"][0]["functions"], named["imports"][0]["functions"]);
+    let errors = [0, 1].map(|it| said["imports"][it]["lookup_table_error"]["name"].clone());
+    assert_eq!(errors, [json!("UNMAPPED"), json!(null)]);
+    let hashes = |it: &Value| (it["hashes"]["imphash"].clone(), it["hashes"]["imphash_of"].clone());
+    let (hash, of) = hashes(&named);
+    assert_eq!((hashes(&said), of), ((hash.clone(), json!("address_tables")), json!("lookup_tables")));
+    let (out, _, _) = run(&[&file]);
+    assert!(
+        out.contains("lookup table of KERNEL32.dll at RVA 0x7fffffff: unmapped, so its address table is listed"),
+        "{out}"
+    );
+    assert!(out.contains(&format!("{}, of address tables", hash.as_str().unwrap())), "{out}");
+}
+
+#[test]
+fn a_damaged_version_string_costs_itself_alone() {
+    let (folder, mut bytes) = (Folder::new("damaged-string"), made::with_resources());
+    let whole = json_of("whole-strings", &bytes);
+    let key: Vec<u8> = "ProductName\0".encode_utf16().flat_map(u16::to_le_bytes).collect();
+    let at = bytes.windows(key.len()).position(|it| it == key).unwrap();
+    bytes[at - 4..at - 2].copy_from_slice(&0x4000_u16.to_le_bytes());
+    let file = folder.file("a.exe", &bytes);
+    let (out, _, status) = run(&["--json", &file]);
+    let said: Value = serde_json::from_str(&out).unwrap();
+    let (version, wanted) = (&said["version"], &whole["version"]);
+    assert_eq!((status, &version["fixed"], &version["fixed_error"]), (1, &wanted["fixed"], &json!(null)));
+    assert_eq!(
+        (&version["strings"], &version["strings_error"]["name"]),
+        (&wanted["strings"], &json!("RESOURCE_STRING"))
+    );
+    assert_eq!(said["resources"][0]["version"]["fixed"], wanted["fixed"]);
+    let (out, _, _) = run(&[&file]);
+    assert!(out.contains("3.11.3150.1013, of the product 1.2.3.4"), "{out}");
+    assert!(out.contains("version strings: version string value missing"), "{out}");
+}
+
+#[test]
 fn te_images_are_shown_with_their_debug_data() {
     let said = json_of("te", &made::te_image());
     assert_eq!((&said["error"], &said["file_kind"]), (&json!(null), &json!("a TE image")));
@@ -1064,6 +1333,11 @@ fn te_images_are_shown_with_their_debug_data() {
                 {"index": 6, "name": "debug", "rva": 0x50, "file_offset": null, "size": 28}]
         })
     );
+    // Firmware has base relocations of no bytes at an RVA: there is a directory, as there is in an image.
+    let mut empty = made::te_image();
+    empty[24..28].copy_from_slice(&6456_u32.to_le_bytes());
+    let row = &json_of("te-relocations", &empty)["headers"]["directories"][0];
+    assert_eq!((&row["index"], &row["rva"], &row["size"]), (&json!(5), &json!(6456 - 0x100), &json!(0)));
     let section = &said["sections"][0];
     assert_eq!(
         (&section["name"], &section["rva"], &section["file_offset"]),

@@ -10,6 +10,9 @@ use serde_json::{json, Value};
 use std::fs;
 use std::process::Command;
 
+/// The status where a stack is lost before its bottom.
+const LOST: i32 = 4;
+
 /// What is said of a dump, with these arguments after it, and the status.
 fn said_of(test: &str, bytes: &[u8], more: &[&str]) -> (Value, i32) {
     let folder = Folder::new(test);
@@ -30,7 +33,7 @@ fn a_stack_is_walked_over_an_image_that_is_found() {
             "id": 0x24, "name": null, "is_crashed": false, "end": "bottom", "end_error": null,
             "frames": [{
                 "ip_va": 0x1_8000_5000u64, "sp_va": 0x2_0000, "module": null, "offset": 0x5000, "way": "top",
-                "has_called": false, "registers": null,
+                "has_called": false, "is_guess": false, "registers": null,
             }],
         }])
     );
@@ -39,11 +42,193 @@ fn a_stack_is_walked_over_an_image_that_is_found() {
     assert_eq!((&module["base_va"], &module["size"]), (&json!(0x1_8000_0000u64), &json!(0x6000)));
 }
 
+/// An image with one function that pushes rbx and allocates 32 bytes, at 0x1000, with a call that ends at 0x1010, and code after it
+/// that no records describe. Its function table has so many bytes.
+fn program(size_of_table: u32) -> Vec<u8> {
+    let mut made = made::Made::new(made::X64);
+    made.characteristics = 0x6000_0020;
+    made.content.resize(0x80, 0);
+    made.content[0x0B..0x10].copy_from_slice(&made::CALL);
+    let record = made.put(&[1, 5, 2, 0, 5, 0x32, 1, 0x30]);
+    let table = made.put_words(&[made::ADDRESS, made::ADDRESS + 0x20, record, 0]);
+    made.directory(made::EXCEPTIONS, table, size_of_table);
+    made.image()
+}
+
+/// What is said of a thread at this RVA of such an image, with these words on its stack, in JSON and in text.
+fn thread_of(test: &str, size_of_table: u32, rva: u64, stack: &[u64]) -> (Value, String) {
+    let folder = Folder::new(test);
+    folder.file("a.exe", &program(size_of_table));
+    let words: Vec<u8> = stack.iter().flat_map(|it| it.to_le_bytes()).collect();
+    let data = [made::context(0x1_8000_0000 + rva, 0x2_0000), words].concat();
+    let streams = [
+        made::x64_system(),
+        made::threads(&[(0x24, made::DUMP_DATA)]),
+        made::modules(&[(0x1_8000_0000, 0x6000, 0, 0, [0, 0])]),
+        made::pieces(&[(0x2_0000, 8 * stack.len() as u32, made::DUMP_DATA + 1232)]),
+    ];
+    let dump = folder.file("a.dmp", &made::dump_of(&streams, &data));
+    let [json, text] = [&["--json"][..], &[]].map(|more| {
+        let (out, complaints, status) =
+            run(&[&["stack", &dump, "--images", folder.0.to_str().unwrap()], more].concat());
+        assert_eq!((complaints.as_str(), status), ("", 0));
+        out
+    });
+    (serde_json::from_str::<Value>(&json).unwrap()["threads"][0].take(), text)
+}
+
+/// A stack is whole where records lead to 0 and no frame is a guess. A function table of another size than its entries have is none.
+#[test]
+fn a_stack_is_whole_only_without_a_guess() {
+    let call = 0x1_8000_1010;
+    let outer = [0, 0, 0, 0, 0xB0, 0];
+    let scanned = [&[7, call], &outer[..]].concat();
+    let cases: [(&str, u32, u64, &[u64], Value, &str, &str); 6] = [
+        ("stack-whole", 12, 0x1010, &outer, json!([["top", false]]), "bottom", "the stack is whole"),
+        ("stack-zero", 12, 0x1050, &[0], json!([["top", false]]), "zero", "frames may be missing or wrong"),
+        ("stack-data", 12, 0x1050, &[0x30], json!([["top", false]]), "no-return-address", "no executable code"),
+        ("stack-scanned", 12, 0x1050, &scanned, json!([["top", false], ["scanned", true]]), "zero", "scanned, a guess"),
+        (
+            "stack-no-table",
+            0,
+            0x1050,
+            &[7, call, 7, call],
+            json!([["top", false], ["scanned", true], ["scanned", true]]),
+            "no-function",
+            "no return address is found",
+        ),
+        (
+            "stack-bad-table",
+            13,
+            0x1050,
+            &[call, 7, call],
+            json!([["top", false], ["leaf", true], ["scanned", true]]),
+            "no-function",
+            "leaf, a guess",
+        ),
+    ];
+    for (test, size_of_table, rva, stack, frames, end, words) in cases {
+        let (thread, text) = thread_of(test, size_of_table, rva, stack);
+        let found: Vec<_> =
+            thread["frames"].as_array().unwrap().iter().map(|it| json!([it["way"], it["is_guess"]])).collect();
+        assert_eq!((json!(found), &thread["end"]), (frames, &json!(end)), "{test}");
+        assert!(text.contains(words), "{text}");
+    }
+}
+
 #[test]
 fn without_an_image_a_walk_is_lost() {
     let (said, status) = said_of("stack-lost", &made::dump(), &[]);
-    assert_eq!((status, &said["threads"][0]["end"]), (0, &json!("no-module")));
+    assert_eq!((status, &said["threads"][0]["end"]), (LOST, &json!("no-module")));
     assert_eq!((&said["modules"][0]["image"], &said["exception"]), (&json!(null), &json!(null)));
+    let folder = Folder::new("stack-hint");
+    let (out, _, _) = run(&["stack", &folder.file("a.dmp", &made::dump())]);
+    assert!(
+        out.contains("1 module without one, 1 stack lost: --images FOLDER reads the images below a folder"),
+        "{out}"
+    );
+}
+
+#[test]
+fn a_folder_and_a_thread_that_are_not_there_are_said() {
+    let folder = Folder::new("stack-missing");
+    let (dump, none) = (folder.file("a.dmp", &made::dump()), folder.0.join("nowhere"));
+    let (out, complaints, status) = run(&["stack", &dump, "--images", none.to_str().unwrap()]);
+    assert!(out.contains("thread 36") && complaints.contains("nowhere: No such file or directory"), "{complaints}");
+    assert_eq!(status, 3);
+    let (_, complaints, status) = run(&["stack", &dump, "--thread", "99", "--json"]);
+    assert_eq!((complaints, status), (format!("pe: {dump}: no thread has the number 99\n"), 1));
+}
+
+/// A dump whose exception has this code and these parameters.
+fn raised(code: u32, parameters: &[u64]) -> Vec<u8> {
+    let mut bytes = made::full_dump(made::X64);
+    let at = bytes.windows(12).position(|it| it == [0x24, 0, 0, 0, 0, 0, 0, 0, 5, 0, 0, 0xC0]).unwrap();
+    bytes[at + 8..at + 12].copy_from_slice(&code.to_le_bytes());
+    bytes[at + 32] = parameters.len() as u8;
+    for (index, it) in parameters.iter().enumerate() {
+        bytes[at + 40 + 8 * index..at + 48 + 8 * index].copy_from_slice(&it.to_le_bytes());
+    }
+    bytes
+}
+
+#[test]
+fn what_an_exception_says_is_shown_by_name() {
+    let folder = Folder::new("stack-reasons");
+    let reasons: [(u32, &[u64], &str); 8] = [
+        (0xC000_0409, &[2], "STATUS_STACK_BUFFER_OVERRUN (0xc0000409): FAST_FAIL_STACK_COOKIE_CHECK_FAILURE\n"),
+        (0xC000_0409, &[1000], "STATUS_STACK_BUFFER_OVERRUN (0xc0000409): __fastfail(1000)\n"),
+        (
+            0xC000_0006,
+            &[0, 0x7000, 0xC000_009C],
+            "STATUS_IN_PAGE_ERROR (0xc0000006): read at 0x7000, STATUS_DEVICE_DATA_ERROR (0xc000009c)\n",
+        ),
+        (0x4000_0015, &[], "STATUS_FATAL_APP_EXIT (0x40000015)\n"),
+        (0x2047_4343, &[0x10], "an exception of GCC (0x20474343)\n"),
+        (0x0EED_FADE, &[], "an exception of Delphi (0x0eedfade)\n"),
+        (0xC06D_007E, &[], "a DLL of a delay import was not found, as Visual C++ says it (0xc06d007e)\n"),
+        (0xC000_0005, &[8, 0x10], "STATUS_ACCESS_VIOLATION (0xc0000005): execution at 0x10\n"),
+    ];
+    for (code, parameters, reason) in reasons {
+        let (out, _, _) = run(&["stack", &folder.file("a.dmp", &raised(code, parameters))]);
+        assert!(out.replace("\n                ", " ").contains(reason), "{reason}: {out}");
+        let shown: Vec<String> = parameters.iter().map(|it| format!("{it:#x}")).collect();
+        assert_eq!(out.contains("  parameters"), !parameters.is_empty());
+        assert!(out.contains(&shown.join(", ")), "{out}");
+    }
+    let (said, _) = said_of("stack-fast-fail", &raised(0xC000_0409, &[3]), &[]);
+    assert_eq!(said["exception"]["fast_fail"], json!({"number": 3, "name": "FAST_FAIL_CORRUPT_LIST_ENTRY"}));
+    let (said, _) = said_of("stack-in-page", &raised(0xC000_0006, &[0, 1, 5]), &[]);
+    assert_eq!(said["exception"]["in_page_status"], json!({"number": 5, "name": null}));
+}
+
+/// A dump of so many modules, whose names are all one text of 1,000 characters.
+fn with_modules(count: u32) -> Vec<u8> {
+    let text = made::DUMP_DATA;
+    let modules: Vec<_> = (0..count).map(|it| (0x1_0000 * it as u64, 0x1000, 0, text, [0, 0])).collect();
+    let (kind, stream) = made::modules(&modules);
+    let data = [made::words(&[2000]), b"n\0".repeat(1000), vec![0; 4], stream.clone()].concat();
+    let mut bytes = made::dump_of(&[made::x64_system(), (kind, Vec::new())], &data);
+    // The stream stands after the text: its size and its offset, in the second entry of the directory.
+    bytes[48..56].copy_from_slice(&made::words(&[stream.len() as u32, text + 2008]));
+    bytes
+}
+
+/// Names are shown up to a bound, whatever the file's length, and what is past it is said.
+#[test]
+fn names_have_a_bound_in_all() {
+    let bytes = with_modules(12_000);
+    let (said, _) = said_of("stack-names", &bytes, &[]);
+    let named = said["modules"].as_array().unwrap().iter().filter(|it| !it["name"].is_null()).count();
+    // Four times 1,000 characters each of 16 MiB.
+    assert_eq!((named, &said["texts_is_limited"]), ((16 << 20) / 4000, &json!(true)));
+    let (said, _) = said_of("stack-few-names", &made::full_dump(made::X64), &[]);
+    assert_eq!(said["texts_is_limited"], false);
+}
+
+/// With 200 MB of memory, which a dump of 32 MB needs more of.
+#[test]
+fn out_of_memory_is_an_error_of_a_file() {
+    let folder = Folder::new("stack-memory");
+    let run_with_less = |bytes: &[u8]| {
+        let words = ["-c", "ulimit -v 200000; exec \"$0\" stack --json \"$1\"", env!("CARGO_BIN_EXE_pe")];
+        let ran = Command::new("sh").args(words).arg(folder.file("a.dmp", bytes)).output().unwrap();
+        (ran.status.code(), String::from_utf8(ran.stderr).unwrap())
+    };
+    assert_eq!(run_with_less(&made::dump()), (Some(LOST), String::new()));
+    let (status, complaints) = run_with_less(&with_modules(300_000));
+    assert!(status == Some(3) && complaints.contains("memory"), "{status:?} {complaints}");
+}
+
+#[test]
+fn a_refused_dump_has_the_fields_of_its_header_as_null() {
+    let (said, status) = said_of("stack-refused", b"MZ", &[]);
+    assert_eq!(
+        (&said["time_date_stamp"], &said["time"], &said["flags"], status),
+        (&json!(null), &json!(null), &json!(null), 1)
+    );
+    let has = |name| said.as_object().unwrap().contains_key(name);
+    assert!(["time_date_stamp", "time", "flags"].into_iter().all(has));
 }
 
 #[test]
@@ -61,12 +246,13 @@ fn an_image_of_another_build_is_not_taken() {
 #[test]
 fn each_stream_is_told() {
     let (said, status) = said_of("stack-full", &made::full_dump(made::X64), &["--registers"]);
-    assert_eq!(status, 0);
+    assert_eq!(status, LOST);
     let sevens = 0x0707_0707_0707_0707u64;
     assert_eq!(
         said["exception"],
         json!({
             "code": {"number": 0xC000_0005u32, "name": "STATUS_ACCESS_VIOLATION"}, "access": null, "access_va": sevens,
+            "in_page_status": null, "fast_fail": null,
             "thread_id": 0x24, "address_va": 0x1_0000_5000u64, "module": null, "offset": null, "parameters": [sevens, sevens],
             "registers_error": null,
         })
@@ -138,7 +324,7 @@ fn text_is_a_screen_that_names_forge_nothing_in() {
     bytes[name + 2] = b'\n';
     let path = folder.file("a.dmp", &bytes);
     let (out, complaints, status) = run(&["stack", &path]);
-    assert_eq!((complaints.as_str(), status), ("", 0));
+    assert_eq!((complaints.as_str(), status), ("", LOST));
     assert!(out.contains("thread 36 a\\x0aexe, which crashed\n"), "{out}");
     assert!(out.contains("LOST: no module with an image has the address of the last frame"), "{out}");
     fs::write(&path, b"MZ").unwrap();
@@ -190,7 +376,8 @@ fn no_path_of_a_dump_is_opened() {
             _ => return eprintln!("Debian's package strace is missing, or may not trace: what is opened is not tried"),
         }
         let calls = fs::read_to_string(folder.0.join("calls")).unwrap();
-        let mut opened: Vec<&str> = calls.lines().filter_map(opened_by).filter(|it| *it != "page.html").collect();
+        // The page is written to a temporary file first.
+        let mut opened: Vec<&str> = calls.lines().filter_map(opened_by).filter(|it| !it.starts_with(".pe-")).collect();
         opened.sort_unstable();
         assert_eq!(opened, ["a.dmp", "images", "images/other.exe", "images/other.exe"]);
         assert_eq!((calls.matches("execve(").count(), calls.matches("connect(").count()), (1, 0));

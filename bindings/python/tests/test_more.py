@@ -274,10 +274,12 @@ class Stacks(unittest.TestCase):
         size = other.headers.size_of_image
         self.assertGreater(size, 0x5010)
         apart, below = (other, BASE - size), (other, BASE - 8)
-        for modules, rip in (([(functions, BASE)], 0x7000), ([(functions, BASE), apart], 0x7000), ([apart, (functions, BASE)], 0x7000),
-                             ([(functions, BASE), below], 0x7000), ([below, (functions, BASE)], 1)):
+        for modules in ([(functions, BASE)], [(functions, BASE), apart], [apart, (functions, BASE)], [(functions, BASE), below]):
             stack = pe_c.walk(registers, modules, memory, [(0x20000, 0, len(memory))], 10)
-            self.assertEqual(stack.frames[1].registers.rip, rip, modules)
+            self.assertEqual((stack.frames[1].registers.rip, stack.frames[1].is_guess, stack.end), (0x7000, False, End.NO_MODULE))
+        # In the other one it is in no function, and 1, the word at its stack pointer, is no address of code.
+        stack = pe_c.walk(registers, [below, (functions, BASE)], memory, [(0x20000, 0, len(memory))], 10)
+        self.assertEqual((len(stack.frames), stack.end), (1, End.NO_RETURN_ADDRESS))
 
     def test_on_arm64(self):
         registers = pe_c.Arm64Registers((tuple(range(31)), tuple(range(8)), 0x20000, 0x1234))
@@ -351,10 +353,11 @@ class Dumps(unittest.TestCase):
         dump, image = pe_c.Dump(bytes(self.many(40))), pe_c.Image(bytes_of("functions.bin"))
         self.assertEqual((len(dump.modules), dump.warnings), (40, ()))
         crashed = dump.threads[0]
-        self.assertEqual(len(dump._images(lambda module: image)), 40)
+        self.assertEqual((len(dump._images(lambda module: image)[0]), dump.stack(crashed, lambda module: image).frames.is_limited), (40, False))
         with mock.patch.object(_dump, "MOST_SECTIONS", 7 * image.headers.number_of_sections):
-            self.assertEqual(len(dump._images(lambda module: image)), 7)
-            self.assertEqual(dump.stack(crashed, lambda module: image).end, End.BOTTOM)
+            self.assertEqual(len(dump._images(lambda module: image)[0]), 7)
+            walked = dump.stack(crashed, lambda module: image)
+            self.assertEqual((walked.end, walked.frames.is_limited), (End.BOTTOM, True))
         self.assertEqual(_dump.MOST_SECTIONS, 1 << 20)
         loaded, data = (bytes_of("functions.bin") + bytes(0x6000))[:0x6000], self.many(4000)
         directory, start = struct.unpack_from("<I", data, 12)[0], len(data)
@@ -363,9 +366,79 @@ class Dumps(unittest.TestCase):
             kind, _, at = struct.unpack_from("<III", data, directory + 12 * i)
             if kind == 5:
                 struct.pack_into("<QII", data, at + 4, BASE, len(loaded), start)
-        found = pe_c.Dump(bytes(data))._images(None)
-        self.assertEqual(len(found), 2 * len(data) // len(loaded))
+        found, is_limited = pe_c.Dump(bytes(data))._images(None)
+        self.assertEqual((len(found), is_limited), (2 * len(data) // len(loaded), True))
         self.assertLess(len(found), 4000)
+
+    def in_pieces(self, count, is_listed=True):
+        """The dump with its stack in so many pieces, each of which overlaps the next, after so many elsewhere; or in no list."""
+        dump = bytearray(bytes_of("x64.dmp"))
+        dump += bytes(-len(dump) % 8)
+        whole = pe_c.Dump(bytes(dump))
+        start, (address, offset, length) = len(dump), max(whole.pieces, key=lambda it: it[0] == whole.threads[0].stack.start_of_memory_range)
+        pieces = [(0x900000 + 64 * i, 64 + 64, 0x20) for i in range(count)]
+        pieces += [(address + i, min(16, length - i), offset + i) for i in range(0, length, 8)]
+        dump += struct.pack("<I", len(pieces)) + b"".join(struct.pack("<QII", *it) for it in pieces)
+        directory = struct.unpack_from("<I", dump, 12)[0]
+        for i in range(12):
+            kind = struct.unpack_from("<I", dump, directory + 12 * i)[0]
+            if kind == 3:
+                thread, = struct.unpack_from("<I", dump, directory + 12 * i + 8)
+                struct.pack_into("<QII", dump, thread + 4 + 24, address, length, offset)
+            if kind == 5:
+                struct.pack_into("<III", dump, directory + 12 * i, 5 if is_listed else 0, 4 + 16 * len(pieces), start)
+            if kind == 9:
+                struct.pack_into("<I", dump, directory + 12 * i, 0)
+        return pe_c.Dump(bytes(dump)), (address, offset, length)
+
+    def test_pieces_that_overlap_are_all_kept(self):
+        """Four of five real dumps have more than 4,096 pieces, some of which overlap."""
+        dump, (address, offset, length) = self.in_pieces(6000)
+        self.assertIn((address, offset, length), dump.pieces)
+        self.assertTrue(all(one[0] + one[2] <= other[0] for one, other in zip(dump.pieces, dump.pieces[1:])))
+        for at in (address, address + length // 2, address + length - 1):
+            self.assertEqual(bytes(dump.at(at, 1)), bytes(dump.memory[offset + at - address:][:1]))
+        self.assertEqual(len(dump.at(0x900000 + 64 * 5999 + 127, 8)), 1)
+        self.assertEqual((len(dump.at(address + length, 1)), len(dump.at(address - 1, 1))), (0, 0))
+
+    def test_the_stack_of_a_thread_is_memory_without_a_list(self):
+        dump, stack = self.in_pieces(0, is_listed=False)
+        self.assertEqual((dump.memory_list, dump.memory64, dump.pieces), ((), (), (stack,)))
+
+    def test_reasons(self):
+        data = bytearray(bytes_of("x64.dmp"))
+        at = data.index(bytes([0x24, 0, 0, 0, 0, 0, 0, 0, 5, 0, 0, 0xC0]))
+        for code, parameters, reason in (
+                (0xC0000409, (2,), "STATUS_STACK_BUFFER_OVERRUN (0xc0000409): FAST_FAIL_STACK_COOKIE_CHECK_FAILURE"),
+                (0xC0000409, (1000,), "STATUS_STACK_BUFFER_OVERRUN (0xc0000409): __fastfail(1000)"),
+                (0xC0000006, (0, 0x7000, 0xC000009C),
+                 "STATUS_IN_PAGE_ERROR (0xc0000006): read at 0x7000, STATUS_DEVICE_DATA_ERROR (0xc000009c)"),
+                (0xC0000005, (8, 16), "STATUS_ACCESS_VIOLATION (0xc0000005): execution at 0x10"),
+                (0x40000015, (), "STATUS_FATAL_APP_EXIT (0x40000015)"), (0x20474343, (1,), "an exception of GCC (0x20474343)"),
+                (0x0EEDFADE, (), "an exception of Delphi (0x0eedfade)"), (0x12345678, (), "0x12345678")):
+            struct.pack_into("<I", data, at + 8, code)
+            struct.pack_into(f"<II{len(parameters)}Q", data, at + 32, len(parameters), 0, *parameters)
+            self.assertEqual(pe_c.Dump(bytes(data)).reason, reason)
+
+    def test_all_walks_of_a_dump_have_a_bound(self):
+        dump, image = pe_c.Dump(bytes(self.many(40))), pe_c.Image(bytes_of("functions.bin"))
+        asked = []
+        def look_up(module):
+            asked.append(module)
+            return image
+        with mock.patch.object(_dump, "MOST_FRAMES", 13):
+            dump = pe_c.Dump(bytes(self.many(40)))
+        found = [dump.stack(dump.threads[0], look_up) for _ in range(7)]
+        # The modules are packed once, for 8 of the 13 frames that there are.
+        self.assertEqual((len(asked), [len(it.frames) for it in found]), (40, [1, 1, 1, 1, 1, 0, 0]))
+        # With another object for each walk they are packed again, up to the bound.
+        with mock.patch.object(_dump, "MOST_FRAMES", 20):
+            dump = pe_c.Dump(bytes(self.many(40)))
+        asked.clear()
+        again = [dump.stack(dump.threads[0], lambda module: look_up(module)) for _ in range(7)]
+        self.assertEqual((len(asked), [len(it.frames) for it in again]), (3 * 40, [1, 1, 0, 0, 0, 0, 0]))
+        self.assertEqual([(it.end, it.frames.is_limited) for it in found[3:6]],
+                         [(End.BOTTOM, False), (End.BOUND, True), (End.BOUND, True)])
 
     def test_refused(self):
         for wrong, kind in ((b"MZ", Kind.SHORT), (bytes(32), Kind.DUMP_SIGNATURE)):

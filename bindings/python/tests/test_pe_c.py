@@ -134,6 +134,60 @@ class Values(unittest.TestCase):
         with self.assertRaises(pe_c.Error):
             refused.imports.check()
 
+    def test_an_unmapped_lookup_table_is_said(self):
+        """pefile and the loader read the address table in its place."""
+        data = bytearray(bytes_of("imports"))
+        whole = pe_c.Image(bytes(data))
+        record = whole.offset_of(whole.headers.directories[1].virtual_address)
+        data[record + 16:record + 20] = data[record:record + 4]
+        for rva in (1, 0x7FFFFFFF, 0xFFFFFFFF):
+            data[record:record + 4] = struct.pack("<I", rva)
+            image = pe_c.Image(bytes(data))
+            self.assertEqual([it.has_unmapped_list for it in image.imports], [True, False])
+            names = [[(it.name, it.ordinal) for it in library.imports] for library in image.imports]
+            self.assertEqual(names, [[("Sleep", 42), (None, 17)], [("f", 0)]])
+            self.assertEqual((image.imphash(), image.imphash_of), (whole.imphash(), "address_tables"))
+            warning, = image.warnings
+            self.assertEqual((warning.part, warning.error.kind), ("imports", Kind.UNMAPPED))
+            self.assertIn(f"KERNEL32.dll at RVA 0x{rva:x}", warning.text)
+        self.assertEqual((whole.imphash_of, whole.warnings), ("lookup_tables", ()))
+        # The address table is unmapped too.
+        data[record + 16:record + 20] = data[record:record + 4]
+        self.assertEqual(pe_c.Image(bytes(data)).imports.error.kind, Kind.UNMAPPED)
+
+    def test_a_damaged_version_string_costs_itself_alone(self):
+        data = bytearray(bytes_of("resources"))
+        whole, = pe_c.Image(bytes(data)).versions
+        at = data.index("ProductName\0".encode("utf-16-le"))
+        data[at - 4:at - 2] = struct.pack("<H", 0x4000)
+        image = pe_c.Image(bytes(data))
+        version, = image.versions
+        self.assertEqual((version.fixed, version.fixed_error, version.strings), (whole.fixed, None, whole.strings))
+        self.assertEqual((version.strings_error.kind, whole.strings_error), (Kind.RESOURCE_STRING, None))
+        self.assertEqual([it.part for it in image.warnings], ["version strings"])
+        said = image.facts()["version"]
+        self.assertEqual((said["fixed"]["file_version"], said["fixed_error"]), ("3.11.3150.1013", None))
+        self.assertEqual(said["strings_error"]["name"], "RESOURCE_STRING")
+        # The fixed file information is truncated too.
+        key = data.index("VS_VERSION_INFO\0".encode("utf-16-le"))
+        data[key - 4:key - 2] = struct.pack("<H", 48)
+        refused, = pe_c.Image(bytes(data)).versions
+        self.assertIsNone(refused.fixed)
+        self.assertTrue(refused.fixed_error and not refused.strings_error)
+
+    def test_no_name_has_no_imphash(self):
+        data = bytearray(bytes_of("imports"))
+        whole = pe_c.Image(bytes(data))
+        # Each table starts with its zero entry.
+        for library in whole.imports:
+            for rva in (library.lookup_table_rva or library.address_table_rva,):
+                offset = whole.offset_of(rva)
+                data[offset:offset + 8] = bytes(8)
+        image = pe_c.Image(bytes(data))
+        self.assertEqual([len(it.imports) for it in image.imports], [0, 0])
+        self.assertEqual((image.imphash(), image.imphash_of), (None, None))
+        self.assertIsNone(image.facts()["hashes"]["imphash"])
+
     def test_addresses(self):
         image = made("debug")
         section = image.sections[0]
@@ -477,7 +531,9 @@ class Hostile(unittest.TestCase):
         for name, (make, arguments, part) in self.LIMITED.items():
             image = pe_c.Image(make(*arguments))
             self.assertEqual(image.limited, (part,), name)
-            self.assertEqual([(it.kind, it.part) for it in image.warnings], [(pe_c.WarningKind.LIMITED, part)], name)
+            # Made version information has no fixed file information, which is said.
+            said = [(it.kind, it.part) for it in image.warnings if it.part != "fixed version"]
+            self.assertEqual(said, [(pe_c.WarningKind.LIMITED, part)], name)
             self.assertEqual(len(image.sections), image.headers.number_of_sections)
             self.assertIsNone(image.imphash())
             self.assertIsNone(image.exphash())

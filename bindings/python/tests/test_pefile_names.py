@@ -125,6 +125,19 @@ class Gaps(unittest.TestCase):
         self.assertEqual(made.__pack__(), b"\1\0\2\0\0\0")
         self.assertIsNone(pe.__unpack_data__(form, b"\1\0\2", 64))
 
+    def test_exports_end_where_a_caller_says(self):
+        """As pefile does: further names are left out, and what they name has no name."""
+        path = os.path.join(IMAGES, "exports.bin")
+        def listed(**limits):
+            pe = ours.PE(path, **limits)
+            return [(it.name, it.ordinal) for it in pe.DIRECTORY_ENTRY_EXPORT.symbols], len(pe.get_warnings())
+        self.assertEqual(listed(), ([(b"first", 6), (b"second", 5), (None, 8)], 0))
+        self.assertEqual(listed(max_symbol_exports=1), ([(b"first", 6), (None, 5)], 2))
+        self.assertEqual(listed(max_repeated_symbol=0), ([(b"first", 6), (b"second", 5)], 1))
+        if SPEC:
+            theirs = importlib.import_module("pefile").PE(path, max_symbol_exports=1)
+            self.assertEqual([(it.name, it.ordinal) for it in theirs.DIRECTORY_ENTRY_EXPORT.symbols], listed(max_symbol_exports=1)[0])
+
     def test_a_closed_image(self):
         pe = opened("exports")
         section = pe.sections[0]

@@ -977,6 +977,7 @@ fn read_by_lies(bytes: &[u8], random: &mut Random, seen: &mut Seen) {
             remaining: u64::from(few % 32),
             way: few % 8,
             is_searched: few & 1,
+            is_guess: few & 2,
             ..Default::default()
         };
         let (mut frames, mut filled) = ([sys::StackWalk::default(); 3], 0);
@@ -1020,6 +1021,7 @@ fn read_by_lies(bytes: &[u8], random: &mut Random, seen: &mut Seen) {
             remaining: u64::from(few % 32),
             way: few % 8,
             is_searched: few & 1,
+            is_guess: few & 2,
             ..Default::default()
         };
         let (mut frames, mut filled) = ([sys::Arm64StackWalk::default(); 3], 0);

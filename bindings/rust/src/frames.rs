@@ -263,7 +263,7 @@ impl Functions<'_, '_> {
         let number = step_frame(&self.image().view(), self.table(), code, memory, &mut frame);
         let registers = stepped(number, frame.registers, frame.address)?;
         let (way, has_called) = if frame.interrupted == 0 { (Way::Records, true) } else { (Way::Interrupt, false) };
-        Ok(Frame { registers, way, has_called })
+        Ok(Frame { registers, way, has_called, is_guess: false })
     }
 }
 
@@ -349,7 +349,7 @@ impl Arm64Functions<'_, '_> {
         let number = step_arm64_frame(&self.image().view(), memory, &mut frame);
         let registers = stepped(number, frame.registers, frame.address)?;
         let (way, has_called) = if frame.interrupted == 0 { (Way::Records, true) } else { (Way::Interrupt, false) };
-        Ok(Frame { registers, way, has_called })
+        Ok(Frame { registers, way, has_called, is_guess: false })
     }
 }
 

@@ -234,6 +234,8 @@ errors! {
     EDIT_IMAGE_TOO_LARGE = 472;
     /// Debug entries or their data lie where the resources go.
     EDIT_DEBUG_DATA = 473;
+    /// Contents of the resources, which share bytes, are too large for their array.
+    EDIT_CONTENTS = 474;
     /// Element of a signature truncated before its content.
     SIGNATURE_TRUNCATED = 501;
     /// Element of a signature has a tag number above 30.
@@ -256,6 +258,10 @@ errors! {
     SIGNATURE_CONTENT_TYPE = 510;
     /// Time of a signature is not in the form of RFC 5280.
     SIGNATURE_BAD_TIME = 511;
+    /// Element of a signature is an end of contents, which DER does not have.
+    SIGNATURE_END_OF_CONTENTS = 512;
+    /// Element of a signature has no content, which its type does not allow.
+    SIGNATURE_EMPTY_CONTENT = 513;
     /// Invalid signature of a minidump.
     DUMP_SIGNATURE = 551;
     /// Invalid version of a minidump.

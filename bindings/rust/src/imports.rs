@@ -26,15 +26,37 @@ impl<'i, 'a> Library<'i, 'a> {
         &self.raw
     }
 
-    /// The imports from this DLL.
+    /// The imports from this DLL, of its lookup table, or of its address table where it has no lookup table. Where the RVA of that
+    /// list is unmapped there are none: [`has_unmapped_list`](Library::has_unmapped_list) says so.
     pub fn imports(&self) -> Imports<'i, 'a> {
-        Imports(ImageList::new(self.image, self.raw.imports))
+        Imports { list: ImageList::new(self.image, self.raw.imports), rest: None }
+    }
+
+    /// Whether the RVA of the list is unmapped, so that [`imports`](Library::imports) has nothing.
+    pub fn has_unmapped_list(&self) -> bool {
+        // An entry at the file offset 0 is no zero entry: the signature of the DOS header stands there.
+        let list = self.raw.imports.left;
+        (list.offset, list.length) == (0, 0)
+    }
+
+    /// What the address table names. Until the loader has filled it, it has the entries of the lookup table; in a bound image it has
+    /// addresses. Windows reads it in place of a lookup table that starts before the sections or after the image.
+    ///
+    /// The last item may be an error: those of [`imports`](Library::imports); [`Error::UNMAPPED`] of the table's own RVA;
+    /// [`Error::SHORT`] where the file ends before a zero entry.
+    pub fn address_table(&self) -> Imports<'i, 'a> {
+        let rest = Rest {
+            next: self.image.offset(self.raw.address_table_rva).ok_or(Error::UNMAPPED),
+            rva: self.raw.imports.rva,
+        };
+        Imports { list: ImageList::new(self.image, sys::Imports::default()), rest: Some(rest) }
     }
 }
 
 /// The DLLs that an image imports from, in the order of the import directory.
 ///
-/// The directory ends at a record whose name or address table has the RVA 0. A list whose RVA is unmapped is empty.
+/// The directory ends at a record whose name or address table has the RVA 0. A list whose RVA is unmapped is empty, which
+/// [`Library::has_unmapped_list`] says; [`Library::address_table`] has what the loader may read in its place.
 ///
 /// The last item may be an error: [`Error::SHORT`] where the record is truncated; [`Error::UNMAPPED`],
 /// [`Error::IMPORT_NAME`] of the name; [`Error::SHORT`] where no zero entry ends the list.
@@ -129,27 +151,74 @@ impl<'a> Import<'a> {
 /// The last item may be an error: [`Error::UNMAPPED`] of the RVA in the entry; [`Error::SHORT`] of the hint there;
 /// [`Error::IMPORT_NAME`] of the name. [`Libraries`] has an example.
 #[derive(Clone, Debug)]
-pub struct Imports<'i, 'a>(ImageList<'i, 'a, sys::Imports, sys::Import>);
+pub struct Imports<'i, 'a> {
+    list: ImageList<'i, 'a, sys::Imports, sys::Import>,
+    rest: Option<Rest>,
+}
+
+/// Where an address table goes on, of which no call says where it ends.
+#[derive(Clone, Copy, Debug)]
+struct Rest {
+    /// The file offset, or why there is none.
+    next: Result<u64, Error>,
+    rva: u64,
+}
+
+impl<'a> Imports<'_, 'a> {
+    fn listed(&mut self) -> Option<Result<Import<'a>, Error>> {
+        let bytes = self.list.source.bytes();
+        let most = |walk: &sys::Imports, _| (walk.left.length / 4).min(most_names(bytes) as u64) as usize;
+        let (call, together) = (sys::pe_c_list_imports, sys::pe_c_list_imports_together);
+        let found = self.list.step_together(call, together, 1, most, |it| it.name.length)?;
+        self.rest = self.rest.filter(|_| found.is_ok());
+        Some(found.and_then(|found| Import::of(&found, bytes)))
+    }
+
+    /// Goes on with the next entries of an address table, up to its zero entry: twice as many as before them, so that tables that
+    /// overlap are read no further than they are listed. The error where it ends with the file.
+    fn go_on(&mut self, rest: Rest) -> Result<(), Error> {
+        let image = self.list.source;
+        let size = if image.info().width == 64 { 8 } else { 4 };
+        let start = rest.next?;
+        let table = image.bytes().get(start as usize..).unwrap_or_default();
+        let most = self.list.taken().max(16);
+        let entries = table.chunks_exact(size).take(most).take_while(|it| it.iter().any(|byte| *byte != 0)).count();
+        let length = entries * size;
+        let is_over = entries < most;
+        if is_over && table.len() < length + size {
+            self.rest = Some(Rest { next: Err(Error::SHORT), ..rest });
+        } else if !is_over {
+            self.rest = Some(Rest { next: Ok(start + length as u64), rva: rest.rva + length as u64 });
+        }
+        let left = sys::Range { offset: start, length: length as u64 };
+        self.list.restart(sys::Imports { left, rva: rest.rva });
+        Ok(())
+    }
+}
 
 impl<'a> Iterator for Imports<'_, 'a> {
     type Item = Result<Import<'a>, Error>;
 
     fn next(&mut self) -> Option<Self::Item> {
-        let bytes = self.0.source.bytes();
-        let most = |walk: &sys::Imports, _| (walk.left.length / 4).min(most_names(bytes) as u64) as usize;
-        let found = self
-            .0
-            .step_together(sys::pe_c_list_imports, sys::pe_c_list_imports_together, 1, most, |it| it.name.length)?;
-        Some(found.and_then(|found| Import::of(&found, bytes)))
+        loop {
+            if let Some(found) = self.listed() {
+                return Some(found);
+            }
+            let rest = self.rest.take()?;
+            if let Err(error) = self.go_on(rest) {
+                return Some(Err(error));
+            }
+        }
     }
 }
 
 impl FusedIterator for Imports<'_, '_> {}
 
 impl Imports<'_, '_> {
-    /// Why the item that is an error is one: the error with its numbers. `None` where no item was an error.
+    /// Why the item that is an error is one: the error with its numbers. `None` where no item was an error, and where it is of an
+    /// address table and of none of its entries.
     pub fn failure(&self) -> Option<Failure> {
-        self.0.failure(sys::pe_c_import_failure)
+        self.list.failure(sys::pe_c_import_failure)
     }
 }
 
@@ -213,7 +282,8 @@ impl<'a> Iterator for AllImports<'_, 'a> {
 impl FusedIterator for AllImports<'_, '_> {}
 
 impl<'a> Image<'a> {
-    /// The imports of all DLLs that the image imports from; none without an import directory. The names of DLLs and imports are
+    /// The imports of all DLLs that the image imports from; none without an import directory. A DLL whose list is unmapped has none
+    /// here, which [`Library::has_unmapped_list`] says of it. The names of DLLs and imports are
     /// read together from the first on, however many share one text; so the calls take two to four times as long for ordinary names as
     /// library by library, by [`Image::libraries`].
     ///

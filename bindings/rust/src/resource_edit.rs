@@ -220,28 +220,43 @@ impl<'a> ResourceEditor<'a> {
         self.resources.remove(place)
     }
 
+    /// Puts the contents at the end of the data, and returns where each starts. Those of an image may share bytes: they go there once,
+    /// so that the library sees how often they are to be written.
+    fn contents(&self, data: &mut Vec<u8>) -> Result<Vec<u64>, Error> {
+        let mut contents: Vec<(usize, &[u8])> = self.resources.values().map(|it| &*it.bytes).enumerate().collect();
+        contents.sort_by_key(|it| it.1.as_ptr());
+        let mut offsets = alloc::vec![0; contents.len()];
+        // What is in the data by where it was: from an address on, which is at an offset of the data, up to an end.
+        let (mut start, mut offset, mut end) = (0, 0, 0);
+        for (index, bytes) in contents {
+            let address = bytes.as_ptr() as usize;
+            if end < address {
+                (start, offset, end) = (address, data.len(), address);
+            }
+            if let Some(more) = bytes.get(end - address..) {
+                data.try_reserve(more.len()).map_err(|_| Error::MEMORY)?;
+                data.extend_from_slice(more);
+                end += more.len();
+            }
+            offsets[index] = (offset + (address - start)) as u64;
+        }
+        Ok(offsets)
+    }
+
     /// The records, and the array with their names and contents.
     fn records(&self) -> Result<(Vec<sys::Resource>, Vec<u8>), Error> {
-        let (mut records, mut data) = (Vec::new(), Vec::new());
-        // Resources of a hostile image may share one content: they are not copied where no section has room for them.
-        let contents =
-            self.resources.values().try_fold(0u32, |sum, it| sum.checked_add(it.bytes.len().try_into().ok()?));
-        contents.ok_or(Error::EDIT_TOO_LARGE)?;
-        for ((resource_type, name, language), content) in &self.resources {
-            let (resource_type, name) = (resource_type.record(&mut data), name.record(&mut data));
-            let offset = data.len() as u64;
-            data.try_reserve(content.bytes.len()).map_err(|_| Error::MEMORY)?;
-            data.extend_from_slice(&content.bytes);
-            let (language, content_range) =
-                (u32::from(*language), sys::Range { offset, length: content.bytes.len() as u64 });
-            records.push(sys::Resource {
-                resource_type,
-                name,
-                content: content_range,
-                language,
+        let mut data = Vec::new();
+        let offsets = self.contents(&mut data)?;
+        let record = |(((resource_type, name, language), content), offset): ((&ResourcePlace, &ResourceContent<'_>), u64)| {
+            sys::Resource {
+                resource_type: resource_type.record(&mut data),
+                name: name.record(&mut data),
+                content: sys::Range { offset, length: content.bytes.len() as u64 },
+                language: u32::from(*language),
                 code_page: content.code_page,
-            });
-        }
+            }
+        };
+        let records = self.resources.iter().zip(offsets).map(record).collect();
         Ok((records, data))
     }
 
@@ -250,7 +265,8 @@ impl<'a> ResourceEditor<'a> {
     ///
     /// # Errors
     ///
-    /// [`Error::EDIT_NAMES`] where the names have more than 16 MiB;
+    /// [`Error::EDIT_NAMES`] where the names have more than 16 MiB; [`Error::EDIT_CONTENTS`] where resources share contents of the
+    /// image, and all contents together have more than 16 times the bytes that there are of them and of 1 MiB;
     /// [`Error::NO_OPTIONAL_HEADER`], [`Error::EDIT_NO_DIRECTORY`] where there is no resource directory; [`Error::EDIT_SIGNED`]
     /// where the image has certificates, which [`Image::detach`] takes off; [`Error::EDIT_TOO_MANY`], [`Error::EDIT_NAME`],
     /// [`Error::EDIT_TABLES_TOO_LARGE`], [`Error::EDIT_TOO_LARGE`] of too many or too large resources; [`Error::EDIT_HEADERS`],

@@ -51,6 +51,16 @@ fn name_of(found: sys::ResourceName, bytes: &[u8]) -> Result<ResourceName<'_>, E
     Ok(ResourceName::Name(Text(bytes_of(found.name, bytes)?)))
 }
 
+/// How many bytes version information has up to the end of the fixed file information: lengths and a type, the key
+/// `VS_VERSION_INFO`, the value.
+const UP_TO_FIXED: u64 = 6 + 32 + 2 + 52;
+
+/// The fixed file information in the first bytes of version information, without the strings that follow.
+pub(crate) fn alone(bytes: &[u8], content: sys::Range) -> Option<FixedVersion> {
+    let first = sys::Range { length: content.length.min(UP_TO_FIXED), ..content };
+    ask_of_bytes(bytes, sys::pe_c_fixed_version_in, &first).ok()?
+}
+
 impl<'a> ResourceLeaf<'a> {
     fn of(found: sys::ResourceLeaf, bytes: &'a [u8]) -> Result<Self, Error> {
         Ok(ResourceLeaf {
@@ -101,6 +111,15 @@ impl<'a> ResourceLeaf<'a> {
         }
         Error::of(self.content_result)?;
         ask_of_bytes(self.bytes, sys::pe_c_fixed_version_in, &self.content)
+    }
+
+    /// The same, where a damaged version string after it is no error. The strings that can be read are [`ResourceLeaf::version_blocks`].
+    ///
+    /// # Errors
+    ///
+    /// Those of [`ResourceLeaf::version`], where the fixed file information cannot be read either.
+    pub fn fixed_version(&self) -> Result<Option<FixedVersion>, Error> {
+        self.version().or_else(|error| alone(self.bytes, self.content).ok_or(error).map(Some))
     }
 
     /// The value of a version string of a leaf of type `RT_VERSION`. `None` of another type, and without a string of that name.

@@ -36,6 +36,11 @@ impl<'m> Module<'m> {
         Ok(Module { image, base, table, is_arm64 })
     }
 
+    /// The same without its function table, for one whose table is damaged: what calls its code is found by scans.
+    pub(crate) fn without_functions(image: &'m Image<'m>, base: u64) -> Self {
+        Module { image, base, table: sys::Range::default(), is_arm64: false }
+    }
+
     /// The module as the library takes it. An image of another machine has no functions.
     fn view(&self, is_arm64: bool) -> sys::Module {
         let table = if self.is_arm64 == is_arm64 { self.table } else { sys::Range::default() };
@@ -71,6 +76,10 @@ pub struct Frame<R = Registers> {
     /// Whether its function has called. If not, `rip` or `pc` is that of the instruction that is about to run: in the top frame,
     /// in one that an interrupt stopped, and in one that records lead to where no call ends there, which was interrupted too.
     pub has_called: bool,
+    /// Whether it may be wrong: nothing proves that it is the caller, or it follows a frame of which this holds. What a scan finds
+    /// is a guess, and so is the caller of code of which no function table says that it is a leaf function: in a module without
+    /// one, in no module, and where no call ends at the return address.
+    pub is_guess: bool,
 }
 
 /// Why a stack walk is over.
@@ -79,11 +88,12 @@ pub struct Frame<R = Registers> {
 pub enum End {
     /// As many frames were returned as the caller wants.
     Bound,
-    /// The stack is whole: the last frame returns to 0, as that does with which a thread starts, and no frame is found there.
+    /// The stack is whole: by its records the last frame returns to 0, as that does with which a thread starts, no frame is found
+    /// there, and none of the frames is a guess.
     Bottom,
     /// No module has the instruction pointer of the last frame, and no return address is found.
     NoModule,
-    /// No function covers the call in the last frame. A leaf function calls nothing.
+    /// No function covers the call in the last frame, and no return address is found. A leaf function calls nothing.
     NoFunction,
     /// An unwind record of the function in the last frame cannot be read.
     Records(Error),
@@ -91,6 +101,10 @@ pub enum End {
     LongChain,
     /// The step from the last frame is refused.
     Step(StepError),
+    /// The last frame returns to 0, but it is a guess, or no records describe its code: frames may be missing or wrong.
+    Zero,
+    /// No records describe the code of the last frame, and where it would return to is no executable code.
+    NoReturnAddress,
 }
 
 /// `pe_c_next_frames` or `pe_c_next_arm64_frames`.
@@ -151,6 +165,8 @@ fn end_of(end: u32, error: u32, address: u64) -> End {
         3 => End::NoFunction,
         4 => End::Records(Error::with_number(error)),
         5 => End::LongChain,
+        7 => End::Zero,
+        8 => End::NoReturnAddress,
         _ => match stepped(error, (), address) {
             Ok(()) => End::NoModule,
             Err(error) => End::Step(error),
@@ -174,8 +190,8 @@ macro_rules! machine {
             }
 
             fn frame(walk: &Self::Walk) -> Frame<Self> {
-                let sys::$walk { registers, way, has_called, .. } = *walk;
-                Frame { registers, way: way_of(way), has_called: has_called != 0 }
+                let sys::$walk { registers, way, has_called, is_guess, .. } = *walk;
+                Frame { registers, way: way_of(way), has_called: has_called != 0, is_guess: is_guess != 0 }
             }
 
             fn end(walk: &Self::Walk) -> End {
@@ -197,14 +213,15 @@ const MOST_AT_ONCE: usize = 1024;
 /// The module that has an address is the first of the list that does. Memory is a [`MemoryList`]: a stack in one piece is a list of
 /// one.
 ///
-/// The walk is over at the bottom of the stack, where a frame returns to 0; at a frame that is in no function of a module, at
-/// memory that is missing, where the stack pointer does not rise, at any other error, and after `most` frames. [`Frames::end`]
-/// says which. Past an interrupt the stack pointer may be anywhere, and on ARM64 it may stay where a frame has not called; in any
+/// The walk is over at the bottom of the stack, where a frame returns to 0; at a frame in no module or in no function from which no
+/// return address is found, at memory that is missing, where the stack pointer does not rise, at any other error, and after `most`
+/// frames. [`Frames::end`] says which. Past an interrupt the stack pointer may be anywhere, and on ARM64 it may stay where a frame has not called; in any
 /// other frame it has to rise.
 ///
 /// The top frame, and one that was interrupted, may be in no function, as after a call of a null pointer. The return address is
-/// then at its stack pointer, on ARM64 in its link register, if a call ends at it. If none does, it is the first of the 128 words
-/// from the stack pointer on that is after a call in an executable section: [`Way::Scanned`] says so.
+/// then at its stack pointer, on ARM64 in its link register, if a call ends at it. If none does, and of any other frame in no
+/// function, it is the first of the 128 words from the stack pointer on that is after a call in an executable section:
+/// [`Way::Scanned`] says so. Frames found so are guesses, as [`Frame::is_guess`] says, and the stack is whole only without any.
 ///
 /// On x64:
 ///

@@ -13,6 +13,7 @@ use crate::image::{number_of, Error, Image, Layout, Mode};
 use crate::shown;
 use crate::stack_walk::{End, Frame, Frames, MachineRegisters, Module};
 use crate::sys::{self, DumpModule, DumpThread, ImageInfo, MemoryPiece, Range, RangeEntry};
+use alloc::collections::BTreeSet;
 use alloc::vec;
 use alloc::vec::Vec;
 use core::fmt;
@@ -56,6 +57,19 @@ fn run_at(runs: &[MemoryPiece], address: u64) -> Option<&MemoryPiece> {
     runs.get(after.checked_sub(1)?).filter(|it| address - it.start < it.length)
 }
 
+/// Adds the stacks of threads that no list starts a piece with: a dump without a list of memory has these.
+fn add_stacks(dump: &Dump<'_>, listed: &mut Vec<MemoryPiece>, lost: &mut u64) {
+    let starts: BTreeSet<u64> = listed.iter().map(|it| it.start).collect();
+    for thread in dump.threads().ok().flatten().into_iter().flatten() {
+        let (start, at) = (thread.stack.start_of_memory_range, thread.stack.memory);
+        if !starts.contains(&start) {
+            let there = (dump.bytes().len() as u64).saturating_sub(at.rva.into()).min(at.size.into());
+            *lost = lost.saturating_add(u64::from(at.size) - there);
+            listed.push(MemoryPiece { start, offset: at.rva.into(), length: there });
+        }
+    }
+}
+
 /// The addresses of modules, as pieces whose offsets say which module has them.
 fn owned_by(modules: &[DumpModule]) -> Vec<MemoryPiece> {
     let piece_of = |(index, it): (usize, &DumpModule)| MemoryPiece {
@@ -72,7 +86,7 @@ fn owner_of(piece: &MemoryPiece) -> usize {
 }
 
 /// The memory of a minidump: its pieces in ascending order, apart. The byte at an address is that of the first piece that has it,
-/// those of the memory list before those of a full dump's.
+/// those of the memory list before those of a full dump's, and the stacks of threads last.
 #[derive(Clone)]
 pub struct DumpMemory<'a> {
     bytes: &'a [u8],
@@ -89,7 +103,8 @@ impl fmt::Debug for DumpMemory<'_> {
 }
 
 impl<'a> DumpMemory<'a> {
-    /// The memory of a dump. A list that is refused has no pieces: [`DumpMemory::refused`] says which.
+    /// The memory of a dump: that of both lists, and the stacks that the records of threads name. A list that is refused has no
+    /// pieces: [`DumpMemory::refused`] says which.
     pub fn new(dump: &Dump<'a>) -> Self {
         let (mut listed, mut lost, mut refused) = (Vec::new(), 0u64, Vec::new());
         let mut add = |piece: sys::DumpPiece| {
@@ -104,6 +119,7 @@ impl<'a> DumpMemory<'a> {
             Ok(list) => list.into_iter().flatten().flatten().for_each(&mut add),
             Err(error) => refused.push((sys::MEMORY64_LIST_STREAM, error)),
         }
+        add_stacks(dump, &mut listed, &mut lost);
         DumpMemory { bytes: dump.bytes(), pieces: runs_of(&listed), lost, refused }
     }
 
@@ -285,13 +301,17 @@ impl<'a> DumpImages<'a> {
     }
 
     /// The modules with an image, as walks take them: in ascending order, apart. One that another one overlaps which stands before
-    /// it in the list is left out, as is one whose function table is damaged.
+    /// it in the list is left out. One whose function table is damaged is taken without it.
     fn loaded(&self) -> Vec<Module<'_>> {
         let whole = self.owned.iter().filter(|it| {
             let module = &self.modules[owner_of(it)];
             it.start == module.base_of_image && it.length == u64::from(module.size_of_image)
         });
-        whole.filter_map(|it| Module::new(&self.images[owner_of(it)].as_ref()?.image, it.start).ok()).collect()
+        let module_of = |it: &MemoryPiece| {
+            let image = &self.images[owner_of(it)].as_ref()?.image;
+            Some(Module::new(image, it.start).unwrap_or_else(|_| Module::without_functions(image, it.start)))
+        };
+        whole.filter_map(module_of).collect()
     }
 }
 
@@ -405,7 +425,12 @@ impl<'i> Stacks<'i> {
         let mut walk = Frames::new(top, most, &self.modules, self.memory);
         let frames: Vec<_> = walk
             .by_ref()
-            .map(|frame| Frame { registers: of(frame.registers), way: frame.way, has_called: frame.has_called })
+            .map(|Frame { registers, way, has_called, is_guess }| Frame {
+                registers: of(registers),
+                way,
+                has_called,
+                is_guess,
+            })
             .collect();
         let tests = frames.len().checked_ilog2().map_or(0, |it| it as usize + 1) + frames.len() / 1024;
         self.left = self.left.saturating_sub(frames.len() * cost_of_frame + tests * self.cost_of_test);

@@ -680,7 +680,7 @@ pub struct Module {
 
 record!(
 /// A walk of a stack on x64, and the frame that was returned last.
-StackWalk, 432 {
+StackWalk, 440 {
     /// Inside the function of the frame; before the first call those of the thread.
     registers: Registers,
     /// How many frames follow at most; 0 once the walk is over.
@@ -700,6 +700,10 @@ StackWalk, 432 {
     /// 1 where a call found that the pieces of memory lie in it, ascend and do not overlap: later calls test only those that they
     /// read. 0 before the first call.
     is_searched: u32,
+    /// 1 where the frame may be wrong: nothing proves that it is the caller, or it follows a frame of which this holds. Else 0.
+    is_guess: u32,
+    /// 0.
+    spare: u32,
 });
 record!(
 /// A piece of memory: its address, and where in a memory that is passed its bytes are, as a minidump has it.
@@ -829,7 +833,7 @@ Arm64Frame, 360 {
 });
 record!(
 /// A walk of a stack on ARM64, and the frame that was returned last.
-Arm64StackWalk, 368 {
+Arm64StackWalk, 376 {
     /// Inside the function of the frame; before the first call those of the thread.
     registers: Arm64Registers,
     /// How many frames follow at most; 0 once the walk is over.
@@ -849,6 +853,10 @@ Arm64StackWalk, 368 {
     /// 1 where a call found that the pieces of memory lie in it, ascend and do not overlap: later calls test only those that they
     /// read. 0 before the first call.
     is_searched: u32,
+    /// 1 where the frame may be wrong: nothing proves that it is the caller, or it follows a frame of which this holds. Else 0.
+    is_guess: u32,
+    /// 0.
+    spare: u32,
 });
 record!(
 /// Where a walk over exports stands.

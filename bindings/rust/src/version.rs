@@ -4,6 +4,7 @@
 //! [Microsoft's page](https://learn.microsoft.com/windows/win32/menurc/vs-versioninfo).
 
 use crate::image::{bytes_of, Error, Image};
+use crate::resources::alone;
 use crate::shown;
 use crate::sys;
 use alloc::string::String;
@@ -151,13 +152,26 @@ impl fmt::Display for Text<'_> {
 /// - the version strings: [`Error::SHORT`], [`Error::RESOURCE_STRING`];
 /// - the fixed file information: [`Error::SHORT`].
 impl<'a> Image<'a> {
-    /// The fixed file information, or `None` also where version information has none.
+    /// The fixed file information, or `None` also where version information has none. A damaged version string is an error of it, but
+    /// not of [`Image::fixed_version`].
     ///
     /// # Errors
     ///
     /// Those of [version information](#version-information-and-manifest).
     pub fn version(&self) -> Result<Option<FixedVersion>, Error> {
         self.ask(sys::pe_c_fixed_version)
+    }
+
+    /// The same, where a damaged version string after it is no error. The strings that can be read are [`Image::version_blocks`].
+    ///
+    /// # Errors
+    ///
+    /// Those of [`Image::version`], where the fixed file information cannot be read either.
+    pub fn fixed_version(&self) -> Result<Option<FixedVersion>, Error> {
+        self.version().or_else(|error| {
+            let content = self.ask(sys::pe_c_version_blocks).ok().flatten().unwrap_or_default();
+            alone(self.bytes(), content).ok_or(error).map(Some)
+        })
     }
 
     /// The value of a version string, or `None` also without a string of that name. Of several strings, as of several

@@ -17,9 +17,11 @@ const LEVELS: usize = 3;
 /// `VS_FIXEDFILEINFO`: its size, its signature and the version of its form.
 const SIZE_OF_FIXED: usize = 52;
 const SIGNATURE: [u8; 8] = [0xBD, 0x04, 0xEF, 0xFE, 0, 0, 1, 0];
-/// Where it has the version of the file, and that of the product.
+/// Where it has the version of the file, that of the product,
 const FILE_VERSION: usize = 8;
 const PRODUCT_VERSION: usize = 16;
+/// and the system of the file, before its type.
+const FILE_OS: usize = 32;
 /// UTF-16, the code page of the texts of new version information.
 const UNICODE: u16 = 1200;
 
@@ -68,6 +70,12 @@ impl Block {
 
     fn is(&self, key: &str) -> bool {
         self.key == units_of(key)
+    }
+
+    /// Whether Windows finds it by this name: in ASCII letters without regard to their case.
+    fn is_named(&self, name: &[u8]) -> bool {
+        let lower = |it: &[u8]| if it[1] == 0 { [it[0].to_ascii_lowercase(), 0] } else { [it[0], it[1]] };
+        self.key.chunks_exact(2).map(lower).eq(name.chunks_exact(2).map(lower))
     }
 
     /// Whether it has this key and no value, as a block of others.
@@ -319,13 +327,21 @@ impl VersionInfo {
         self.set_number(PRODUCT_VERSION, version);
     }
 
+    /// Sets for which system the file is and what it is, `dwFileOS` and `dwFileType`: `VOS_NT_WINDOWS32`, 0x40004, and `VFT_APP`, 1, or
+    /// `VFT_DLL`, 2. Of new version information both are 0, unknown.
+    pub fn set_file_type(&mut self, file_os: u32, file_type: u32) {
+        let [os, kind] = [file_os, file_type].map(|it| [it as u16, (it >> 16) as u16]);
+        self.set_number(FILE_OS, [os[1], os[0], kind[1], kind[0]]);
+    }
+
     fn tables(&self) -> impl Iterator<Item = &Block> {
         self.root.children.iter().filter(|it| it.is("StringFileInfo")).flat_map(|it| &it.children)
     }
 
-    /// A string, of the first table that has it.
+    /// A string, of the first table that has it. Names are compared as Windows does, in ASCII letters without regard to case.
     pub fn string(&self, name: &str) -> Option<String> {
-        let found = self.tables().flat_map(|it| &it.children).find(|it| it.is(name))?;
+        let name = units_of(name);
+        let found = self.tables().flat_map(|it| &it.children).find(|it| it.is_named(&name))?;
         Some(text_of(&found.value))
     }
 
@@ -340,8 +356,8 @@ impl VersionInfo {
         self.tables().flat_map(of_table)
     }
 
-    /// Sets a string in each table; all others stay as they are. Returns how many tables there are: where it is 0, nothing is
-    /// set.
+    /// Sets a string in each table; all others stay as they are, and so does the case of a name that is there: `companyname` sets
+    /// `CompanyName`. Returns how many tables there are: where it is 0, nothing is set.
     ///
     /// # Errors
     ///
@@ -353,12 +369,12 @@ impl VersionInfo {
         if text.contains('\0') {
             return Err(Error::BLOCK_TEXT);
         }
-        let (mut value, mut count) = (units_of(text), 0);
+        let (key, mut value, mut count) = (units_of(name), units_of(text), 0);
         value.extend([0, 0]);
         let infos = self.root.children.iter_mut().filter(|it| it.is("StringFileInfo"));
         for table in infos.flat_map(|it| &mut it.children) {
             count += 1;
-            let there = table.children.iter_mut().filter(|it| it.is(name));
+            let there = table.children.iter_mut().filter(|it| it.is_named(&key));
             if there.map(|it| (it.is_text, it.value) = (true, value.clone())).count() == 0 {
                 table.children.push(Block::new(name, true, value.clone(), Vec::new()));
             }

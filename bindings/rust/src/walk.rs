@@ -248,6 +248,16 @@ impl<S: Source + Copy, W: Copy, T: Copy + Default> List<S, W, T> {
         List { is_over: walk.is_none(), ..List::new(source, walk.unwrap_or_default()) }
     }
 
+    /// How many items were written.
+    pub fn taken(&self) -> usize {
+        self.taken
+    }
+
+    /// Goes on with another walk after the end of this one.
+    pub fn restart(&mut self, walk: W) {
+        (self.walk, self.is_over) = (walk, false);
+    }
+
     /// Makes a call, and keeps how many items it wrote. Returns the error of the walk, if it is one.
     fn fill(&mut self, call: impl FnOnce(&View, &mut Self, &mut u64) -> u32) -> Option<Error> {
         let (before, source, mut written) = (self.walk, self.source, 0);

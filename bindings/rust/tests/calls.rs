@@ -181,7 +181,7 @@ fn images_are_refused_by_number() {
 fn answers_have_texts() {
     let mut texts = Vec::new();
     for number in
-        (0..=40).chain([100, 101, 102, u32::MAX]).chain(201..=207).chain(301..=311).chain(401..=404).chain(501..=512)
+        (0..=40).chain([100, 101, 102, u32::MAX]).chain(201..=207).chain(301..=311).chain(401..=404).chain(501..=514)
     {
         let mut room = [0; 128];
         // SAFETY: the pointer and the length are those of one array.
@@ -191,14 +191,14 @@ fn answers_have_texts() {
     }
     assert_eq!(Error::SHORT.to_string(), texts[2]);
     assert!(texts[2].contains("truncated"), "{}", texts[2]);
-    // those of 1 to 38, of 100 and 101, of 201 to 206, of 301 to 310, of 401 to 403 and of 501 to 511 differ from each other and
+    // those of 1 to 38, of 100 and 101, of 201 to 206, of 301 to 310, of 401 to 403 and of 501 to 513 differ from each other and
     // from that of all others
     let known = texts[1..39].iter().chain(&texts[41..43]).chain(&texts[45..62]).chain(&texts[63..66]);
-    let mut known: Vec<_> = known.chain(&texts[67..78]).collect();
+    let mut known: Vec<_> = known.chain(&texts[67..80]).collect();
     known.sort();
     known.dedup();
-    assert_eq!(known.len(), 71);
-    assert_eq!([&texts[51], &texts[62], &texts[66], &texts[78]], [&texts[44]; 4]);
+    assert_eq!(known.len(), 73);
+    assert_eq!([&texts[51], &texts[62], &texts[66], &texts[80]], [&texts[44]; 4]);
 }
 
 #[test]
@@ -913,6 +913,57 @@ fn imports_of_all_libraries_are_listed() {
     assert_eq!(items, [Err(Error::IMPORT_NAME)]);
 }
 
+/// The image of two libraries: the lookup table of the first at this RVA, and in its address table what that had.
+fn with_lookup_table_at(rva: u32, address_table: Option<u32>) -> Vec<u8> {
+    let mut bytes = with_imports();
+    let lookups = ADDRESS + 36;
+    let record = offset(lookups + 24 + 16) as usize;
+    assert_eq!(bytes[record..record + 4], lookups.to_le_bytes());
+    bytes[record..record + 4].copy_from_slice(&rva.to_le_bytes());
+    bytes[record + 16..record + 20].copy_from_slice(&address_table.unwrap_or(lookups).to_le_bytes());
+    bytes
+}
+
+#[test]
+fn an_unmapped_lookup_table_is_no_empty_one() {
+    // What pefile and the loader list of it: the entries of the address table.
+    for rva in [1, 0x7FFF_FFFF, u32::MAX] {
+        let bytes = with_lookup_table_at(rva, None);
+        for mode in [Mode::Strict, Mode::Permissive] {
+            let image = Image::parse(&bytes, mode).unwrap();
+            let libraries: Vec<_> = image.libraries().unwrap().map(Result::unwrap).collect();
+            let [first, second] = &libraries[..] else { panic!("two libraries") };
+            assert_eq!((first.has_unmapped_list(), first.imports().count()), (true, 0));
+            assert_eq!((second.has_unmapped_list(), second.imports().count()), (false, 1));
+            let slots = u64::from(first.raw().address_table_rva);
+            let found: Vec<_> =
+                first.address_table().map(Result::unwrap).map(|it| (it.name, it.ordinal, it.rva - slots)).collect();
+            assert_eq!(found, [(Some(b"Sleep".as_slice()), 42, 0), (None, 17, 8)]);
+            assert!(second.address_table().eq(second.imports()));
+        }
+    }
+    // The address table is unmapped too; it ends with the file, after as many entries as are there, by ordinal.
+    let table = |bytes: &[u8]| {
+        let image = strict(bytes);
+        let first = image.libraries().unwrap().next().unwrap().unwrap();
+        let found: Vec<_> = first.address_table().collect();
+        (found.len(), found.last().unwrap().as_ref().err().copied())
+    };
+    assert_eq!(table(&with_lookup_table_at(1, Some(0x7000))), (1, Some(Error::UNMAPPED)));
+    for count in [1, 15, 16, 17, 48, 100] {
+        let mut bytes = with_lookup_table_at(1, Some(ADDRESS + 0x200));
+        bytes.truncate(offset(ADDRESS + 0x200) as usize);
+        bytes.extend((0..count).flat_map(|it| (1 << 63 | it as u64).to_le_bytes()));
+        let room = (bytes.len() as u32).to_le_bytes();
+        let header = bytes.windows(6).position(|it| it == b".rdata").unwrap();
+        bytes[header + 8..header + 12].copy_from_slice(&room);
+        bytes[header + 16..header + 20].copy_from_slice(&room);
+        assert_eq!(table(&bytes), (count + 1, Some(Error::SHORT)), "{count}");
+        bytes.extend([0; 8]);
+        assert_eq!(table(&bytes), (count, None), "{count}");
+    }
+}
+
 /// The error of the libraries of an image with these bytes at an RVA, and that of its imports if they can be read.
 fn import_refusals(address: u32, part: &[u8]) -> (Option<Error>, Option<Error>) {
     let mut bytes = with_imports();
@@ -952,6 +1003,33 @@ fn versions_and_manifests_are_read() {
     assert_eq!(image.manifest(), Ok(Some(MANIFEST)));
     let small = strict(SMALL);
     assert_eq!((small.version(), small.manifest()), (Ok(None), Ok(None)));
+}
+
+/// With the length of the value of the string `ProductName` above what follows.
+fn with_damaged_string() -> Vec<u8> {
+    let mut bytes = with_resources();
+    let key: Vec<u8> = "ProductName\0".encode_utf16().flat_map(u16::to_le_bytes).collect();
+    let at = bytes.windows(key.len()).position(|it| it == key).unwrap();
+    bytes[at - 4..at - 2].copy_from_slice(&0x4000_u16.to_le_bytes());
+    bytes
+}
+
+#[test]
+fn a_damaged_version_string_does_not_hide_the_fixed_information() {
+    let mut bytes = with_damaged_string();
+    let image = strict(&bytes);
+    let leaf = image.resource_leaves().unwrap().unwrap().next().unwrap().unwrap();
+    assert_eq!((image.version(), leaf.version()), (Err(Error::RESOURCE_STRING), Err(Error::RESOURCE_STRING)));
+    let fixed = image.fixed_version().unwrap().unwrap();
+    assert_eq!((fixed.file_version(), fixed.file_os), ([3, 11, 3150, 1013], FIXED[8]));
+    assert_eq!(leaf.fixed_version(), Ok(Some(fixed)));
+    assert_eq!(strict(&with_resources()).fixed_version(), Ok(Some(fixed)));
+    assert_eq!(strict(SMALL).fixed_version(), Ok(None));
+    // A value of 48 bytes is none.
+    let start = u32::from_le_bytes(bytes[OFFSET as usize..][..4].try_into().unwrap()) & 0xFFFF;
+    assert_eq!(start as usize, leaf.size as usize);
+    bytes[OFFSET as usize + 2] = 48;
+    assert!(strict(&bytes).fixed_version().is_err());
 }
 
 #[test]

@@ -79,7 +79,7 @@ fn walk(characteristics: u32, rip: u64, rsp: u64, words: &[u64]) -> (Vec<Found>,
 fn a_call_of_a_null_pointer_has_a_caller() {
     for pointer in [0, 8, BASE - 1, BASE + 0x2000, u64::MAX] {
         let frames = vec![(pointer, STACK, Way::Top, false), (AFTER_CALL, STACK + 8, Way::Leaf, true)];
-        assert_eq!(walk(CODE, pointer, STACK, &OUTERMOST), (frames, End::Bottom));
+        assert_eq!(walk(CODE, pointer, STACK, &OUTERMOST), (frames, End::Zero));
     }
     // Under a dispatcher, whose frame has 8 bytes.
     let frames = vec![
@@ -87,7 +87,7 @@ fn a_call_of_a_null_pointer_has_a_caller() {
         (0, STACK + 16, Way::Records, false),
         (AFTER_CALL, STACK + 24, Way::Leaf, true),
     ];
-    assert_eq!(walk(CODE, DISPATCHER, STACK, &[&[8, 0], &OUTERMOST[..]].concat()), (frames, End::Bottom));
+    assert_eq!(walk(CODE, DISPATCHER, STACK, &[&[8, 0], &OUTERMOST[..]].concat()), (frames, End::Zero));
 }
 
 /// At the target of a jump the frame is in place, as in a function and its parts: 32 bytes, then rbx and the return address.
@@ -103,11 +103,13 @@ fn a_scan_finds_the_caller_of_a_function_without_records() {
     // The stack pointer is rounded up.
     for rsp in [STACK, STACK + 1, STACK + 9] {
         let frames = vec![(LEAF, rsp, Way::Top, false), (AFTER_CALL, STACK + 24, Way::Scanned, true)];
-        assert_eq!(walk(CODE, LEAF, rsp, &words), (frames, End::Bottom));
+        assert_eq!(walk(CODE, LEAF, rsp, &words), (frames, End::Zero));
     }
-    // In a section that is not executable nothing is found, and the word at the stack pointer is taken for the return address.
-    let frames = vec![(LEAF, STACK, Way::Top, false), (7, STACK + 8, Way::Leaf, true)];
-    assert_eq!(walk(DATA, LEAF, STACK, &words), (frames, End::NoModule));
+    // In a section that is not executable nothing is found, and 7 is no return address; an address of code is one.
+    let top = (LEAF, STACK, Way::Top, false);
+    assert_eq!(walk(DATA, LEAF, STACK, &words), (vec![top], End::NoReturnAddress));
+    let frames = vec![top, (NO_CALL, STACK + 8, Way::Leaf, true)];
+    assert_eq!(walk(CODE, LEAF, STACK, &[NO_CALL]), (frames, End::Step(StepError::Missing(STACK + 40))));
 }
 
 #[test]
@@ -127,7 +129,7 @@ fn the_bottom_is_no_lost_walk() {
     let top = (DISPATCHER, STACK, Way::Top, false);
     assert_eq!(walk(CODE, DISPATCHER, STACK, &[8, 0]), (vec![top], End::Bottom));
     assert_eq!(walk(CODE, DISPATCHER, STACK, &[8, 0, 7, NO_CALL]), (vec![top], End::Bottom));
-    assert_eq!(walk(CODE, LEAF, STACK, &[0, 7]), (vec![(LEAF, STACK, Way::Top, false)], End::Bottom));
+    assert_eq!(walk(CODE, LEAF, STACK, &[0, 7]), (vec![(LEAF, STACK, Way::Top, false)], End::Zero));
     for address in [1, BASE - 1, BASE + 0x2001] {
         let frames = vec![top, (address, STACK + 16, Way::Records, false)];
         assert_eq!(walk(CODE, DISPATCHER, STACK, &[8, address, 7]), (frames, End::NoModule));
@@ -144,12 +146,12 @@ fn a_scan_reads_128_words() {
     words.extend(OUTERMOST);
     let top = (0, STACK, Way::Top, false);
     let frames = vec![top, (AFTER_CALL, STACK + 1024, Way::Scanned, true)];
-    assert_eq!(walk(CODE, 0, STACK, &words), (frames, End::Bottom));
+    assert_eq!(walk(CODE, 0, STACK, &words), (frames, End::Zero));
     words.insert(0, 7);
     assert_eq!(walk(CODE, 0, STACK, &words), (vec![top], End::NoModule));
     // It goes on after words that are not known; no stack pointer is above the last word.
     let frames = vec![(0, STACK - 24, Way::Top, false), (AFTER_CALL, STACK + 8, Way::Scanned, true)];
-    assert_eq!(walk(CODE, 0, STACK - 24, &OUTERMOST), (frames, End::Bottom));
+    assert_eq!(walk(CODE, 0, STACK - 24, &OUTERMOST), (frames, End::Zero));
     for high in [u64::MAX, u64::MAX - 6, u64::MAX - 7, u64::MAX - 8, u64::MAX - 1024] {
         assert_eq!(walk(CODE, 0, high, &OUTERMOST), (vec![(0, high, Way::Top, false)], End::NoModule));
     }

@@ -4,7 +4,10 @@ mod made;
 mod reading;
 
 use made::{context, dump_of, full_dump, modules, pieces, threads, words, x64_system, DUMP_DATA};
-use pe_c::{Dump, DumpContext, DumpImages, DumpLocation, End, Error, ImageSource, MemoryPiece, Stacks, SymbolKey, Way};
+use pe_c::{
+    Dump, DumpContext, DumpImages, DumpLocation, DumpMemory, End, Error, ImageSource, MemoryPiece, Stacks, SymbolKey,
+    Way,
+};
 use reading::{read_dump, Seen};
 
 /// Where `with_calls` is loaded, which has 6000h bytes.
@@ -118,6 +121,24 @@ fn memory_is_that_of_the_first_piece() -> Result<(), Error> {
     let bytes = dump_of(&[(5, vec![1]), (9, words(&[1, 0, at, 0, 0x1000, 0, 8, 0]))], &[0; 8]);
     let images = DumpImages::new(&Dump::parse(&bytes)?, |_| None)?;
     assert_eq!((images.memory().refused(), images.memory().pieces().len()), (&[(5, Error::SHORT)][..], 1));
+    Ok(())
+}
+
+#[test]
+fn the_stack_of_a_thread_is_memory_without_a_list() -> Result<(), Error> {
+    // Of the second thread the file has 8 bytes, of the third none; the fourth has the stack of the first.
+    let stack = DUMP_DATA + 1232;
+    let entry =
+        |id: u32, start: u32, size: u32, rva: u32| words(&[id, 0, 0, 0, 0, 0, start, 0, size, rva, 1232, DUMP_DATA]);
+    let threads = [entry(1, 0x2_0000, 16, stack), entry(2, 0x3_0000, 64, stack + 16), entry(3, 0x4_0000, 8, 1 << 31)];
+    let threads = [words(&[4]), threads.concat(), entry(4, 0x2_0000, 16, stack)].concat();
+    let data = [context(0x1_8000_5000, 0x2_0000), (0..24).collect()].concat();
+    let bytes = dump_of(&[x64_system(), (3, threads)], &data);
+    let dump = Dump::parse(&bytes)?;
+    let memory = DumpMemory::new(&dump);
+    let found: Vec<_> = memory.pieces().iter().map(|it| (it.start, it.offset, it.length)).collect();
+    assert_eq!(found, [(0x2_0000, stack.into(), 16), (0x3_0000, u64::from(stack) + 16, 8)]);
+    assert_eq!((memory.bytes_from(0x3_0000, 9), memory.lost()), ([16, 17, 18, 19, 20, 21, 22, 23].as_slice(), 56 + 8));
     Ok(())
 }
 

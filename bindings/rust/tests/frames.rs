@@ -91,10 +91,10 @@ fn a_leaf_function_is_the_top_frame_alone() {
     assert_eq!(found[..2], [(BASE + 0x1100, ENTRY, Way::Top), (BASE + 0x5020, ENTRY + 8, Way::Leaf)]);
     // Its rbp is that of the inner frame, whose return address comes again.
     assert_eq!((found.len(), end), (2, Some(End::Step(StepError::NotRising(ENTRY + 8)))));
-    // At 1, to which the next word leads, is no module.
+    // 1, the next word, is no address of code.
     registers.set_rsp(ENTRY + 8);
-    let both = vec![(BASE + 0x1100, ENTRY + 8, Way::Top), (1, ENTRY + 16, Way::Leaf)];
-    assert_eq!(walk(registers, 100, &bytes), (both, Some(End::NoModule)));
+    let top = vec![(BASE + 0x1100, ENTRY + 8, Way::Top)];
+    assert_eq!(walk(registers, 100, &bytes), (top, Some(End::NoReturnAddress)));
     // After the end of the module, and where the low 32 bits are those of the leaf function: a wild pointer was called, if a call
     // ends where it returns to.
     for wild in [BASE + 0x6000, BASE + 0x1100 + (1 << 32)] {
@@ -401,11 +401,11 @@ fn an_arm64_walk_comes_through_three_modules_to_its_end() {
 fn an_arm64_leaf_function_is_the_top_frame_alone() {
     let words = arm64_stack();
     let mut registers = arm64_registers();
-    // The leaf function returns to another one.
+    // The leaf function returns to another one, after no call and in no section of code.
     registers.set_lr(OTHERS + 0x1104);
-    let both = [(OTHERS + 0x1100, SP, Way::Top), (OTHERS + 0x1104, SP, Way::Leaf)];
+    let top = vec![(OTHERS + 0x1100, SP, Way::Top)];
     let (frames, end) = arm64_walk(registers, 100, &words);
-    assert_eq!((arm64_pointers(&frames), end), (both.to_vec(), Some(End::NoFunction)));
+    assert_eq!((arm64_pointers(&frames), end), (top, Some(End::NoReturnAddress)));
     // After the end of the module.
     registers.pc = OTHERS + 0x6000;
     let (frames, end) = arm64_walk(registers, 100, &words);
@@ -514,7 +514,7 @@ fn walks_on_the_other_machine_find_no_function() {
     let (modules, registers) =
         ([module(&x64, BASE)], Arm64Registers { pc: BASE + 0x5004, ..Arm64Registers::default() });
     let mut frames = Frames::new(registers, 9, &modules, memory);
-    assert_eq!((frames.by_ref().count(), frames.end()), (1, Some(End::Bottom)));
+    assert_eq!((frames.by_ref().count(), frames.end()), (1, Some(End::Zero)));
 }
 
 /// Any numbers in a frame on ARM64 are legal.

@@ -83,6 +83,29 @@ fn edits_are_refused() {
 }
 
 #[test]
+fn shared_contents_are_written_up_to_a_bound() {
+    let bytes = made::editable();
+    let image = strict(&bytes);
+    let content = vec![b'x'; 0x8_0000];
+    let edited = |count: u16| {
+        let mut editor = ResourceEditor::of(&image).unwrap();
+        // Each one a part of the content, and so shared with the others.
+        for id in 0..count {
+            editor.set(10.into(), id.into(), 0x409, &content[usize::from(id)..]);
+        }
+        editor.write()
+    };
+    assert_eq!(leaves_of(&strict(&edited(40).unwrap())).len(), 41);
+    assert_eq!(edited(60).err(), Some(Error::EDIT_CONTENTS));
+    // Contents that are not shared are as large as they are.
+    let mut editor = ResourceEditor::of(&image).unwrap();
+    for id in 0..60u16 {
+        editor.set(10.into(), id.into(), 0x409, content.clone());
+    }
+    assert!(editor.write().unwrap().len() > 60 * content.len());
+}
+
+#[test]
 fn version_information_keeps_what_is_not_set() {
     let bytes = made::with_resources();
     let image = strict(&bytes);
@@ -104,6 +127,20 @@ fn version_information_keeps_what_is_not_set() {
         [string("CompanyName", "Größe & Söhne \u{1F600}"), string("ProductName", "other \u{1F600}"), string("New", "")];
     assert_eq!(strings, wanted);
     assert_eq!((read.file_version().unwrap(), read.product_version().unwrap()), (before.0, [9, 8, 7, 65535]));
+}
+
+#[test]
+fn strings_are_set_by_their_names_without_case() {
+    let mut version = VersionInfo::new(0x409);
+    for (name, text) in [("CompanyName", "A"), ("companyname", "B"), ("\u{4100}", "1"), ("\u{6100}", "2"), ("COMPANY", "3")] {
+        assert_eq!(version.set_string(name, text), Ok(1));
+    }
+    // One string of the two names, as VerQueryValue finds it; code units that differ in a letter's byte alone are others.
+    let read = VersionInfo::of(&version.to_bytes().unwrap()).unwrap().unwrap();
+    let names: Vec<_> = read.strings().map(|it| (it.1, it.2)).collect();
+    let wanted = [("CompanyName", "B"), ("\u{4100}", "1"), ("\u{6100}", "2"), ("COMPANY", "3")];
+    assert_eq!(names, wanted.map(|it| (it.0.to_string(), it.1.to_string())));
+    assert_eq!((read.string("COMPANYNAME").as_deref(), read.string("company").as_deref()), (Some("B"), Some("3")));
 }
 
 #[test]

@@ -11,7 +11,7 @@ use Rattle.pe_c.proofs.MarkedWalks.{KeepMarks}
 use Rattle.pe_c.proofs.WalkFrames.{same_bit, same_way}
 
 pub kept : (w : Arm64StackWalk) (s : Arm64StackFrame) → frame_in (after_frame w s) ≡ s
-kept w s = rw (same_way s.way, same_bit s.has_called) refl
+kept w s = rw (same_way s.way, same_bit s.has_called, same_bit s.is_guess) refl
 
 -- where the walk is then
 pub position_after : (p : Process) (w : Arm64StackWalk) (s : Arm64StackFrame) → state_in arm64_stack_walks p (after_frame w s) ≡ walk_after (state_in arm64_stack_walks p w) (Ok s)

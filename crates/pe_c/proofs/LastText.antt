@@ -20,7 +20,7 @@ pub edit_text_past : (n : ℕ) → 23 ≤ n → codes "unknown result" ≡ edit_
 unfolding edit_text
 edit_text_past n h = sym (get_or_past edit_texts n (codes "unknown result") (omega arith))
 
-pub signature_text_past : (n : ℕ) → 11 ≤ n → codes "unknown result" ≡ signature_text n
+pub signature_text_past : (n : ℕ) → 13 ≤ n → codes "unknown result" ≡ signature_text n
 unfolding signature_text
 signature_text_past n h = sym (get_or_past signature_texts n (codes "unknown result") (omega arith))
 

@@ -63,7 +63,7 @@ same_bit false = refl
 -- ---- the frame
 
 pub kept : (w : StackWalk) (s : StackFrame) → length (s.registers).xmm ≡ 16 → frame_in (after_frame w s) ≡ s
-kept w s all = rw (registers_of_halves (s.registers).xmm all, same_way s.way, same_bit s.has_called) refl
+kept w s all = rw (registers_of_halves (s.registers).xmm all, same_way s.way, same_bit s.has_called, same_bit s.is_guess) refl
 
 -- where the walk is then
 pub position_after : (p : Process) (w : StackWalk) (s : StackFrame) → length (s.registers).xmm ≡ 16 → state_in stack_walks p (after_frame w s) ≡ walk_after (state_in stack_walks p w) (Ok s)

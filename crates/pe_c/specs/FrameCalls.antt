@@ -47,6 +47,8 @@ end_number ends.NoFunction = 3
 end_number (ends.Records e) = 4
 end_number ends.LongChain = 5
 end_number (ends.Step e) = 6
+end_number ends.Zero = 7
+end_number ends.NoReturnAddress = 8
 
 -- the number of the error for which it is over
 abbrev pub end_error : WalkEnd → ℕ

@@ -46,6 +46,7 @@ rewrite_number rewrites.DebugData = 473
 abbrev pub record_number : RecordRefusal → ℕ
 record_number records.Record = 466
 record_number records.Names = 467
+record_number records.Contents = 474
 
 -- a result whose refusal is a number
 abbrev pub numbered : {X R : Type 0} → (R → ℕ) → Result X R → Result X ℕ

@@ -9,7 +9,7 @@ use Rattle.pe_pkcs7.specs.ObjectIds.{algorithm_number}
 use Rattle.pe_pkcs7.specs.SignedDatas.{algorithm_identifier}
 use Rattle.pe_pkcs7.specs.declared.der.Element.{Element}
 use Rattle.pe_pkcs7.specs.declared.error.SignatureError.{SignatureError}
-use Rattle.pe_pkcs7.specs.declared.error.SignatureError.TheVariants.{Truncated, TagNumber, IndefiniteLength, LengthOctets, LengthForm, PastParent, Missing, Tag, Trailing, ContentType, BadTime}
+use Rattle.pe_pkcs7.specs.declared.error.SignatureError.TheVariants.{Truncated, TagNumber, EndOfContents, IndefiniteLength, LengthOctets, LengthForm, PastParent, EmptyContent, Missing, Tag, Trailing, ContentType, BadTime}
 use Rattle.pe_pkcs7.specs.declared.indirect_data.AlgorithmIdentifier.{AlgorithmIdentifier}
 use Rattle.pe_c.specs.Ranges.{no_bytes}
 use Rattle.pe_c.specs.declared.ranges.Range.{Range}
@@ -34,6 +34,8 @@ signature_number (Tag offset expected found) = 508
 signature_number (Trailing offset left) = 509
 signature_number (ContentType offset) = 510
 signature_number (BadTime offset) = 511
+signature_number (EndOfContents offset) = 512
+signature_number (EmptyContent offset) = 513
 
 -- a failure with this number at an offset: the value that stands there, how many bytes are left
 abbrev pub failure : ℕ → ℕ → ℕ → ℕ → SignatureFailure
@@ -43,10 +45,12 @@ failure number p value left = record { offset = p; value = value; left = left; e
 abbrev pub failure_of : ℕ → SignatureError → SignatureFailure
 failure_of number (Truncated p left) = failure number p 0 left
 failure_of number (TagNumber p) = failure number p 0 0
+failure_of number (EndOfContents p) = failure number p 0 0
 failure_of number (IndefiniteLength p) = failure number p 0 0
 failure_of number (LengthOctets p octets) = failure number p octets 0
 failure_of number (LengthForm p) = failure number p 0 0
 failure_of number (PastParent p length left) = failure number p length left
+failure_of number (EmptyContent p) = failure number p 0 0
 failure_of number (Missing p) = failure number p 0 0
 failure_of number (Tag p expected found) = record (failure number p found 0) { expected = expected }
 failure_of number (Trailing p left) = failure number p 0 left

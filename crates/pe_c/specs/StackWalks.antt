@@ -9,7 +9,12 @@ use Rattle.pe_c.specs.declared.stack_walk.StackWalk.{StackWalk}
 
 -- the frame of a walk
 abbrev pub frame_in : StackWalk → StackFrame
-frame_in w = record { registers = registers_of w.registers; way = way_of w.way; has_called = is_set w.has_called }
+frame_in w = record {
+  registers = registers_of w.registers;
+  way = way_of w.way;
+  has_called = is_set w.has_called;
+  is_guess = is_set w.is_guess;
+}
 
 -- the walk after a frame
 abbrev pub after_frame : StackWalk → StackFrame → StackWalk
@@ -19,6 +24,7 @@ after_frame w s = record w {
   has_returned = 1;
   way = way_number s.way;
   has_called = bit_of s.has_called;
+  is_guess = bit_of s.is_guess;
 }
 
 -- the walk after its end

@@ -139,6 +139,7 @@ edit_texts =
     codes "headers have no room for another section header" ∷
     codes "image with the resources ends after 4 GB" ∷
     codes "debug entries or their data lie where the resources go" ∷
+    codes "contents of the resources, which share bytes, are too large for their array" ∷
     []
 
 -- the text of a refusal of resources that are written, by its number from 451 on
@@ -159,6 +160,8 @@ signature_texts =
     codes "bytes follow the last field of an element of a signature" ∷
     codes "content of a signature has another type" ∷
     codes "time of a signature is not in the form of RFC 5280" ∷
+    codes "element of a signature is an end of contents, which DER does not have" ∷
+    codes "element of a signature has no content, which its type does not allow" ∷
     []
 
 -- the text of a refusal of a signature, by its number from 501 on

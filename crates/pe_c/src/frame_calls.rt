@@ -88,6 +88,8 @@ pub fn number_of_end(end: &WalkEnd) -> u32
         WalkEnd::Records(_) => 4,
         WalkEnd::LongChain => 5,
         WalkEnd::Step(_) => 6,
+        WalkEnd::Zero => 7,
+        WalkEnd::NoReturnAddress => 8,
     }
 }
 

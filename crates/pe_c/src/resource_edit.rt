@@ -61,6 +61,7 @@ fn number_of_record(error: &RecordError) -> u32
     match error {
         RecordError::Record(_) => 466,
         RecordError::Names => 467,
+        RecordError::Contents => 474,
     }
 }
 
@@ -142,7 +143,7 @@ fn edit_to(
 /// of the room is unchanged. The resources are sorted by type, name and language: names before ids, names by their code units,
 /// ids and languages by their numbers. Their names and contents are ranges of `data`.
 ///
-/// Errors: those of `pe_c_image`; `EDIT_RECORD`, `EDIT_NAMES`; `NO_OPTIONAL_HEADER`, `EDIT_NO_DIRECTORY`; `EDIT_SIGNED`;
+/// Errors: those of `pe_c_image`; `EDIT_RECORD`, `EDIT_NAMES`, `EDIT_CONTENTS`; `NO_OPTIONAL_HEADER`, `EDIT_NO_DIRECTORY`; `EDIT_SIGNED`;
 /// `EDIT_TOO_MANY`, `EDIT_NAME`, `EDIT_ORDER`, `EDIT_TABLES_TOO_LARGE`, `EDIT_TOO_LARGE`; `EDIT_HEADERS`, `SHORT` of the section
 /// table; `EDIT_ALIGNMENT`; of a new section `EDIT_IMAGE_TOO_LARGE`, `EDIT_NO_HEADER_ROOM`, `EDIT_SECTION`,
 /// `EDIT_SHARED_SECTION`, `EDIT_SYMBOLS`, `EDIT_OVERLAP`, `EDIT_DEBUG_DATA`; `WRITE_FIT` if the file does not fit into the room.

@@ -9,7 +9,7 @@ ghost use Rattle.pe_core.specs.Refusals.{answer_by};
 ghost use Rattle.pe_frame.specs.AddressRanges.{AreAscending, has_address};
 ghost use Rattle.pe_frame.specs.Arm64Walks as arm64;
 ghost use Rattle.pe_frame.specs.FrameWalks.{frame_left};
-ghost use Rattle.pe_frame.specs.Modules.{is_after_call_arm64_of, is_after_call_of, is_code_return_arm64_of, is_code_return_of, module_at, module_base, module_size};
+ghost use Rattle.pe_frame.specs.Modules.{is_after_call_arm64_of, is_after_call_of, is_code_of, is_code_return_arm64_of, is_code_return_of, module_at, module_base, module_size};
 ghost use Rattle.pe_frame.specs.Walks.{Calls, CallsIn, lookup_address};
 ghost use Rattle.pe_c.specs.FrameCalls.{HandsOutFrame, HandsOutFrames};
 ghost use Rattle.pe_c.specs.StackWalks.{after_frame, stack_walks};
@@ -59,13 +59,18 @@ pub struct StackWalk {
     pub way: u32,
     /// 1 where the function of the frame has called: `rip` is the return address. Else 0.
     pub has_called: u32,
-    /// Why the walk is over: 0 bound, 1 bottom, 2 no module, 3 no function, 4 records, 5 long chain, 6 step.
+    /// Why the walk is over: 0 bound, 1 bottom, 2 no module, 3 no function, 4 records, 5 long chain, 6 step, 7 zero, 8 no return
+    /// address.
     pub end: u32,
     /// Of a walk that is over the number of the error, for records, a long chain and a step, else 0.
     pub error: u32,
     /// 1 where an earlier call of this walk found that the pieces of memory lie in `memory`, ascend and do not overlap: later calls
     /// search them, and test only those that they read. 0 before the first call.
     pub is_searched: u32,
+    /// 1 where the frame may be wrong: it was guessed, or one before it was. Else 0.
+    pub is_guess: u32,
+    /// 0.
+    pub spare: u32,
 }
 
 /// Whether the function table of a module lies in its bytes.
@@ -125,7 +130,15 @@ fn ends_call_in(view: &ModuleView<'_>, address: u64) -> bool
     module_with(view, exceptions.as_ref()).is_after_call(address)
 }
 
-/// The same in an executable section.
+/// Whether an address of a module is one of an executable section.
+fn has_code_in(view: &ModuleView<'_>, address: u64) -> bool
+    requires { address ≤ view.now.base + view.now.image.image.now.size_of_image }
+    ensures { result ≡ is_code_of (Some (module_of view.now)) address }
+{
+    module_with(view, None).is_code(address)
+}
+
+/// Whether an address, which may be the end of a module, is one after a call in an executable section of it.
 fn ends_code_call_in(view: &ModuleView<'_>, address: u64) -> bool
     requires table { IsTrue (has_table view.now) }
     requires near { address ≤ view.now.base + view.now.image.image.now.size_of_image }
@@ -270,6 +283,13 @@ impl<'a> CallSites for ViewedModules<'a> {
         }
     }
 
+    fn has_code(&self, address: u64) -> bool {
+        match self.find(address) {
+            Some(view) => has_code_in(view, address),
+            None => false,
+        }
+    }
+
     fn ends_call_arm64(&self, address: u64) -> bool {
         match self.find(address.saturating_sub(1)) {
             Some(view) => ends_call_arm64_in(view, address),
@@ -323,6 +343,7 @@ fn write_frame(frame: &StackFrame, walk: &mut StackWalk)
     walk.has_returned = 1;
     walk.way = number_of_way(frame.way);
     walk.has_called = u32::from(frame.has_called);
+    walk.is_guess = u32::from(frame.is_guess);
 }
 
 impl WalkRecord for StackWalk {
@@ -336,6 +357,7 @@ impl WalkRecord for StackWalk {
                 registers: registers_of(&self.registers),
                 way: way_of(self.way),
                 has_called: self.has_called != 0,
+                is_guess: self.is_guess != 0,
             },
             has_returned: self.has_returned != 0,
             remaining: self.remaining as usize,

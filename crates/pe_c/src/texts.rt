@@ -171,6 +171,7 @@ fn edit_text(number: u32) -> &'static str
         20 => "headers have no room for another section header",
         21 => "image with the resources ends after 4 GB",
         22 => "debug entries or their data lie where the resources go",
+        23 => "contents of the resources, which share bytes, are too large for their array",
         _ => "unknown result",
     }
 }
@@ -192,6 +193,8 @@ fn signature_text(number: u32) -> &'static str
         8 => "bytes follow the last field of an element of a signature",
         9 => "content of a signature has another type",
         10 => "time of a signature is not in the form of RFC 5280",
+        11 => "element of a signature is an end of contents, which DER does not have",
+        12 => "element of a signature has no content, which its type does not allow",
         _ => "unknown result",
     }
 }

@@ -163,9 +163,9 @@ fn version_to(value: &VersionRecords, room: &mut [u8]) -> Result<usize, u32>
 /// Writes version information, the content of a resource of type 16 (`RT_VERSION`), to the start of `room`, and its length to
 /// `out`. The rest of the room is unchanged. Names and texts are ranges of `texts`, the strings of a table a range of `strings`.
 ///
-/// Errors: `SHORT` if a range is not inside its array; of the blocks, each after those that it has, `BLOCK_KEY` if the name of a
-/// string has an odd number of bytes or a code unit of zero, `BLOCK_TEXT` if its text has an odd number of bytes,
-/// `BLOCK_TOO_LONG`; `WRITE_FIT` if it does not fit into the room. After an error `room` is unchanged.
+/// Errors: `SHORT` if a range is not inside its array; `BLOCK_TOO_LONG` of the tables by the lengths of names and texts alone, each
+/// counted as often as a table has it; of the blocks, each after those that it has, `BLOCK_KEY` if the name of a string has an odd
+/// number of bytes or a code unit of zero, `BLOCK_TEXT` if its text has an odd number of bytes, `BLOCK_TOO_LONG`; `WRITE_FIT` if it does not fit into the room. After an error `room` is unchanged.
 #[unsafe(no_mangle)]
 pub extern "C" fn pe_c_write_version(
     fixed: &VsFixedFileInfo,

@@ -10,6 +10,8 @@ ghost use Rattle.pe_core.specs.Offsets.{bytes_in};
 ghost use Rattle.pe_core.specs.SectionMap.{rounded_up};
 ghost use Rattle.pe_core.specs.Sections.{sections_offset};
 ghost use Rattle.pe_core.specs.declared.options.ParseMode.TheVariants.{Strict};
+ghost use Rattle.pe_client.specs.Signatures.{digest_named, if_there};
+ghost use Rattle.pe_pkcs7.specs.Fields.{Gives};
 ghost use Rattle.pe_pkcs7.specs.Later.{IsReadAt};
 ghost use Rattle.pe_records.specs.Certificates.{CertificateView, IsListing, IsListingFrom};
 ghost use Rattle.pe_sign.specs.Attaching.{attached_of, before_table, is_signed, table_start, with_both_fields};
@@ -20,6 +22,10 @@ ghost use Rattle.pe_sign.specs.declared.attachment.Placement.{Placement};
 ghost use Rattle.pe_sign.specs.declared.digest.LeftOut.{LeftOut};
 
 use pe_image::{Header, ParseMode, ParseOptions};
+use pe_pkcs7::{
+    ContentInfo, DigestInfo, Element, EncapsulatedContent, SignatureError, SignedData,
+    SpcIndirectData,
+};
 use pe_sign::laws::calls::{
     Attachment, attached_is_detached, checksum_is_good, digest_stays, ranges_are_slices,
     unsigned_image_comes_back,
@@ -191,3 +197,35 @@ pub fn attached_signatures_are_read()
     pe_sign::laws::written_tables_have_the_certificate();
     pe_pkcs7::laws::signatures_are_read_where_they_stand();
 }
+
+/// What is signed, if it is there.
+fn if_there(offset: usize, content: Option<Element>) -> Result<Element, SignatureError>
+    ensures { result ≡ if_there offset content }
+{
+    match content {
+        Some(content) => Ok(content),
+        None => Err(SignatureError::Missing(offset)),
+    }
+}
+
+/// The digest of the image that a signature names, the body of a certificate. That it is the image's is another question.
+#[tactic(auto, unfolding(crate::specs::Signatures::digest_named))]
+pub fn named_digest(signature: &[u8]) -> Result<&[u8], SignatureError>
+    ensures { Gives (λ s. s.now) result (digest_named signature.entry.now 0) }
+{
+    let info = ContentInfo::parse(signature)?;
+    let signed = SignedData::parse(signature, &info)?;
+    let encapsulated = EncapsulatedContent::parse(signature, signed.encapsulated)?;
+    let content = if_there(signed.encapsulated.end, encapsulated.content)?;
+    let indirect = SpcIndirectData::parse(signature, content)?;
+    let digest = DigestInfo::parse(signature, indirect.message_digest)?;
+    Ok(digest.digest.content_of(signature))
+}
+
+/// The digest that a signature names is read where the signature stands in a file, as by `attached_signatures_are_read`: the same of
+/// the file up to its end as of the signature alone.
+#[tactic(auto, unfolding(crate::specs::Signatures::digest_named))]
+pub fn named_digests_are_read()
+    ensures { (f b v : List ℕ) (k : ℕ) → IsReadAt f b k → digest_named b 0 ≡ Ok v →
+        digest_named (take (k + length b) f) k ≡ Ok v }
+{}

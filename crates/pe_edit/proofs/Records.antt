@@ -1,11 +1,11 @@
 -- The loops over records.
-use Rattle.std.proofs.Common.{◌≡◌, ℕ, ◌+◌, ◌<◌, ◌≤◌, ◌&&◌, Bool, true, false, List, [], ◌∷◌, length, drop, get_or, Option, Some, None, ap, refl, sym, ◌∙◌, arith}
+use Rattle.std.proofs.Common.{◌≡◌, ℕ, ◌+◌, ◌<◌, ◌≤◌, ◌&&◌, Bool, true, false, List, length, drop, get_or, Option, Some, None, ap, refl, subst, sym, ◌∙◌, arith}
 use Rattle.std.specs.List.{list_all}
 use Rattle.std.specs.Prelude.{if◌then◌else◌, nat_le}
 use Rattle.std.proofs.lemmas.Bool.Decides.{nat_tests}
 use Rattle.std.proofs.lemmas.List.{drop_all, drop_more}
 use Rattle.pe_edit.specs.declared.record.ResourceRecord.{ResourceRecord}
-use Rattle.pe_edit.specs.RecordRefusals.{names_length, record_fits, sum_below}
+use Rattle.pe_edit.specs.RecordRefusals.{names_length, record_fits, sum_within}
 use Rattle.pe_edit.specs.Written.{total}
 
 fit_at : (d : List ℕ) (rs : List ResourceRecord) (i : ℕ) (r : ResourceRecord) → i < length rs → list_all (record_fits d) (drop i rs) ≡ (record_fits d (get_or rs i r) && list_all (record_fits d) (drop (i + 1) rs))
@@ -20,44 +20,68 @@ one_unfit d rs i r h e f = sym f ∙ fit_at d rs i r h ∙ ap (λ (t : Bool). t 
 pub all_fit : (d : List ℕ) (rs : List ResourceRecord) (i : ℕ) → length rs ≤ i → list_all (record_fits d) (drop i rs) ≡ list_all (record_fits d) rs → list_all (record_fits d) rs ≡ true
 all_fit d rs i h f = sym f ∙ ap (list_all (record_fits d)) (drop_all i rs h)
 
--- ---- the sum of the names
+-- ---- sums up to a bound
 
-total_at : (rs : List ResourceRecord) (i : ℕ) (r : ResourceRecord) → i < length rs → total names_length (drop i rs) ≡ names_length (get_or rs i r) + total names_length (drop (i + 1) rs)
+total_at : {X : Type 0} (f : X → ℕ) (xs : List X) (i : ℕ) (x : X) → i < length xs → total f (drop i xs) ≡ f (get_or xs i x) + total f (drop (i + 1) xs)
 unfolding total
-total_at rs i r h = ap (total names_length) (drop_more rs i r h)
+total_at f xs i x h = ap (total f) (drop_more xs i x h)
 
-no_total : (rs : List ResourceRecord) (i : ℕ) → length rs ≤ i → total names_length (drop i rs) ≡ 0
+no_total : {X : Type 0} (f : X → ℕ) (xs : List X) (i : ℕ) → length xs ≤ i → total f (drop i xs) ≡ 0
 unfolding total
-no_total rs i h = ap (total names_length) (drop_all i rs h)
+no_total f xs i h = ap (total f) (drop_all i xs h)
 
-some_below : (m n : ℕ) (t : Bool) → nat_le m 16777216 ≡ t → Some n ≡ (if t then Some m else None) → (m ≤ 16777216) × (n ≡ m)
-some_below m n true e h = (grind (arith, nat_tests, e), cc)
-some_below m n false e h = absurd cc
+some_within : (most m n : ℕ) (t : Bool) → nat_le m most ≡ t → Some n ≡ (if t then Some m else None) → (m ≤ most) × (n ≡ m)
+some_within most m n true e h = (grind (arith, nat_tests, e), cc)
+some_within most m n false e h = absurd cc
 
-none_below : (m : ℕ) (t : Bool) → nat_le m 16777216 ≡ t → ◌≡◌ {A = Option ℕ} None (if t then Some m else None) → 16777216 < m
-none_below m true e h = absurd cc
-none_below m false e h = grind (arith, nat_tests, e)
+none_within : (most m : ℕ) (t : Bool) → nat_le m most ≡ t → ◌≡◌ {A = Option ℕ} None (if t then Some m else None) → most < m
+none_within most m true e h = absurd cc
+none_within most m false e h = grind (arith, nat_tests, e)
 
--- the names up to one are added
-pub record NamesAdded (rs : List ResourceRecord) (sum i : ℕ) : Type 0 where
-  pub small : sum ≤ 16777216
-  pub same : sum + total names_length (drop i rs) ≡ total names_length rs
+-- the numbers up to one are added to where the sum started
+pub record Added {X : Type 0} (f : X → ℕ) (most : ℕ) (xs : List X) (start sum i : ℕ) : Type 0 where
+  pub small : sum ≤ most
+  pub same : sum + total f (drop i xs) ≡ start + total f xs
 
-pub more_names : (rs : List ResourceRecord) (sum next i : ℕ) (r : ResourceRecord) → i < length rs → Some next ≡ sum_below sum (names_length (get_or rs i r)) → NamesAdded rs sum i → NamesAdded rs next (i + 1)
-more_names rs sum next i r h e a =
-    let both : (sum + names_length (get_or rs i r) ≤ 16777216) × (next ≡ sum + names_length (get_or rs i r)) = some_below (sum + names_length (get_or rs i r)) next (nat_le (sum + names_length (get_or rs i r)) 16777216) refl e in
-    record {
-      small = omega (arith, both.0, both.1);
-      same = omega (arith, both.1, total_at rs i r h, a.same);
-    }
+pub one_added : {X : Type 0} (f : X → ℕ) (most : ℕ) (xs : List X) (start sum next i : ℕ) (x : X) → i < length xs → Some next ≡ sum_within most sum (f (get_or xs i x)) → Added f most xs start sum i → Added f most xs start next (i + 1)
+one_added f most xs start sum next i x h e a =
+    let m : ℕ = sum + f (get_or xs i x) in
+    let both : (m ≤ most) × (next ≡ m) = some_within most m next (nat_le m most) refl e in
+    record { small = omega (arith, both.0, both.1); same = omega (arith, both.1, total_at f xs i x h, a.same) }
 
-pub one_too_long : (rs : List ResourceRecord) (sum i : ℕ) (r : ResourceRecord) → i < length rs → None ≡ sum_below sum (names_length (get_or rs i r)) → NamesAdded rs sum i → nat_le (total names_length rs) 16777216 ≡ false
-one_too_long rs sum i r h e a =
-    let more : 16777216 < sum + names_length (get_or rs i r) = none_below (sum + names_length (get_or rs i r)) (nat_le (sum + names_length (get_or rs i r)) 16777216) refl e in
-    let long : 16777216 < total names_length rs = omega (arith, more, total_at rs i r h, a.same) in
+pub one_too_many : {X : Type 0} (f : X → ℕ) (most : ℕ) (xs : List X) (start sum i : ℕ) (x : X) → i < length xs → None ≡ sum_within most sum (f (get_or xs i x)) → Added f most xs start sum i → nat_le (start + total f xs) most ≡ false
+one_too_many f most xs start sum i x h e a =
+    let m : ℕ = sum + f (get_or xs i x) in
+    let more : most < m = none_within most m (nat_le m most) refl e in
+    let long : most < start + total f xs = omega (arith, more, total_at f xs i x h, a.same) in
     grind (arith, nat_tests, long)
 
+pub sum_is : {X : Type 0} (f : X → ℕ) (most : ℕ) (xs : List X) (start sum i : ℕ) → length xs ≤ i → Added f most xs start sum i → sum ≡ start + total f xs
+sum_is f most xs start sum i h a = omega (arith, no_total f xs i h, a.same)
+
+pub all_within : {X : Type 0} (f : X → ℕ) (most : ℕ) (xs : List X) (start sum i : ℕ) → length xs ≤ i → Added f most xs start sum i → nat_le (start + total f xs) most ≡ true
+all_within f most xs start sum i h a =
+    let small : start + total f xs ≤ most = omega (arith, a.small, sum_is f most xs start sum i h a) in
+    grind (arith, nat_tests, small)
+
+-- of a sum that starts at 0
+
+pub too_many : {X : Type 0} (f : X → ℕ) (most : ℕ) (xs : List X) (sum i : ℕ) (x : X) → i < length xs → None ≡ sum_within most sum (f (get_or xs i x)) → Added f most xs 0 sum i → nat_le (total f xs) most ≡ false
+too_many f most xs sum i x h e a = let same : 0 + total f xs ≡ total f xs = omega arith in subst (λ (n : ℕ). nat_le n most ≡ false) same (one_too_many f most xs 0 sum i x h e a)
+
+pub few_enough : {X : Type 0} (f : X → ℕ) (most : ℕ) (xs : List X) (sum i : ℕ) → length xs ≤ i → Added f most xs 0 sum i → nat_le (total f xs) most ≡ true
+few_enough f most xs sum i h a = let same : 0 + total f xs ≡ total f xs = omega arith in subst (λ (n : ℕ). nat_le n most ≡ true) same (all_within f most xs 0 sum i h a)
+
+-- ---- the names
+
+abbrev pub NamesAdded : List ResourceRecord → ℕ → ℕ → Type 0
+NamesAdded rs sum i = Added names_length 16777216 rs 0 sum i
+
+pub more_names : (rs : List ResourceRecord) (sum next i : ℕ) (r : ResourceRecord) → i < length rs → Some next ≡ sum_within 16777216 sum (names_length (get_or rs i r)) → NamesAdded rs sum i → NamesAdded rs next (i + 1)
+more_names rs sum next i r h e a = one_added names_length 16777216 rs 0 sum next i r h e a
+
+pub one_too_long : (rs : List ResourceRecord) (sum i : ℕ) (r : ResourceRecord) → i < length rs → None ≡ sum_within 16777216 sum (names_length (get_or rs i r)) → NamesAdded rs sum i → nat_le (total names_length rs) 16777216 ≡ false
+one_too_long rs sum i r h e a = too_many names_length 16777216 rs sum i r h e a
+
 pub all_names : (rs : List ResourceRecord) (sum i : ℕ) → length rs ≤ i → NamesAdded rs sum i → nat_le (total names_length rs) 16777216 ≡ true
-all_names rs sum i h a =
-    let few : total names_length rs ≤ 16777216 = omega (arith, no_total rs i h, a.small, a.same) in
-    grind (arith, nat_tests, few)
+all_names rs sum i h a = few_enough names_length 16777216 rs sum i h a

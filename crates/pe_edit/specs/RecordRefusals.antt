@@ -1,5 +1,5 @@
 -- What records have to pass before they are written, over the bytes d.
-use Rattle.std.specs.Prelude.{◌≡◌, ℕ, ◌+◌, ◌==◌, ◌&&◌, Bool, List, [], ◌∷◌, Option, Some, None, Result, Ok, Err, if◌then◌else◌, nat_le, nat_lt}
+use Rattle.std.specs.Prelude.{◌≡◌, ℕ, ◌+◌, ◌*◌, ◌==◌, ◌&&◌, Bool, List, [], ◌∷◌, Option, Some, None, Result, Ok, Err, if◌then◌else◌, length, min, nat_le, nat_lt}
 use Rattle.std.specs.List.{list_all}
 use Rattle.pe_core.specs.Bytes.{holds}
 use Rattle.pe_edit.specs.declared.error.RecordError.{RecordError}
@@ -12,11 +12,13 @@ use Rattle.pe_edit.specs.Written.{total}
 pub data RecordRefusal : Type 0 where
   Record : RecordRefusal
   Names : RecordRefusal
+  Contents : RecordRefusal
 
 -- the kind of an error
 abbrev pub record_kind_of : RecordError → RecordRefusal
 record_kind_of (errors.Record index) = Record
 record_kind_of errors.Names = Names
+record_kind_of errors.Contents = Contents
 
 -- the call returned the defined value, or an error of the defined kind
 abbrev pub RecordReturns : {X : Type 0} → Result X RecordError → Result X RecordRefusal → Type 0
@@ -39,10 +41,22 @@ key_length k = if k.has_name == 0 then 0 else k.name.length
 abbrev pub names_length : ResourceRecord → ℕ
 names_length r = key_length r.resource_type + key_length r.name
 
--- a sum, if it is at most 16 MiB
-abbrev pub sum_below : ℕ → ℕ → Option ℕ
-sum_below sum more = if nat_le (sum + more) 16777216 then Some (sum + more) else None
+abbrev pub content_length : ResourceRecord → ℕ
+content_length r = r.content.length
 
--- all fit; and their names have at most 16 MiB, so that what is compared is bounded
+-- how many bytes contents may have over d, each counted as often as a record has it: 16 for each byte of d and of 1 MiB; no section
+-- has 4 GB
+abbrev pub most_contents : List ℕ → ℕ
+most_contents d = 16 * (1048576 + min (length d) 4294967296)
+
+-- a sum, if it is at most this number
+abbrev pub sum_within : ℕ → ℕ → ℕ → Option ℕ
+sum_within most sum more = if nat_le (sum + more) most then Some (sum + more) else None
+
+-- all fit; their names have at most 16 MiB, so that what is compared is bounded; and so is what is written, even where records share
+-- a content
 abbrev pub record_tests : List ℕ → List ResourceRecord → List (Bool × RecordRefusal)
-record_tests d rs = (list_all (record_fits d) rs, Record) ∷ (nat_le (total names_length rs) 16777216, Names) ∷ []
+record_tests d rs =
+    (list_all (record_fits d) rs, Record)
+    ∷ (nat_le (total names_length rs) 16777216, Names)
+    ∷ (nat_le (total content_length rs) (most_contents d), Contents) ∷ []

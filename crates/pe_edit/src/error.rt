@@ -45,4 +45,8 @@ pub enum RecordError {
     /// The names of the records have more than 16 MiB, each counted as often as a record has it.
     #[error("names of the records have more than 16 MiB")]
     Names,
+    /// The contents of the records, each counted as often as a record has it, have more than 16 times the bytes of the array and
+    /// of 1 MiB.
+    #[error("contents of the records, which share bytes, have more than 16 times the bytes of the array and of 1 MiB")]
+    Contents,
 }

@@ -15,5 +15,5 @@ mod section;
 pub use error::{EditError, RecordError};
 pub use leaf::{Resource, ResourceKey};
 pub use leaves::Leaves;
-pub use record::{RecordKey, RecordRange, ResourceRecord, require_records};
+pub use record::{RecordKey, RecordRange, ResourceRecord, require_records, sum_within};
 pub use section::{section_len, write_section};

@@ -5,7 +5,7 @@ ghost use Rattle.std.specs.Prelude.{◌≡◌, ◌≤◌, [], ◌∷◌, nat_le}
 ghost use Rattle.std.specs.List.{list_all};
 ghost use Rattle.pe_core.specs.Bytes.{holds};
 ghost use Rattle.pe_core.specs.Refusals.{outcome};
-ghost use Rattle.pe_edit.specs.RecordRefusals.{Names, Record, RecordReturns, key_is_inside, key_length, names_length, record_fits, record_tests, sum_below};
+ghost use Rattle.pe_edit.specs.RecordRefusals.{Contents, Names, Record, RecordReturns, content_length, key_is_inside, key_length, most_contents, names_length, record_fits, record_tests, sum_within};
 ghost use Rattle.pe_edit.specs.Views.{key_view, leaf_view, part_of, record_key, record_leaf};
 ghost use Rattle.pe_edit.specs.Written.{total};
 
@@ -16,6 +16,15 @@ use pe_core::{require_bytes, slice_at};
 /// The most bytes that the names of a list of records may have, each counted as often as a record has it. So what is compared is
 /// bounded, even where many records share one long name.
 const MOST_NAMES: u64 = 0x100_0000;
+
+/// How often the bytes of the array and 1 MiB may be written as contents, together. So what is written is bounded, even where many
+/// records share one content.
+const MOST_COPIES: u64 = 16;
+
+const ONE_MIB: u64 = 0x10_0000;
+
+/// No section has so many bytes.
+const FOUR_GIB: usize = 0x1_0000_0000;
 
 /// A range of the array.
 #[repr(C)]
@@ -135,12 +144,12 @@ impl ResourceRecord {
     }
 }
 
-/// The sum of a number and another, if it is at most `MOST_NAMES`.
-fn sum_below(sum: u64, more: u64) -> Option<u64>
-    requires { sum ≤ 16777216 }
-    ensures { result ≡ sum_below sum more }
+/// The sum of a number and another, if it is at most `most`.
+pub fn sum_within(most: u64, sum: u64, more: u64) -> Option<u64>
+    requires { sum ≤ most }
+    ensures { result ≡ sum_within most sum more }
 {
-    if more <= MOST_NAMES - sum {
+    if more <= most - sum {
         Some(sum + more)
     } else {
         None
@@ -150,22 +159,24 @@ fn sum_below(sum: u64, more: u64) -> Option<u64>
 /// The sum of a number and the lengths of both names of a record, if it is at most `MOST_NAMES`.
 fn names_added(sum: u64, record: &ResourceRecord) -> Option<u64>
     requires { sum ≤ 16777216 }
-    ensures { result ≡ sum_below sum (names_length record.now) }
+    ensures { result ≡ sum_within 16777216 sum (names_length record.now) }
 {
-    let Some(first) = sum_below(sum, record.resource_type.name_length()) else {
+    let Some(first) = sum_within(MOST_NAMES, sum, record.resource_type.name_length()) else {
         return None;
     };
-    sum_below(first, record.name.name_length())
+    sum_within(MOST_NAMES, first, record.name.name_length())
 }
 
 /// Tests records before they are written. Errors, in order:
 /// - `Record` if a range of a record does not lie in the array, or an id or a language has more than 16 bits;
-/// - `Names` if their names have more than 16 MiB, each counted as often as a record has it.
+/// - `Names` if their names have more than 16 MiB, each counted as often as a record has it;
+/// - `Contents` if their contents, counted in the same way, have more than 16 times the bytes of the array and of 1 MiB.
 pub fn require_records(records: &[ResourceRecord], data: &[u8]) -> Result<(), RecordError>
     ensures { RecordReturns result (outcome (record_tests data.now records.now) tt) }
 {
     require_fits(records, data)?;
-    require_names(records)
+    require_names(records)?;
+    require_contents(records, data)
 }
 
 /// `Record` if a record doesn't fit.
@@ -193,6 +204,29 @@ fn require_names(records: &[ResourceRecord]) -> Result<(), RecordError>
         match names_added(sum, &records[index]) {
             Some(more) => sum = more,
             None => return Err(RecordError::Names),
+        }
+    }
+    Ok(())
+}
+
+/// The most bytes that contents may have.
+fn most_contents(data: &[u8]) -> u64
+    ensures { result ≡ most_contents data.now }
+{
+    MOST_COPIES * (ONE_MIB + data.len().min(FOUR_GIB) as u64)
+}
+
+/// `Contents` if the contents of records have too many bytes.
+fn require_contents(records: &[ResourceRecord], data: &[u8]) -> Result<(), RecordError>
+    ensures { RecordReturns result (outcome
+        ((nat_le (total content_length records.now) (most_contents data.now), Contents) ∷ []) tt) }
+{
+    let most = most_contents(data);
+    let mut sum = 0;
+    for index in 0..records.len() {
+        match sum_within(most, sum, records[index].content.length) {
+            Some(more) => sum = more,
+            None => return Err(RecordError::Contents),
         }
     }
     Ok(())

@@ -1,9 +1,9 @@
 -- The frames that a step of a walk on ARM64 finds, and where it comes to the bottom.
 use Rattle.pe_core.specs.Refusals.{Refusal, ◌>>=◌}
-use Rattle.pe_core.specs.SectionMap.{rounded_up}
 use Rattle.std.proofs.Common.{◌≡◌, ◌≢◌, ◌⊎◌, inl, inr, ℕ, ◌<◌, ◌≤◌, ◌==◌, leb, Bool, true, false, ◌&&◌, cond, List, Option, Some, None, Result, Ok, Err, refl, ap, sym, ◌∙◌, subst, arith}
 use Rattle.std.proofs.lemmas.Bool.{eqb-true}
 use Rattle.std.proofs.lemmas.Bool.Decides.{nat_tests}
+use Rattle.std.specs.List.{AllByRecursion}
 use Rattle.std.specs.Option.{option_map, option_map_or, option_or}
 use Rattle.pe_unwind.specs.Arm64Record.{Arm64InfoView}
 use Rattle.pe_unwind.specs.Arm64Unwinding.{info_by}
@@ -13,10 +13,10 @@ use Rattle.pe_unwind.specs.declared.arm64.function.Arm64RuntimeFunction.{Arm64Ru
 use Rattle.pe_frame.specs.Arm64Packed.{is_canonical, packed_left, stepped_arm64_packed}
 use Rattle.pe_frame.specs.Arm64Steps.{StepsOutArm64}
 use Rattle.pe_frame.specs.Arm64Undoing.{caller_by_codes, entry_of, left_arm64, link_register, put_pc, returned_arm64, undone_codes}
-use Rattle.pe_frame.specs.Arm64Walks.{Calls, CallsBy, CallsByInfo, CallsFound, CallsIn, after_leaf, called_frame, code_return, frame_after, frame_of, has_called, caller_of_leaf, lookup_address, caller_outside, place_of, returned_to, scanned, stepped_out_packed, without_records}
-use Rattle.pe_frame.specs.FrameWalks.{Process}
-use Rattle.pe_frame.specs.Modules.{is_after_call_arm64, map_of_module, module_at}
-use Rattle.pe_frame.specs.Scans.{first_return, most_words}
+use Rattle.pe_frame.specs.Arm64Walks.{Calls, CallsBy, CallsByInfo, CallsFound, CallsIn, after_leaf, called_frame, frame_after, frame_of, has_called, jumped_frame, caller_of_leaf, lookup_address, caller_outside, place_of, returned_to, scanned, stepped_out_packed, top_frame, without_records}
+use Rattle.pe_frame.specs.FrameWalks.{IsWalk, Process, starting_walk}
+use Rattle.pe_frame.specs.Modules.{is_after_call_arm64, is_code, map_of_module, module_at}
+use Rattle.pe_frame.specs.Walks.{end_at_0}
 use Rattle.pe_frame.specs.declared.arm64.entry.Arm64Entry.{Arm64Entry}
 use Rattle.pe_frame.specs.declared.arm64.registers.Arm64Registers.{Arm64Registers}
 use Rattle.pe_frame.specs.declared.arm64.walk.Arm64StackFrame.{Arm64StackFrame}
@@ -27,93 +27,113 @@ use Rattle.pe_frame.specs.declared.walk.Way.{Way}
 use Rattle.pe_frame.specs.declared.walk.Way.TheVariants.{Records, Leaf, Interrupt, Scanned}
 use Rattle.pe_frame.specs.declared.walk.WalkEnd.{WalkEnd}
 use Rattle.pe_frame.specs.declared.walk.WalkEnd.TheVariants as ends
+use Rattle.pe_frame.proofs.FrameWalks.{sure_frames}
 
--- ---- a frame, and that before it: records led on, or it has not called
+-- ---- a frame, and that before it
 
 abbrev IsMade : List Module → Arm64StackFrame → Type 0
-IsMade modules t = (way : Way) × (u : Arm64Registers) × (t ≡ frame_of modules way u)
+IsMade modules t = (way : Way) × (guess : Bool) × (u : Arm64Registers) × (t ≡ frame_of modules way guess u)
 
 says : (modules : List Module) (t : Arm64StackFrame) → IsMade modules t → t.has_called ≡ has_called modules t.way (t.registers).pc
 says modules t made =
-    subst (λ (f : Arm64StackFrame). f.has_called ≡ has_called modules f.way (f.registers).pc) (sym made.2) refl
+    subst (λ (f : Arm64StackFrame). f.has_called ≡ has_called modules f.way (f.registers).pc) (sym made.3) refl
 
 -- a frame by records rises if the one before it has called
 abbrev Rises : Arm64StackFrame → Arm64StackFrame → Type 0
 Rises s t = t.way ≡ Records → s.has_called ≡ true → (s.registers).sp < (t.registers).sp
 
+-- Records led on, or a scan, or the frame before it has not called. What a scan found is a guess, and what follows a guess.
 pub record IsNext (modules : List Module) (s t : Arm64StackFrame) : Type 0 where
   pub made : IsMade modules t
-  pub led : ((t.way ≡ Records) ⊎ (t.way ≡ Interrupt)) ⊎ (s.has_called ≡ false)
+  pub led : ((t.way ≡ Records) ⊎ ((t.way ≡ Interrupt) ⊎ (t.way ≡ Scanned))) ⊎ (s.has_called ≡ false)
   pub rises : Rises s t
+  pub scans : t.way ≡ Scanned → t.is_guess ≡ true
+  pub follows : s.is_guess ≡ true → t.is_guess ≡ true
 
-way_of : (t : Arm64StackFrame) (modules : List Module) (way : Way) (u : Arm64Registers) → t ≡ frame_of modules way u → t.way ≡ way
-way_of t modules way u is = ap (λ (f : Arm64StackFrame). f.way) is
+next_of : (modules : List Module) (s t : Arm64StackFrame) (way : Way) (guess : Bool) (u : Arm64Registers) → t ≡ frame_of modules way guess u → ((way ≡ Records) ⊎ ((way ≡ Interrupt) ⊎ (way ≡ Scanned))) ⊎ (s.has_called ≡ false) → (way ≡ Records → s.has_called ≡ true → (s.registers).sp < u.sp) → (way ≡ Scanned → guess ≡ true) → (s.is_guess ≡ true → guess ≡ true) → IsNext modules s t
+next_of modules s t way guess u same led rises scans follows =
+    let at : t.way ≡ way = ap (λ (f : Arm64StackFrame). f.way) same in
+    let is : t.is_guess ≡ guess = ap (λ (f : Arm64StackFrame). f.is_guess) same in
+    let by_sp : (t.registers).sp ≡ u.sp = ap (λ (f : Arm64StackFrame). (f.registers).sp) same in
+    record {
+      made = (way, guess, u, same);
+      led = subst (λ (w : Way). ((w ≡ Records) ⊎ ((w ≡ Interrupt) ⊎ (w ≡ Scanned))) ⊎ (s.has_called ≡ false)) (sym at) led;
+      rises = λ by called. subst (λ (p : ℕ). (s.registers).sp < p) (sym by_sp) (rises (sym at ∙ by) called);
+      scans = λ by. is ∙ scans (sym at ∙ by);
+      follows = λ before. is ∙ follows before;
+    }
 
-not_records : (s t : Arm64StackFrame) (modules : List Module) (way : Way) (u : Arm64Registers) → t ≡ frame_of modules way u → way ≢ Records → Rises s t
-not_records s t modules way u is other by called = absurd (other (sym (way_of t modules way u is) ∙ by))
+-- ---- without records
 
-unless_called : (b : Bool) (end : WalkEnd) (rest : Result Arm64StackFrame WalkEnd) (t : Arm64StackFrame) → Ok t ≡ cond b (Err end) rest → (b ≡ false) × (Ok t ≡ rest)
-unless_called true end rest t is = absurd (cc is)
-unless_called false end rest t is = (refl, is)
+-- by a scan
+abbrev IsScanned : List Module → Arm64StackFrame → Type 0
+IsScanned modules t = (u : Arm64Registers) × (t ≡ frame_of modules Scanned true u)
 
-guess_if : (modules : List Module) (s t : Arm64StackFrame) (way : Way) (u : Arm64Registers) → t ≡ frame_of modules way u → way ≢ Records → s.has_called ≡ false → IsNext modules s t
-guess_if modules s t way u same other waits = record {
-  made = (way, u, same);
-  led = inr waits;
-  rises = not_records s t modules way u same other;
-}
+-- by one, or in a leaf function: then it is a guess where that is one
+abbrev IsFound : List Module → Bool → Arm64StackFrame → Type 0
+IsFound modules guess t =
+    (leaf : Bool) × (u : Arm64Registers) × (guess ≡ true → leaf ≡ true) × (t ≡ frame_of modules Leaf leaf u)
 
--- a frame that is found without records is made of registers, and not by records
-abbrev IsGuessed : List Module → Arm64StackFrame → Type 0
-IsGuessed modules t = (way : Way) × (u : Arm64Registers) × (t ≡ frame_of modules way u) × (way ≢ Records)
+abbrev IsLed : List Module → Bool → Arm64StackFrame → Type 0
+IsLed modules guess t = IsScanned modules t ⊎ IsFound modules guess t
 
-scan_made : (modules : List Module) (g : Arm64Registers) (o : Option (ℕ × ℕ)) (t : Arm64StackFrame) → Some t ≡ option_map (λ found. frame_of modules Scanned (returned_to g found)) o → IsGuessed modules t
-scan_made modules g (Some found) t is =
-    let same : t ≡ frame_of modules Scanned (returned_to g found) = cc is in
-    (Scanned, returned_to g found, same, λ e. cc e)
-scan_made modules g None t is = absurd (cc is)
+next_scanned : (modules : List Module) (s t : Arm64StackFrame) → IsScanned modules t → IsNext modules s t
+next_scanned modules s t found =
+    next_of modules s t Scanned true found.0 found.1 (inl (inr (inr refl))) (λ by called. absurd (cc by)) (λ by. refl) (λ before. refl)
 
-found_made : (memory : ℕ → Option ℕ) (modules : List Module) (g : Arm64Registers) (b : Bool) (t : Arm64StackFrame) → Some t ≡ option_or (cond b (Some (frame_of modules Leaf (after_leaf g))) None) (scanned memory modules g) → IsGuessed modules t
-found_made memory modules g true t is =
-    let same : t ≡ frame_of modules Leaf (after_leaf g) = cc is in
-    (Leaf, after_leaf g, same, λ e. cc e)
-found_made memory modules g false t is =
-    scan_made modules g (first_return most_words memory (code_return modules) (rounded_up g.sp 8)) t is
+next_led : (modules : List Module) (guess : Bool) (s t : Arm64StackFrame) → (s.is_guess ≡ true → guess ≡ true) → s.has_called ≡ false → IsLed modules guess t → IsNext modules s t
+next_led modules guess s t given waits (inl found) = next_scanned modules s t found
+next_led modules guess s t given waits (inr found) =
+    next_of modules s t Leaf found.0 found.1 found.3 (inr waits) (λ by called. absurd (cc by)) (λ by. absurd (cc by)) (λ before. found.2 (given before))
 
--- what is found, or else what is left
-found_or : (o : Option Arm64StackFrame) (rest : Result Arm64StackFrame WalkEnd) (t : Arm64StackFrame) → Ok t ≡ option_map_or Ok o rest → (Some t ≡ o) ⊎ (Ok t ≡ rest)
-found_or (Some f) rest t is = let same : t ≡ f = cc is in inl (ap (λ (x : Arm64StackFrame). Some x) same)
-found_or None rest t is = inr is
+made_scan : (modules : List Module) (g : Arm64Registers) (o : Option (ℕ × ℕ)) (t : Arm64StackFrame) → option_map (λ found. frame_of modules Scanned true (returned_to g found)) o ≡ Some t → IsScanned modules t
+made_scan modules g None t is = absurd (cc is)
+made_scan modules g (Some found) t is =
+    let same : t ≡ frame_of modules Scanned true (returned_to g found) = cc is in
+    (returned_to g found, same)
 
-guessed_next : (memory : ℕ → Option ℕ) (modules : List Module) (s t : Arm64StackFrame) → s.has_called ≡ false → Some t ≡ without_records memory modules s.registers → IsNext modules s t
-guessed_next memory modules s t waits is =
-    let made = found_made memory modules s.registers (is_after_call_arm64 modules (link_register s.registers)) t is in
-    guess_if modules s t made.0 made.1 made.2 made.3 waits
+found_if : (memory : ℕ → Option ℕ) (modules : List Module) (guess : Bool) (g : Arm64Registers) (b : Bool) (t : Arm64StackFrame) → option_or (cond b (Some (frame_of modules Leaf guess (after_leaf g))) None) (scanned memory modules g) ≡ Some t → IsLed modules guess t
+found_if memory modules guess g true t is =
+    let same : t ≡ frame_of modules Leaf guess (after_leaf g) = cc is in
+    inr (guess, after_leaf g, (λ given. given), same)
+found_if memory modules guess g false t is = inl (made_scan modules g _ t is)
 
-leaf_or : (memory : ℕ → Option ℕ) (modules : List Module) (s t : Arm64StackFrame) → s.has_called ≡ false → (Some t ≡ without_records memory modules s.registers) ⊎ (Ok t ≡ cond (link_register s.registers == 0) (Err ends.Bottom) (Ok (frame_of modules Leaf (after_leaf s.registers)))) → IsNext modules s t
-leaf_or memory modules s t waits (inl is) = guessed_next memory modules s t waits is
-leaf_or memory modules s t waits (inr is) =
-    let u = after_leaf s.registers in
-    let goes = unless_called (link_register s.registers == 0) ends.Bottom (Ok (frame_of modules Leaf u)) t is in
-    let same : t ≡ frame_of modules Leaf u = cc goes.1 in
-    guess_if modules s t Leaf u same (λ e. cc e) waits
+made_without : (memory : ℕ → Option ℕ) (modules : List Module) (guess : Bool) (g : Arm64Registers) (t : Arm64StackFrame) → without_records memory modules guess g ≡ Some t → IsLed modules guess t
+made_without memory modules guess g t is = found_if memory modules guess g (is_after_call_arm64 modules (link_register g)) t is
 
-next_leaf : (memory : ℕ → Option ℕ) (modules : List Module) (s t : Arm64StackFrame) → Ok t ≡ caller_of_leaf memory modules s → IsNext modules s t
-next_leaf memory modules s t is =
-    let rest = cond (link_register s.registers == 0) (Err ends.Bottom) (Ok (frame_of modules Leaf (after_leaf s.registers))) in
-    let found = without_records memory modules s.registers in
-    let waits = unless_called s.has_called ends.NoFunction (option_map_or Ok found rest) t is in
-    leaf_or memory modules s t waits.0 (found_or found rest t waits.1)
+made_found : {X : Type 0} (o : Option Arm64StackFrame) (rest : Result Arm64StackFrame WalkEnd) (t : Arm64StackFrame) → (o ≡ Some t → X) → (Ok t ≡ rest → X) → Ok t ≡ option_map_or Ok o rest → X
+made_found (Some f) rest t found other is = let same : Some f ≡ Some t = cc is in found same
+made_found None rest t found other is = other is
 
-outside_or : (memory : ℕ → Option ℕ) (modules : List Module) (s t : Arm64StackFrame) → s.has_called ≡ false → (Some t ≡ without_records memory modules s.registers) ⊎ (Ok t ≡ Err ends.NoModule) → IsNext modules s t
-outside_or memory modules s t waits (inl is) = guessed_next memory modules s t waits is
-outside_or memory modules s t waits (inr is) = absurd (cc is)
+jumped_if : (modules : List Module) (guess : Bool) (u : Arm64Registers) (t : Arm64StackFrame) (zero code : Bool) → Ok t ≡ cond zero (Err ends.Zero) (cond code (Ok (frame_of modules Leaf true u)) (Err ends.NoReturnAddress)) → IsLed modules guess t
+jumped_if modules guess u t true code is = absurd (cc is)
+jumped_if modules guess u t false true is =
+    let same : t ≡ frame_of modules Leaf true u = cc is in inr (true, u, (λ given. refl), same)
+jumped_if modules guess u t false false is = absurd (cc is)
+
+made_jumped : (modules : List Module) (guess : Bool) (g : Arm64Registers) (t : Arm64StackFrame) → Ok t ≡ jumped_frame modules g → IsLed modules guess t
+made_jumped modules guess g t is =
+    jumped_if modules guess (after_leaf g) t (link_register g == 0) (is_code modules (link_register g)) is
+
+by_called : {X : Type 0} (b : Bool) (called waits answer : Result Arm64StackFrame WalkEnd) → answer ≡ cond b called waits → (answer ≡ called → X) → (b ≡ false → answer ≡ waits → X) → X
+by_called true called waits answer is first second = first is
+by_called false called waits answer is first second = second refl is
+
+next_leaf : (memory : ℕ → Option ℕ) (modules : List Module) (guess : Bool) (s t : Arm64StackFrame) → (s.is_guess ≡ true → guess ≡ true) → Ok t ≡ caller_of_leaf memory modules guess s → IsNext modules s t
+next_leaf memory modules guess s t given is =
+    let found = without_records memory modules guess s.registers in
+    let rest = jumped_frame modules s.registers in
+    let by_scan = scanned memory modules s.registers in
+    by_called s.has_called (option_map_or Ok by_scan (Err ends.NoFunction)) (option_map_or Ok found rest) (Ok t) is
+    (λ at. made_found by_scan (Err ends.NoFunction) t (λ by. next_scanned modules s t (made_scan modules s.registers _ t by)) (λ none. absurd (cc none)) at)
+    (λ waits at. next_led modules guess s t given waits (made_found found rest t (made_without memory modules guess s.registers t) (made_jumped modules guess s.registers t) at))
 
 next_outside : (memory : ℕ → Option ℕ) (modules : List Module) (s t : Arm64StackFrame) → Ok t ≡ caller_outside memory modules s → IsNext modules s t
 next_outside memory modules s t is =
-    let found = without_records memory modules s.registers in
-    let waits = unless_called s.has_called ends.NoModule (option_map_or Ok found (Err ends.NoModule)) t is in
-    outside_or memory modules s t waits.0 (found_or found (Err ends.NoModule) t waits.1)
+    let found = without_records memory modules true s.registers in
+    by_called s.has_called (Err ends.NoModule) (option_map_or Ok found (Err ends.NoModule)) (Ok t) is
+    (λ at. absurd (cc at))
+    (λ waits at. next_led modules true s t (λ before. refl) waits (made_found found (Err ends.NoModule) t (made_without memory modules true s.registers t) (λ none. absurd (cc none)) at))
 
 -- a step that no interrupt left does not sink
 abbrev StaysAbove : ℕ → Result (Arm64Registers × Bool) FrameError → Type 0
@@ -180,7 +200,7 @@ packed_above m d place g u is =
     out_above g.sp false (stepped_arm64_packed m d place g) u (λ w. packed_above_if (is_canonical d) g.sp (undone_codes m (packed_left d place) g) _ w) is
 
 -- the frame that records lead to, unless it is the bottom
-records_if : (modules : List Module) (s t : Arm64StackFrame) (u : Arm64Registers) (b : Bool) → Ok t ≡ cond b (Err ends.Bottom) (Ok (frame_of modules Records u)) → t ≡ frame_of modules Records u
+records_if : (modules : List Module) (s t : Arm64StackFrame) (u : Arm64Registers) (b : Bool) → Ok t ≡ cond b (Err (end_at_0 s.is_guess)) (Ok (frame_of modules Records s.is_guess u)) → t ≡ frame_of modules Records s.is_guess u
 records_if modules s t u true is = absurd (cc is)
 records_if modules s t u false is = cc is
 
@@ -192,26 +212,19 @@ stands_if false e end rest t is = (λ c. absurd (cc c), is)
 next_called : (modules : List Module) (s t : Arm64StackFrame) (u : Arm64Registers) → (s.registers).sp ≤ u.sp → Ok t ≡ called_frame modules s u → IsNext modules s t
 next_called modules s t u above is =
     let e = u.sp == (s.registers).sp in
-    let rest = cond (u.pc == 0) (Err ends.Bottom) (Ok (frame_of modules Records u)) in
+    let rest = cond (u.pc == 0) (Err (end_at_0 s.is_guess)) (Ok (frame_of modules Records s.is_guess u)) in
     let moves = stands_if s.has_called e (ends.Step (NotRising u.sp)) rest t is in
     let same = records_if modules s t u (u.pc == 0) moves.1 in
-    let at : (t.registers).sp ≡ u.sp = ap (λ (f : Arm64StackFrame). (f.registers).sp) same in
-    record {
-      made = (Records, u, same);
-      led = inl (inl (way_of t modules Records u same));
-      rises = λ by called. (let test : (u.sp == (s.registers).sp) ≡ false = moves.0 called in
-          let other : u.sp ≢ (s.registers).sp = grind (arith, nat_tests) in
-          omega (arith, above, other, at));
-    }
+    next_of modules s t Records s.is_guess u same (inl (inl refl))
+    (λ by called. (let test : (u.sp == (s.registers).sp) ≡ false = moves.0 called in
+    let other : u.sp ≢ (s.registers).sp = grind (arith, nat_tests) in
+    omega (arith, above, other)))
+    (λ by. absurd (cc by)) (λ before. before)
 
 next_after : (modules : List Module) (s t : Arm64StackFrame) (left : Result (Arm64Registers × Bool) FrameError) → StaysAbove (s.registers).sp left → Ok t ≡ frame_after modules s left → IsNext modules s t
 next_after modules s t (Ok (u, true)) above is =
-    let same : t ≡ frame_of modules Interrupt u = cc is in
-    record {
-      made = (Interrupt, u, same);
-      led = inl (inr (way_of t modules Interrupt u same));
-      rises = not_records s t modules Interrupt u same (λ e. cc e);
-    }
+    let same : t ≡ frame_of modules Interrupt s.is_guess u = cc is in
+    next_of modules s t Interrupt s.is_guess u same (inl (inr (inl refl))) (λ by called. absurd (cc by)) (λ by. absurd (cc by)) (λ before. before)
 next_after modules s t (Ok (u, false)) above is = next_called modules s t u (above u refl) is
 next_after modules s t (Err e) above is = absurd (cc is)
 
@@ -223,11 +236,11 @@ next_by_info p m f s t (Some (Ok i)) h = next_after p.modules s t h.0 (step_abov
 
 next_found : (p : Process) (m : Module) (e : ExceptionView) (s t : Arm64StackFrame) (found : Result (Option Arm64RuntimeFunction) Refusal) → CallsFound p m e s found (Ok t) → IsNext p.modules s t
 next_found p m e s t (Err r) h = absurd h
-next_found p m e s t (Ok None) h = next_leaf p.memory p.modules s t h
+next_found p m e s t (Ok None) h = next_leaf p.memory p.modules s.is_guess s t (λ before. before) h
 next_found p m e s t (Ok (Some f)) h = next_by_info p m f s t (info_by (map_of_module m e) e.content f) h
 
 next_by : (p : Process) (m : Module) (s t : Arm64StackFrame) (o : Option ExceptionView) → CallsBy p m s o (Ok t) → IsNext p.modules s t
-next_by p m s t None h = next_leaf p.memory p.modules s t h
+next_by p m s t None h = next_leaf p.memory p.modules true s t (λ before. refl) h
 next_by p m s t (Some e) h = next_found p m e s t h.0 h.2
 
 next_in : (p : Process) (s t : Arm64StackFrame) (o : Option Module) → CallsIn p s o (Ok t) → IsNext p.modules s t
@@ -240,12 +253,18 @@ next p s t h = next_in p s t (module_at p.modules (lookup_address s)) h
 pub says_whether : (p : Process) (s t : Arm64StackFrame) → Calls p s (Ok t) → t.has_called ≡ has_called p.modules t.way (t.registers).pc
 says_whether p s t h = says p.modules t (next p s t h).made
 
-not_guessed : (s t : Arm64StackFrame) → ((t.way ≡ Records) ⊎ (t.way ≡ Interrupt)) ⊎ (s.has_called ≡ false) → s.has_called ≡ true → (t.way ≡ Records) ⊎ (t.way ≡ Interrupt)
-not_guessed s t (inl led) called = led
-not_guessed s t (inr not) called = absurd (cc (sym called ∙ not))
+after_call : (s t : Arm64StackFrame) → ((t.way ≡ Records) ⊎ ((t.way ≡ Interrupt) ⊎ (t.way ≡ Scanned))) ⊎ (s.has_called ≡ false) → s.has_called ≡ true → (t.way ≡ Records) ⊎ ((t.way ≡ Interrupt) ⊎ (t.way ≡ Scanned))
+after_call s t (inl led) called = led
+after_call s t (inr not) called = absurd (cc (sym called ∙ not))
 
-pub led_on : (p : Process) (s t : Arm64StackFrame) → Calls p s (Ok t) → s.has_called ≡ true → (t.way ≡ Records) ⊎ (t.way ≡ Interrupt)
-led_on p s t h called = not_guessed s t (next p s t h).led called
+pub led_on : (p : Process) (s t : Arm64StackFrame) → Calls p s (Ok t) → s.has_called ≡ true → (t.way ≡ Records) ⊎ ((t.way ≡ Interrupt) ⊎ (t.way ≡ Scanned))
+led_on p s t h called = after_call s t (next p s t h).led called
+
+pub scans_are_guesses : (p : Process) (s t : Arm64StackFrame) → Calls p s (Ok t) → t.way ≡ Scanned → t.is_guess ≡ true
+scans_are_guesses p s t h by = (next p s t h).scans by
+
+pub guesses_stay : (p : Process) (s t : Arm64StackFrame) → Calls p s (Ok t) → s.is_guess ≡ true → t.is_guess ≡ true
+guesses_stay p s t h before = (next p s t h).follows before
 
 pub rises_after_calls : (p : Process) (s t : Arm64StackFrame) → Calls p s (Ok t) → s.has_called ≡ true → t.way ≡ Records → (s.registers).sp < (t.registers).sp
 rises_after_calls p s t h called by = (next p s t h).rises by called
@@ -254,13 +273,13 @@ rises_after_calls p s t h called by = (next p s t h).rises by called
 
 kept : (modules : List Module) (s t : Arm64StackFrame) (u : Arm64Registers) → Ok t ≡ called_frame modules s u → u ≡ t.registers
 kept modules s t u is =
-    let rest = cond (u.pc == 0) (Err ends.Bottom) (Ok (frame_of modules Records u)) in
+    let rest = cond (u.pc == 0) (Err (end_at_0 s.is_guess)) (Ok (frame_of modules Records s.is_guess u)) in
     let moves = stands_if s.has_called (u.sp == (s.registers).sp) (ends.Step (NotRising u.sp)) rest t is in
     ap (λ (f : Arm64StackFrame). f.registers) (sym (records_if modules s t u (u.pc == 0) moves.1))
 
 out_of : (modules : List Module) (s t : Arm64StackFrame) (left : Result (Arm64Registers × Bool) FrameError) → Ok t ≡ frame_after modules s left → (b : Bool) × (left ≡ Ok (t.registers, b))
 out_of modules s t (Ok (u, true)) is =
-    let same : t ≡ frame_of modules Interrupt u = cc is in
+    let same : t ≡ frame_of modules Interrupt s.is_guess u = cc is in
     (true, ap (λ (f : Arm64StackFrame). Ok (f.registers, true)) (sym same))
 out_of modules s t (Ok (u, false)) is = (false, ap (λ (g : Arm64Registers). Ok (g, false)) (kept modules s t u is))
 out_of modules s t (Err e) is = absurd (cc is)
@@ -281,53 +300,82 @@ frame_is_packed_step p m f s t h =
 
 -- ---- the bottom
 
-bottom_if : (modules : List Module) (u : Arm64Registers) (b : Bool) → (u.pc == 0) ≡ b → Err ends.Bottom ≡ cond b (Err ends.Bottom) (Ok (frame_of modules Records u)) → u.pc ≡ 0
-bottom_if modules u true at is = eqb-true u.pc 0 at
-bottom_if modules u false at is = absurd (cc is)
+bottom_if : (modules : List Module) (guess : Bool) (u : Arm64Registers) (b : Bool) → (u.pc == 0) ≡ b → Err ends.Bottom ≡ cond b (Err (end_at_0 guess)) (Ok (frame_of modules Records guess u)) → (u.pc ≡ 0) × (guess ≡ false)
+bottom_if modules true u true at is = absurd (cc is)
+bottom_if modules false u true at is = (eqb-true u.pc 0 at, refl)
+bottom_if modules guess u false at is = absurd (cc is)
 
 not_standing : (b : Bool) (x : FrameError) (rest : Result Arm64StackFrame WalkEnd) → Err ends.Bottom ≡ cond b (Err (ends.Step x)) rest → Err ends.Bottom ≡ rest
 not_standing true x rest is = absurd (cc is)
 not_standing false x rest is = is
 
-left_for_0 : (modules : List Module) (s : Arm64StackFrame) (left : Result (Arm64Registers × Bool) FrameError) → Err ends.Bottom ≡ frame_after modules s left → (u : Arm64Registers) × (left ≡ Ok (u, false)) × (u.pc ≡ 0)
+left_for_0 : (modules : List Module) (s : Arm64StackFrame) (left : Result (Arm64Registers × Bool) FrameError) → Err ends.Bottom ≡ frame_after modules s left → (u : Arm64Registers) × (left ≡ Ok (u, false)) × (u.pc ≡ 0) × (s.is_guess ≡ false)
 left_for_0 modules s (Ok (u, true)) is = absurd (cc is)
 left_for_0 modules s (Ok (u, false)) is =
-    let rest = cond (u.pc == 0) (Err ends.Bottom) (Ok (frame_of modules Records u)) in
+    let rest = cond (u.pc == 0) (Err (end_at_0 s.is_guess)) (Ok (frame_of modules Records s.is_guess u)) in
     let moves = not_standing (s.has_called && u.sp == (s.registers).sp) (NotRising u.sp) rest is in
-    (u, refl, bottom_if modules u (u.pc == 0) refl moves)
+    let zero = bottom_if modules s.is_guess u (u.pc == 0) refl moves in
+    (u, refl, zero.0, zero.1)
 left_for_0 modules s (Err e) is = absurd (cc is)
 
-pub records_at_bottom : (p : Process) (m : Module) (f : Arm64RuntimeFunction) (s : Arm64StackFrame) (i : Arm64InfoView) → CallsByInfo p m f s (Some (Ok i)) (Err ends.Bottom) → (u : Arm64Registers) × StepsOutArm64 p.memory i (place_of m f s) s.registers (Ok (u, false)) × (u.pc ≡ 0)
+pub records_at_bottom : (p : Process) (m : Module) (f : Arm64RuntimeFunction) (s : Arm64StackFrame) (i : Arm64InfoView) → CallsByInfo p m f s (Some (Ok i)) (Err ends.Bottom) → (u : Arm64Registers) × StepsOutArm64 p.memory i (place_of m f s) s.registers (Ok (u, false)) × (u.pc ≡ 0) × (s.is_guess ≡ false)
 records_at_bottom p m f s i h =
     let zero = left_for_0 p.modules s h.0 h.2 in
-    (zero.0, subst (λ (x : Result (Arm64Registers × Bool) FrameError). StepsOutArm64 p.memory i (place_of m f s) s.registers x) zero.1 h.1, zero.2)
+    (zero.0, subst (λ (x : Result (Arm64Registers × Bool) FrameError). StepsOutArm64 p.memory i (place_of m f s) s.registers x) zero.1 h.1, zero.2, zero.3)
 
-pub packed_at_bottom : (p : Process) (m : Module) (f : Arm64RuntimeFunction) (s : Arm64StackFrame) → CallsByInfo p m f s None (Err ends.Bottom) → (u : Arm64Registers) × (stepped_arm64_packed p.memory f.unwind_data (place_of m f s) s.registers ≡ Ok u) × (u.pc ≡ 0)
+pub packed_at_bottom : (p : Process) (m : Module) (f : Arm64RuntimeFunction) (s : Arm64StackFrame) → CallsByInfo p m f s None (Err ends.Bottom) → (u : Arm64Registers) × (stepped_arm64_packed p.memory f.unwind_data (place_of m f s) s.registers ≡ Ok u) × (u.pc ≡ 0) × (s.is_guess ≡ false)
 packed_at_bottom p m f s h =
     let zero = left_for_0 p.modules s (stepped_out_packed p.memory f.unwind_data (place_of m f s) s.registers) h in
-    (zero.0, packed_of (stepped_arm64_packed p.memory f.unwind_data (place_of m f s) s.registers) zero.0 false zero.1, zero.2)
+    (zero.0, packed_of (stepped_arm64_packed p.memory f.unwind_data (place_of m f s) s.registers) zero.0 false zero.1, zero.2, zero.3)
 
-uncalled : (b : Bool) (end : WalkEnd) (rest : Result Arm64StackFrame WalkEnd) → (ends.Bottom ≡ end → ⊥) → Err ends.Bottom ≡ cond b (Err end) rest → (b ≡ false) × (Err ends.Bottom ≡ rest)
-uncalled true end rest other is = let same : ends.Bottom ≡ end = cc is in absurd (other same)
-uncalled false end rest other is = (refl, is)
+no_bottom : (o : Option Arm64StackFrame) (rest : Result Arm64StackFrame WalkEnd) → (Err ends.Bottom ≡ rest → ⊥) → Err ends.Bottom ≡ option_map_or Ok o rest → ⊥
+no_bottom None rest other is = other is
+no_bottom (Some f) rest other is = cc is
 
-returns_to_0 : (n : ℕ) (f : Arm64StackFrame) (b : Bool) → (n == 0) ≡ b → Err ends.Bottom ≡ cond b (Err ends.Bottom) (Ok f) → n ≡ 0
-returns_to_0 n f true at is = eqb-true n 0 at
-returns_to_0 n f false at is = absurd (cc is)
+no_end_at : (modules : List Module) (u : Arm64Registers) (zero code : Bool) → Err ends.Bottom ≡ cond zero (Err ends.Zero) (cond code (Ok (frame_of modules Leaf true u)) (Err ends.NoReturnAddress)) → ⊥
+no_end_at modules u true code is = cc is
+no_end_at modules u false true is = cc is
+no_end_at modules u false false is = cc is
 
-no_frame : (o : Option Arm64StackFrame) (rest : Result Arm64StackFrame WalkEnd) → Err ends.Bottom ≡ option_map_or Ok o rest → (o ≡ None) × (Err ends.Bottom ≡ rest)
-no_frame None rest is = (refl, is)
-no_frame (Some f) rest is = absurd (cc is)
-
-pub leaf_at_bottom : (memory : ℕ → Option ℕ) (modules : List Module) (s : Arm64StackFrame) → caller_of_leaf memory modules s ≡ Err ends.Bottom → (s.has_called ≡ false) × (without_records memory modules s.registers ≡ None) × (link_register s.registers ≡ 0)
-leaf_at_bottom memory modules s is =
-    let rest = cond (link_register s.registers == 0) (Err ends.Bottom) (Ok (frame_of modules Leaf (after_leaf s.registers))) in
-    let waits = uncalled s.has_called ends.NoFunction _ (λ e. cc e) (sym is) in
-    let lost = no_frame (without_records memory modules s.registers) rest waits.1 in
-    (waits.0, lost.0, returns_to_0 (link_register s.registers) (frame_of modules Leaf (after_leaf s.registers)) (link_register s.registers == 0) refl lost.1)
+pub leaf_at_bottom : (memory : ℕ → Option ℕ) (modules : List Module) (guess : Bool) (s : Arm64StackFrame) → caller_of_leaf memory modules guess s ≡ Err ends.Bottom → ⊥
+leaf_at_bottom memory modules guess s is =
+    let found = without_records memory modules guess s.registers in
+    let link = link_register s.registers in
+    let by_scan = scanned memory modules s.registers in
+    by_called s.has_called (option_map_or Ok by_scan (Err ends.NoFunction)) (option_map_or Ok found (jumped_frame modules s.registers)) (Err ends.Bottom) (sym is)
+    (λ at. no_bottom by_scan (Err ends.NoFunction) (λ e. cc e) at)
+    (λ waits at. no_bottom found (jumped_frame modules s.registers) (no_end_at modules (after_leaf s.registers) (link == 0) (is_code modules link)) at)
 
 pub outside_at_bottom : (memory : ℕ → Option ℕ) (modules : List Module) (s : Arm64StackFrame) → caller_outside memory modules s ≡ Err ends.Bottom → ⊥
 outside_at_bottom memory modules s is =
-    let waits = uncalled s.has_called ends.NoModule _ (λ e. cc e) (sym is) in
-    let lost = no_frame (without_records memory modules s.registers) (Err ends.NoModule) waits.1 in
-    cc lost.1
+    let found = without_records memory modules true s.registers in
+    by_called s.has_called (Err ends.NoModule) (option_map_or Ok found (Err ends.NoModule)) (Err ends.Bottom) (sym is)
+    (λ at. cc at)
+    (λ waits at. no_bottom found (Err ends.NoModule) (λ e. cc e) at)
+
+-- ---- the bottom of a whole walk
+
+sure_by_info : (p : Process) (m : Module) (f : Arm64RuntimeFunction) (s : Arm64StackFrame) (info : Option (Result Arm64InfoView Refusal)) → CallsByInfo p m f s info (Err ends.Bottom) → s.is_guess ≡ false
+sure_by_info p m f s None h = (packed_at_bottom p m f s h).3
+sure_by_info p m f s (Some (Err r)) h = absurd h
+sure_by_info p m f s (Some (Ok i)) h = (records_at_bottom p m f s i h).3
+
+sure_found : (p : Process) (m : Module) (e : ExceptionView) (s : Arm64StackFrame) (found : Result (Option Arm64RuntimeFunction) Refusal) → CallsFound p m e s found (Err ends.Bottom) → s.is_guess ≡ false
+sure_found p m e s (Err r) h = absurd h
+sure_found p m e s (Ok None) h = absurd (leaf_at_bottom p.memory p.modules s.is_guess s (sym h))
+sure_found p m e s (Ok (Some f)) h = sure_by_info p m f s (info_by (map_of_module m e) e.content f) h
+
+sure_by : (p : Process) (m : Module) (s : Arm64StackFrame) (o : Option ExceptionView) → CallsBy p m s o (Err ends.Bottom) → s.is_guess ≡ false
+sure_by p m s None h = absurd (leaf_at_bottom p.memory p.modules true s (sym h))
+sure_by p m s (Some e) h = sure_found p m e s h.0 h.2
+
+sure_in : (p : Process) (s : Arm64StackFrame) (o : Option Module) → CallsIn p s o (Err ends.Bottom) → s.is_guess ≡ false
+sure_in p s None h = absurd (outside_at_bottom p.memory p.modules s (sym h))
+sure_in p s (Some m) h = sure_by p m s (option_map (λ e. e.now) m.exceptions) h
+
+sure : (p : Process) (s : Arm64StackFrame) → Calls p s (Err ends.Bottom) → s.is_guess ≡ false
+sure p s h = sure_in p s (module_at p.modules (lookup_address s)) h
+
+pub whole_is_sure : (p : Process) (g : Arm64Registers) (most : ℕ) (frames : List Arm64StackFrame) → IsWalk Calls (starting_walk p (top_frame g) most) frames ends.Bottom → AllByRecursion (λ s. s.is_guess ≡ false) frames
+whole_is_sure p g most frames h =
+    (sure_frames Calls (λ s. s.is_guess) guesses_stay sure most (starting_walk p (top_frame g) most) frames (λ e. cc e) h).1

@@ -1,6 +1,7 @@
 -- The frames that a step of a walk finds, and where it comes to the bottom.
 use Rattle.std.proofs.Common.{◌≡◌, ◌-◌, ◌⊎◌, inl, inr, ℕ, ◌==◌, Bool, true, false, cond, List, Option, Some, None, Result, Ok, Err, refl, ap, sym, ◌∙◌, subst}
 use Rattle.std.proofs.lemmas.Bool.{eqb-true}
+use Rattle.std.specs.List.{AllByRecursion}
 use Rattle.std.specs.Option.{is_none, option_map, option_map_or, option_or}
 use Rattle.pe_core.proofs.Equality.{both}
 use Rattle.pe_core.specs.Refusals.{Refusal}
@@ -8,10 +9,10 @@ use Rattle.pe_unwind.specs.ExceptionTable.{ExceptionView}
 use Rattle.pe_unwind.specs.UnwindRecord.{UnwindInfoView}
 use Rattle.pe_unwind.specs.declared.function_table.RuntimeFunction.{RuntimeFunction}
 use Rattle.pe_frame.specs.Jumps.{StepsInImage}
-use Rattle.pe_frame.specs.Modules.{is_after_call, module_at, map_of_module}
+use Rattle.pe_frame.specs.Modules.{is_after_call, is_code, module_at, map_of_module}
 use Rattle.pe_frame.specs.Undoing.{popped}
-use Rattle.pe_frame.specs.FrameWalks.{Process}
-use Rattle.pe_frame.specs.Walks.{Calls, CallsBy, CallsByPlan, CallsFound, CallsIn, after_leaf, code_of_frame, frame_after, frame_of, has_called, is_bottom, caller_of_leaf, leaf_frame, lookup_address, caller_outside, returned_to, scanned, without_records}
+use Rattle.pe_frame.specs.FrameWalks.{IsWalk, Process, starting_walk}
+use Rattle.pe_frame.specs.Walks.{Calls, CallsBy, CallsByPlan, CallsFound, CallsIn, after_leaf, code_of_frame, end_at_0, frame_after, frame_of, has_called, is_bottom, caller_of_leaf, leaf_frame, lookup_address, caller_outside, returned_to, scanned, top_frame, without_records}
 use Rattle.pe_frame.specs.declared.error.FrameError.{FrameError}
 use Rattle.pe_frame.specs.declared.modules.Module.{Module}
 use Rattle.pe_frame.specs.declared.registers.Registers.{Registers}
@@ -20,82 +21,135 @@ use Rattle.pe_frame.specs.declared.walk.Way.{Way}
 use Rattle.pe_frame.specs.declared.walk.Way.TheVariants.{Records, Leaf, Interrupt, Scanned}
 use Rattle.pe_frame.specs.declared.walk.WalkEnd.{WalkEnd}
 use Rattle.pe_frame.specs.declared.walk.WalkEnd.TheVariants as ends
+use Rattle.pe_frame.proofs.FrameWalks.{sure_frames}
 
 -- ---- how a frame is made
 
 abbrev IsMade : List Module → StackFrame → Type 0
-IsMade modules t = (way : Way) × (u : Registers) × (t ≡ frame_of modules way u)
+IsMade modules t = (way : Way) × (guess : Bool) × (u : Registers) × (t ≡ frame_of modules way guess u)
 
 says : (modules : List Module) (t : StackFrame) → IsMade modules t → t.has_called ≡ has_called modules t.way (t.registers).rip
 says modules t made =
-    subst (λ (f : StackFrame). f.has_called ≡ has_called modules f.way (f.registers).rip) (sym made.2) refl
+    subst (λ (f : StackFrame). f.has_called ≡ has_called modules f.way (f.registers).rip) (sym made.3) refl
 
-leaf_if : (modules : List Module) (u : Registers) (t : StackFrame) (b : Bool) → cond b (Some (frame_of modules Leaf u)) None ≡ Some t → IsMade modules t
-leaf_if modules u t true is = let same : t ≡ frame_of modules Leaf u = cc is in (Leaf, u, same)
-leaf_if modules u t false is = absurd (cc is)
+-- ---- a frame, and that before it
 
-made_leaf : (modules : List Module) (p : Result Registers FrameError) (t : StackFrame) → leaf_frame modules p ≡ Some t → IsMade modules t
-made_leaf modules (Ok u) t is = leaf_if modules u t (is_after_call modules u.rip) is
-made_leaf modules (Err e) t is = absurd (cc is)
+-- Records led on, or a scan, or the frame before it has not called. What a scan found is a guess, and what follows a guess.
+pub record IsNext (modules : List Module) (s t : StackFrame) : Type 0 where
+  pub made : IsMade modules t
+  pub led : ((t.way ≡ Records) ⊎ ((t.way ≡ Interrupt) ⊎ (t.way ≡ Scanned))) ⊎ (s.has_called ≡ false)
+  pub scans : t.way ≡ Scanned → t.is_guess ≡ true
+  pub follows : s.is_guess ≡ true → t.is_guess ≡ true
 
-made_scan : (modules : List Module) (g : Registers) (o : Option (ℕ × ℕ)) (t : StackFrame) → option_map (λ found. frame_of modules Scanned (returned_to g found)) o ≡ Some t → IsMade modules t
+way_of : (modules : List Module) (t : StackFrame) (way : Way) (guess : Bool) (u : Registers) → t ≡ frame_of modules way guess u → t.way ≡ way
+way_of modules t way guess u same = ap (λ (f : StackFrame). f.way) same
+
+next_of : (modules : List Module) (s t : StackFrame) (way : Way) (guess : Bool) (u : Registers) → t ≡ frame_of modules way guess u → ((way ≡ Records) ⊎ ((way ≡ Interrupt) ⊎ (way ≡ Scanned))) ⊎ (s.has_called ≡ false) → (way ≡ Scanned → guess ≡ true) → (s.is_guess ≡ true → guess ≡ true) → IsNext modules s t
+next_of modules s t way guess u same led scans follows =
+    let at : t.way ≡ way = way_of modules t way guess u same in
+    let is : t.is_guess ≡ guess = ap (λ (f : StackFrame). f.is_guess) same in
+    record {
+      made = (way, guess, u, same);
+      led = subst (λ (w : Way). ((w ≡ Records) ⊎ ((w ≡ Interrupt) ⊎ (w ≡ Scanned))) ⊎ (s.has_called ≡ false)) (sym at) led;
+      scans = λ by. is ∙ scans (sym at ∙ by);
+      follows = λ before. is ∙ follows before;
+    }
+
+-- ---- without records
+
+-- by a scan
+abbrev IsScanned : List Module → StackFrame → Type 0
+IsScanned modules t = (u : Registers) × (t ≡ frame_of modules Scanned true u)
+
+-- by one, or in a leaf function: then it is a guess where that is one
+abbrev IsFound : List Module → Bool → StackFrame → Type 0
+IsFound modules guess t =
+    (leaf : Bool) × (u : Registers) × (guess ≡ true → leaf ≡ true) × (t ≡ frame_of modules Leaf leaf u)
+
+abbrev IsLed : List Module → Bool → StackFrame → Type 0
+IsLed modules guess t = IsScanned modules t ⊎ IsFound modules guess t
+
+next_scanned : (modules : List Module) (s t : StackFrame) → IsScanned modules t → IsNext modules s t
+next_scanned modules s t found =
+    next_of modules s t Scanned true found.0 found.1 (inl (inr (inr refl))) (λ by. refl) (λ before. refl)
+
+next_led : (modules : List Module) (guess : Bool) (s t : StackFrame) → (s.is_guess ≡ true → guess ≡ true) → s.has_called ≡ false → IsLed modules guess t → IsNext modules s t
+next_led modules guess s t given waits (inl found) = next_scanned modules s t found
+next_led modules guess s t given waits (inr found) =
+    next_of modules s t Leaf found.0 found.1 found.3 (inr waits) (λ by. absurd (cc by)) (λ before. found.2 (given before))
+
+leaf_if : (modules : List Module) (guess : Bool) (u : Registers) (t : StackFrame) (b : Bool) → cond b (Some (frame_of modules Leaf guess u)) None ≡ Some t → IsLed modules guess t
+leaf_if modules guess u t true is =
+    let same : t ≡ frame_of modules Leaf guess u = cc is in inr (guess, u, (λ is. is), same)
+leaf_if modules guess u t false is = absurd (cc is)
+
+made_leaf : (modules : List Module) (guess : Bool) (p : Result Registers FrameError) (t : StackFrame) → leaf_frame modules guess p ≡ Some t → IsLed modules guess t
+made_leaf modules guess (Ok u) t is = leaf_if modules guess u t (is_after_call modules u.rip) is
+made_leaf modules guess (Err e) t is = absurd (cc is)
+
+made_scan : (modules : List Module) (g : Registers) (o : Option (ℕ × ℕ)) (t : StackFrame) → option_map (λ found. frame_of modules Scanned true (returned_to g found)) o ≡ Some t → IsScanned modules t
 made_scan modules g None t is = absurd (cc is)
 made_scan modules g (Some found) t is =
-    let same : t ≡ frame_of modules Scanned (returned_to g found) = cc is in
-    (Scanned, returned_to g found, same)
+    let same : t ≡ frame_of modules Scanned true (returned_to g found) = cc is in
+    (returned_to g found, same)
 
-made_or : (modules : List Module) (a b : Option StackFrame) (t : StackFrame) → (a ≡ Some t → IsMade modules t) → (b ≡ Some t → IsMade modules t) → option_or a b ≡ Some t → IsMade modules t
-made_or modules (Some f) b t first second is = first is
-made_or modules None b t first second is = second is
+made_or : {X : Type 0} (a b : Option StackFrame) (t : StackFrame) → (a ≡ Some t → X) → (b ≡ Some t → X) → option_or a b ≡ Some t → X
+made_or (Some f) b t first second is = first is
+made_or None b t first second is = second is
 
-made_without : (memory : ℕ → Option ℕ) (modules : List Module) (g : Registers) (t : StackFrame) → without_records memory modules g ≡ Some t → IsMade modules t
-made_without memory modules g t is =
-    made_or modules (leaf_frame modules (popped memory g)) (scanned memory modules g) t (made_leaf modules (popped memory g) t) (made_scan modules g _ t) is
+made_without : (memory : ℕ → Option ℕ) (modules : List Module) (guess : Bool) (g : Registers) (t : StackFrame) → without_records memory modules guess g ≡ Some t → IsLed modules guess t
+made_without memory modules guess g t is =
+    made_or (leaf_frame modules guess (popped memory g)) (scanned memory modules g) t (made_leaf modules guess (popped memory g) t) (λ by. inl (made_scan modules g _ t by)) is
 
-made_found : (modules : List Module) (o : Option StackFrame) (rest : Result StackFrame WalkEnd) (t : StackFrame) → (o ≡ Some t → IsMade modules t) → (Ok t ≡ rest → IsMade modules t) → Ok t ≡ option_map_or Ok o rest → IsMade modules t
-made_found modules (Some f) rest t found other is = let same : Some f ≡ Some t = cc is in found same
-made_found modules None rest t found other is = other is
+made_found : {X : Type 0} (o : Option StackFrame) (rest : Result StackFrame WalkEnd) (t : StackFrame) → (o ≡ Some t → X) → (Ok t ≡ rest → X) → Ok t ≡ option_map_or Ok o rest → X
+made_found (Some f) rest t found other is = let same : Some f ≡ Some t = cc is in found same
+made_found None rest t found other is = other is
 
-after_if : (modules : List Module) (u : Registers) (t : StackFrame) (b : Bool) → Ok t ≡ cond b (Err ends.Bottom) (Ok (frame_of modules Leaf u)) → IsMade modules t
-after_if modules u t true is = absurd (cc is)
-after_if modules u t false is = let same : t ≡ frame_of modules Leaf u = cc is in (Leaf, u, same)
+code_if : (modules : List Module) (guess : Bool) (u : Registers) (t : StackFrame) (b : Bool) → Ok t ≡ cond b (Ok (frame_of modules Leaf true u)) (Err ends.NoReturnAddress) → IsLed modules guess t
+code_if modules guess u t true is =
+    let same : t ≡ frame_of modules Leaf true u = cc is in inr (true, u, (λ given. refl), same)
+code_if modules guess u t false is = absurd (cc is)
 
-made_after : (modules : List Module) (p : Result Registers FrameError) (t : StackFrame) → Ok t ≡ after_leaf modules p → IsMade modules t
-made_after modules (Ok u) t is = after_if modules u t (u.rip == 0) is
-made_after modules (Err e) t is = absurd (cc is)
+after_if : (modules : List Module) (guess : Bool) (u : Registers) (t : StackFrame) (b : Bool) → Ok t ≡ cond b (Err ends.Zero) (cond (is_code modules u.rip) (Ok (frame_of modules Leaf true u)) (Err ends.NoReturnAddress)) → IsLed modules guess t
+after_if modules guess u t true is = absurd (cc is)
+after_if modules guess u t false is = code_if modules guess u t (is_code modules u.rip) is
 
--- ---- a frame, and that before it: records led on, or it has not called
+made_after : (modules : List Module) (guess : Bool) (p : Result Registers FrameError) (t : StackFrame) → Ok t ≡ after_leaf modules p → IsLed modules guess t
+made_after modules guess (Ok u) t is = after_if modules guess u t (u.rip == 0) is
+made_after modules guess (Err e) t is = absurd (cc is)
 
-abbrev IsNext : List Module → StackFrame → StackFrame → Type 0
-IsNext modules s t =
-    IsMade modules t × (((t.way ≡ Records) ⊎ (t.way ≡ Interrupt)) ⊎ (s.has_called ≡ false))
+by_called : {X : Type 0} (b : Bool) (called waits answer : Result StackFrame WalkEnd) → answer ≡ cond b called waits → (answer ≡ called → X) → (b ≡ false → answer ≡ waits → X) → X
+by_called true called waits answer is first second = first is
+by_called false called waits answer is first second = second refl is
 
-unless_called : (b : Bool) (end : WalkEnd) (rest answer : Result StackFrame WalkEnd) (t : StackFrame) → Ok t ≡ cond b (Err end) rest → (b ≡ false) × (Ok t ≡ rest)
-unless_called true end rest answer t is = absurd (cc is)
-unless_called false end rest answer t is = (refl, is)
-
-next_leaf : (memory : ℕ → Option ℕ) (modules : List Module) (s t : StackFrame) → Ok t ≡ caller_of_leaf memory modules s → IsNext modules s t
-next_leaf memory modules s t is =
-    let rest = option_map_or Ok (without_records memory modules s.registers) (after_leaf modules (popped memory s.registers)) in
-    let both = unless_called s.has_called ends.NoFunction rest rest t is in
-    (made_found modules (without_records memory modules s.registers) (after_leaf modules (popped memory s.registers)) t (made_without memory modules s.registers t) (made_after modules (popped memory s.registers) t) both.1, inr both.0)
+next_leaf : (memory : ℕ → Option ℕ) (modules : List Module) (guess : Bool) (s t : StackFrame) → (s.is_guess ≡ true → guess ≡ true) → Ok t ≡ caller_of_leaf memory modules guess s → IsNext modules s t
+next_leaf memory modules guess s t given is =
+    let found = without_records memory modules guess s.registers in
+    let rest = after_leaf modules (popped memory s.registers) in
+    let by_scan = scanned memory modules s.registers in
+    by_called s.has_called (option_map_or Ok by_scan (Err ends.NoFunction)) (option_map_or Ok found rest) (Ok t) is
+    (λ at. made_found by_scan (Err ends.NoFunction) t (λ by. next_scanned modules s t (made_scan modules s.registers _ t by)) (λ none. absurd (cc none)) at)
+    (λ waits at. next_led modules guess s t given waits (made_found found rest t (made_without memory modules guess s.registers t) (made_after modules guess (popped memory s.registers) t) at))
 
 next_outside : (memory : ℕ → Option ℕ) (modules : List Module) (s t : StackFrame) → Ok t ≡ caller_outside memory modules s → IsNext modules s t
 next_outside memory modules s t is =
-    let rest = option_map_or Ok (without_records memory modules s.registers) (Err ends.NoModule) in
-    let both = unless_called s.has_called ends.NoModule rest rest t is in
-    (made_found modules (without_records memory modules s.registers) (Err ends.NoModule) t (made_without memory modules s.registers t) (λ none. absurd (cc none)) both.1, inr both.0)
+    let found = without_records memory modules true s.registers in
+    by_called s.has_called (Err ends.NoModule) (option_map_or Ok found (Err ends.NoModule)) (Ok t) is
+    (λ at. absurd (cc at))
+    (λ waits at. next_led modules true s t (λ before. refl) waits (made_found found (Err ends.NoModule) t (made_without memory modules true s.registers t) (λ none. absurd (cc none)) at))
 
-records_if : (modules : List Module) (s t : StackFrame) (u : Registers) (b : Bool) → Ok t ≡ cond b (Err ends.Bottom) (Ok (frame_of modules Records u)) → IsNext modules s t
+-- ---- by records
+
+records_if : (modules : List Module) (s t : StackFrame) (u : Registers) (b : Bool) → Ok t ≡ cond b (Err (end_at_0 s.is_guess)) (Ok (frame_of modules Records s.is_guess u)) → IsNext modules s t
 records_if modules s t u true is = absurd (cc is)
 records_if modules s t u false is =
-    let same : t ≡ frame_of modules Records u = cc is in
-    ((Records, u, same), inl (inl (ap (λ (f : StackFrame). f.way) same)))
+    let same : t ≡ frame_of modules Records s.is_guess u = cc is in
+    next_of modules s t Records s.is_guess u same (inl (inl refl)) (λ by. absurd (cc by)) (λ before. before)
 
-next_after : (memory : ℕ → Option ℕ) (modules : List Module) (s t : StackFrame) (left : Result (Registers × Bool) FrameError) → Ok t ≡ frame_after memory modules left → IsNext modules s t
+next_after : (memory : ℕ → Option ℕ) (modules : List Module) (s t : StackFrame) (left : Result (Registers × Bool) FrameError) → Ok t ≡ frame_after memory modules s.is_guess left → IsNext modules s t
 next_after memory modules s t (Ok (u, true)) is =
-    let same : t ≡ frame_of modules Interrupt u = cc is in
-    ((Interrupt, u, same), inl (inr (ap (λ (f : StackFrame). f.way) same)))
+    let same : t ≡ frame_of modules Interrupt s.is_guess u = cc is in
+    next_of modules s t Interrupt s.is_guess u same (inl (inr (inl refl))) (λ by. absurd (cc by)) (λ before. before)
 next_after memory modules s t (Ok (u, false)) is = records_if modules s t u (is_bottom memory modules u) is
 next_after memory modules s t (Err e) is = absurd (cc is)
 
@@ -105,11 +159,11 @@ next_by_plan memory modules m e f s t (Ok None) h = absurd (cc h)
 next_by_plan memory modules m e f s t (Ok (Some plan)) h = next_after memory modules s t h.0 h.2
 
 next_found : (memory : ℕ → Option ℕ) (modules : List Module) (m : Module) (e : ExceptionView) (s t : StackFrame) (found : Option RuntimeFunction) → CallsFound memory modules m e s found (Ok t) → IsNext modules s t
-next_found memory modules m e s t None h = next_leaf memory modules s t h
+next_found memory modules m e s t None h = next_leaf memory modules s.is_guess s t (λ before. before) h
 next_found memory modules m e s t (Some f) h = next_by_plan memory modules m e f s t h.0 h.2
 
 next_by : (memory : ℕ → Option ℕ) (modules : List Module) (m : Module) (s t : StackFrame) (o : Option ExceptionView) → CallsBy memory modules m s o (Ok t) → IsNext modules s t
-next_by memory modules m s t None h = next_leaf memory modules s t h
+next_by memory modules m s t None h = next_leaf memory modules true s t (λ before. refl) h
 next_by memory modules m s t (Some e) h = next_found memory modules m e s t h.0 h.2
 
 next_in : (memory : ℕ → Option ℕ) (modules : List Module) (s t : StackFrame) (o : Option Module) → CallsIn memory modules s o (Ok t) → IsNext modules s t
@@ -120,14 +174,20 @@ next : (p : Process) (s t : StackFrame) → Calls p s (Ok t) → IsNext p.module
 next p s t h = next_in p.memory p.modules s t (module_at p.modules (lookup_address s)) h
 
 pub says_whether : (p : Process) (s t : StackFrame) → Calls p s (Ok t) → t.has_called ≡ has_called p.modules t.way (t.registers).rip
-says_whether p s t h = says p.modules t (next p s t h).0
+says_whether p s t h = says p.modules t (next p s t h).made
 
-not_guessed : (s t : StackFrame) → ((t.way ≡ Records) ⊎ (t.way ≡ Interrupt)) ⊎ (s.has_called ≡ false) → s.has_called ≡ true → (t.way ≡ Records) ⊎ (t.way ≡ Interrupt)
-not_guessed s t (inl led) called = led
-not_guessed s t (inr not) called = absurd (cc (sym called ∙ not))
+after_call : (s t : StackFrame) → ((t.way ≡ Records) ⊎ ((t.way ≡ Interrupt) ⊎ (t.way ≡ Scanned))) ⊎ (s.has_called ≡ false) → s.has_called ≡ true → (t.way ≡ Records) ⊎ ((t.way ≡ Interrupt) ⊎ (t.way ≡ Scanned))
+after_call s t (inl led) called = led
+after_call s t (inr not) called = absurd (cc (sym called ∙ not))
 
-pub led_on : (p : Process) (s t : StackFrame) → Calls p s (Ok t) → s.has_called ≡ true → (t.way ≡ Records) ⊎ (t.way ≡ Interrupt)
-led_on p s t h called = not_guessed s t (next p s t h).1 called
+pub led_on : (p : Process) (s t : StackFrame) → Calls p s (Ok t) → s.has_called ≡ true → (t.way ≡ Records) ⊎ ((t.way ≡ Interrupt) ⊎ (t.way ≡ Scanned))
+led_on p s t h called = after_call s t (next p s t h).led called
+
+pub scans_are_guesses : (p : Process) (s t : StackFrame) → Calls p s (Ok t) → t.way ≡ Scanned → t.is_guess ≡ true
+scans_are_guesses p s t h by = (next p s t h).scans by
+
+pub guesses_stay : (p : Process) (s t : StackFrame) → Calls p s (Ok t) → s.is_guess ≡ true → t.is_guess ≡ true
+guesses_stay p s t h before = (next p s t h).follows before
 
 -- ---- the bottom
 
@@ -135,52 +195,82 @@ none_of : {X : Type 0} (o : Option X) → is_none o ≡ true → o ≡ None
 none_of None is = refl
 none_of (Some x) is = absurd (cc is)
 
-zero_if : (memory : ℕ → Option ℕ) (modules : List Module) (u : Registers) (b : Bool) → is_bottom memory modules u ≡ b → Err ends.Bottom ≡ cond b (Err ends.Bottom) (Ok (frame_of modules Records u)) → (u.rip ≡ 0) × (without_records memory modules u ≡ None)
-zero_if memory modules u true at is =
-    let parts = both (u.rip == 0) (is_none (without_records memory modules u)) at in
-    (eqb-true u.rip 0 parts.0, none_of (without_records memory modules u) parts.1)
-zero_if memory modules u false at is = absurd (cc is)
+pub sure_if : (guess : Bool) → ◌≡◌ {A = Result StackFrame WalkEnd} (Err ends.Bottom) (Err (end_at_0 guess)) → guess ≡ false
+sure_if true is = absurd (cc is)
+sure_if false is = refl
 
-abbrev LeavesFor0 : (ℕ → Option ℕ) → List Module → (Result (Registers × Bool) FrameError → Type 0) → Type 0
-LeavesFor0 memory modules Steps =
-    (u : Registers) × Steps (Ok (u, false)) × (u.rip ≡ 0) × (without_records memory modules u ≡ None)
+zero_if : (memory : ℕ → Option ℕ) (modules : List Module) (guess : Bool) (u : Registers) (b : Bool) → is_bottom memory modules u ≡ b → Err ends.Bottom ≡ cond b (Err (end_at_0 guess)) (Ok (frame_of modules Records guess u)) → (u.rip ≡ 0) × (without_records memory modules true u ≡ None) × (guess ≡ false)
+zero_if memory modules guess u true at is =
+    let parts = both (u.rip == 0) (is_none (without_records memory modules true u)) at in
+    (eqb-true u.rip 0 parts.0, none_of (without_records memory modules true u) parts.1, sure_if guess is)
+zero_if memory modules guess u false at is = absurd (cc is)
 
-left_for_0 : (memory : ℕ → Option ℕ) (modules : List Module) (Steps : Result (Registers × Bool) FrameError → Type 0) (left : Result (Registers × Bool) FrameError) → Steps left → Err ends.Bottom ≡ frame_after memory modules left → LeavesFor0 memory modules Steps
-left_for_0 memory modules Steps (Ok (u, true)) steps is = absurd (cc is)
-left_for_0 memory modules Steps (Ok (u, false)) steps is =
-    let zero = zero_if memory modules u (is_bottom memory modules u) refl is in
-    (u, steps, zero.0, zero.1)
-left_for_0 memory modules Steps (Err e) steps is = absurd (cc is)
+abbrev LeavesFor0 : (ℕ → Option ℕ) → List Module → Bool → (Result (Registers × Bool) FrameError → Type 0) → Type 0
+LeavesFor0 memory modules guess Steps =
+    (u : Registers) × Steps (Ok (u, false)) × (u.rip ≡ 0) × (without_records memory modules true u ≡ None) × (guess ≡ false)
 
-pub records_at_bottom : (memory : ℕ → Option ℕ) (modules : List Module) (m : Module) (e : ExceptionView) (f : RuntimeFunction) (s : StackFrame) (plan : List UnwindInfoView) → CallsByPlan memory modules m e f s (Ok (Some plan)) (Err ends.Bottom) → LeavesFor0 memory modules (StepsInImage e (map_of_module m e) memory plan f.begin_address ((s.registers).rip - m.base) (code_of_frame m e f.end_address s) s.registers)
+left_for_0 : (memory : ℕ → Option ℕ) (modules : List Module) (guess : Bool) (Steps : Result (Registers × Bool) FrameError → Type 0) (left : Result (Registers × Bool) FrameError) → Steps left → Err ends.Bottom ≡ frame_after memory modules guess left → LeavesFor0 memory modules guess Steps
+left_for_0 memory modules guess Steps (Ok (u, true)) steps is = absurd (cc is)
+left_for_0 memory modules guess Steps (Ok (u, false)) steps is =
+    let zero = zero_if memory modules guess u (is_bottom memory modules u) refl is in
+    (u, steps, zero.0, zero.1, zero.2)
+left_for_0 memory modules guess Steps (Err e) steps is = absurd (cc is)
+
+pub records_at_bottom : (memory : ℕ → Option ℕ) (modules : List Module) (m : Module) (e : ExceptionView) (f : RuntimeFunction) (s : StackFrame) (plan : List UnwindInfoView) → CallsByPlan memory modules m e f s (Ok (Some plan)) (Err ends.Bottom) → LeavesFor0 memory modules s.is_guess (StepsInImage e (map_of_module m e) memory plan f.begin_address ((s.registers).rip - m.base) (code_of_frame m e f.end_address s) s.registers)
 records_at_bottom memory modules m e f s plan h =
-    left_for_0 memory modules (StepsInImage e (map_of_module m e) memory plan f.begin_address ((s.registers).rip - m.base) (code_of_frame m e f.end_address s) s.registers) h.0 h.1 h.2
+    left_for_0 memory modules s.is_guess (StepsInImage e (map_of_module m e) memory plan f.begin_address ((s.registers).rip - m.base) (code_of_frame m e f.end_address s) s.registers) h.0 h.1 h.2
 
-returns_to_0 : (modules : List Module) (u : Registers) (b : Bool) → (u.rip == 0) ≡ b → Err ends.Bottom ≡ cond b (Err ends.Bottom) (Ok (frame_of modules Leaf u)) → u.rip ≡ 0
-returns_to_0 modules u true at is = eqb-true u.rip 0 at
-returns_to_0 modules u false at is = absurd (cc is)
+no_bottom : (o : Option StackFrame) (rest : Result StackFrame WalkEnd) → (Err ends.Bottom ≡ rest → ⊥) → Err ends.Bottom ≡ option_map_or Ok o rest → ⊥
+no_bottom None rest other is = other is
+no_bottom (Some f) rest other is = cc is
 
-popped_to_0 : (modules : List Module) (p : Result Registers FrameError) → Err ends.Bottom ≡ after_leaf modules p → (u : Registers) × (p ≡ Ok u) × (u.rip ≡ 0)
-popped_to_0 modules (Ok u) is = (u, refl, returns_to_0 modules u (u.rip == 0) refl is)
-popped_to_0 modules (Err e) is = absurd (cc is)
+no_end_at : (modules : List Module) (u : Registers) (zero code : Bool) → Err ends.Bottom ≡ cond zero (Err ends.Zero) (cond code (Ok (frame_of modules Leaf true u)) (Err ends.NoReturnAddress)) → ⊥
+no_end_at modules u true code is = cc is
+no_end_at modules u false true is = cc is
+no_end_at modules u false false is = cc is
 
-uncalled : (b : Bool) (end : WalkEnd) (rest : Result StackFrame WalkEnd) → (ends.Bottom ≡ end → ⊥) → Err ends.Bottom ≡ cond b (Err end) rest → (b ≡ false) × (Err ends.Bottom ≡ rest)
-uncalled true end rest other is = let same : ends.Bottom ≡ end = cc is in absurd (other same)
-uncalled false end rest other is = (refl, is)
+no_end_of_leaf : (modules : List Module) (p : Result Registers FrameError) → Err ends.Bottom ≡ after_leaf modules p → ⊥
+no_end_of_leaf modules (Ok u) is = no_end_at modules u (u.rip == 0) (is_code modules u.rip) is
+no_end_of_leaf modules (Err e) is = cc is
 
-no_frame : (o : Option StackFrame) (rest : Result StackFrame WalkEnd) → Err ends.Bottom ≡ option_map_or Ok o rest → (o ≡ None) × (Err ends.Bottom ≡ rest)
-no_frame None rest is = (refl, is)
-no_frame (Some f) rest is = absurd (cc is)
-
-pub leaf_at_bottom : (memory : ℕ → Option ℕ) (modules : List Module) (s : StackFrame) → caller_of_leaf memory modules s ≡ Err ends.Bottom → (s.has_called ≡ false) × (without_records memory modules s.registers ≡ None) × (u : Registers) × (popped memory s.registers ≡ Ok u) × (u.rip ≡ 0)
-leaf_at_bottom memory modules s is =
-    let waits = uncalled s.has_called ends.NoFunction _ (λ e. cc e) (sym is) in
-    let lost = no_frame (without_records memory modules s.registers) (after_leaf modules (popped memory s.registers)) waits.1 in
-    let zero = popped_to_0 modules (popped memory s.registers) lost.1 in
-    (waits.0, lost.0, zero.0, zero.1, zero.2)
+pub leaf_at_bottom : (memory : ℕ → Option ℕ) (modules : List Module) (guess : Bool) (s : StackFrame) → caller_of_leaf memory modules guess s ≡ Err ends.Bottom → ⊥
+leaf_at_bottom memory modules guess s is =
+    let found = without_records memory modules guess s.registers in
+    let rest = after_leaf modules (popped memory s.registers) in
+    let by_scan = scanned memory modules s.registers in
+    by_called s.has_called (option_map_or Ok by_scan (Err ends.NoFunction)) (option_map_or Ok found rest) (Err ends.Bottom) (sym is)
+    (λ at. no_bottom by_scan (Err ends.NoFunction) (λ e. cc e) at)
+    (λ waits at. no_bottom found rest (no_end_of_leaf modules (popped memory s.registers)) at)
 
 pub outside_at_bottom : (memory : ℕ → Option ℕ) (modules : List Module) (s : StackFrame) → caller_outside memory modules s ≡ Err ends.Bottom → ⊥
 outside_at_bottom memory modules s is =
-    let waits = uncalled s.has_called ends.NoModule _ (λ e. cc e) (sym is) in
-    let lost = no_frame (without_records memory modules s.registers) (Err ends.NoModule) waits.1 in
-    cc lost.1
+    let found = without_records memory modules true s.registers in
+    by_called s.has_called (Err ends.NoModule) (option_map_or Ok found (Err ends.NoModule)) (Err ends.Bottom) (sym is)
+    (λ at. cc at)
+    (λ waits at. no_bottom found (Err ends.NoModule) (λ e. cc e) at)
+
+-- ---- the bottom of a whole walk
+
+sure_by_plan : (memory : ℕ → Option ℕ) (modules : List Module) (m : Module) (e : ExceptionView) (f : RuntimeFunction) (s : StackFrame) (plan : Result (Option (List UnwindInfoView)) Refusal) → CallsByPlan memory modules m e f s plan (Err ends.Bottom) → s.is_guess ≡ false
+sure_by_plan memory modules m e f s (Err r) h = absurd h
+sure_by_plan memory modules m e f s (Ok None) h = absurd (cc h)
+sure_by_plan memory modules m e f s (Ok (Some plan)) h = (records_at_bottom memory modules m e f s plan h).4
+
+sure_found : (memory : ℕ → Option ℕ) (modules : List Module) (m : Module) (e : ExceptionView) (s : StackFrame) (found : Option RuntimeFunction) → CallsFound memory modules m e s found (Err ends.Bottom) → s.is_guess ≡ false
+sure_found memory modules m e s None h = absurd (leaf_at_bottom memory modules s.is_guess s (sym h))
+sure_found memory modules m e s (Some f) h = sure_by_plan memory modules m e f s h.0 h.2
+
+sure_by : (memory : ℕ → Option ℕ) (modules : List Module) (m : Module) (s : StackFrame) (o : Option ExceptionView) → CallsBy memory modules m s o (Err ends.Bottom) → s.is_guess ≡ false
+sure_by memory modules m s None h = absurd (leaf_at_bottom memory modules true s (sym h))
+sure_by memory modules m s (Some e) h = sure_found memory modules m e s h.0 h.2
+
+sure_in : (memory : ℕ → Option ℕ) (modules : List Module) (s : StackFrame) (o : Option Module) → CallsIn memory modules s o (Err ends.Bottom) → s.is_guess ≡ false
+sure_in memory modules s None h = absurd (outside_at_bottom memory modules s (sym h))
+sure_in memory modules s (Some m) h = sure_by memory modules m s (option_map (λ e. e.now) m.exceptions) h
+
+sure : (p : Process) (s : StackFrame) → Calls p s (Err ends.Bottom) → s.is_guess ≡ false
+sure p s h = sure_in p.memory p.modules s (module_at p.modules (lookup_address s)) h
+
+pub whole_is_sure : (p : Process) (g : Registers) (most : ℕ) (frames : List StackFrame) → IsWalk Calls (starting_walk p (top_frame g) most) frames ends.Bottom → AllByRecursion (λ s. s.is_guess ≡ false) frames
+whole_is_sure p g most frames h =
+    (sure_frames Calls (λ s. s.is_guess) guesses_stay sure most (starting_walk p (top_frame g) most) frames (λ e. cc e) h).1

@@ -1,9 +1,11 @@
 -- Whole walks over the frames of any machine: what all calls of `next` return, that there is a walk, and only one.
 use Rattle.std.proofs.Common.{◌≡◌, ℕ, zero, suc, ◌≤◌, Bool, true, false, List, [], ◌∷◌, length, Option, Some, None, Result, Ok, Err, refl, ap, sym, ◌∙◌, subst, arith}
 use Rattle.std.specs.Iterator.{Yields}
+use Rattle.std.specs.List.{AllByRecursion}
 use Rattle.pe_frame.specs.FrameWalks.{FrameWalk, Follows, FollowsBy, Advances, AdvancesBy, IsWalk, IsWalkBy, returned_frame, walk_after}
 use Rattle.pe_frame.specs.Walks.{by_end_kind, end_kind}
 use Rattle.pe_frame.specs.declared.walk.WalkEnd.{WalkEnd}
+use Rattle.pe_frame.specs.declared.walk.WalkEnd.TheVariants as ends
 
 module _ {P F : Type 0} (Calls : P → F → Result F WalkEnd → Type 0) where
   -- the step of a walk that is not over
@@ -117,3 +119,31 @@ module _ {P F : Type 0} (Calls : P → F → Result F WalkEnd → Type 0) where
 
   pub one_walk : (w : FrameWalk P F) (frames others : List F) (end other : WalkEnd) → HasOneCaller w.process → IsWalk Calls w frames end → IsWalk Calls w others other → (frames ≡ others) × (end_kind end ≡ end_kind other)
   one_walk w frames others end other one h k = one_walk_by w.remaining w frames others end other one h k
+
+  -- ---- a walk that ends at the bottom has no frame that is a guess, where what follows a guess is one
+
+  module _ (guess : F → Bool) where
+    abbrev Stays : Type 0
+    Stays = (p : P) (s t : F) → Calls p s (Ok t) → guess s ≡ true → guess t ≡ true
+
+    abbrev IsSure : Type 0
+    IsSure = (p : P) (s : F) → Calls p s (Err ends.Bottom) → guess s ≡ false
+
+    not_true : (a b : Bool) → (a ≡ true → b ≡ true) → b ≡ false → a ≡ false
+    not_true false b stays sure = refl
+    not_true true b stays sure = absurd (cc (sym (stays refl) ∙ sure))
+
+    sure_end : IsSure → (returned : Bool) (w : FrameWalk P F) → FollowsBy Calls returned w (Err ends.Bottom) → returned ≡ true → guess w.frame ≡ false
+    sure_end sure true w h is = sure w.process w.frame h
+    sure_end sure false w h is = absurd (cc is)
+
+    sure_next : Stays → (returned : Bool) (w : FrameWalk P F) (s : F) → FollowsBy Calls returned w (Ok s) → guess s ≡ false → returned ≡ true → guess w.frame ≡ false
+    sure_next stays true w s h next is = not_true (guess w.frame) (guess s) (stays w.process w.frame s h) next
+    sure_next stays false w s h next is = absurd (cc is)
+
+    pub sure_frames : Stays → IsSure → (n : ℕ) (w : FrameWalk P F) (frames : List F) → (ends.Bottom ≡ w.end → ⊥) → IsWalkBy Calls n w frames ends.Bottom → (w.has_returned ≡ true → guess w.frame ≡ false) × AllByRecursion (λ s. guess s ≡ false) frames
+    sure_frames stays sure zero w frames other h = absurd (other h.1)
+    sure_frames stays sure (suc n) w [] other h = (sure_end sure w.has_returned w h, tt)
+    sure_frames stays sure (suc n) w (s ∷ frames) other h =
+        let rest = sure_frames stays sure n (walk_after w (Ok s)) frames other h.1 in
+        (sure_next stays w.has_returned w s h.0 (rest.0 refl), (rest.0 refl, rest.1))

@@ -26,13 +26,13 @@ use Rattle.pe_frame.proofs.OneShortPlan.{one_short_plan}
 
 -- ---- one step
 
-same_frame : (memory : ℕ → Option ℕ) (modules : List Module) (x y : Result (Registers × Bool) FrameError) → by_kind x ≡ by_kind y → by_end_kind (frame_after memory modules x) ≡ by_end_kind (frame_after memory modules y)
-same_frame memory modules (Ok u) (Ok v) e =
+same_frame : (memory : ℕ → Option ℕ) (modules : List Module) (guess : Bool) (x y : Result (Registers × Bool) FrameError) → by_kind x ≡ by_kind y → by_end_kind (frame_after memory modules guess x) ≡ by_end_kind (frame_after memory modules guess y)
+same_frame memory modules guess (Ok u) (Ok v) e =
     let same : u ≡ v = cc in
-    ap (λ (w : Registers × Bool). by_end_kind (frame_after memory modules (Ok w))) same
-same_frame memory modules (Ok u) (Err d) e = absurd (cc e)
-same_frame memory modules (Err d) (Ok v) e = absurd (cc e)
-same_frame memory modules (Err d) (Err e) h =
+    ap (λ (w : Registers × Bool). by_end_kind (frame_after memory modules guess (Ok w))) same
+same_frame memory modules guess (Ok u) (Err d) e = absurd (cc e)
+same_frame memory modules guess (Err d) (Ok v) e = absurd (cc e)
+same_frame memory modules guess (Err d) (Err e) h =
     let same : error_kind d ≡ error_kind e = cc in
     ap (λ (k : ErrorKind). Err (OfError k)) same
 
@@ -48,7 +48,7 @@ one_by_plan law memory modules m e f s (Err r) x y sorted h k = unreadable r x h
 one_by_plan law memory modules m e f s (Ok None) x y sorted h k = ap by_end_kind (h ∙ sym k)
 one_by_plan law memory modules m e f s (Ok (Some plan)) x y sorted h k =
     let one = one_in_image law e (map_of_module m e) (epilog_at plan f.begin_address ((s.registers).rip - m.base) (code_of_frame m e f.end_address s)) memory plan ((s.registers).rip - m.base - f.begin_address) s.registers h.0 k.0 sorted h.1 k.1 in
-    ap by_end_kind h.2 ∙ same_frame memory modules h.0 k.0 one ∙ sym (ap by_end_kind k.2)
+    ap by_end_kind h.2 ∙ same_frame memory modules s.is_guess h.0 k.0 one ∙ sym (ap by_end_kind k.2)
 
 one_found : (law : RecordLaw) (memory : ℕ → Option ℕ) (modules : List Module) (m : Module) (e : ExceptionView) (s : StackFrame) (found : Option RuntimeFunction) (x y : Result StackFrame WalkEnd) → NeverFalls (functions (table_of e)) → CallsFound memory modules m e s found x → CallsFound memory modules m e s found y → by_end_kind x ≡ by_end_kind y
 one_found law memory modules m e s None x y sorted h k = ap by_end_kind (h ∙ sym k)

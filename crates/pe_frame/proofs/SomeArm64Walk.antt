@@ -117,11 +117,11 @@ some_by_info p m f s (Some (Ok i)) is =
 
 some_found : (p : Process) (m : Module) (e : ExceptionView) (s : Arm64StackFrame) (found : Result (Option Arm64RuntimeFunction) Refusal) → Lacks found → All (λ x. x < 256) e.content → Caller (CallsFound p m e s found)
 some_found p m e s (Err r) lack all = unreadable r lack
-some_found p m e s (Ok None) lack all = (caller_of_leaf p.memory p.modules s, refl)
+some_found p m e s (Ok None) lack all = (caller_of_leaf p.memory p.modules s.is_guess s, refl)
 some_found p m e s (Ok (Some f)) lack all = some_by_info p m f s (info_by (map_of_module m e) e.content f) (readable m e f all)
 
 some_by : (p : Process) (m : Module) (s : Arm64StackFrame) (o : Option ExceptionView) → HasBytes o → Caller (CallsBy p m s o)
-some_by p m s None all = (caller_of_leaf p.memory p.modules s, refl)
+some_by p m s None all = (caller_of_leaf p.memory p.modules true s, refl)
 some_by p m s (Some e) all =
     let found = some_function (length_in m e) (arm64_functions (table_of e)) (lookup_address s - m.base) (λ f. length_lacks e.content (map_of_module m e) f) in
     let caller = some_found p m e s found.0 found.2 all in

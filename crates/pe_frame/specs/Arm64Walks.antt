@@ -15,9 +15,9 @@ use Rattle.pe_frame.specs.Arm64Packed.{stepped_arm64_packed}
 use Rattle.pe_frame.specs.Arm64Steps.{StepsOutArm64}
 use Rattle.pe_frame.specs.Arm64Undoing.{link_register, put_pc, put_sp, stripped}
 use Rattle.pe_frame.specs.FrameWalks.{FrameWalk, Process, state_of}
-use Rattle.pe_frame.specs.Modules.{is_after_call_arm64, is_code_return_arm64, map_of_module, module_at}
+use Rattle.pe_frame.specs.Modules.{is_after_call_arm64, is_code, is_code_return_arm64, map_of_module, module_at}
 use Rattle.pe_frame.specs.Scans.{first_return, most_words}
-use Rattle.pe_frame.specs.Walks.{IsUnreadable}
+use Rattle.pe_frame.specs.Walks.{IsUnreadable, end_at_0}
 use Rattle.pe_frame.specs.declared.arm64.registers.Arm64Registers.{Arm64Registers}
 use Rattle.pe_frame.specs.declared.arm64.walk.Arm64StackFrame.{Arm64StackFrame}
 use Rattle.pe_frame.specs.declared.arm64.walk.Arm64StackFrames.{Arm64StackFrames}
@@ -41,9 +41,9 @@ has_called modules Leaf pc = true
 has_called modules Interrupt pc = false
 has_called modules Scanned pc = true
 
--- a frame with these registers, found in this way
-abbrev pub frame_of : List Module → Way → Arm64Registers → Arm64StackFrame
-frame_of modules way g = record { registers = g; way = way; has_called = has_called modules way g.pc }
+-- A frame with these registers, found in this way. It is a guess where nothing proves that it is the caller, and after one.
+abbrev pub frame_of : List Module → Way → Bool → Arm64Registers → Arm64StackFrame
+frame_of modules way guess g = record { registers = g; way = way; has_called = has_called modules way g.pc; is_guess = guess }
 
 -- the address by which the function is looked up: a return address may be the end of the function, so that of the call
 abbrev pub lookup_address : Arm64StackFrame → ℕ
@@ -63,10 +63,10 @@ code_return modules w = if is_code_return_arm64 modules (stripped w) then Some (
 abbrev pub returned_to : Arm64Registers → (ℕ × ℕ) → Arm64Registers
 returned_to g found = put_pc (put_sp g (found.0 + 8)) found.1
 
--- the frame that a scan of the stack finds: by the first word from the stack pointer on, rounded up to 8
+-- the frame that a scan of the stack finds, which is a guess: by the first word from the stack pointer on, rounded up to 8
 abbrev pub scanned : (ℕ → Option ℕ) → List Module → Arm64Registers → Option Arm64StackFrame
 scanned memory modules g =
-    option_map (λ found. frame_of modules Scanned (returned_to g found))
+    option_map (λ found. frame_of modules Scanned true (returned_to g found))
     (first_return most_words memory (code_return modules) (rounded_up g.sp 8))
 
 -- the caller of a leaf function goes on at the link register
@@ -74,40 +74,47 @@ abbrev pub after_leaf : Arm64Registers → Arm64Registers
 after_leaf g = put_pc g (link_register g)
 
 -- its frame, if a call ends there
-abbrev pub leaf_frame : List Module → Arm64Registers → Option Arm64StackFrame
-leaf_frame modules g =
-    if is_after_call_arm64 modules (link_register g) then Some (frame_of modules Leaf (after_leaf g)) else None
+abbrev pub leaf_frame : List Module → Bool → Arm64Registers → Option Arm64StackFrame
+leaf_frame modules guess g =
+    if is_after_call_arm64 modules (link_register g) then Some (frame_of modules Leaf guess (after_leaf g)) else None
 
--- the frame that is found from registers without records: that of the caller of a leaf function, else by a scan
-abbrev pub without_records : (ℕ → Option ℕ) → List Module → Arm64Registers → Option Arm64StackFrame
-without_records memory modules g = option_or (leaf_frame modules g) (scanned memory modules g)
+-- The frame that is found from registers without records: that of the caller of a leaf function, else by a scan. Whether the first
+-- is a guess depends on what says that the function is a leaf function.
+abbrev pub without_records : (ℕ → Option ℕ) → List Module → Bool → Arm64Registers → Option Arm64StackFrame
+without_records memory modules guess g = option_or (leaf_frame modules guess g) (scanned memory modules g)
 
 -- ---- its caller, or why there is none
 
--- In no function of a module. A leaf function calls nothing, so a frame that has called has no caller. Where nothing is found, a
--- leaf function may return to code that has no calls.
-abbrev pub caller_of_leaf : (ℕ → Option ℕ) → List Module → Arm64StackFrame → Result Arm64StackFrame WalkEnd
-caller_of_leaf memory modules s =
-    if s.has_called then Err ends.NoFunction
-    else option_map_or Ok (without_records memory modules s.registers)
-    (if link_register s.registers == 0 then Err ends.Bottom else Ok (frame_of modules Leaf (after_leaf s.registers)))
+-- The caller of a frame that has not called, where neither a call nor a scan leads on: the frame may be one of a leaf function that
+-- was jumped to, so that it returns to code which no call precedes. It returns to no 0 that is known for the bottom, and to no data.
+abbrev pub jumped_frame : List Module → Arm64Registers → Result Arm64StackFrame WalkEnd
+jumped_frame modules g =
+    if link_register g == 0 then Err ends.Zero
+    else (if is_code modules (link_register g) then Ok (frame_of modules Leaf true (after_leaf g)) else Err ends.NoReturnAddress)
+
+-- The caller of a frame in no function of its module, by whether it is a guess that this is one of a leaf function. A leaf function
+-- calls nothing: that of a frame which has called is found by a scan alone.
+abbrev pub caller_of_leaf : (ℕ → Option ℕ) → List Module → Bool → Arm64StackFrame → Result Arm64StackFrame WalkEnd
+caller_of_leaf memory modules guess s =
+    if s.has_called then option_map_or Ok (scanned memory modules s.registers) (Err ends.NoFunction)
+    else option_map_or Ok (without_records memory modules guess s.registers) (jumped_frame modules s.registers)
 
 -- The same in no module, to which a wild jump or call may lead.
 abbrev pub caller_outside : (ℕ → Option ℕ) → List Module → Arm64StackFrame → Result Arm64StackFrame WalkEnd
 caller_outside memory modules s =
     if s.has_called then Err ends.NoModule
-    else option_map_or Ok (without_records memory modules s.registers) (Err ends.NoModule)
+    else option_map_or Ok (without_records memory modules true s.registers) (Err ends.NoModule)
 
 -- The frame that records lead to. A function that calls has stored the link register, below the stack pointer of its caller: where
 -- it stands, the walk is lost.
 abbrev pub called_frame : List Module → Arm64StackFrame → Arm64Registers → Result Arm64StackFrame WalkEnd
 called_frame modules s u =
     if s.has_called && u.sp == (s.registers).sp then Err (ends.Step (NotRising u.sp))
-    else (if u.pc == 0 then Err ends.Bottom else Ok (frame_of modules Records u))
+    else (if u.pc == 0 then Err (end_at_0 s.is_guess) else Ok (frame_of modules Records s.is_guess u))
 
 -- what a step returned
 abbrev pub frame_after : List Module → Arm64StackFrame → Result (Arm64Registers × Bool) FrameError → Result Arm64StackFrame WalkEnd
-frame_after modules s (Ok (u, true)) = Ok (frame_of modules Interrupt u)
+frame_after modules s (Ok (u, true)) = Ok (frame_of modules Interrupt s.is_guess u)
 frame_after modules s (Ok (u, false)) = called_frame modules s u
 frame_after modules s (Err e) = Err (ends.Step e)
 
@@ -124,19 +131,20 @@ CallsByInfo p m f s (Some (Ok i)) answer =
     (left : Result (Arm64Registers × Bool) FrameError) × StepsOutArm64 p.memory i (place_of m f s) s.registers left
     × (answer ≡ frame_after p.modules s left)
 
--- by the function that lookup found, if it found one; lookup reads the length of a function from its record
+-- By the function that lookup found, if it found one; lookup reads the length of a function from its record. Where it found none, the
+-- table says that the function is a leaf function.
 abbrev pub CallsFound : Process → Module → ExceptionView → Arm64StackFrame → Result (Option Arm64RuntimeFunction) Refusal → Result Arm64StackFrame WalkEnd → Type 0
 CallsFound p m e s (Err r) answer = IsUnreadable r answer
-CallsFound p m e s (Ok None) answer = answer ≡ caller_of_leaf p.memory p.modules s
+CallsFound p m e s (Ok None) answer = answer ≡ caller_of_leaf p.memory p.modules s.is_guess s
 CallsFound p m e s (Ok (Some f)) answer = CallsByInfo p m f s (info_by (map_of_module m e) e.content f) answer
 
 -- the length of each function of a module
 abbrev pub length_in : Module → ExceptionView → Arm64RuntimeFunction → Result ℕ Refusal
 length_in m e = length_by (map_of_module m e) e.content
 
--- by the exception data of a module; without any all of its functions are leaf functions
+-- by the exception data of a module; without any nothing says which of its functions are leaf functions
 abbrev pub CallsBy : Process → Module → Arm64StackFrame → Option ExceptionView → Result Arm64StackFrame WalkEnd → Type 0
-CallsBy p m s None answer = answer ≡ caller_of_leaf p.memory p.modules s
+CallsBy p m s None answer = answer ≡ caller_of_leaf p.memory p.modules true s
 CallsBy p m s (Some e) answer =
     (found : Result (Option Arm64RuntimeFunction) Refusal)
     × FindsArm64 (length_in m e) (arm64_functions (table_of e)) (lookup_address s - m.base) found
@@ -159,7 +167,7 @@ walk_of word s = state_of (record { memory = word s.memory.now; modules = s.modu
 
 -- the top frame, with the registers of a thread
 abbrev pub top_frame : Arm64Registers → Arm64StackFrame
-top_frame g = record { registers = g; way = Top; has_called = false }
+top_frame g = record { registers = g; way = Top; has_called = false; is_guess = false }
 
 -- ---- what decides a walk
 

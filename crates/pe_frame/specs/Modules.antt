@@ -29,24 +29,36 @@ abbrev pub bytes_or_none : List ℕ → Option ℕ → ℕ → List ℕ
 bytes_or_none b None n = []
 bytes_or_none b (Some p) n = if holds b p n then range b p n else []
 
--- the map from RVAs of a module to file offsets: the section map of its exception data, by its index of the sections where it has one
+-- the map from RVAs of a module to file offsets, at a file alignment: by its index of the sections where it has one
+abbrev pub map_at : Module → ℕ → ℕ → Option ℕ
+map_at m alignment x = section_map m.opts (sections_by m.sections.now m.index.now x) alignment x
+
+-- the section map of its exception data
 abbrev pub map_of_module : Module → ExceptionView → ℕ → Option ℕ
-map_of_module m e x = section_map m.opts (sections_by m.sections.now m.index.now x) e.alignment x
+map_of_module m e x = map_at m e.alignment x
+
+-- The alignment at which the code of a module is read: that of its exception data. Without any it is 1, so that the sections alone
+-- say where code is: all of it stands in their raw data.
+abbrev pub code_alignment : Option ExceptionView → ℕ
+code_alignment None = 1
+code_alignment (Some e) = e.alignment
 
 -- the code of a module from an RVA up to another
+abbrev pub code_at : Module → ℕ → ℕ → ℕ → List ℕ
+code_at m alignment rva end = bytes_or_none m.bytes.now (map_at m alignment rva) (end - rva)
+
 abbrev pub code_in : Module → ExceptionView → ℕ → ℕ → List ℕ
-code_in m e rva end = bytes_or_none m.bytes.now (map_of_module m e rva) (end - rva)
+code_in m e rva end = code_at m e.alignment rva end
 
 -- ---- return addresses
 
 -- the n bytes before an RVA are a call
-abbrev pub follows_call : Module → ExceptionView → ℕ → ℕ → Bool
-follows_call m e rva n = nat_le n rva && is_call (code_in m e (rva - n) rva)
+abbrev pub follows_call : Module → ℕ → ℕ → ℕ → Bool
+follows_call m alignment rva n = nat_le n rva && is_call (code_at m alignment (rva - n) rva)
 
--- A call ends at an RVA of a module. In one without exception data no function calls.
+-- A call ends at an RVA of a module. Functions that no exception data describe call too.
 abbrev pub has_call_before : Module → Option ExceptionView → ℕ → Bool
-has_call_before m None rva = false
-has_call_before m (Some e) rva = list_any (follows_call m e rva) call_sizes
+has_call_before m exceptions rva = list_any (follows_call m (code_alignment exceptions) rva) call_sizes
 
 abbrev pub is_after_call_in : Module → ℕ → Bool
 is_after_call_in m a = has_call_before m (option_map (λ e. e.now) m.exceptions) (a - m.base)
@@ -76,12 +88,20 @@ is_code_return_of (Some m) a = is_executable m.sections.now (a - m.base - 1) && 
 abbrev pub is_code_return : List Module → ℕ → Bool
 is_code_return modules a = is_code_return_of (module_at modules (a - 1)) a
 
+abbrev pub is_code_of : Option Module → ℕ → Bool
+is_code_of None a = false
+is_code_of (Some m) a = is_executable m.sections.now (a - m.base)
+
+-- an address is one of an executable section, on each machine
+abbrev pub is_code : List Module → ℕ → Bool
+is_code modules a = is_code_of (module_at modules a) a
+
 -- ---- return addresses on ARM64, where a call has four bytes
 
 -- the bytes before an RVA are a call
 abbrev pub has_call_before_arm64 : Module → Option ExceptionView → ℕ → Bool
-has_call_before_arm64 m None rva = false
-has_call_before_arm64 m (Some e) rva = nat_le 4 rva && is_call_arm64 (code_in m e (rva - 4) rva)
+has_call_before_arm64 m exceptions rva =
+    nat_le 4 rva && is_call_arm64 (code_at m (code_alignment exceptions) (rva - 4) rva)
 
 abbrev pub is_after_call_arm64_in : Module → ℕ → Bool
 is_after_call_arm64_in m a = has_call_before_arm64 m (option_map (λ e. e.now) m.exceptions) (a - m.base)

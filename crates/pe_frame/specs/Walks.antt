@@ -12,7 +12,7 @@ use Rattle.pe_unwind.specs.declared.function_table.RuntimeFunction.{RuntimeFunct
 use Rattle.pe_plan.specs.ShortPlans.{PlansShort}
 use Rattle.pe_frame.specs.FrameWalks.{FrameWalk, Process, state_of}
 use Rattle.pe_frame.specs.Jumps.{StepsInImage}
-use Rattle.pe_frame.specs.Modules.{module_at, map_of_module, code_in, is_after_call, is_code_return}
+use Rattle.pe_frame.specs.Modules.{module_at, map_of_module, code_in, is_after_call, is_code, is_code_return}
 use Rattle.pe_frame.specs.Scans.{first_return, most_words}
 use Rattle.pe_frame.specs.Steps.{ErrorKind, error_kind}
 use Rattle.pe_frame.specs.Undoing.{stack_pointer, popped, put_register, put_rip}
@@ -39,9 +39,9 @@ has_called modules Leaf rip = true
 has_called modules Interrupt rip = false
 has_called modules Scanned rip = true
 
--- a frame with these registers, found in this way
-abbrev pub frame_of : List Module → Way → Registers → StackFrame
-frame_of modules way g = record { registers = g; way = way; has_called = has_called modules way g.rip }
+-- A frame with these registers, found in this way. It is a guess where nothing proves that it is the caller, and after one.
+abbrev pub frame_of : List Module → Way → Bool → Registers → StackFrame
+frame_of modules way guess g = record { registers = g; way = way; has_called = has_called modules way g.rip; is_guess = guess }
 
 -- the address by which the function is looked up: a return address may be the end of the function, so the byte before it
 abbrev pub lookup_address : StackFrame → ℕ
@@ -61,20 +61,21 @@ code_return modules w = if is_code_return modules w then Some w else None
 abbrev pub returned_to : Registers → (ℕ × ℕ) → Registers
 returned_to g found = put_rip (put_register g RSP (found.0 + 8)) found.1
 
--- the frame that a scan of the stack finds: by the first word from the stack pointer on, rounded up to 8
+-- the frame that a scan of the stack finds, which is a guess: by the first word from the stack pointer on, rounded up to 8
 abbrev pub scanned : (ℕ → Option ℕ) → List Module → Registers → Option StackFrame
 scanned memory modules g =
-    option_map (λ found. frame_of modules Scanned (returned_to g found))
+    option_map (λ found. frame_of modules Scanned true (returned_to g found))
     (first_return most_words memory (code_return modules) (rounded_up (stack_pointer g) 8))
 
 -- the caller of a leaf function, which has the return address at the stack pointer, if a call ends at that
-abbrev pub leaf_frame : List Module → Result Registers FrameError → Option StackFrame
-leaf_frame modules (Ok u) = if is_after_call modules u.rip then Some (frame_of modules Leaf u) else None
-leaf_frame modules (Err e) = None
+abbrev pub leaf_frame : List Module → Bool → Result Registers FrameError → Option StackFrame
+leaf_frame modules guess (Ok u) = if is_after_call modules u.rip then Some (frame_of modules Leaf guess u) else None
+leaf_frame modules guess (Err e) = None
 
--- the frame that is found from registers without records: that of the caller of a leaf function, else by a scan
-abbrev pub without_records : (ℕ → Option ℕ) → List Module → Registers → Option StackFrame
-without_records memory modules g = option_or (leaf_frame modules (popped memory g)) (scanned memory modules g)
+-- The frame that is found from registers without records: that of the caller of a leaf function, else by a scan. Whether the first
+-- is a guess depends on what says that the function is a leaf function.
+abbrev pub without_records : (ℕ → Option ℕ) → List Module → Bool → Registers → Option StackFrame
+without_records memory modules guess g = option_or (leaf_frame modules guess (popped memory g)) (scanned memory modules g)
 
 -- ---- its caller, or why there is none
 
@@ -86,14 +87,18 @@ IsUnreadable r (Err other) = ⊥
 
 -- the bottom of a stack: a call that returns to 0, and from there no frame is found
 abbrev pub is_bottom : (ℕ → Option ℕ) → List Module → Registers → Bool
-is_bottom memory modules u = u.rip == 0 && is_none (without_records memory modules u)
+is_bottom memory modules u = u.rip == 0 && is_none (without_records memory modules true u)
 
--- what a step returned
-abbrev pub frame_after : (ℕ → Option ℕ) → List Module → Result (Registers × Bool) FrameError → Result StackFrame WalkEnd
-frame_after memory modules (Ok (u, true)) = Ok (frame_of modules Interrupt u)
-frame_after memory modules (Ok (u, false)) =
-    if is_bottom memory modules u then Err ends.Bottom else Ok (frame_of modules Records u)
-frame_after memory modules (Err e) = Err (ends.Step e)
+-- the end of a walk that comes to 0: the stack is whole only where no frame on the way is a guess
+abbrev pub end_at_0 : Bool → WalkEnd
+end_at_0 guess = if guess then ends.Zero else ends.Bottom
+
+-- what a step returned from a frame, by whether that is a guess
+abbrev pub frame_after : (ℕ → Option ℕ) → List Module → Bool → Result (Registers × Bool) FrameError → Result StackFrame WalkEnd
+frame_after memory modules guess (Ok (u, true)) = Ok (frame_of modules Interrupt guess u)
+frame_after memory modules guess (Ok (u, false)) =
+    if is_bottom memory modules u then Err (end_at_0 guess) else Ok (frame_of modules Records guess u)
+frame_after memory modules guess (Err e) = Err (ends.Step e)
 
 -- what a step from a frame returns, by the records of its function
 abbrev pub StepsFromFrame : (ℕ → Option ℕ) → Module → ExceptionView → RuntimeFunction → List UnwindInfoView → StackFrame → Result (Registers × Bool) FrameError → Type 0
@@ -106,35 +111,39 @@ CallsByPlan memory modules m e f s (Err r) answer = IsUnreadable r answer
 CallsByPlan memory modules m e f s (Ok None) answer = answer ≡ Err ends.LongChain
 CallsByPlan memory modules m e f s (Ok (Some plan)) answer =
     (left : Result (Registers × Bool) FrameError) × StepsFromFrame memory m e f plan s left
-    × (answer ≡ frame_after memory modules left)
+    × (answer ≡ frame_after memory modules s.is_guess left)
 
--- Without a function there is no caller of a frame that has called: a leaf function calls nothing. That of any other frame is
--- found without records. Where it is not, the frame is taken for one of a leaf function nevertheless: a module may be missing.
+-- The caller of a frame that has not called, where neither a call nor a scan leads on: the frame may be one of a leaf function that
+-- was jumped to, so that it returns to code which no call precedes. It returns to no 0 that is known for the bottom, and to no data.
 abbrev pub after_leaf : List Module → Result Registers FrameError → Result StackFrame WalkEnd
-after_leaf modules (Ok u) = if u.rip == 0 then Err ends.Bottom else Ok (frame_of modules Leaf u)
+after_leaf modules (Ok u) =
+    if u.rip == 0 then Err ends.Zero
+    else (if is_code modules u.rip then Ok (frame_of modules Leaf true u) else Err ends.NoReturnAddress)
 after_leaf modules (Err e) = Err (ends.Step e)
 
-abbrev pub caller_of_leaf : (ℕ → Option ℕ) → List Module → StackFrame → Result StackFrame WalkEnd
-caller_of_leaf memory modules s =
-    if s.has_called then Err ends.NoFunction
-    else option_map_or Ok (without_records memory modules s.registers) (after_leaf modules (popped memory s.registers))
+-- The caller of a frame in no function of its module, by whether it is a guess that this is one of a leaf function. A leaf function
+-- calls nothing: that of a frame which has called is found by a scan alone.
+abbrev pub caller_of_leaf : (ℕ → Option ℕ) → List Module → Bool → StackFrame → Result StackFrame WalkEnd
+caller_of_leaf memory modules guess s =
+    if s.has_called then option_map_or Ok (scanned memory modules s.registers) (Err ends.NoFunction)
+    else option_map_or Ok (without_records memory modules guess s.registers) (after_leaf modules (popped memory s.registers))
 
 -- The same in no module, to which a wild jump or call may lead, but there nothing speaks for a leaf function.
 abbrev pub caller_outside : (ℕ → Option ℕ) → List Module → StackFrame → Result StackFrame WalkEnd
 caller_outside memory modules s =
     if s.has_called then Err ends.NoModule
-    else option_map_or Ok (without_records memory modules s.registers) (Err ends.NoModule)
+    else option_map_or Ok (without_records memory modules true s.registers) (Err ends.NoModule)
 
--- by the function that lookup found, if it found one
+-- By the function that lookup found, if it found one. Where it found none, the table says that the function is a leaf function.
 abbrev pub CallsFound : (ℕ → Option ℕ) → List Module → Module → ExceptionView → StackFrame → Option RuntimeFunction → Result StackFrame WalkEnd → Type 0
-CallsFound memory modules m e s None answer = answer ≡ caller_of_leaf memory modules s
+CallsFound memory modules m e s None answer = answer ≡ caller_of_leaf memory modules s.is_guess s
 CallsFound memory modules m e s (Some f) answer =
     (plan : Result (Option (List UnwindInfoView)) Refusal)
     × PlansShort (links_with e (map_of_module m e)) e.content f plan × CallsByPlan memory modules m e f s plan answer
 
--- by the exception data of a module; without any all of its functions are leaf functions
+-- by the exception data of a module; without any nothing says which of its functions are leaf functions
 abbrev pub CallsBy : (ℕ → Option ℕ) → List Module → Module → StackFrame → Option ExceptionView → Result StackFrame WalkEnd → Type 0
-CallsBy memory modules m s None answer = answer ≡ caller_of_leaf memory modules s
+CallsBy memory modules m s None answer = answer ≡ caller_of_leaf memory modules true s
 CallsBy memory modules m s (Some e) answer =
     (found : Option RuntimeFunction) × Finds (functions (table_of e)) (lookup_address s - m.base) found
     × CallsFound memory modules m e s found answer
@@ -156,7 +165,7 @@ walk_of word s = state_of (record { memory = word s.memory.now; modules = s.modu
 
 -- the top frame, with the registers of a thread
 abbrev pub top_frame : Registers → StackFrame
-top_frame g = record { registers = g; way = Top; has_called = false }
+top_frame g = record { registers = g; way = Top; has_called = false; is_guess = false }
 
 -- ---- what decides a walk
 

@@ -3,16 +3,17 @@
 ghost use Rattle.std.specs.Prelude.{◌≡◌, ◌+◌, ◌-◌, ◌≤◌, MatchResult, Some};
 ghost use Rattle.std.specs.List.{list_any};
 ghost use Rattle.std.specs.Option.{option_map};
+ghost use Rattle.pe_core.specs.SectionMap.{offset_in};
 ghost use Rattle.pe_frame.specs.AddressRanges.{AreAscending, IsOverlap};
 ghost use Rattle.pe_frame.specs.SectionIndexes.{sections_by};
-ghost use Rattle.pe_frame.specs.Modules.{module_base, module_size, module_at, map_of_module, code_in, follows_call, is_after_call_in, is_after_call, is_after_call_arm64_in, is_after_call_arm64, executes, is_executable, is_code_return, is_code_return_of, is_code_return_arm64, is_code_return_arm64_of};
+ghost use Rattle.pe_frame.specs.Modules.{bytes_or_none, module_base, module_size, module_at, map_of_module, code_alignment, code_at, code_in, follows_call, is_after_call_in, is_after_call, is_after_call_arm64_in, is_after_call_arm64, executes, is_executable, is_code, is_code_of, is_code_return, is_code_return_of, is_code_return_arm64, is_code_return_arm64_of};
 
 use crate::address_ranges::{AddressRange, first_overlap, has_address, range_with};
 use crate::arm64::is_call_arm64;
 use crate::call::is_call;
 use crate::section_index::{IndexEntry, sections_by};
 use crate::section_search::section_started;
-use pe_core::{ParseOptions, RvaMap, SectionTable, slice_at};
+use pe_core::{ParseOptions, RvaMap, SectionMap, SectionTable, slice_at};
 use pe_unwind::ExceptionData;
 use std::ops::Range;
 
@@ -39,7 +40,7 @@ pub struct Module<'a> {
     /// An index of the sections, by which its RVAs are mapped; no entries without one. A scan asks `sections` itself whether an RVA
     /// is executable.
     pub index: &'a [IndexEntry],
-    /// Its exception data, parsed from `bytes`; without any it has leaf functions alone.
+    /// Its exception data, parsed from `bytes`; without any no records describe its functions.
     pub exceptions: Option<&'a ExceptionData<'a>>,
     /// The options with which it was parsed.
     pub opts: ParseOptions,
@@ -94,18 +95,42 @@ impl<'a> Module<'a> {
         sections_by(self.sections, self.index, u64::from(rva))
     }
 
-    /// The code at these RVAs, by the section map of the module's exception data. Empty where it is not all in the image.
-    pub(crate) fn code(&self, exceptions: &ExceptionData<'a>, rvas: Range<u32>) -> &'a [u8]
-        ensures { result.now ≡ code_in self.now exceptions.now rvas.start rvas.end }
+    /// The code at these RVAs, by a section map of the module: one of the sections that may map the first of them. Empty where it is
+    /// not all in the image.
+    fn code_by(&self, map: &SectionMap<'_>, rvas: Range<u32>) -> &'a [u8]
+        ensures { result.now ≡ bytes_or_none self.now.bytes.now
+            (offset_in map.now rvas.start) (rvas.end - rvas.start) }
     {
         let Range { start: rva, end } = rvas;
-        let map = exceptions.section_map(self.sections_of(rva), &self.opts);
         match map.find(rva as usize) {
             Some(offset) => match slice_at(self.bytes, offset, end.saturating_sub(rva) as usize) {
                 Ok(code) => code,
                 Err(_) => &[],
             },
             None => &[],
+        }
+    }
+
+    /// The code at these RVAs, by the section map of the module's exception data. Empty where it is not all in the image.
+    pub(crate) fn code(&self, exceptions: &ExceptionData<'a>, rvas: Range<u32>) -> &'a [u8]
+        ensures { result.now ≡ code_in self.now exceptions.now rvas.start rvas.end }
+    {
+        let map = exceptions.section_map(self.sections_of(rvas.start), &self.opts);
+        self.code_by(&map, rvas)
+    }
+
+    /// The code at these RVAs, by the section map of the module's exception data, or without any by its sections alone. Empty where
+    /// it is not all in the image.
+    fn called_code(&self, rvas: Range<u32>) -> &'a [u8]
+        ensures { result.now ≡ code_at self.now
+            (code_alignment (option_map (λ e. e.now) self.now.exceptions)) rvas.start rvas.end }
+    {
+        match self.exceptions {
+            Some(exceptions) => self.code(exceptions, rvas),
+            None => {
+                let map = SectionMap::new(self.sections_of(rvas.start), 1, &self.opts);
+                self.code_by(&map, rvas)
+            }
         }
     }
 
@@ -119,32 +144,29 @@ impl<'a> Module<'a> {
     }
 
     /// Whether the bytes before an RVA are a call of so many bytes.
-    fn follows_call(&self, exceptions: &ExceptionData<'a>, rva: u32, size: u8) -> bool
-        ensures { result ≡ follows_call self.now exceptions.now rva size }
+    fn follows_call(&self, rva: u32, size: u8) -> bool
+        ensures { result ≡ follows_call self.now
+            (code_alignment (option_map (λ e. e.now) self.now.exceptions)) rva size }
     {
         let size = u32::from(size);
-        size <= rva && is_call(self.code(exceptions, rva - size..rva))
+        size <= rva && is_call(self.called_code(rva - size..rva))
     }
 
     /// Whether the bytes before an RVA are a call of one of these sizes.
-    fn follows_any(&self, exceptions: &ExceptionData<'a>, rva: u32, sizes: &[u8]) -> bool
-        ensures { result ≡ list_any (follows_call self.now exceptions.now rva) sizes.now }
+    fn follows_any(&self, rva: u32, sizes: &[u8]) -> bool
+        ensures { result ≡ list_any (follows_call self.now
+            (code_alignment (option_map (λ e. e.now) self.now.exceptions)) rva) sizes.now }
     {
-        sizes
-            .iter()
-            .any(|size| self.follows_call(exceptions, rva, *size))
+        sizes.iter().any(|size| self.follows_call(rva, *size))
     }
 
-    /// Whether an address, which may be the end of the module, is one after a call. In a module without exception data none
-    /// is: leaf functions call nothing.
+    /// Whether an address, which may be the end of the module, is one after a call. Functions that no exception data describe call
+    /// too: code is read by the sections.
     pub fn is_after_call(&self, address: u64) -> bool
         requires { address ≤ self.now.base + self.now.size }
         ensures { result ≡ is_after_call_in self.now address }
     {
-        let Some(exceptions) = self.exceptions else {
-            return false;
-        };
-        self.follows_any(exceptions, self.rva_of(address), &CALL_SIZES)
+        self.follows_any(self.rva_of(address), &CALL_SIZES)
     }
 
     /// Whether an address, which may be the end of the module, is one after a call on ARM64.
@@ -152,11 +174,8 @@ impl<'a> Module<'a> {
         requires { address ≤ self.now.base + self.now.size }
         ensures { result ≡ is_after_call_arm64_in self.now address }
     {
-        let Some(exceptions) = self.exceptions else {
-            return false;
-        };
         let (size, rva) = (SIZE_OF_CALL_ARM64, self.rva_of(address));
-        size <= rva && is_call_arm64(self.code(exceptions, rva - size..rva))
+        size <= rva && is_call_arm64(self.called_code(rva - size..rva))
     }
 
     /// Whether the section that halving finds of an RVA is executable, and has it.
@@ -167,6 +186,14 @@ impl<'a> Module<'a> {
         section_started(self.sections, rva)
             .iter()
             .any(|section| executes(section, rva))
+    }
+
+    /// Whether an address of the module is one of an executable section: of the last that starts at or before it, found by halving.
+    pub fn is_code(&self, address: u64) -> bool
+        requires { address ≤ self.now.base + self.now.size }
+        ensures { result ≡ is_code_of (Some self.now) address }
+    {
+        self.is_executable(self.rva_of(address))
     }
 
     /// Whether an address, which may be the end of the module, is one after a call in an executable section. Asked is the last section
@@ -227,7 +254,7 @@ impl<'a> Modules<'a> {
     /// may be a return address, and an address of which this does not hold is none.
     ///
     /// A call is E8 with four bytes, or FF /2 with its operand and, before it, a REX prefix or none. The bytes are read by the
-    /// section map of the module's exception data; a module without any has no calls.
+    /// section map of the module's exception data, or without any by its sections alone.
     pub fn is_after_call(&self, address: u64) -> bool
         ensures { result ≡ is_after_call self.now.modules.now address }
     {
@@ -258,6 +285,17 @@ impl<'a> Modules<'a> {
             None => false,
         }
     }
+
+    /// Whether an address is one of an executable section of its module.
+    pub(crate) fn is_code(&self, address: u64) -> bool
+        ensures { result ≡ is_code self.now.modules.now address }
+    {
+        match self.find(address) {
+            Some(module) => module.is_code(address),
+            None => false,
+        }
+    }
+
     /// The same on ARM64.
     pub(crate) fn is_code_return_arm64(&self, address: u64) -> bool
         ensures { result ≡ is_code_return_arm64 self.now.modules.now address }

@@ -8,6 +8,9 @@
 //! What is a return address is a fact of the bytes before it: a call ends there. Records lead to interrupted code too, where a
 //! dispatcher of exceptions saved the registers without a machine frame. After a call of a null pointer the frame is in no module:
 //! its return address is at the stack pointer, if a call ends at that. Where neither leads on, the stack is scanned.
+//!
+//! What is found so may be wrong, and so may all that follows. Each frame says whether it is such a guess, and a stack is called whole
+//! only where none is.
 
 ghost use Rattle.std.specs.Prelude.{◌≡◌, ◌≤◌, ◌<◌, ◌+◌, ◌-◌, Ok, Err, IsTrue, OnErr, true};
 ghost use Rattle.std.specs.Option.{is_none, option_map};
@@ -16,7 +19,7 @@ ghost use Rattle.pe_frame.specs.AddressRanges.{has_address};
 ghost use Rattle.pe_frame.specs.InPlace.{changed_with};
 ghost use Rattle.pe_frame.specs.FrameWalks.{frame_left};
 ghost use Rattle.pe_frame.specs.Modules.{module_base, module_size};
-ghost use Rattle.pe_frame.specs.Walks.{has_called, frame_of, lookup_address, code_of_frame, code_return, scanned, leaf_frame, without_records, is_bottom, after_leaf, caller_of_leaf, caller_outside, frame_after, CallsFound, CallsIn};
+ghost use Rattle.pe_frame.specs.Walks.{has_called, frame_of, lookup_address, code_of_frame, code_return, scanned, leaf_frame, without_records, is_bottom, end_at_0, after_leaf, caller_of_leaf, caller_outside, frame_after, CallsFound, CallsIn};
 ghost use Rattle.pe_frame.specs.declared.modules.Module.{Module};
 
 use crate::error::FrameError;
@@ -58,6 +61,10 @@ pub struct StackFrame {
     /// Whether its function has called. If not, `rip` is that of the instruction that is about to run: in the top frame, in one
     /// that an interrupt stopped, and in one that records lead to where no call ends at `rip`, which was interrupted too.
     pub has_called: bool,
+    /// Whether it may be wrong: nothing proves that it is the caller, or it follows a frame of which this holds. What a scan finds
+    /// is a guess, and so is the caller of code of which no function table says that it is a leaf function: in a module without
+    /// exception data, in no module, and where no call ends at the return address.
+    pub is_guess: bool,
 }
 
 /// Why a walk is over.
@@ -66,15 +73,22 @@ pub enum WalkEnd {
     /// As many frames were returned as the caller of the walk asked for.
     #[error("as many frames as were asked for")]
     Bound,
-    /// The stack is whole: the last frame returns to 0, as that does with which a thread starts, and no frame is found there.
+    /// The stack is whole: by its records the last frame returns to 0, as that does with which a thread starts, no frame is found
+    /// there, and none of the frames is a guess.
     #[error("bottom of the stack")]
     Bottom,
+    /// The last frame returns to 0, but it is a guess, or no records describe its code: frames may be missing or wrong.
+    #[error("0 after a guess")]
+    Zero,
     /// No module has the instruction pointer of the last frame, and no return address is found.
     #[error("no module has the instruction pointer")]
     NoModule,
-    /// No function covers the call in the last frame. A leaf function calls nothing.
+    /// No function covers the call in the last frame, and no return address is found. A leaf function calls nothing.
     #[error("no function covers the call")]
     NoFunction,
+    /// No records describe the code of the last frame, and where it would return to is no executable code.
+    #[error("no return address")]
+    NoReturnAddress,
     /// An unwind record of the function in the last frame cannot be read.
     #[error("{0}")]
     Records(pe_core::Error),
@@ -100,19 +114,20 @@ fn has_called<L: CallSites>(modules: &L, way: Way, rip: u64) -> bool
 }
 
 /// A frame with these registers, found in this way.
-fn frame_of<L: CallSites>(modules: &L, way: Way, registers: Registers) -> StackFrame
-    ensures { result ≡ frame_of (L.list modules.now) way registers }
+fn frame_of<L: CallSites>(modules: &L, way: Way, is_guess: bool, registers: Registers) -> StackFrame
+    ensures { result ≡ frame_of (L.list modules.now) way is_guess registers }
 {
     StackFrame {
         registers,
         way,
         has_called: has_called(modules, way, registers.rip),
+        is_guess,
     }
 }
 
-/// Makes a frame one that was found in this way, with the registers that it has.
+/// Makes a frame one that was found in this way, with the registers that it has, after one that was a guess if it was.
 fn found_in<L: CallSites>(modules: &L, way: Way, frame: &mut StackFrame)
-    ensures { frame.new ≡ frame_of (L.list modules.now) way frame.old.registers }
+    ensures { frame.new ≡ frame_of (L.list modules.now) way frame.old.is_guess frame.old.registers }
 {
     frame.way = way;
     frame.has_called = has_called(modules, way, frame.registers.rip);
@@ -159,34 +174,37 @@ fn scanned<L: CallSites, M: Memory>(
     let mut caller = *registers;
     caller.general[RSP] = address + SIZE_OF_WORD;
     caller.rip = word;
-    Some(frame_of(modules, Way::Scanned, caller))
+    Some(frame_of(modules, Way::Scanned, true, caller))
 }
 
 /// The frame of the caller of a leaf function, if a call ends where it returns to.
 fn leaf_frame<L: CallSites>(
     modules: &L,
+    is_guess: bool,
     popped: &Result<Registers, FrameError>,
 ) -> Option<StackFrame>
-    ensures { result ≡ leaf_frame (L.list modules.now) popped.now }
+    ensures { result ≡ leaf_frame (L.list modules.now) is_guess popped.now }
 {
     match popped {
         Ok(registers) if modules.ends_call(registers.rip) => {
-            Some(frame_of(modules, Way::Leaf, *registers))
+            Some(frame_of(modules, Way::Leaf, is_guess, *registers))
         }
         _ => None,
     }
 }
 
-/// The frame that is found from registers without records. Out of line, as few frames are found so.
+/// The frame that is found from registers without records, by whether it is a guess that their function is a leaf function. Out of
+/// line, as few frames are found so.
 #[inline(never)]
 fn without_records<L: CallSites, M: Memory>(
     modules: &L,
     memory: &M,
+    is_guess: bool,
     registers: &Registers,
 ) -> Option<StackFrame>
-    ensures { result ≡ without_records (M.word memory.now) (L.list modules.now) registers.now }
+    ensures { result ≡ without_records (M.word memory.now) (L.list modules.now) is_guess registers.now }
 {
-    match leaf_frame(modules, &leaf(*registers, memory)) {
+    match leaf_frame(modules, is_guess, &leaf(*registers, memory)) {
         Some(frame) => Some(frame),
         None => scanned(modules, memory, registers),
     }
@@ -196,9 +214,9 @@ fn without_records<L: CallSites, M: Memory>(
 /// others do not pay for the room of a frame.
 #[inline(never)]
 fn is_last<L: CallSites, M: Memory>(modules: &L, memory: &M, registers: &Registers) -> bool
-    ensures { result ≡ is_none (without_records (M.word memory.now) (L.list modules.now) registers.now) }
+    ensures { result ≡ is_none (without_records (M.word memory.now) (L.list modules.now) true registers.now) }
 {
-    without_records(modules, memory, registers).is_none()
+    without_records(modules, memory, true, registers).is_none()
 }
 
 /// Whether the registers of a caller are those of the bottom of the stack.
@@ -208,7 +226,18 @@ fn is_bottom<L: CallSites, M: Memory>(modules: &L, memory: &M, registers: &Regis
     registers.rip == 0 && is_last(modules, memory, registers)
 }
 
-/// The frame of the caller of a leaf function, whatever it returns to.
+/// Why a walk is over that comes to 0, from a frame that is a guess or is none.
+pub(crate) fn end_at_0(is_guess: bool) -> WalkEnd
+    ensures { result ≡ end_at_0 is_guess }
+{
+    if is_guess {
+        WalkEnd::Zero
+    } else {
+        WalkEnd::Bottom
+    }
+}
+
+/// The frame of the caller of a leaf function to which no call led, if it returns to executable code.
 fn after_leaf<L: CallSites>(
     modules: &L,
     popped: Result<Registers, FrameError>,
@@ -216,24 +245,31 @@ fn after_leaf<L: CallSites>(
     ensures { result ≡ after_leaf (L.list modules.now) popped }
 {
     match popped {
-        Ok(registers) if registers.rip == 0 => Err(WalkEnd::Bottom),
-        Ok(registers) => Ok(frame_of(modules, Way::Leaf, registers)),
+        Ok(registers) if registers.rip == 0 => Err(WalkEnd::Zero),
+        Ok(registers) if modules.has_code(registers.rip) => {
+            Ok(frame_of(modules, Way::Leaf, true, registers))
+        }
+        Ok(_) => Err(WalkEnd::NoReturnAddress),
         Err(error) => Err(WalkEnd::Step(error)),
     }
 }
 
-/// The frame of the caller of a frame in no function.
+/// The frame of the caller of a frame in no function, by whether it is a guess that this is one of a leaf function.
 fn caller_of_leaf<L: CallSites, M: Memory>(
     modules: &L,
+    is_guess: bool,
     frame: &StackFrame,
     memory: &M,
 ) -> Result<StackFrame, WalkEnd>
-    ensures { result ≡ caller_of_leaf (M.word memory.now) (L.list modules.now) frame.now }
+    ensures { result ≡ caller_of_leaf (M.word memory.now) (L.list modules.now) is_guess frame.now }
 {
     if frame.has_called {
-        return Err(WalkEnd::NoFunction);
+        return match scanned(modules, memory, &frame.registers) {
+            Some(caller) => Ok(caller),
+            None => Err(WalkEnd::NoFunction),
+        };
     }
-    match without_records(modules, memory, &frame.registers) {
+    match without_records(modules, memory, is_guess, &frame.registers) {
         Some(caller) => Ok(caller),
         None => after_leaf(modules, leaf(frame.registers, memory)),
     }
@@ -258,14 +294,15 @@ fn put(caller: Result<StackFrame, WalkEnd>, frame: &mut StackFrame) -> Result<()
 #[inline(never)]
 fn become_caller_of_leaf<L: CallSites, M: Memory>(
     modules: &L,
+    is_guess: bool,
     frame: &mut StackFrame,
     memory: &M,
 ) -> Result<(), WalkEnd>
     ensures caller { frame_left result frame.new
-        ≡ caller_of_leaf (M.word memory.now) (L.list modules.now) frame.old }
+        ≡ caller_of_leaf (M.word memory.now) (L.list modules.now) is_guess frame.old }
     ensures kept { OnErr result (frame.new ≡ frame.old) }
 {
-    let caller = caller_of_leaf(modules, frame, memory);
+    let caller = caller_of_leaf(modules, is_guess, frame, memory);
     put(caller, frame)
 }
 
@@ -284,7 +321,7 @@ pub fn caller_outside<L: CallSites, M: Memory>(
     if frame.has_called {
         return Err(WalkEnd::NoModule);
     }
-    match without_records(modules, memory, &frame.registers) {
+    match without_records(modules, memory, true, &frame.registers) {
         Some(caller) => {
             *frame = caller;
             Ok(())
@@ -323,7 +360,7 @@ fn frame_after<L: CallSites, M: Memory>(
     frame: &mut StackFrame,
 ) -> Result<(), WalkEnd>
     ensures { frame_left result frame.new ≡ frame_after (M.word memory.now) (L.list modules.now)
-        (changed_with left frame.old.registers) }
+        frame.old.is_guess (changed_with left frame.old.registers) }
 {
     match left {
         Ok(true) => {
@@ -332,7 +369,7 @@ fn frame_after<L: CallSites, M: Memory>(
         }
         Ok(false) => {
             if is_bottom(modules, memory, &frame.registers) {
-                return Err(WalkEnd::Bottom);
+                return Err(end_at_0(frame.is_guess));
             }
             found_in(modules, Way::Records, frame);
             Ok(())
@@ -413,7 +450,7 @@ pub fn caller_in_module<L: CallSites, M: Memory>(
     ensures kept { OnErr result (frame.new ≡ frame.old) }
 {
     let Some(exceptions) = module.exceptions else {
-        return become_caller_of_leaf(modules, frame, memory);
+        return become_caller_of_leaf(modules, true, frame, memory);
     };
     let mut table = exceptions.table();
     match search(&mut table, module.rva_of(frame.lookup_address())) {
@@ -426,7 +463,7 @@ pub fn caller_in_module<L: CallSites, M: Memory>(
             let rva = module.rva_of(frame.registers.rip);
             become_caller_by_records(modules, &found, frame, rva, memory)
         }
-        None => become_caller_of_leaf(modules, frame, memory),
+        None => become_caller_of_leaf(modules, frame.is_guess, frame, memory),
     }
 }
 
@@ -446,12 +483,13 @@ impl WalkFrame for StackFrame {
 
 /// A stack walk: the frames of a thread, from the top frame outwards. It allocates nothing.
 ///
-/// It is over at the bottom of the stack, where a frame returns to 0; at a frame in no module or, in a frame that has called, in
-/// no function; at memory that is not known, where the stack pointer does not rise, and at any other error of a step; and after
+/// It is over at the bottom of the stack, where a frame returns to 0; at a frame in no module or in no function from which no return
+/// address is found; at memory that is not known, where the stack pointer does not rise, and at any other error of a step; and after
 /// as many frames as the caller asks for. `end` says which. Only past an interrupt does the stack pointer not have to rise.
 ///
 /// In the top frame, and in one that was interrupted, the return address of code that no records describe is the word at the stack
-/// pointer, if a call ends at it, else the first of 128 words from there on that is after a call in an executable section.
+/// pointer, if a call ends at it, else the first of 128 words from there on that is after a call in an executable section. In a
+/// frame that has called it is the first such word. Where none is found, a walk that comes to 0 says `Zero`.
 #[derive(Drop)]
 pub struct StackFrames<'a, M> {
     modules: Modules<'a>,
@@ -478,6 +516,7 @@ impl<'a, M: Memory> StackFrames<'a, M> {
             registers,
             way: Way::Top,
             has_called: false,
+            is_guess: false,
         };
         StackFrames {
             modules,

@@ -120,7 +120,7 @@ lengths_later k s t l p n =
     let first : slice_index t (p + k + 2) ≡ slice_index s (p + 2) = byte_at k s t l (p + 2) (p + k + 2) (omega arith) in
     let more : lacks t (p + k + 2 + n) (content_length s p n) ≡ lacks s (p + 2 + n) (content_length s p n) = lacks_later k s t l (p + 2 + n) (p + k + 2 + n) (content_length s p n) (omega arith) in
     let left : length t - (p + k + 2 + n) ≡ length s - (p + 2 + n) = omega (arith, l.size) in
-    rw (of_later k s t l p n, value, first, more, left) (unless_later (later k) k (length_tests s p n) (element_of s p n))
+    rw (of_later k s t l p n, l.byte p, value, first, more, left) (unless_later (later k) k (length_tests s p n) (element_of s p n))
 
 pub element_later : (k : ℕ) (s t : List ℕ) → StandLater k s t → (p : ℕ) → element_at t (p + k) ≡ later_result (later k) k (element_at s p)
 unfolding element_at

@@ -4,8 +4,9 @@ use Rattle.pe_core.proofs.Ranges.{length_range, range_in_range}
 use Rattle.pe_core.specs.Bytes.{range}
 use Rattle.pe_core.specs.Offsets.{StandAt}
 use Rattle.pe_pkcs7.specs.Later.{IsReadAt}
-use Rattle.pe_pkcs7.proofs.LaterBytes.{StandLater, stands, element_later, content_later, octets_of_later}
+use Rattle.pe_pkcs7.proofs.LaterBytes.{StandLater, cut, stands, element_later, content_later, octets_of_later}
 use Rattle.pe_pkcs7.proofs.LaterNames.{name_items_later}
+use Rattle.pe_pkcs7.proofs.LaterWalks.{found_later, items_later}
 use Rattle.pe_pkcs7.proofs.LaterParts.{content_info_later, signed_data_later, encapsulated_later, algorithm_later, type_and_value_later, digest_info_later, indirect_data_later, image_data_later, opus_info_later, signer_info_later, issuer_and_serial_later, attribute_later, certificate_later, to_be_signed_later, validity_later, extension_later, key_usage_later, time_later, tst_info_later, name_later, name_start_later}
 
 pub all_read : (f b : List ℕ) (k : ℕ) → StandAt f k b → IsReadAt f b k
@@ -16,6 +17,8 @@ all_read f b k at =
       element = element_later k b c h;
       contents = content_later k b c h;
       octets = octets_of_later k b c h;
+      elements = λ e p items is. items_later k (take e b) (take (e + k) c) (cut k b c h e) p items is;
+      found = λ number e p sought is. found_later k (take e b) (take (e + k) c) (cut k b c h e) number p sought is;
       info = content_info_later k b c h;
       signed = signed_data_later k b c h;
       encapsulated = encapsulated_later k b c h;

@@ -10,4 +10,5 @@ pub mod LaterParts
 pub mod AttributeSearch
 pub mod NameLists
 pub mod LaterNames
+pub mod LaterWalks
 pub mod LaterSignatures

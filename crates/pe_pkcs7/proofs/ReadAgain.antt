@@ -4,11 +4,11 @@ use Rattle.std.proofs.Math.Nat.{pow-suc}
 use Rattle.std.proofs.Math.Seq.{drop-cons, take-append_seam, drop-append_seam}
 use Rattle.std.proofs.lemmas.Bool.Decides.{nat_tests}
 use Rattle.std.proofs.lemmas.List.{length-append, length-take-le}
-use Rattle.std.specs.Prelude.{slice_index, nat_lt, ◌==◌}
+use Rattle.std.specs.Prelude.{slice_index, nat_lt, ◌==◌, ◌&&◌}
 use Rattle.pe_core.specs.Bytes.{AreBytes}
 use Rattle.pe_core.specs.Refusals.{◌>>=◌}
-use Rattle.pe_pkcs7.specs.Der.{be, unless, lacks, octets_after, head_tests, length_octets, content_length, is_longer, length_tests, element_of, element_at}
-use Rattle.pe_pkcs7.specs.Encoding.{octets, octets_needed, der, content_in}
+use Rattle.pe_pkcs7.specs.Der.{be, has_octets, is_end_of_contents, unless, lacks, octets_after, head_tests, length_octets, content_length, is_longer, length_tests, element_of, element_at}
+use Rattle.pe_pkcs7.specs.Encoding.{AreOfElement, octets, octets_needed, der, content_in}
 use Rattle.pe_pkcs7.specs.declared.der.Element.{Element}
 use Rattle.pe_pkcs7.specs.declared.error.SignatureError.{SignatureError}
 use Rattle.pe_pkcs7.proofs.Reading.{NoneHolds}
@@ -128,16 +128,17 @@ first_octet b bytes q (suc (suc (suc (suc (suc k))))) v n e = absurd (omega (ari
 
 -- ---- an element
 
-finish : (b : List ℕ) (p n l : ℕ) → slice_index b p % 32 < 31 → octets_after (slice_index b (p + 1)) ≡ n → (slice_index b (p + 1) == 128) ≡ false → n ≤ 4 → content_length b p n ≡ l → is_longer b p n ≡ false → p + 2 + n + l ≤ length b → element_at b p ≡ Ok (element_of b p n)
+finish : (b : List ℕ) (p n l : ℕ) → slice_index b p % 32 < 31 → is_end_of_contents (slice_index b p) ≡ false → (has_octets (slice_index b p) && l == 0) ≡ false → octets_after (slice_index b (p + 1)) ≡ n → (slice_index b (p + 1) == 128) ≡ false → n ≤ 4 → content_length b p n ≡ l → is_longer b p n ≡ false → p + 2 + n + l ≤ length b → element_at b p ≡ Ok (element_of b p n)
 unfolding element_at length_octets
-finish b p n l tag first definite few value short there =
+finish b p n l tag element some first definite few value short there =
     let two : lacks b p 2 ≡ false = grind (arith, nat_tests, there) in
     let low : (slice_index b p % 32 == 31) ≡ false = grind (arith, nat_tests, tag) in
     let octets : nat_lt 4 (octets_after (slice_index b (p + 1))) ≡ false = grind (arith, nat_tests, first, few) in
     let length_there : lacks b (p + 2) (octets_after (slice_index b (p + 1))) ≡ false = grind (arith, nat_tests, first, there) in
     let inside : lacks b (p + 2 + n) (content_length b p n) ≡ false = grind (arith, nat_tests, value, there) in
-    let head : unless (head_tests b p) (octets_after (slice_index b (p + 1))) ≡ Ok n = all_passed (head_tests b p) (octets_after (slice_index b (p + 1))) (two, (low, (definite, (octets, (length_there, tt))))) ∙ ap (λ (k : ℕ). Ok k) first in
-    let tail : unless (length_tests b p n) (element_of b p n) ≡ Ok (element_of b p n) = all_passed (length_tests b p n) (element_of b p n) (short, (inside, tt)) in
+    let head : unless (head_tests b p) (octets_after (slice_index b (p + 1))) ≡ Ok n = all_passed (head_tests b p) (octets_after (slice_index b (p + 1))) (two, (low, (element, (definite, (octets, (length_there, tt)))))) ∙ ap (λ (k : ℕ). Ok k) first in
+    let filled : (has_octets (slice_index b p) && content_length b p n == 0) ≡ false = ap (λ (k : ℕ). has_octets (slice_index b p) && k == 0) value ∙ some in
+    let tail : unless (length_tests b p n) (element_of b p n) ≡ Ok (element_of b p n) = all_passed (length_tests b p n) (element_of b p n) (short, (inside, (filled, tt))) in
     ap (λ (r : Result ℕ SignatureError). r >>= λ m. unless (length_tests b p m) (element_of b p m)) head ∙ tail
 
 -- what is read: an element of this tag and content
@@ -147,29 +148,29 @@ pub record IsRead (b : List ℕ) (p tag : ℕ) (c : List ℕ) : Type 0 where
   pub tagged : element.tag ≡ tag
   pub content : content_in b element ≡ c
 
-made : (b : List ℕ) (p n t : ℕ) (c rest : List ℕ) → slice_index b p ≡ t → t % 32 < 31 → octets_after (slice_index b (p + 1)) ≡ n → (slice_index b (p + 1) == 128) ≡ false → n ≤ 4 → content_length b p n ≡ length c → is_longer b p n ≡ false → p + 2 + n + length c ≤ length b → drop (p + 2 + n) b ≡ c ++ rest → IsRead b p t c
-made b p n t c rest byte tag first definite few value short there after =
+made : (b : List ℕ) (p n t : ℕ) (c rest : List ℕ) → slice_index b p ≡ t → t % 32 < 31 → AreOfElement t c → octets_after (slice_index b (p + 1)) ≡ n → (slice_index b (p + 1) == 128) ≡ false → n ≤ 4 → content_length b p n ≡ length c → is_longer b p n ≡ false → p + 2 + n + length c ≤ length b → drop (p + 2 + n) b ≡ c ++ rest → IsRead b p t c
+made b p n t c rest byte tag element first definite few value short there after =
     let size : p + 2 + n + (p + 2 + n + content_length b p n - (p + 2 + n)) - (p + 2 + n) ≡ length c = omega (arith, value) in
     let inner : take (length c) (drop (p + 2 + n) b) ≡ c = ap (take (length c)) after ∙ take-append_seam c rest in
     record {
       element = element_of b p n;
-      read = finish b p n (length c) (subst (λ (k : ℕ). k % 32 < 31) (sym byte) tag) first definite few value short there;
+      read = finish b p n (length c) (subst (λ (k : ℕ). k % 32 < 31) (sym byte) tag) (ap is_end_of_contents byte ∙ element.0) (ap (λ (k : ℕ). has_octets k && length c == 0) byte ∙ element.1) first definite few value short there;
       tagged = byte;
       content = ap (λ (k : ℕ). take k (drop (p + 2 + n) b)) size ∙ inner;
     }
 
-short_read : (b : List ℕ) (p t : ℕ) (c rest : List ℕ) → t % 32 < 31 → length c < 128 → drop p b ≡ t ∷ length c ∷ (c ++ rest) → IsRead b p t c
-short_read b p t c rest tag lt e =
+short_read : (b : List ℕ) (p t : ℕ) (c rest : List ℕ) → t % 32 < 31 → AreOfElement t c → length c < 128 → drop p b ≡ t ∷ length c ∷ (c ++ rest) → IsRead b p t c
+short_read b p t c rest tag element lt e =
     let one = starts b p t (length c ∷ (c ++ rest)) e in
     let two = starts b (p + 1) (length c) (c ++ rest) one.rest in
     let next : p + 2 + 0 ≡ p + 1 + 1 = omega arith in
     let after : drop (p + 2 + 0) b ≡ c ++ rest = ap (λ (k : ℕ). drop k b) next ∙ two.rest in
     let sizes : length (drop (p + 2 + 0) b) ≡ length c + length rest = ap length after ∙ length-append c rest in
     let there : p + 2 + 0 + length c ≤ length b = omega (arith, sizes, length-drop (p + 2 + 0) b, two.here) in
-    made b p 0 t c rest one.byte tag (omega (arith, two.byte, lt)) (grind (arith, nat_tests, two.byte, lt)) (omega arith) (short_length b p ∙ two.byte) (grind (arith, nat_tests)) there after
+    made b p 0 t c rest one.byte tag element (omega (arith, two.byte, lt)) (grind (arith, nat_tests, two.byte, lt)) (omega arith) (short_length b p ∙ two.byte) (grind (arith, nat_tests)) there after
 
-long_read : (b : List ℕ) (p t k : ℕ) (c rest : List ℕ) → AreBytes b → t % 32 < 31 → 128 ≤ length c → Needs (length c) k → drop p b ≡ t ∷ (128 + k) ∷ (octets k (length c) ++ (c ++ rest)) → IsRead b p t c
-long_read b p t k c rest bytes tag le n e =
+long_read : (b : List ℕ) (p t k : ℕ) (c rest : List ℕ) → AreBytes b → t % 32 < 31 → AreOfElement t c → 128 ≤ length c → Needs (length c) k → drop p b ≡ t ∷ (128 + k) ∷ (octets k (length c) ++ (c ++ rest)) → IsRead b p t c
+long_read b p t k c rest bytes tag element le n e =
     let o = octets k (length c) in
     let one = starts b p t ((128 + k) ∷ (o ++ (c ++ rest))) e in
     let two = starts b (p + 1) (128 + k) (o ++ (c ++ rest)) one.rest in
@@ -184,19 +185,19 @@ long_read b p t k c rest bytes tag le n e =
     let number : be b (p + 2) k ≡ length c = be_of b (p + 2) k (length c) n.fits (omega (arith, there)) taken in
     let value : content_length b p k ≡ length c = long_length b p k n.some ∙ number in
     let first = first_octet b bytes (p + 2) k (length c) n number in
-    made b p k t c rest one.byte tag (omega (arith, two.byte)) (grind (arith, nat_tests, two.byte, n.some)) n.few value (grind (arith, nat_tests, first, value, le)) there after
+    made b p k t c rest one.byte tag element (omega (arith, two.byte)) (grind (arith, nat_tests, two.byte, n.some)) n.few value (grind (arith, nat_tests, first, value, le)) there after
 
-read_by : (b : List ℕ) (p t : ℕ) (c rest : List ℕ) (test : Bool) → nat_lt (length c) 128 ≡ test → AreBytes b → t % 32 < 31 → length c < 2 ^ 32 → drop p b ≡ der t c ++ rest → IsRead b p t c
+read_by : (b : List ℕ) (p t : ℕ) (c rest : List ℕ) (test : Bool) → nat_lt (length c) 128 ≡ test → AreBytes b → t % 32 < 31 → AreOfElement t c → length c < 2 ^ 32 → drop p b ≡ der t c ++ rest → IsRead b p t c
 unfolding der
-read_by b p t c rest true test bytes tag lt e =
+read_by b p t c rest true test bytes tag element lt e =
     let small : length c < 128 = grind (arith, nat_tests, test) in
-    short_read b p t c rest tag small (e ∙ ap (λ (w : List ℕ). t ∷ ((w ++ c) ++ rest)) (written_short (length c) small))
-read_by b p t c rest false test bytes tag lt e =
+    short_read b p t c rest tag element small (e ∙ ap (λ (w : List ℕ). t ∷ ((w ++ c) ++ rest)) (written_short (length c) small))
+read_by b p t c rest false test bytes tag element lt e =
     let large : 128 ≤ length c = grind (arith, nat_tests, test) in
     let k = octets_needed (length c) in
     let o = octets k (length c) in
     let list : drop p b ≡ t ∷ (128 + k) ∷ ((o ++ c) ++ rest) = e ∙ ap (λ (w : List ℕ). t ∷ ((w ++ c) ++ rest)) (written_long (length c) large) in
-    long_read b p t k c rest bytes tag large (needs (length c) lt large) (list ∙ ap (λ (w : List ℕ). t ∷ (128 + k) ∷ w) (append_assoc o c rest))
+    long_read b p t k c rest bytes tag element large (needs (length c) lt large) (list ∙ ap (λ (w : List ℕ). t ∷ (128 + k) ∷ w) (append_assoc o c rest))
 
-pub read_again : (b : List ℕ) (p t : ℕ) (c rest : List ℕ) → AreBytes b → t % 32 < 31 → length c < 2 ^ 32 → drop p b ≡ der t c ++ rest → IsRead b p t c
-read_again b p t c rest bytes tag lt e = read_by b p t c rest (nat_lt (length c) 128) refl bytes tag lt e
+pub read_again : (b : List ℕ) (p t : ℕ) (c rest : List ℕ) → AreBytes b → t % 32 < 31 → AreOfElement t c → length c < 2 ^ 32 → drop p b ≡ der t c ++ rest → IsRead b p t c
+read_again b p t c rest bytes tag element lt e = read_by b p t c rest (nat_lt (length c) 128) refl bytes tag element lt e

@@ -1,9 +1,9 @@
 -- What is known of an element that is read.
 use Rattle.std.proofs.Common.{◌≡◌, ℕ, ◌+◌, ◌<◌, ◌≤◌, Bool, true, false, List, [], ◌∷◌, length, Result, Ok, Err, refl, ap, sym, arith}
 use Rattle.std.proofs.lemmas.Bool.Decides.{nat_tests}
-use Rattle.std.specs.Prelude.{slice_index, nat_lt, ◌==◌}
+use Rattle.std.specs.Prelude.{slice_index, nat_lt, ◌==◌, ◌&&◌}
 use Rattle.pe_core.specs.Refusals.{◌>>=◌}
-use Rattle.pe_pkcs7.specs.Der.{unless, lacks, octets_after, head_tests, length_octets, content_length, is_longer, length_tests, element_of, element_at}
+use Rattle.pe_pkcs7.specs.Der.{has_octets, is_end_of_contents, unless, lacks, octets_after, head_tests, length_octets, content_length, is_longer, length_tests, element_of, element_at}
 use Rattle.pe_pkcs7.specs.declared.der.Element.{Element}
 
 -- no test holds
@@ -26,6 +26,8 @@ pub record Parts (b : List ℕ) (p : ℕ) (x : Element) : Type 0 where
   pub few : octets ≤ 4
   pub first : octets_after (slice_index b (p + 1)) ≡ octets
   pub definite : (slice_index b (p + 1) == 128) ≡ false
+  pub element : is_end_of_contents (slice_index b p) ≡ false
+  pub some : (has_octets (slice_index b p) && content_length b p octets == 0) ≡ false
   pub shortest : is_longer b p octets ≡ false
   pub starts : p + 2 + octets ≤ length b
   pub ends : p + 2 + octets + content_length b p octets ≤ length b
@@ -39,14 +41,16 @@ parts b p x h =
     let head = passed (head_tests b p) n g.0 g.1 in
     let tail = passed (length_tests b p g.0) (element_of b p g.0) x g.2 in
     let same : n ≡ g.0 = head.0 in
-    let few : nat_lt 4 n ≡ false = head.1.1.1.1.0 in
-    let there : lacks b (p + 2) n ≡ false = head.1.1.1.1.1.0 in
+    let few : nat_lt 4 n ≡ false = head.1.1.1.1.1.0 in
+    let there : lacks b (p + 2) n ≡ false = head.1.1.1.1.1.1.0 in
     let inside : lacks b (p + 2 + g.0) (content_length b p g.0) ≡ false = tail.1.1.0 in
     record {
       octets = g.0;
       few = grind (arith, nat_tests, same, few);
       first = same;
-      definite = head.1.1.1.0;
+      element = head.1.1.1.0;
+      some = tail.1.1.1.0;
+      definite = head.1.1.1.1.0;
       shortest = tail.1.0;
       starts = grind (arith, nat_tests, same, there);
       ends = grind (arith, nat_tests, inside);

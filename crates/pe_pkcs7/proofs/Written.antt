@@ -3,10 +3,10 @@ use Rattle.std.proofs.Common.{◌≡◌, ℕ, zero, suc, ◌+◌, ◌-◌, ◌*�
 use Rattle.std.proofs.Math.Seq.{drop-cons, take-add}
 use Rattle.std.proofs.lemmas.Bool.Decides.{nat_tests}
 use Rattle.std.proofs.lemmas.List.{length-take-le, places, same_lists}
-use Rattle.std.specs.Prelude.{slice_index, ◌==◌}
+use Rattle.std.specs.Prelude.{slice_index, ◌==◌, ◌&&◌}
 use Rattle.pe_core.specs.Bytes.{range, AreBytes}
-use Rattle.pe_pkcs7.specs.Der.{be, octets_after, content_length, is_longer, element_of, element_at}
-use Rattle.pe_pkcs7.specs.Encoding.{octets, octets_needed, length_written, der, content_in, octets_in}
+use Rattle.pe_pkcs7.specs.Der.{be, has_octets, is_end_of_contents, octets_after, content_length, is_longer, element_of, element_at}
+use Rattle.pe_pkcs7.specs.Encoding.{AreOfElement, octets, octets_needed, length_written, der, content_in, octets_in}
 use Rattle.pe_pkcs7.specs.declared.der.Element.{Element}
 use Rattle.pe_pkcs7.proofs.Reading.{parts}
 
@@ -146,6 +146,19 @@ written_of b p n bytes few after definite short there =
     let outer : octets_in b (element_of b p n) ≡ take (suc (suc (n + l))) (drop p b) = ap (λ (k : ℕ). take k (drop p b)) few_outer in
     let length_octets = length_is b p n bytes few after definite short (omega (arith, there)) in
     outer ∙ whole b p n l there ∙ sym (der_is (slice_index b p) c (slice_index b (p + 1) ∷ take n (drop (p + 2) b)) [] [] l (content_there b (p + 2 + n) l there) length_octets) ∙ ap (der (slice_index b p)) (sym inner)
+
+-- a tag and a content that an element has
+allowed_of : (b : List ℕ) (p n : ℕ) → is_end_of_contents (slice_index b p) ≡ false → (has_octets (slice_index b p) && content_length b p n == 0) ≡ false → p + 2 + n + content_length b p n ≤ length b → AreOfElement (slice_index b p) (content_in b (element_of b p n))
+allowed_of b p n element some there =
+    let l = content_length b p n in
+    let few : p + 2 + n + (p + 2 + n + l - (p + 2 + n)) - (p + 2 + n) ≡ l = omega arith in
+    let size : length (content_in b (element_of b p n)) ≡ l = ap (λ (k : ℕ). length (take k (drop (p + 2 + n) b))) few ∙ content_there b (p + 2 + n) l there in
+    (element, ap (λ (k : ℕ). has_octets (slice_index b p) && k == 0) size ∙ some)
+
+pub allowed : (b : List ℕ) (p : ℕ) (x : Element) → element_at b p ≡ Ok x → AreOfElement x.tag (content_in b x)
+allowed b p x h =
+    let k = parts b p x h in
+    subst (λ (y : Element). AreOfElement y.tag (content_in b y)) k.is (allowed_of b p k.octets k.element k.some k.ends)
 
 pub written : (b : List ℕ) (p : ℕ) (x : Element) → AreBytes b → element_at b p ≡ Ok x → octets_in b x ≡ der x.tag (content_in b x)
 written b p x bytes h =

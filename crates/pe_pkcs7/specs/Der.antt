@@ -2,9 +2,10 @@
 -- the offset of an element.
 use Rattle.std.specs.Prelude.{ℕ, zero, suc, ◌+◌, ◌-◌, ◌*◌, ◌%◌, ◌==◌, ◌&&◌, ◌||◌, List, [], ◌∷◌, length, Bool, nat_lt, slice_index, Result, Ok, Err, if◌then◌else◌}
 use Rattle.pe_core.specs.Refusals.{◌>>=◌}
+use Rattle.pe_pkcs7.specs.Tags.{BOOLEAN, INTEGER, BIT_STRING, OBJECT_IDENTIFIER, ENUMERATED}
 use Rattle.pe_pkcs7.specs.declared.der.Element.{Element}
 use Rattle.pe_pkcs7.specs.declared.error.SignatureError.{SignatureError}
-use Rattle.pe_pkcs7.specs.declared.error.SignatureError.TheVariants.{Truncated, TagNumber, IndefiniteLength, LengthOctets, LengthForm, PastParent}
+use Rattle.pe_pkcs7.specs.declared.error.SignatureError.TheVariants.{Truncated, TagNumber, EndOfContents, IndefiniteLength, LengthOctets, LengthForm, PastParent, EmptyContent}
 
 -- the value, or the error of the first test that holds
 abbrev pub unless : {Y R : Type 0} → List (Bool × R) → Y → Result Y R
@@ -24,11 +25,20 @@ lacks b p n = nat_lt (length b) (p + n)
 abbrev pub octets_after : ℕ → ℕ
 octets_after first = first - 128
 
+-- the identifier octet of the end of contents, universal of the number 0, is that of no element (X.690: 8.1.5; X.680: 8.6)
+abbrev pub is_end_of_contents : ℕ → Bool
+is_end_of_contents tag = tag == 0x00 || tag == 0x20
+
+-- the types whose content has an octet at least (X.690: 8.2.1, 8.3.1, 8.4, 8.6.2, 8.19.2)
+abbrev pub has_octets : ℕ → Bool
+has_octets tag = tag == BOOLEAN || tag == INTEGER || tag == BIT_STRING || tag == OBJECT_IDENTIFIER || tag == ENUMERATED
+
 -- what is wrong with an element whose length cannot be read
 abbrev pub head_tests : List ℕ → ℕ → List (Bool × SignatureError)
 head_tests b p =
     (lacks b p 2, Truncated p (length b - p)) ∷
     (slice_index b p % 32 == 31, TagNumber p) ∷
+    (is_end_of_contents (slice_index b p), EndOfContents p) ∷
     (slice_index b (p + 1) == 128, IndefiniteLength p) ∷
     (nat_lt 4 (octets_after (slice_index b (p + 1))), LengthOctets p (octets_after (slice_index b (p + 1)))) ∷
     (lacks b (p + 2) (octets_after (slice_index b (p + 1))), Truncated p (length b - p)) ∷
@@ -51,6 +61,7 @@ abbrev pub length_tests : List ℕ → ℕ → ℕ → List (Bool × SignatureEr
 length_tests b p n =
     (is_longer b p n, LengthForm p) ∷
     (lacks b (p + 2 + n) (content_length b p n), PastParent p (content_length b p n) (length b - (p + 2 + n))) ∷
+    (has_octets (slice_index b p) && content_length b p n == 0, EmptyContent p) ∷
     []
 
 -- such an element

@@ -2,15 +2,16 @@
 use Rattle.std.specs.Prelude.{◌≡◌, ℕ, ◌+◌, List, length, map, take, Option, Some, None, Result, Ok, Err}
 use Rattle.pe_pkcs7.specs.Certificates.{certificate, extension, key_usage, to_be_signed, validity}
 use Rattle.pe_pkcs7.specs.Der.{element_at}
-use Rattle.pe_pkcs7.specs.Fields.{content_bytes, element_bytes}
+use Rattle.pe_pkcs7.specs.Fields.{content_bytes, element_bytes, first_element}
 use Rattle.pe_pkcs7.specs.Names.{NameItems, attribute_at}
 use Rattle.pe_pkcs7.specs.SignedDatas.{algorithm_identifier, content_info, digest_info, encapsulated_content, signed_data, spc_indirect_data, spc_pe_image_data, spc_sp_opus_info, type_and_value}
-use Rattle.pe_pkcs7.specs.Signers.{attribute, issuer_and_serial, signer_info}
+use Rattle.pe_pkcs7.specs.Signers.{FindsAttribute, Sought, attribute, issuer_and_serial, signer_info}
 use Rattle.pe_pkcs7.specs.Times.{time_of}
 use Rattle.pe_pkcs7.specs.TimeStamps.{tst_info}
+use Rattle.pe_pkcs7.specs.Walks.{Items}
 use Rattle.pe_pkcs7.specs.declared.der.Element.{Element}
 use Rattle.pe_pkcs7.specs.declared.error.SignatureError.{SignatureError}
-use Rattle.pe_pkcs7.specs.declared.error.SignatureError.TheVariants.{Truncated, TagNumber, IndefiniteLength, LengthOctets, LengthForm, PastParent, Missing, Tag, Trailing, ContentType, BadTime}
+use Rattle.pe_pkcs7.specs.declared.error.SignatureError.TheVariants.{Truncated, TagNumber, EndOfContents, IndefiniteLength, LengthOctets, LengthForm, PastParent, EmptyContent, Missing, Tag, Trailing, ContentType, BadTime}
 use Rattle.pe_pkcs7.specs.declared.signed_data.ContentInfo.{ContentInfo}
 use Rattle.pe_pkcs7.specs.declared.signed_data.SignedData.{SignedData}
 use Rattle.pe_pkcs7.specs.declared.signed_data.EncapsulatedContent.{EncapsulatedContent}
@@ -43,10 +44,12 @@ later_if k (Some x) = Some (later k x)
 abbrev pub later_error : ℕ → SignatureError → SignatureError
 later_error k (Truncated p left) = Truncated (p + k) left
 later_error k (TagNumber p) = TagNumber (p + k)
+later_error k (EndOfContents p) = EndOfContents (p + k)
 later_error k (IndefiniteLength p) = IndefiniteLength (p + k)
 later_error k (LengthOctets p octets) = LengthOctets (p + k) octets
 later_error k (LengthForm p) = LengthForm (p + k)
 later_error k (PastParent p content left) = PastParent (p + k) content left
+later_error k (EmptyContent p) = EmptyContent (p + k)
 later_error k (Missing p) = Missing (p + k)
 later_error k (Tag p expected found) = Tag (p + k) expected found
 later_error k (Trailing p left) = Trailing (p + k) left
@@ -155,6 +158,14 @@ later_name k a = record { kind = later k a.kind; value = later k a.value; starts
 abbrev pub later_name_attribute : ℕ → NameAttribute × (ℕ × ℕ) → NameAttribute × (ℕ × ℕ)
 later_name_attribute k r = (later_name k r.0, (r.1.0 + k, r.1.1 + k))
 
+-- what a search for an attribute returns
+abbrev pub later_attribute_if : ℕ → Option Attribute → Option Attribute
+later_attribute_if k None = None
+later_attribute_if k (Some a) = Some (later_attribute k a)
+
+abbrev pub later_sought : ℕ → Sought → Sought
+later_sought k s = (later_result (later_attribute_if k) k s.0, s.1 + k)
+
 -- ---- what is read of a file
 
 -- what a definition reads of an element of the file f, up to the end of the bytes b that stand in it at k, is what it reads of b
@@ -166,12 +177,17 @@ abbrev pub the_same : {Y : Type 0} → ℕ → Y → Y
 the_same k y = y
 
 -- so do the definitions of elements, records, times and names, of a signature b; with the octets of elements, which are the same.
--- Of a name, such as an issuer or a subject, all attributes that a walk returns, and its error; and each of them from where it starts
+-- Of the bytes up to an offset, as the end of a parent, from an offset on: the elements that a walk returns, and what a search for an
+-- attribute finds. Of a name, such as an issuer or a subject, all attributes that a walk returns, and its error; and each of them from where it starts
 -- to the end of its relative distinguished name, which is 0 before the first
 pub record IsReadAt (f b : List ℕ) (k : ℕ) : Type 0 where
   pub element : (p : ℕ) → element_at (take (k + length b) f) (p + k) ≡ later_result (later k) k (element_at b p)
   pub contents : (x : Element) → content_bytes (take (k + length b) f) (later k x) ≡ content_bytes b x
   pub octets : (x : Element) → element_bytes (take (k + length b) f) (later k x) ≡ element_bytes b x
+  pub elements : (e p : ℕ) (items : List (Result Element SignatureError)) → Items first_element (take e b, p) items →
+      Items first_element (take (e + k) (take (k + length b) f), p + k) (map (later_result (later k) k) items)
+  pub found : (number e p : ℕ) (sought : Sought) → FindsAttribute (take e b) number p sought →
+      FindsAttribute (take (e + k) (take (k + length b) f)) number (p + k) (later_sought k sought)
   pub info : ReadsLater content_info later_content_info f b k
   pub signed : (c : ContentInfo) → signed_data (take (k + length b) f) (later_content_info k c) ≡ later_result (later_signed_data k) k (signed_data b c)
   pub encapsulated : ReadsLater encapsulated_content later_encapsulated_content f b k

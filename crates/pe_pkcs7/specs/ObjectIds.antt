@@ -199,6 +199,14 @@ DSA = 0x2A ∷ 0x86 ∷ 0x48 ∷ 0xCE ∷ 0x38 ∷ 0x04 ∷ 0x01 ∷ []
 abbrev pub DSA_SHA1 : List ℕ
 DSA_SHA1 = 0x2A ∷ 0x86 ∷ 0x48 ∷ 0xCE ∷ 0x38 ∷ 0x04 ∷ 0x03 ∷ []
 
+-- 1.3.14.3.2.29
+abbrev pub SHA1_RSA_OIW : List ℕ
+SHA1_RSA_OIW = 0x2B ∷ 0x0E ∷ 0x03 ∷ 0x02 ∷ 0x1D ∷ []
+
+-- 1.2.840.113549.1.1.2
+abbrev pub MD2_RSA : List ℕ
+MD2_RSA = 0x2A ∷ 0x86 ∷ 0x48 ∷ 0x86 ∷ 0xF7 ∷ 0x0D ∷ 0x01 ∷ 0x01 ∷ 0x02 ∷ []
+
 abbrev pub algorithms : List (ℕ × List ℕ)
 algorithms =
     (201, MD5) ∷
@@ -220,6 +228,8 @@ algorithms =
     (217, ECDSA_SHA512) ∷
     (218, DSA) ∷
     (219, DSA_SHA1) ∷
+    (220, SHA1_RSA_OIW) ∷
+    (221, MD2_RSA) ∷
     []
 
 unfoldable pub algorithm_number : List ℕ → ℕ

@@ -13,6 +13,9 @@ OCTET_STRING = 0x04
 abbrev pub OBJECT_IDENTIFIER : ℕ
 OBJECT_IDENTIFIER = 0x06
 
+abbrev pub ENUMERATED : ℕ
+ENUMERATED = 0x0A
+
 abbrev pub UTC_TIME : ℕ
 UTC_TIME = 0x17
 

@@ -156,7 +156,7 @@ fn time_field(part: &[u8], offset: usize) -> Result<Element>
 /// When a certificate is valid.
 #[derive(Clone, Copy, Debug, Default, PartialEq)]
 pub struct Validity {
-    /// The first time when it is valid; see `Time`.
+    /// The first time when it is valid; see `Time`. That it has no fraction of a second (RFC 5280, 4.1.2.5.2) is not tested.
     pub not_before: Element,
     /// The last one.
     pub not_after: Element,

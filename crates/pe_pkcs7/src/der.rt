@@ -2,9 +2,10 @@
 //! the content, which may be elements again.
 
 ghost use Rattle.std.specs.Prelude.{◌≡◌, ◌+◌, ◌≤◌, ◌<◌, length, IfOk};
-ghost use Rattle.pe_pkcs7.specs.Der.{be, lacks, length_octets, content_length, element_at};
+ghost use Rattle.pe_pkcs7.specs.Der.{be, lacks, is_end_of_contents, has_octets, length_octets, content_length, element_at};
 
 use crate::error::{Result, SignatureError};
+use crate::tags::{BIT_STRING, BOOLEAN, ENUMERATED, INTEGER, OBJECT_IDENTIFIER};
 
 /// The tag number that says that the number follows in octets of its own.
 const TAG_NUMBER_FOLLOWS: u8 = 31;
@@ -57,8 +58,26 @@ fn lacks(bytes: &[u8], offset: usize, n: usize) -> bool
     bytes.len() < n || bytes.len() - n < offset
 }
 
-/// How many octets of the length follow its first one. Errors, in order: `Truncated`, `TagNumber`, `IndefiniteLength`,
-/// `LengthOctets`, `Truncated`.
+/// Whether an identifier octet is that of the end of contents, primitive or constructed.
+fn is_end_of_contents(tag: u8) -> bool
+    ensures { result ≡ is_end_of_contents tag }
+{
+    tag == 0x00 || tag == 0x20
+}
+
+/// Whether the content of a type has an octet at least.
+fn has_octets(tag: u8) -> bool
+    ensures { result ≡ has_octets tag }
+{
+    tag == BOOLEAN
+        || tag == INTEGER
+        || tag == BIT_STRING
+        || tag == OBJECT_IDENTIFIER
+        || tag == ENUMERATED
+}
+
+/// How many octets of the length follow its first one. Errors, in order: `Truncated`, `TagNumber`, `EndOfContents`,
+/// `IndefiniteLength`, `LengthOctets`, `Truncated`.
 #[tactic(auto, unfolding(crate::specs::Der::length_octets))]
 fn length_octets(bytes: &[u8], offset: usize) -> Result<u8>
     ensures exact { result ≡ length_octets bytes.now offset }
@@ -73,6 +92,9 @@ fn length_octets(bytes: &[u8], offset: usize) -> Result<u8>
     }
     if bytes[offset] % 32 == TAG_NUMBER_FOLLOWS {
         return Err(SignatureError::TagNumber(offset));
+    }
+    if is_end_of_contents(bytes[offset]) {
+        return Err(SignatureError::EndOfContents(offset));
     }
     if bytes[offset + 1] == LONG_FORM {
         return Err(SignatureError::IndefiniteLength(offset));
@@ -100,8 +122,8 @@ fn content_length(bytes: &[u8], offset: usize, octets: u8) -> u32
     big_endian(bytes, offset + 2, octets)
 }
 
-/// The element at `offset`, where `bytes` end with its parent. Errors, in order: `Truncated`, `TagNumber`,
-/// `IndefiniteLength`, `LengthOctets`, `Truncated`, `LengthForm`, `PastParent`.
+/// The element at `offset`, where `bytes` end with its parent. Errors, in order: `Truncated`, `TagNumber`, `EndOfContents`,
+/// `IndefiniteLength`, `LengthOctets`, `Truncated`, `LengthForm`, `PastParent`, `EmptyContent`.
 #[tactic(auto, unfolding(crate::specs::Der::element_at))]
 pub fn element_at(bytes: &[u8], offset: usize) -> Result<Element>
     ensures exact { result ≡ element_at bytes.now offset }
@@ -120,6 +142,9 @@ pub fn element_at(bytes: &[u8], offset: usize) -> Result<Element>
             length,
             left: bytes.len() - content,
         });
+    }
+    if has_octets(bytes[offset]) && length == 0 {
+        return Err(SignatureError::EmptyContent(offset));
     }
     Ok(Element {
         tag: bytes[offset],

@@ -12,6 +12,9 @@ pub enum SignatureError {
     /// An element with a tag number above 30, which takes several octets. No element of a signature has one.
     #[error("element at offset {0:#x} has a tag number above 30")]
     TagNumber(usize),
+    /// The identifier octet of the end of contents, 0: it ends an indefinite length in BER, and is no element in DER.
+    #[error("end of contents at offset {0:#x}, which DER does not have")]
+    EndOfContents(usize),
     /// An element whose length is indefinite, which BER allows and DER does not.
     #[error("element at offset {0:#x} has an indefinite length")]
     IndefiniteLength(usize),
@@ -32,6 +35,9 @@ pub enum SignatureError {
         length: u32,
         left: usize,
     },
+    /// A `BOOLEAN`, `INTEGER`, `BIT STRING`, `OBJECT IDENTIFIER` or `ENUMERATED` without an octet of content.
+    #[error("element at offset {0:#x} has no content, which its type does not allow")]
+    EmptyContent(usize),
     /// The offset where an element has to start, and the parent ends.
     #[error("element missing at offset {0:#x}")]
     Missing(usize),

@@ -14,7 +14,7 @@ ghost use Rattle.pe_pkcs7.specs.declared.name.NameAttribute.{NameAttribute};
 ghost use Rattle.pe_pkcs7.specs.declared.name.NameAttributes.{NameAttributes};
 ghost use Rattle.pe_pkcs7.specs.Der.{element_at};
 ghost use Rattle.pe_pkcs7.specs.Later.{IsReadAt};
-ghost use Rattle.pe_pkcs7.specs.Encoding.{der, content_in, octets_in};
+ghost use Rattle.pe_pkcs7.specs.Encoding.{AreOfElement, der, content_in, octets_in};
 ghost use Rattle.pe_pkcs7.specs.declared.der.Element.{Element};
 
 use crate::fields::Elements;
@@ -28,17 +28,19 @@ pub fn elements_lie_in_their_parent()
 {}
 
 /// What is read is what DER writes: the octets of an element that is read are its tag, the octets of the length of its content
-/// in the shortest form, and the content.
+/// in the shortest form, and the content; and an element has this tag and this content.
 pub fn elements_are_written_by_der()
-    ensures { (b : List ℕ) (p : ℕ) (x : Element) → AreBytes b → element_at b p ≡ Ok x →
+    ensures octets { (b : List ℕ) (p : ℕ) (x : Element) → AreBytes b → element_at b p ≡ Ok x →
         octets_in b x ≡ der x.tag (content_in b x) }
+    ensures parts { (b : List ℕ) (p : ℕ) (x : Element) → element_at b p ≡ Ok x → AreOfElement x.tag (content_in b x) }
 {}
 
-/// What DER writes is read, whatever follows it, as an element of this tag and this content: by this and the law before it an
-/// element has one reading, and one way to be written. A content of 4 GB and more, and a tag number above 30, are not read.
+/// What DER writes is read, whatever follows it, as an element of this tag and this content, where an element has them: by this
+/// and the law before it an element has one reading, and one way to be written. A content of 4 GB and more, and a tag number
+/// above 30, are not read.
 pub fn written_elements_are_read()
     ensures { (b : List ℕ) (p tag : ℕ) (content rest : List ℕ) → AreBytes b → tag % 32 < 31 →
-        length content < 2 ^ 32 → drop p b ≡ der tag content ++ rest →
+        AreOfElement tag content → length content < 2 ^ 32 → drop p b ≡ der tag content ++ rest →
         (x : Element) × (element_at b p ≡ Ok x) × (x.tag ≡ tag) × (content_in b x ≡ content) }
 {}
 
@@ -75,7 +77,8 @@ pub fn names_are_relative_distinguished_names()
 {}
 
 /// A signature reads the same wherever it stands: what is read of a file in which its bytes stand, up to their end and by the
-/// offsets of the file, is what is read of them alone, each element and each error as many bytes further on. So is a part of bytes
+/// offsets of the file, is what is read of them alone, each element and each error as many bytes further on: parts, walks over
+/// elements, searches for an attribute, names. So is a part of bytes
 /// that stand in a file, as the body in the entry of a certificate: the signature in a certificate that `attach` of pe_sign writes is
 /// that of the certificate that it was given.
 #[tactic(auto, using(crate::proofs::LaterSignatures::all_read))]

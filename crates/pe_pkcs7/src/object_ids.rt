@@ -198,6 +198,12 @@ pub const DSA: [u8; 7] = [0x2A, 0x86, 0x48, 0xCE, 0x38, 0x04, 0x01];
 /// 1.2.840.10040.4.3.
 pub const DSA_SHA1: [u8; 7] = [0x2A, 0x86, 0x48, 0xCE, 0x38, 0x04, 0x03];
 
+/// 1.3.14.3.2.29. the older identifier of SHA1_RSA, sha1WithRSA of the OIW.
+pub const SHA1_RSA_OIW: [u8; 5] = [0x2B, 0x0E, 0x03, 0x02, 0x1D];
+
+/// 1.2.840.113549.1.1.2. PKCS #1 v1.5.
+pub const MD2_RSA: [u8; 9] = [0x2A, 0x86, 0x48, 0x86, 0xF7, 0x0D, 0x01, 0x01, 0x02];
+
 /// The number of an algorithm, by the octets of its object identifier. 0 without one.
 #[tactic(auto, unfolding(crate::specs::ObjectIds::algorithm_number))]
 pub fn algorithm_number(octets: &[u8]) -> u32
@@ -241,6 +247,10 @@ pub fn algorithm_number(octets: &[u8]) -> u32
         218
     } else if is(octets, &DSA_SHA1) {
         219
+    } else if is(octets, &SHA1_RSA_OIW) {
+        220
+    } else if is(octets, &MD2_RSA) {
+        221
     } else {
         0
     }

@@ -11,6 +11,8 @@ pub const OCTET_STRING: u8 = 0x04;
 
 pub const OBJECT_IDENTIFIER: u8 = 0x06;
 
+pub const ENUMERATED: u8 = 0x0A;
+
 pub const UTC_TIME: u8 = 0x17;
 
 pub const GENERALIZED_TIME: u8 = 0x18;

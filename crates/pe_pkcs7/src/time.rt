@@ -1,5 +1,5 @@
 //! Times: of the validity of certificates, of signing, of time stamps. They are in UTC, as decimal digits: `UTCTime` with two
-//! digits for the years 1950 to 2049, `GeneralizedTime` with four ([RFC 5280](https://www.rfc-editor.org/rfc/rfc5280), 4.1.2.5).
+//! digits for the years 1950 to 2049 ([RFC 5280](https://www.rfc-editor.org/rfc/rfc5280), 4.1.2.5), `GeneralizedTime` with four.
 
 ghost use Rattle.std.specs.Prelude.{◌≡◌, ◌+◌, ◌≤◌, ◌<◌, length};
 ghost use Rattle.std.specs.List.{list_all};
@@ -142,8 +142,9 @@ impl Time {
             && self.second < 60
     }
 
-    /// The time that an element is, a `UTCTime` or a `GeneralizedTime`. A fraction of a second is left out. Error: `BadTime`
-    /// if it is neither, or not in the form that DER and RFC 5280 have, or has a number that no time has.
+    /// The time that an element is, a `UTCTime` or a `GeneralizedTime`. A fraction of a second is left out: a time stamp may have
+    /// one (RFC 3161, 2.4.2), a certificate and a signing time have none by RFC 5280 and RFC 5652, which is not tested. Error:
+    /// `BadTime` if it is neither, or not in the form that DER has, or has a number that no time has.
     #[tactic(auto, unfolding(crate::specs::Times::time_of))]
     pub fn parse(bytes: &[u8], element: Element) -> Result<Time>
         ensures { result ≡ time_of bytes.now element }

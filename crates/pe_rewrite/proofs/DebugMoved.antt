@@ -14,11 +14,12 @@ use Rattle.pe_edit.specs.Written.{Leaf}
 use Rattle.pe_records.specs.DebugDirectory.{debug_entry_at}
 use Rattle.pe_sign.proofs.Digests.{range_below, range_past}
 use Rattle.pe_rewrite.specs.Edited.{RoomLies, at_end, moved_pointer, pointer_at, with_pointers}
-use Rattle.pe_rewrite.specs.Places.{directory_at, section_headers}
-use Rattle.pe_rewrite.specs.Rooms.{debug_directory, debug_entries, entries_by, moved, room_of}
+use Rattle.pe_rewrite.specs.Places.{debug_entries, directory_at, directory_in, entries_by, section_headers}
+use Rattle.pe_rewrite.specs.Rooms.{moved, room_of}
 use Rattle.pe_rewrite.specs.WrittenImages.{entries_at, entry_offset, moved_entry}
 use Rattle.pe_rewrite.specs.declared.place.Target.{Target}
 use Rattle.pe_rewrite.specs.declared.room.Room.{Room}
+use Rattle.pe_rewrite.proofs.Placed.{TargetIs}
 use Rattle.pe_rewrite.proofs.Pointers.{byte_with, data_before_end, entries_end, entries_in, pointer_read, pointers_fit}
 use Rattle.pe_rewrite.proofs.RoomBytes.{roomy_byte}
 use Rattle.pe_rewrite.proofs.RoomImages.{IsMoved, bytes_after, four_false, is_moved, length_moved, roomy_stays, some_is}
@@ -62,7 +63,7 @@ pointer b h xs m f k y d lt =
     le-same f (with_pointers m b) (entry_offset m k + 24) (entry_offset m k + 24) 4 (λ j small. entry_byte b h xs m f k (entry_offset m k + 24 + j) y lt (omega arith) (omega (arith, small)))
     ∙ pointer_read m b m.debug.count b k (entries_end b h xs m y.old) (pointers_fit b h m d k lt) lt
 
-small_reduced : (n : ℕ) → n < 2 ^ 32 → (n + 2 ^ 32) % 2 ^ 32 ≡ n
+pub small_reduced : (n : ℕ) → n < 2 ^ 32 → (n + 2 ^ 32) % 2 ^ 32 ≡ n
 small_reduced n h = omega (arith, h)
 
 pub entry_moved : (b : List ℕ) (h : HeaderView) (xs : List Leaf) (m : Room) (f : List ℕ) (k : ℕ) → AreBytes b → room_of b h xs ≡ Ok m → at_end b h xs ≡ Ok f → k < m.debug.count →
@@ -107,17 +108,18 @@ pub data_moved : (b : List ℕ) (h : HeaderView) (xs : List Leaf) (m : Room) (f 
 data_moved b h xs m f p n small e i from = ap (λ (q : ℕ). range f q n) (moved_on m.end m.more p from) ∙ same_bytes f b (p + m.more) p n (rest_moved b h xs m f p small e i from)
 
 -- where they are
-entries_there : (b : List ℕ) (h : HeaderView) (m : Room) (w : OptionalHeaderView) (d : HasDebug b h m) (q : ℕ) → h.optional_header ≡ Some w → offset_of true d.target.file_alignment (section_headers b h) (directory_at w 6).virtual_address ≡ Some q → d.section.debug ≡ debug_entries b h d.target → m.debug ≡ entries_at q (directory_at w 6)
-entries_there b h m w d q some there is =
-    d.debug ∙ is ∙ ap (λ (o : Option OptionalHeaderView). let e = debug_directory o in entries_by (offset_of true d.target.file_alignment (section_headers b h) e.virtual_address) e d.target.size_of_headers) some
-    ∙ ap (λ (o : Option ℕ). entries_by o (directory_at w 6) d.target.size_of_headers) there
+pub entries_there : (o : ParseOptions) (b : List ℕ) (h : HeaderView) (t : Target) (of : TargetIs h t) (w : OptionalHeaderView) (q : ℕ) → h.optional_header ≡ Some w → o.resolve_rva ≡ true →
+    section_map o (section_headers b h) w.windows_fields.file_alignment (directory_at w 6).virtual_address ≡ Some q → debug_entries b h t ≡ entries_at q (directory_at w 6)
+entries_there o b h t of w q some resolves there =
+    let rva : ℕ = (directory_at w 6).virtual_address in
+    let same : w ≡ of.optional = some_is w of.optional (sym some ∙ of.some) in
+    let alignment : w.windows_fields.file_alignment ≡ t.file_alignment = ap (λ (x : OptionalHeaderView). x.windows_fields.file_alignment) same ∙ ap (λ (t : Target). t.file_alignment) of.value in
+    let mapped : offset_of true t.file_alignment (section_headers b h) rva ≡ Some q = ap (λ (n : ℕ). offset_of true n (section_headers b h) rva) (sym alignment) ∙ ap (λ (r : Bool). offset_of r w.windows_fields.file_alignment (section_headers b h) rva) (sym resolves) ∙ there in
+    ap (λ (o : Option OptionalHeaderView). let e = directory_in o 6 in entries_by (offset_of true t.file_alignment (section_headers b h) e.virtual_address) e t.size_of_headers) some
+    ∙ ap (λ (o : Option ℕ). entries_by o (directory_at w 6) t.size_of_headers) mapped
 
 pub entries_are : (o : ParseOptions) (b : List ℕ) (h : HeaderView) (xs : List Leaf) (m : Room) (w : OptionalHeaderView) (q : ℕ) → room_of b h xs ≡ Ok m → h.optional_header ≡ Some w → o.resolve_rva ≡ true →
     section_map o (section_headers b h) w.windows_fields.file_alignment (directory_at w 6).virtual_address ≡ Some q → m.debug ≡ entries_at q (directory_at w 6)
 entries_are o b h xs m w q e some resolves there =
     let d : HasDebug b h m = has_debug b h xs m e in
-    let rva : ℕ = (directory_at w 6).virtual_address in
-    let same : w ≡ d.of.optional = some_is w d.of.optional (sym some ∙ d.of.some) in
-    let alignment : w.windows_fields.file_alignment ≡ d.target.file_alignment = ap (λ (x : OptionalHeaderView). x.windows_fields.file_alignment) same ∙ ap (λ (t : Target). t.file_alignment) d.of.value in
-    entries_there b h m w d q some
-    (ap (λ (n : ℕ). offset_of true n (section_headers b h) rva) (sym alignment) ∙ ap (λ (r : Bool). offset_of r w.windows_fields.file_alignment (section_headers b h) rva) (sym resolves) ∙ there) d.entries
+    d.debug ∙ d.entries ∙ entries_there o b h d.target d.of w q some resolves there

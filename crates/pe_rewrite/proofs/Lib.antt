@@ -3,6 +3,7 @@ pub mod Writes
 pub mod RoomWrites
 pub mod Placed
 pub mod Loops
+pub mod Beside
 pub mod Roomy
 pub mod Stays
 pub mod RoomBytes
@@ -17,5 +18,6 @@ pub mod RoomMapped
 pub mod WrittenImages
 pub mod RoomImages
 pub mod DebugMoved
+pub mod DebugPlaced
 pub mod Calls
 pub mod WrittenTrees

@@ -1,5 +1,5 @@
 -- What is known of an image whose resources have a place.
-use Rattle.std.proofs.Common.{◌≡◌, ℕ, ◌+◌, ◌*◌, ◌^◌, ◌%◌, ◌<◌, ◌≤◌, ◌==◌, ◌&&◌, Bool, true, false, List, length, Option, Some, None, Result, Ok, Err, refl, ap, sym, ◌∙◌, subst, arith}
+use Rattle.std.proofs.Common.{◌≡◌, ℕ, ◌+◌, ◌*◌, ◌^◌, ◌%◌, ◌<◌, ◌≤◌, ◌==◌, ◌&&◌, Bool, true, false, List, [], ◌∷◌, length, Option, Some, None, Result, Ok, Err, refl, ap, sym, ◌∙◌, subst, arith}
 use Rattle.std.specs.Prelude.{nat_le, nat_lt}
 use Rattle.std.specs.Int.{is_power_of_two}
 use Rattle.std.specs.List.{position_or_len}
@@ -16,8 +16,8 @@ use Rattle.pe_edit.proofs.SectionRead.{length_of_section}
 use Rattle.pe_edit.proofs.Tests.{passes, section_fits, section_is, section_is_sorted}
 use Rattle.pe_sign.specs.WrittenHeaders.{directories_end, directories_end_after}
 use Rattle.pe_rewrite.specs.Edited.{Lies, at_end, edited_file, edited_of, in_place, or_at_end}
-use Rattle.pe_rewrite.specs.Places.{directory_at, has_data, header_tests, headers_end, index_of, is_absent, is_alone, length_at, place_at, place_of, section_header, section_headers, section_tests, sections_apart, symbols_apart, target_before, target_by, target_of, target_tests}
-use Rattle.pe_rewrite.specs.RewriteRefusals.{RewriteRefusal, of_leaves}
+use Rattle.pe_rewrite.specs.Places.{debug_apart, debug_entries, directory_at, grows_clear, has_data, header_tests, headers_end, index_of, is_absent, is_alone, length_at, place_at, place_of, section_header, section_headers, section_tests, sections_apart, symbols_apart, target_before, target_by, target_of, target_tests}
+use Rattle.pe_rewrite.specs.RewriteRefusals.{RewriteRefusal, NoSection, of_leaves}
 use Rattle.pe_rewrite.specs.declared.place.Place.{Place}
 use Rattle.pe_rewrite.specs.declared.place.Target.{Target}
 use Rattle.pe_rewrite.proofs.Results.{first_ok, first_of, passed, second_of, value_is}
@@ -102,8 +102,8 @@ index_is b h rva i e =
     let p : SectionTable → Bool = λ s. s.virtual_address == rva in
     let k : ℕ = position_or_len p (section_headers b h) in
     let n : ℕ = h.coff_header.number_of_sections in
-    let one = passed (nat_lt k n) _ _ i e in
-    let is : k ≡ i = cc in
+    let one = passed (nat_lt k n) _ _ i (passed (nat_lt 0 rva) _ _ i e).1 in
+    let is : k ≡ i = value_is ((nat_lt k n, NoSection) ∷ []) k i (passed (nat_lt 0 rva) _ _ i e).1 in
     let lt : k < n = grind (arith, nat_tests, one.0) in
     let d : SectionTable = section_header b h 0 in
     let size : length (section_headers b h) ≡ n = length-each (section_header b h) n in
@@ -138,6 +138,18 @@ section_is_free b h t i n p q e =
       room = grind (arith, nat_tests, room);
     }
 
+-- and no debug data lie there
+debug_is_apart : (b : List ℕ) (h : HeaderView) (t : Target) (i n : ℕ) (p q : Place) → outcome (section_tests b h t i n) p ≡ Ok q → debug_apart b h (section_header b h i) (debug_entries b h t) ≡ true
+debug_is_apart b h t i n p q e =
+    let s : SectionTable = section_header b h i in
+    let one = passed (has_data b h s) _ _ q e in
+    let two = passed (is_alone s h.optional_header) _ _ q one.1 in
+    let three = passed (symbols_apart h s) _ _ q two.1 in
+    let four = passed (sections_apart b h t.file_alignment i) _ _ q three.1 in
+    let five = passed (nat_le n s.size_of_raw_data && nat_le (s.virtual_address + n) t.size_of_image) _ _ q four.1 in
+    let six = passed (grows_clear b h n i) _ _ q five.1 in
+    (passed (debug_apart b h s (debug_entries b h t)) _ _ q six.1).0
+
 -- ---- all of them
 
 pub record Placed (b : List ℕ) (h : HeaderView) (xs : List Leaf) (p : Place) : Type 0 where
@@ -167,6 +179,25 @@ placed b h xs p e =
       section = index_is b h t.0.rva i.0 i.1.0;
       free = section_is_free b h t.0 i.0 n.0 (place_at b h t.0 n.0 i.0) p i.1.1;
       value = value_is (section_tests b h t.0 i.0 n.0) (place_at b h t.0 n.0 i.0) p i.1.1;
+    }
+
+-- the debug data of an image whose resources have a place
+pub record DebugApart (b : List ℕ) (h : HeaderView) (p : Place) : Type 0 where
+  pub target : Target
+  pub of : TargetIs h target
+  pub apart : debug_apart b h p.section (debug_entries b h target) ≡ true
+
+pub debug_placed : (b : List ℕ) (h : HeaderView) (xs : List Leaf) (p : Place) → place_of b h xs ≡ Ok p → DebugApart b h p
+debug_placed b h xs p e =
+    let t = first_ok (target_of h) _ p e in
+    let n = first_ok (length_at t.0.rva xs) _ p t.1.1 in
+    let u = first_ok (outcome {Y = Unit {0}} (header_tests b h t.0) tt) _ p n.1.1 in
+    let i = first_ok (index_of b h t.0.rva) _ p u.1.1 in
+    let value : place_at b h t.0 n.0 i.0 ≡ p = value_is (section_tests b h t.0 i.0 n.0) (place_at b h t.0 n.0 i.0) p i.1.1 in
+    record {
+      target = t.0;
+      of = target_is h t.0 t.1.0;
+      apart = subst (λ (y : Place). debug_apart b h y.section (debug_entries b h t.0) ≡ true) value (debug_is_apart b h t.0 i.0 n.0 (place_at b h t.0 n.0 i.0) p i.1.1);
     }
 
 wide : (w : Bool) → 96 ≤ directories_offset w

@@ -21,10 +21,11 @@ use Rattle.pe_rewrite.specs.Edited.{CanMove, EntriesLie, PointersFit, RoomLies, 
 use Rattle.pe_rewrite.specs.Places.{section_header, section_headers}
 use Rattle.pe_rewrite.specs.Rooms.{data_moves, entries_lie, entry_moves, is_before, is_before_or_same, is_last, is_u32, moved, room_at, table_end}
 use Rattle.pe_rewrite.specs.declared.place.Target.{Target}
-use Rattle.pe_rewrite.specs.declared.room.DebugEntries.{DebugEntries}
+use Rattle.pe_rewrite.specs.declared.debug.DebugEntries.{DebugEntries}
 use Rattle.pe_rewrite.specs.declared.room.LastSection.{LastSection}
 use Rattle.pe_rewrite.specs.declared.room.Room.{Room}
 use Rattle.pe_rewrite.proofs.Placed.{HeadersLie}
+use Rattle.pe_rewrite.proofs.Results.{first_of}
 use Rattle.pe_rewrite.proofs.Roomy.{HasDebug, HasRoom, IsLast, RoomFits, room_lies}
 use Rattle.pe_rewrite.proofs.Stays.{Past, byte_past, number_stays, number_there}
 use Rattle.pe_rewrite.proofs.Writes.{inner}
@@ -149,7 +150,7 @@ pointers_front m b old f (suc n) e d h lie =
 
 -- ---- the image
 
-lie_by : (t u v : Bool) → (t || (u && v)) ≡ true → t ≡ false → (u ≡ true) × (v ≡ true)
+pub lie_by : (t u v : Bool) → (t || (u && v)) ≡ true → t ≡ false → (u ≡ true) × (v ≡ true)
 lie_by true u v e f = absurd cc
 lie_by false true true e f = (refl, refl)
 lie_by false true false e f = absurd cc
@@ -179,7 +180,7 @@ moved_by false p more n h i = i
 moved_low : (end more p n : ℕ) → end + more < n → p ≤ end → moved end more p < n
 moved_low end more p n h le = moved_by (nat_lt p end) p more n (omega (arith, h, le)) (omega (arith, h, le))
 
-or_of : (t u : Bool) → (t || u) ≡ true → (t ≡ true) ⊎ (u ≡ true)
+pub or_of : (t u : Bool) → (t || u) ≡ true → (t ≡ true) ⊎ (u ≡ true)
 or_of true u e = inl e
 or_of false u e = inr e
 
@@ -189,7 +190,9 @@ both_of false u e = absurd cc
 
 entry_fits : (b : List ℕ) (l : LastSection) (e : ℕ) → raw_end l.section + l.more < 256 ^ 4 → data_moves b l e ≡ true → moved (raw_end l.section) l.more (le b (e + 24) 4) < 2 ^ 32
 entry_fits b l e end h =
-    let p : ℕ = le b (e + 24) 4 in ⊎_elim
+    let p : ℕ = le b (e + 24) 4 in
+    let either : (nat_le (p + le b (e + 16) 4) l.section.pointer_to_raw_data || (nat_le (raw_end l.section) p && is_u32 (p + l.more))) ≡ true = first_of (nat_le (p + le b (e + 16) 4) l.section.pointer_to_raw_data || (nat_le (raw_end l.section) p && is_u32 (p + l.more))) _ h in
+    ⊎_elim
     (λ (stays : nat_le (p + le b (e + 16) 4) l.section.pointer_to_raw_data ≡ true).
     let before : p + le b (e + 16) 4 ≤ l.section.pointer_to_raw_data = grind (arith, nat_tests, stays) in
     moved_low (raw_end l.section) l.more p (2 ^ 32) (omega (arith, end)) (omega (arith, before)))
@@ -197,7 +200,7 @@ entry_fits b l e end h =
     let small : is_u32 (p + l.more) ≡ true = both_of (nat_le (raw_end l.section) p) (is_u32 (p + l.more)) moves in
     let less : p + l.more < 2 ^ 32 = grind (arith, nat_tests, small) in
     moved_by (nat_lt p (raw_end l.section)) p l.more (2 ^ 32) (omega (arith, less)) less)
-    (or_of (nat_le (p + le b (e + 16) 4) l.section.pointer_to_raw_data) (nat_le (raw_end l.section) p && is_u32 (p + l.more)) h)
+    (or_of (nat_le (p + le b (e + 16) 4) l.section.pointer_to_raw_data) (nat_le (raw_end l.section) p && is_u32 (p + l.more)) either)
 
 pub pointers_fit : (b : List ℕ) (h : HeaderView) (m : Room) → HasDebug b h m → PointersFit m b
 pointers_fit b h m d k lt =

@@ -13,7 +13,7 @@ use Rattle.pe_rewrite.specs.Places.{headers_end, place_of}
 use Rattle.pe_rewrite.specs.RewriteRefusals.{RewriteRefusal, Image, NoDirectory, Signed, Leaves, Headers, Alignment, NoSection, Section, SharedSection, Symbols, Overlap, NoRoom, NoHeaderRoom, ImageTooLarge, DebugData}
 use Rattle.pe_rewrite.specs.Rooms.{moved, room_of}
 use Rattle.pe_rewrite.specs.declared.place.Place.{Place}
-use Rattle.pe_rewrite.specs.declared.room.DebugEntries.{DebugEntries}
+use Rattle.pe_rewrite.specs.declared.debug.DebugEntries.{DebugEntries}
 use Rattle.pe_rewrite.specs.declared.room.Room.{Room}
 
 -- ---- changes: bytes that are written at a file offset
@@ -152,7 +152,7 @@ wants_room Overlap = true
 wants_room NoRoom = true
 wants_room NoHeaderRoom = false
 wants_room ImageTooLarge = false
-wants_room DebugData = false
+wants_room DebugData = true
 
 -- the first file, or the second if the resources want room
 abbrev pub or_at_end : Result (List ℕ) RewriteRefusal → Result (List ℕ) RewriteRefusal → Result (List ℕ) RewriteRefusal

@@ -3,3 +3,4 @@ pub mod Places
 pub mod Rooms
 pub mod Edited
 pub mod WrittenImages
+pub mod Relocations

@@ -1,13 +1,14 @@
 -- Where an image has its resources, and whether others can be put there. (PE format: optional header, section table.)
-use Rattle.std.specs.Prelude.{ℕ, ◌+◌, ◌*◌, ◌%◌, ◌==◌, ◌&&◌, ◌||◌, Bool, true, Option, Some, None, List, [], ◌∷◌, Result, Err, length, nat_le, nat_lt, slice_index_or}
+use Rattle.std.specs.Prelude.{ℕ, ◌+◌, ◌*◌, ◌/◌, ◌%◌, ◌==◌, ◌&&◌, ◌||◌, max, Bool, true, Option, Some, None, List, [], ◌∷◌, Result, Err, length, nat_le, nat_lt, slice_index_or, if◌then◌else◌}
 use Rattle.std.specs.Int.{is_power_of_two}
 use Rattle.std.specs.List.{list_all, position_or_len}
+use Rattle.pe_core.specs.Bytes.{le}
 use Rattle.pe_core.specs.Directories.{absent_directory}
 use Rattle.pe_core.specs.Header.{HeaderView, OptionalHeaderView, directories_offset}
 use Rattle.pe_core.specs.Records.{section_table}
 use Rattle.pe_core.specs.Refusals.{NoOptionalHeader, Short, outcome, ◌>>=◌}
 use Rattle.pe_core.specs.Rows.{each, rows}
-use Rattle.pe_core.specs.SectionMap.{raw_start, rounded_up}
+use Rattle.pe_core.specs.SectionMap.{offset_of, raw_start, rounded_up}
 use Rattle.pe_core.specs.Sections.{raw_end, sections_offset}
 use Rattle.pe_core.specs.declared.data_directories.DataDirectory.{DataDirectory}
 use Rattle.pe_core.specs.declared.optional_header.TheConstants.{MAGIC_64}
@@ -15,7 +16,9 @@ use Rattle.pe_core.specs.declared.section_table.SectionTable.{SectionTable}
 use Rattle.pe_edit.specs.EditRefusals as edits
 use Rattle.pe_edit.specs.Written.{Leaf}
 use Rattle.pe_sign.specs.WrittenHeaders.{directories_end}
-use Rattle.pe_rewrite.specs.RewriteRefusals.{RewriteRefusal, Image, NoDirectory, Signed, Headers, Alignment, NoSection, Section, SharedSection, Symbols, Overlap, NoRoom, of_leaves}
+use Rattle.pe_rewrite.specs.RewriteRefusals.{RewriteRefusal, Image, NoDirectory, Signed, Headers, Alignment, NoSection, Section, SharedSection, Symbols, Overlap, NoRoom, DebugData, of_leaves}
+use Rattle.pe_rewrite.specs.Relocations.{table_at, table_beside}
+use Rattle.pe_rewrite.specs.declared.debug.DebugEntries.{DebugEntries}
 use Rattle.pe_rewrite.specs.declared.place.Place.{Place}
 use Rattle.pe_rewrite.specs.declared.place.Target.{Target}
 
@@ -27,6 +30,11 @@ directory_at o k = slice_index_or o.data_directories k absent_directory
 
 abbrev pub is_absent : DataDirectory → Bool
 is_absent d = d.virtual_address == 0 && d.size == 0
+
+-- the same of an image that may have no optional header
+abbrev pub directory_in : Option OptionalHeaderView → ℕ → DataDirectory
+directory_in None k = absent_directory
+directory_in (Some o) k = directory_at o k
 
 -- what is known of the resources by the optional header of an image with this PE pointer: the file offset of the entry of
 -- their directory, which is the third, their RVA, both alignments, and the sizes of the image in memory, of its headers and of
@@ -74,11 +82,11 @@ section_headers b h = rows (section_table b) 40 (sections_offset h) h.coff_heade
 abbrev pub section_header : List ℕ → HeaderView → ℕ → SectionTable
 section_header b h k = section_table b (sections_offset h + 40 * k)
 
--- the index of the first section that starts at this RVA
+-- the index of the first section that starts at this RVA; at RVA 0, that of the headers and of an absent directory, are no resources
 abbrev pub index_of : List ℕ → HeaderView → ℕ → Result ℕ RewriteRefusal
 index_of b h rva =
     let k = position_or_len (λ s. s.virtual_address == rva) (section_headers b h) in
-    outcome ((nat_lt k h.coff_header.number_of_sections, NoSection) ∷ []) k
+    outcome ((nat_lt 0 rva, NoSection) ∷ (nat_lt k h.coff_header.number_of_sections, NoSection) ∷ []) k
 
 -- the section's data start after the headers and at a sector, and end in the file
 abbrev pub has_data : List ℕ → HeaderView → SectionTable → Bool
@@ -128,6 +136,55 @@ is_apart b h alignment i k = k == i || data_apart alignment h (section_header b 
 abbrev pub sections_apart : List ℕ → HeaderView → ℕ → ℕ → Bool
 sections_apart b h alignment i = list_all (is_apart b h alignment i) (each (λ k. k) h.coff_header.number_of_sections)
 
+-- another section ends before this one in memory, or starts after it when it has n bytes at least
+abbrev pub memory_apart : ℕ → SectionTable → SectionTable → Bool
+memory_apart n s t =
+    nat_le (t.virtual_address + t.virtual_size) s.virtual_address || nat_le (s.virtual_address + max s.virtual_size n) t.virtual_address
+
+-- the section with index k is that with index i, or apart from it in memory when that has n bytes at least
+abbrev pub is_clear : List ℕ → HeaderView → ℕ → ℕ → ℕ → Bool
+is_clear b h n i k = k == i || memory_apart n (section_header b h i) (section_header b h k)
+
+abbrev pub grows_clear : List ℕ → HeaderView → ℕ → ℕ → Bool
+grows_clear b h n i = list_all (is_clear b h n i) (each (λ k. k) h.coff_header.number_of_sections)
+
+-- the entries of the debug directory, which is the seventh, of 28 bytes each, which the section map leads to this file offset; if to none, they are in the
+-- headers, of n bytes, or nowhere
+abbrev pub entries_by : Option ℕ → DataDirectory → ℕ → DebugEntries
+entries_by (Some p) d n = record { offset = p; count = d.size / 28 }
+entries_by None d n = record { offset = d.virtual_address; count = if nat_lt d.virtual_address n then d.size / 28 else 0 }
+
+abbrev pub debug_entries : List ℕ → HeaderView → Target → DebugEntries
+debug_entries b h t =
+    let d = directory_in h.optional_header 6 in
+    entries_by (offset_of true t.file_alignment (section_headers b h) d.virtual_address) d t.size_of_headers
+
+-- the entries lie after the headers, and before or after the section's data, in the file, if there are any
+abbrev pub entries_apart : List ℕ → HeaderView → SectionTable → DebugEntries → Bool
+entries_apart b h s d =
+    d.count == 0
+    || (nat_le (headers_end h) d.offset
+    && (nat_le (d.offset + 28 * d.count) s.pointer_to_raw_data || (nat_le (raw_end s) d.offset && nat_le (d.offset + 28 * d.count) (length b))))
+
+-- the data of the debug entry at file offset e end before the section's data or start after them, and their RVA is outside of the
+-- section
+abbrev pub debug_data_apart : List ℕ → SectionTable → ℕ → Bool
+debug_data_apart b s e =
+    let p = le b (e + 24) 4 in
+    (nat_le (p + le b (e + 16) 4) s.pointer_to_raw_data || nat_le (raw_end s) p) && is_outside s (le b (e + 20) 4)
+
+abbrev pub entry_apart : List ℕ → SectionTable → DebugEntries → ℕ → Bool
+entry_apart b s d k = debug_data_apart b s (d.offset + 28 * k)
+
+abbrev pub debug_apart : List ℕ → HeaderView → SectionTable → DebugEntries → Bool
+debug_apart b h s d = entries_apart b h s d && list_all (entry_apart b s d) (each (λ k. k) d.count)
+
+-- no base relocation, of which the directory is the sixth, changes what is between two RVAs
+unfoldable pub relocations_beside : List ℕ → HeaderView → Target → ℕ → ℕ → Bool
+relocations_beside b h t start end =
+    let d = directory_in h.optional_header 5 in
+    table_beside start end (table_at b d.size (offset_of true t.file_alignment (section_headers b h) d.virtual_address))
+
 -- the section with index i can be written over, and n bytes fit into its data and into the image in memory
 abbrev pub section_tests : List ℕ → HeaderView → Target → ℕ → ℕ → List (Bool × RewriteRefusal)
 section_tests b h t i n =
@@ -136,7 +193,10 @@ section_tests b h t i n =
     ∷ (is_alone s h.optional_header, SharedSection)
     ∷ (symbols_apart h s, Symbols)
     ∷ (sections_apart b h t.file_alignment i, Overlap)
-    ∷ (nat_le n s.size_of_raw_data && nat_le (s.virtual_address + n) t.size_of_image, NoRoom) ∷ []
+    ∷ (nat_le n s.size_of_raw_data && nat_le (s.virtual_address + n) t.size_of_image, NoRoom)
+    ∷ (grows_clear b h n i, Overlap)
+    ∷ (debug_apart b h s (debug_entries b h t), DebugData)
+    ∷ (relocations_beside b h t s.virtual_address (pages_end s), SharedSection) ∷ []
 
 -- ---- the place
 

@@ -1,43 +1,22 @@
 -- Where resources go that have no room in place: to the end of the image, into a new section or into their own if it is the
 -- last. (PE format: COFF file header, optional header, section table.)
-use Rattle.std.specs.Prelude.{ℕ, ◌+◌, ◌-◌, ◌*◌, ◌/◌, ◌%◌, ◌==◌, ◌&&◌, ◌||◌, max, Bool, true, Option, Some, None, List, [], ◌∷◌, Result, Ok, Err, length, nat_le, nat_lt, if◌then◌else◌}
+use Rattle.std.specs.Prelude.{ℕ, ◌+◌, ◌-◌, ◌*◌, ◌%◌, ◌==◌, ◌&&◌, ◌||◌, max, Bool, List, [], ◌∷◌, Result, Ok, Err, length, nat_le, nat_lt, if◌then◌else◌}
 use Rattle.std.specs.List.{fold, list_all}
 use Rattle.pe_core.specs.Bytes.{le}
-use Rattle.pe_core.specs.Directories.{absent_directory}
-use Rattle.pe_core.specs.Header.{HeaderView, OptionalHeaderView}
+use Rattle.pe_core.specs.Header.{HeaderView}
 use Rattle.pe_core.specs.Refusals.{outcome, ◌>>=◌}
 use Rattle.pe_core.specs.Rows.{each}
-use Rattle.pe_core.specs.SectionMap.{offset_of, raw_start, rounded_up}
+use Rattle.pe_core.specs.SectionMap.{raw_start, rounded_up}
 use Rattle.pe_core.specs.Sections.{raw_end, sections_offset}
-use Rattle.pe_core.specs.declared.data_directories.DataDirectory.{DataDirectory}
 use Rattle.pe_core.specs.declared.section_table.SectionTable.{SectionTable}
 use Rattle.pe_edit.specs.Written.{Leaf}
-use Rattle.pe_rewrite.specs.Places.{directory_at, header_tests, headers_end, index_of, is_alone, length_at, pages_end, section_header, section_headers, target_of}
+use Rattle.pe_rewrite.specs.Places.{debug_entries, header_tests, headers_end, index_of, is_alone, is_outside, length_at, pages_end, relocations_beside, section_header, section_headers, target_of}
 use Rattle.pe_rewrite.specs.RewriteRefusals.{RewriteRefusal, DebugData, NoHeaderRoom, ImageTooLarge, Section, SharedSection, Symbols, Overlap}
 use Rattle.pe_rewrite.specs.declared.place.Target.{Target}
-use Rattle.pe_rewrite.specs.declared.room.DebugEntries.{DebugEntries}
 use Rattle.pe_rewrite.specs.declared.room.LastSection.{LastSection}
 use Rattle.pe_rewrite.specs.declared.room.Room.{Room}
 use Rattle.pe_rewrite.specs.declared.room.Sizes.{Sizes}
 use Rattle.pe_rewrite.specs.declared.room.TheConstants.{CHARACTERISTICS}
-
--- ---- the debug entries
-
--- the directory of the debug data, which is the seventh
-abbrev pub debug_directory : Option OptionalHeaderView → DataDirectory
-debug_directory None = absent_directory
-debug_directory (Some o) = directory_at o 6
-
--- the entries of a directory, of 28 bytes each, which the section map leads to this file offset; if to none, they are in the
--- headers, of n bytes, or nowhere
-abbrev pub entries_by : Option ℕ → DataDirectory → ℕ → DebugEntries
-entries_by (Some p) d n = record { offset = p; count = d.size / 28 }
-entries_by None d n = record { offset = d.virtual_address; count = if nat_lt d.virtual_address n then d.size / 28 else 0 }
-
-abbrev pub debug_entries : List ℕ → HeaderView → Target → DebugEntries
-debug_entries b h t =
-    let d = debug_directory h.optional_header in
-    entries_by (offset_of true t.file_alignment (section_headers b h) d.virtual_address) d t.size_of_headers
 
 -- ---- the section
 
@@ -189,11 +168,12 @@ entries_lie h l =
     || (nat_le (table_end h l.index) l.debug.offset && nat_le (l.debug.offset + 28 * l.debug.count) l.section.pointer_to_raw_data)
 
 -- the data of the debug entry at file offset e end before the section's data, or start after what was the end of all data, and
--- then their offset, when they have moved, has 32 bits
+-- then their offset, when they have moved, has 32 bits; and their RVA is outside of the section
 abbrev pub data_moves : List ℕ → LastSection → ℕ → Bool
 data_moves b l e =
     let p = le b (e + 24) 4 in
-    nat_le (p + le b (e + 16) 4) l.section.pointer_to_raw_data || (nat_le (raw_end l.section) p && is_u32 (p + l.more))
+    (nat_le (p + le b (e + 16) 4) l.section.pointer_to_raw_data || (nat_le (raw_end l.section) p && is_u32 (p + l.more)))
+    && is_outside (enlarged l) (le b (e + 20) 4)
 
 abbrev pub entry_moves : List ℕ → LastSection → ℕ → Bool
 entry_moves b l k = data_moves b l (l.debug.offset + 28 * k)
@@ -222,9 +202,16 @@ abbrev pub or_else : Result Room RewriteRefusal → Result Room RewriteRefusal �
 or_else (Ok r) other = Ok r
 or_else (Err e) other = other
 
+-- no base relocation changes the section with its data
+abbrev pub own_tests : List ℕ → HeaderView → Target → LastSection → List (Bool × RewriteRefusal)
+own_tests b h t l = (relocations_beside b h t l.section.virtual_address (pages_end (enlarged l)), SharedSection) ∷ []
+
+abbrev pub own_with : List ℕ → HeaderView → Target → ℕ → LastSection → Result Room RewriteRefusal
+own_with b h t n l = outcome {Y = Unit {0}} (own_tests b h t l) tt >>= λ u. room_with b h t n l
+
 -- room for n bytes in the resource section
 abbrev pub own_room : List ℕ → HeaderView → Target → ℕ → Result Room RewriteRefusal
-own_room b h t n = index_of b h t.rva >>= λ i. room_with b h t n (own_section b h t n i)
+own_room b h t n = index_of b h t.rva >>= λ i. own_with b h t n (own_section b h t n i)
 
 -- room for the leaves in a new section, whose RVA and data have 32 bits
 abbrev pub new_room : List ℕ → HeaderView → Target → List Leaf → Result Room RewriteRefusal

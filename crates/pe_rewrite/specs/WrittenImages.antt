@@ -22,7 +22,7 @@ use Rattle.pe_rewrite.specs.Edited.{at_end, edited_of}
 use Rattle.pe_rewrite.specs.Places.{place_of, section_headers}
 use Rattle.pe_rewrite.specs.Rooms.{moved, room_of}
 use Rattle.pe_rewrite.specs.declared.place.Place.{Place}
-use Rattle.pe_rewrite.specs.declared.room.DebugEntries.{DebugEntries}
+use Rattle.pe_rewrite.specs.declared.debug.DebugEntries.{DebugEntries}
 use Rattle.pe_rewrite.specs.declared.room.Room.{Room}
 
 -- the entry of the resource directory

@@ -32,7 +32,7 @@ fn wants_room(error: &RewriteError) -> bool
         RewriteError::NoRoom { .. } => true,
         RewriteError::NoHeaderRoom(_) => false,
         RewriteError::ImageTooLarge => false,
-        RewriteError::DebugData(_) => false,
+        RewriteError::DebugData(_) => true,
     }
 }
 
@@ -126,8 +126,9 @@ fn write_at_end(
 /// were. `bytes` is the whole file, `header` is the image's; the leaves are sorted, as `pe_edit::write_section` asks.
 ///
 /// The resources go over the data of the section that they are in, with zeros up to its end, if they fit there: it has nothing
-/// else, and its data and the image have room. Its size in memory grows where it has to. Otherwise they go to the end of the
-/// image: if their section is the last, its data grow, else a new section `.rsrc` follows the last one, and the old section
+/// else, no debug data and no base relocation either, its data and the image have room, and no section follows in memory before
+/// their end. Its size in memory grows where it has to. Otherwise they go to the end of the
+/// image: if their section is the last, has no debug data and no base relocation, its data grow, else a new section `.rsrc` follows the last one, and the old section
 /// stays as it was. What follows the data of the sections in the file, such as an installer's data or COFF symbols, moves by the
 /// bytes that are added, a multiple of the file alignment, and with it the pointer to the symbols and those of debug entries whose
 /// data move. `NumberOfSections`, `SizeOfInitializedData` and `SizeOfImage` change as they have to.

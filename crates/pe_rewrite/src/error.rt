@@ -27,7 +27,7 @@ pub enum RewriteError {
     /// The alignment of sections in memory, below 4096, or that of their data in the file, below 512 or no power of two.
     #[error("alignment {0:#x} of sections or of their data is too small or no power of two")]
     Alignment(u32),
-    /// The RVA of the resource directory, at which no section starts.
+    /// The RVA of the resource directory, at which no section starts, or 0 where there is none.
     #[error("no section starts at the resource directory's RVA {0:#x}")]
     NoSection(u32),
     /// The index of the resource section, whose data start before the end of the section table, end after the end of the

@@ -1,6 +1,6 @@
 //! Laws over the definitions. Each is the contract of a function that does nothing.
 
-ghost use Rattle.std.specs.Prelude.{◌≡◌, ◌⊎◌, ◌+◌, ◌%◌, ◌<◌, ◌≤◌, ℕ, List, Ok, Some, false, true, length, map, slice_index, slice_set};
+ghost use Rattle.std.specs.Prelude.{◌≡◌, ◌⊎◌, ◌+◌, ◌*◌, ◌/◌, ◌%◌, ◌<◌, ◌≤◌, ℕ, List, Ok, Some, false, true, length, map, slice_index, slice_set};
 ghost use Rattle.pe_core.specs.Bytes.{AreBytes, range};
 ghost use Rattle.pe_core.specs.Header.{HeaderView, OptionalHeaderView, header_at};
 ghost use Rattle.pe_core.specs.SectionMap.{section_map};
@@ -12,7 +12,7 @@ ghost use Rattle.pe_resource.specs.Contents.{file_bytes};
 ghost use Rattle.pe_edit.specs.Written.{Each, Leaf, Numbers, section};
 ghost use Rattle.pe_rewrite.specs.Edited.{at_end, edited_of, grown_size, in_place, is_moved_over, is_pointer, is_written, sum_of};
 ghost use Rattle.pe_rewrite.specs.Rooms.{room_of};
-ghost use Rattle.pe_rewrite.specs.Places.{directory_at, is_outside, place_of, section_headers};
+ghost use Rattle.pe_rewrite.specs.Places.{directory_at, headers_end, is_outside, place_of, section_headers};
 ghost use Rattle.pe_rewrite.specs.WrittenImages.{IsEditedAtEnd, IsEditedInPlace, IsRoomRow, IsRow, edited_headers, entries_at, entry_of, entry_offset, headers_map, headers_roomy, leaves_of_image, moved_entry, resized, sections_with};
 ghost use Rattle.pe_rewrite.specs.declared.place.Place.{Place};
 ghost use Rattle.pe_rewrite.specs.declared.room.Room.{Room};
@@ -132,7 +132,8 @@ pub fn other_addresses_stay_at_the_end()
 {}
 
 /// The debug entries of such an image are those of the image, but for their pointers, which move with what moves; the data there
-/// are the same bytes. The entries are those that the debug directory leads to by the section map.
+/// are the same bytes. The entries are those that the debug directory leads to by the section map. An edit in place leaves the
+/// entries as they are, and their data that start after the headers.
 pub fn debug_data_are_found_again()
     ensures entries { (b : List ℕ) (h : HeaderView) (xs : List Leaf) (m : Room) (f : List ℕ) (k : ℕ) →
         IsEditedAtEnd b h xs m f → k < m.debug.count →
@@ -145,6 +146,16 @@ pub fn debug_data_are_found_again()
         (w : OptionalHeaderView) (q : ℕ) → room_of b h xs ≡ Ok m → h.optional_header ≡ Some w →
         o.resolve_rva ≡ true → headers_map o b h w (directory_at w 6).virtual_address ≡ Some q →
         m.debug ≡ entries_at q (directory_at w 6) }
+    ensures entries_in_place { (o : ParseOptions) (b : List ℕ) (h : HeaderView) (xs : List Leaf) (p : Place)
+        (f : List ℕ) (w : OptionalHeaderView) (q k : ℕ) → IsEditedInPlace b h xs p f → h.optional_header ≡ Some w →
+        o.resolve_rva ≡ true → headers_map o b h w (directory_at w 6).virtual_address ≡ Some q →
+        k < (directory_at w 6).size / 28 → debug_entry_at 0 f (q + 28 * k) ≡ debug_entry_at 0 b (q + 28 * k) }
+    ensures data_in_place { (o : ParseOptions) (b : List ℕ) (h : HeaderView) (xs : List Leaf) (p : Place)
+        (f : List ℕ) (w : OptionalHeaderView) (q k : ℕ) → IsEditedInPlace b h xs p f → h.optional_header ≡ Some w →
+        o.resolve_rva ≡ true → headers_map o b h w (directory_at w 6).virtual_address ≡ Some q →
+        k < (directory_at w 6).size / 28 → let e = debug_entry_at 0 b (q + 28 * k) in
+        headers_end h ≤ e.pointer_to_raw_data → range f e.pointer_to_raw_data e.size_of_data
+        ≡ range b e.pointer_to_raw_data e.size_of_data }
 {}
 
 /// The data of the resource directory of such an image, as mapped, are the section with the leaves that were given, and the

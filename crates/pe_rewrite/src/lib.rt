@@ -4,11 +4,14 @@
 //! else in the image stays as it was, but for the sizes of the section and of its directory, and the checksum.
 #![tactic(auto)]
 
+mod debug;
+mod directory;
 mod edit;
 mod error;
 pub mod laws;
 mod place;
 mod put;
+mod relocation;
 mod room;
 
 pub use edit::{edited_len, write_edited};

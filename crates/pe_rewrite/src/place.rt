@@ -10,10 +10,12 @@ ghost use Rattle.pe_core.specs.declared.optional_header.TheConstants.{MAGIC_64};
 ghost use Rattle.pe_edit.specs.Views.{leaf_views};
 ghost use Rattle.pe_sign.specs.WrittenHeaders.{directories_end};
 ghost use Rattle.pe_rewrite.specs.Edited.{Lies};
-ghost use Rattle.pe_rewrite.specs.Places.{data_apart, has_data, header_tests, headers_end, index_of, is_alone, is_apart, is_outside, leads_out, pages_end, place_at, place_of, section_header, section_tests, sections_apart, symbols_apart, target_before, target_of};
+ghost use Rattle.pe_rewrite.specs.Places.{data_apart, grows_clear, has_data, header_tests, headers_end, index_of, is_alone, is_apart, is_clear, is_outside, leads_out, memory_apart, pages_end, place_at, place_of, relocations_beside, section_header, section_tests, sections_apart, symbols_apart, target_before, target_of};
 ghost use Rattle.pe_rewrite.specs.RewriteRefusals.{Overlap, RewriteReturns, SharedSection};
 
+use crate::debug::{debug_entries, require_debug_apart};
 use crate::error::RewriteError;
+use crate::relocation::require_unrelocated;
 use pe_core::{
     DataDirectory, Error, Header, MAGIC_64, OptionalHeader, Reason, SectionTable, require_bytes,
     rounded_up,
@@ -35,7 +37,7 @@ const RESOURCE_TABLE: usize = 2;
 const CERTIFICATE_TABLE: usize = 4;
 
 /// The parts of sections that are mapped: pages in memory, sectors in the file.
-const PAGE: u32 = 4096;
+pub const PAGE: u32 = 4096;
 
 pub const SECTOR: u32 = 512;
 
@@ -172,11 +174,14 @@ pub fn section_header(bytes: &[u8], header: &Header<'_>, index: usize) -> Sectio
     )
 }
 
-/// The index of the first section that starts at this RVA. Error: `NoSection`.
+/// The index of the first section that starts at this RVA. Error: `NoSection`, also at RVA 0, where no resources are.
 pub fn section_index(bytes: &[u8], header: &Header<'_>, rva: u32) -> Result<usize, RewriteError>
     requires { headers_end (header_view header.now) ≤ length bytes.now }
     ensures { RewriteReturns result (index_of bytes.now (header_view header.now) rva) }
 {
+    if rva == 0 {
+        return Err(RewriteError::NoSection(rva));
+    }
     for index in 0..header.coff_header.number_of_sections as usize {
         if section_header(bytes, header, index).virtual_address == rva {
             return Ok(index);
@@ -209,7 +214,7 @@ fn has_data(bytes: &[u8], header: &Header<'_>, section: &SectionTable) -> bool
 }
 
 /// Whether an RVA is outside of the section.
-fn is_outside(section: &SectionTable, rva: u32) -> bool
+pub fn is_outside(section: &SectionTable, rva: u32) -> bool
     ensures { result ≡ is_outside section.now rva }
 {
     rva < section.virtual_address || pages_end(section) <= rva as usize
@@ -321,8 +326,71 @@ fn require_apart(
     Ok(())
 }
 
+/// Whether another section shares no byte of memory with this one when it has `size` bytes at least.
+fn memory_apart(size: usize, section: &SectionTable, other: &SectionTable) -> bool
+    requires { size < 2 ^ 32 }
+    ensures { result ≡ memory_apart size section.now other.now }
+{
+    let start = section.virtual_address as usize;
+    other.virtual_address as usize + other.virtual_size as usize <= start
+        || start + size.max(section.virtual_size as usize) <= other.virtual_address as usize
+}
+
+/// Whether the section `other` is the one with this index, or shares no byte of memory with it when it has `size` bytes.
+fn is_clear(bytes: &[u8], header: &Header<'_>, size: usize, index: usize, other: usize) -> bool
+    requires inside { headers_end (header_view header.now) ≤ length bytes.now }
+    requires below { index < header.now.coff_header.number_of_sections }
+    requires other { other < header.now.coff_header.number_of_sections }
+    requires small { size < 2 ^ 32 }
+    ensures { result ≡ is_clear bytes.now (header_view header.now) size index other }
+{
+    if other == index {
+        return true;
+    }
+    let section = section_header(bytes, header, index);
+    memory_apart(size, &section, &section_header(bytes, header, other))
+}
+
+/// `Overlap` if another section, which may have no data, shares memory with the one that has this index when that has `size` bytes.
+#[tactic(auto, using(pe_sign::proofs::SectionRows::all_more), unfolding(pe_core::specs::Rows::each))]
+fn require_clear(
+    bytes: &[u8],
+    header: &Header<'_>,
+    size: usize,
+    index: usize,
+) -> Result<(), RewriteError>
+    requires inside { headers_end (header_view header.now) ≤ length bytes.now }
+    requires below { index < header.now.coff_header.number_of_sections }
+    requires small { size < 2 ^ 32 }
+    ensures { RewriteReturns result (outcome
+        ((grows_clear bytes.now (header_view header.now) size index, Overlap) ∷ []) tt) }
+{
+    for other in 0..header.coff_header.number_of_sections as usize {
+        if !is_clear(bytes, header, size, index, other) {
+            return Err(RewriteError::Overlap(other));
+        }
+    }
+    Ok(())
+}
+
+/// `SharedSection` if a base relocation changes what is in the section.
+fn require_section_unrelocated(
+    bytes: &[u8],
+    header: &Header<'_>,
+    target: &Target,
+    section: &SectionTable,
+) -> Result<(), RewriteError>
+    requires { headers_end (header_view header.now) ≤ length bytes.now }
+    ensures { RewriteReturns result (outcome
+        ((relocations_beside bytes.now (header_view header.now) target.now section.now.virtual_address (pages_end section.now), SharedSection) ∷ []) tt) }
+{
+    let start = section.virtual_address as usize;
+    require_unrelocated(bytes, header, target, start, pages_end(section))
+}
+
 /// The place of resources of `size` bytes in the section that has this index. Errors, in order: `Section`,
-/// `SharedSection`, `Symbols`, `Overlap`, `NoRoom`.
+/// `SharedSection`, `Symbols`, `Overlap`, `NoRoom`, `Overlap` in memory, `DebugData`,
+/// `SharedSection` of a base relocation.
 fn place_at(
     bytes: &[u8],
     header: &Header<'_>,
@@ -356,6 +424,10 @@ fn place_at(
             room: section.size_of_raw_data,
         });
     }
+    require_clear(bytes, header, size, index)?;
+    let entries = debug_entries(bytes, header, &target);
+    require_debug_apart(bytes, header, &section, entries)?;
+    require_section_unrelocated(bytes, header, &target, &section)?;
     Ok(Place {
         entry: target.entry,
         row: header.sections_offset() + SIZE_OF_SECTION_HEADER * index,

@@ -10,8 +10,9 @@ ghost use Rattle.pe_edit.specs.Views.{leaf_views};
 ghost use Rattle.pe_edit.specs.Written.{section};
 ghost use Rattle.pe_rewrite.specs.Edited.{CanMove, Inside, Lies, PointersFit, edited_file, filled, moved_file, pointers_moved, roomy_file, sum_of, with_pointers, with_zeros};
 
+use crate::debug::{POINTER_TO_RAW_DATA, SIZE_OF_DEBUG_ENTRY};
 use crate::place::Place;
-use crate::room::{POINTER_TO_RAW_DATA, Room, SIZE_OF_DEBUG_ENTRY, moved};
+use crate::room::{Room, moved};
 use pe_core::{Header, SectionTable, read_u32, set_slice, set_u16, set_u32, set_zeros};
 use pe_edit::{Leaves, write_section};
 use pe_sign::checksum;

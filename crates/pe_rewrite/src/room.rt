@@ -7,49 +7,32 @@ ghost use Rattle.std.specs.List.{list_all};
 ghost use Rattle.pe_core.specs.Header.{header_view};
 ghost use Rattle.pe_core.specs.Rows.{each};
 ghost use Rattle.pe_core.specs.Refusals.{outcome};
-ghost use Rattle.pe_core.specs.SectionMap.{offset_of};
 ghost use Rattle.pe_core.specs.Sections.{raw_end, sections_offset};
 ghost use Rattle.pe_edit.specs.Views.{leaf_views};
-ghost use Rattle.pe_rewrite.specs.Places.{headers_end, length_at, section_headers};
-ghost use Rattle.pe_rewrite.specs.Rooms.{are_u32, are_zeros, count_with, data_end, data_moves, debug_directory, debug_entries, debug_moves, ends_data, enlarged, entries_by, entries_lie, entry_moves, has_header, image_end, is_before, is_before_or_same, is_last, is_u32, later_end, sizes_of, moved, new_header, new_room, new_section, own_room, own_section, room_at, room_of, room_tests, room_with, symbols_move, table_end};
+ghost use Rattle.pe_rewrite.specs.Places.{debug_entries, headers_end, length_at};
+ghost use Rattle.pe_rewrite.specs.Rooms.{are_u32, are_zeros, count_with, data_end, data_moves, debug_moves, ends_data, enlarged, entries_lie, entry_moves, has_header, image_end, is_before, is_before_or_same, is_last, is_u32, later_end, sizes_of, moved, new_header, new_room, new_section, own_room, own_section, own_tests, own_with, room_at, room_of, room_tests, room_with, symbols_move, table_end};
 ghost use Rattle.pe_rewrite.specs.RewriteRefusals.{DebugData, NoHeaderRoom, Overlap, RewriteReturns, ImageTooLarge};
 
+use crate::debug::{
+    ADDRESS_OF_RAW_DATA, DebugEntries, POINTER_TO_RAW_DATA, SIZE_OF_DATA, SIZE_OF_DEBUG_ENTRY,
+    debug_entries,
+};
 use crate::error::RewriteError;
 use crate::place::{
-    Place, SECTOR, SIZE_OF_SECTION_HEADER, SIZE_OF_SYMBOL, Target, find_target, headers_end,
-    pages_end, raw_end, require_alone, require_headers, section_header, section_index,
+    PAGE, Place, SECTOR, SIZE_OF_SECTION_HEADER, SIZE_OF_SYMBOL, Target, find_target, headers_end,
+    is_outside, pages_end, raw_end, require_alone, require_headers, section_header, section_index,
 };
-use pe_core::{
-    DataDirectory, Header, ParseOptions, SectionTable, find_offset, read_u32, read_u64, rounded_up,
-};
+use crate::relocation::require_unrelocated;
+use pe_core::{Header, SectionTable, read_u32, read_u64, rounded_up};
 use pe_edit::{Leaves, section_len};
 
 /// `.rsrc`, and the flags of its section: initialized data that can be read.
 const NAME: [u8; 8] = *b".rsrc\0\0\0";
 
-/// The index of the debug directory, and the size of its entries in bytes.
-const DEBUG_TABLE: usize = 6;
-
-pub const SIZE_OF_DEBUG_ENTRY: usize = 28;
-
-/// The offsets in a debug entry of the size of its data, and of their offset in the file.
-const SIZE_OF_DATA: usize = 16;
-
-pub const POINTER_TO_RAW_DATA: usize = 24;
-
 /// The PE signature starts after the DOS header.
 const SIZE_OF_DOS_HEADER: u32 = 64;
 
 const CHARACTERISTICS: u32 = 0x4000_0040;
-
-/// The debug entries of an image, of 28 bytes each.
-#[derive(Clone, Copy)]
-pub struct DebugEntries {
-    /// The file offset of the first one.
-    pub offset: usize,
-    /// How many there are.
-    pub count: usize,
-}
 
 /// A section that is the last of the image, or shall be, and how much larger its data have to be.
 #[derive(Clone, Copy)]
@@ -100,78 +83,6 @@ fn resources_len(leaves: &Leaves<'_>, rva: u32) -> Result<usize, RewriteError>
 {
     let length = section_len(leaves, rva)?;
     Ok(length)
-}
-
-/// The directory of the debug data.
-fn debug_directory(header: &Header<'_>) -> DataDirectory
-    ensures { result ≡ debug_directory (header_view header.now).optional_header }
-{
-    let none = DataDirectory {
-        virtual_address: 0,
-        size: 0,
-    };
-    match &header.optional_header {
-        Some(optional_header) => {
-            let rows = optional_header.data_directories.rows();
-            if DEBUG_TABLE < rows.len() {
-                rows[DEBUG_TABLE]
-            } else {
-                none
-            }
-        }
-        None => none,
-    }
-}
-
-/// The file offset of an RVA by the section map.
-#[tactic(auto, using(crate::proofs::Mapped::map_start))]
-fn offset_of(bytes: &[u8], header: &Header<'_>, alignment: u32, rva: u32) -> Option<usize>
-    requires { headers_end (header_view header.now) ≤ length bytes.now }
-    ensures { result ≡ offset_of true alignment
-        (section_headers bytes.now (header_view header.now)) rva }
-{
-    let options = ParseOptions::default();
-    for index in 0..header.coff_header.number_of_sections as usize {
-        let section = section_header(bytes, header, index);
-        match find_offset(rva as usize, &[section], alignment, &options) {
-            Some(offset) => return Some(offset),
-            None => {}
-        }
-    }
-    None
-}
-
-/// The entries of a directory that the section map leads to this offset; if to none, they are in the headers, of so many bytes, or
-/// nowhere.
-fn entries_by(offset: Option<usize>, directory: DataDirectory, headers: usize) -> DebugEntries
-    ensures value { result ≡ entries_by offset directory headers }
-    ensures count { result.count < 2 ^ 32 }
-{
-    let rva = directory.virtual_address as usize;
-    let count = directory.size as usize / SIZE_OF_DEBUG_ENTRY;
-    match offset {
-        Some(offset) => DebugEntries { offset, count },
-        None => DebugEntries {
-            offset: rva,
-            count: if rva < headers { count } else { 0 },
-        },
-    }
-}
-
-/// The debug entries of the image.
-fn debug_entries(bytes: &[u8], header: &Header<'_>, target: &Target) -> DebugEntries
-    requires { headers_end (header_view header.now) ≤ length bytes.now }
-    ensures value { result ≡ debug_entries bytes.now (header_view header.now) target.now }
-    ensures count { result.count < 2 ^ 32 }
-{
-    let directory = debug_directory(header);
-    let offset = offset_of(
-        bytes,
-        header,
-        target.file_alignment,
-        directory.virtual_address,
-    );
-    entries_by(offset, directory, target.size_of_headers as usize)
 }
 
 /// The resource section, which has this index, with room for resources of `size` bytes.
@@ -455,16 +366,19 @@ fn entries_lie(header: &Header<'_>, last: &LastSection) -> bool
             && SIZE_OF_DEBUG_ENTRY * entries.count <= end.saturating_sub(entries.offset)
 }
 
-/// Whether the data of the debug entry at this offset end before the section's data, or can move with what is after them.
+/// Whether the data of the debug entry at this offset end before the section's data, or can move with what is after them; and
+/// whether their RVA is outside of the section.
 fn data_moves(bytes: &[u8], last: &LastSection, entry: usize) -> bool
     requires inside { entry + 28 ≤ length bytes.now }
-    requires more { last.now.more < 2 ^ 33 }
+    requires more { last.now.section.size_of_raw_data + last.now.more < 2 ^ 32 }
     ensures { result ≡ data_moves bytes.now last.now entry }
 {
     let start = read_u32(bytes, entry + POINTER_TO_RAW_DATA) as usize;
     let size = read_u32(bytes, entry + SIZE_OF_DATA) as usize;
-    start + size <= last.section.pointer_to_raw_data as usize
-        || raw_end(&last.section) <= start && is_u32(start + last.more)
+    let rva = read_u32(bytes, entry + ADDRESS_OF_RAW_DATA);
+    let can_move = start + size <= last.section.pointer_to_raw_data as usize
+        || raw_end(&last.section) <= start && is_u32(start + last.more);
+    can_move && is_outside(&enlarged(last), rva)
 }
 
 /// `DebugData` if the debug entries or their data can't move.
@@ -472,7 +386,7 @@ fn data_moves(bytes: &[u8], last: &LastSection, entry: usize) -> bool
 fn require_debug(bytes: &[u8], header: &Header<'_>, last: &LastSection) -> Result<(), RewriteError>
     requires inside { raw_end last.now.section ≤ length bytes.now }
     requires index { last.now.index ≤ header.now.coff_header.number_of_sections }
-    requires more { last.now.more < 2 ^ 33 }
+    requires more { last.now.section.size_of_raw_data + last.now.more < 2 ^ 32 }
     requires count { last.now.debug.count < 2 ^ 32 }
     ensures { RewriteReturns result (outcome
         ((debug_moves bytes.now (header_view header.now) last.now, DebugData) ∷ []) tt) }
@@ -567,7 +481,48 @@ fn room_with(
     Ok(room)
 }
 
-/// Room for resources of `size` bytes in their own section. Errors: `NoSection`; those of `room_with`.
+/// `SharedSection` if a base relocation changes what is in the section with its data.
+fn require_own(
+    bytes: &[u8],
+    header: &Header<'_>,
+    target: &Target,
+    last: &LastSection,
+) -> Result<(), RewriteError>
+    requires inside { headers_end (header_view header.now) ≤ length bytes.now }
+    requires more { last.now.more < 2 ^ 33 }
+    ensures { RewriteReturns result
+        (outcome (own_tests bytes.now (header_view header.now) target.now last.now) tt) }
+{
+    let start = last.section.virtual_address as usize;
+    let size = last.section.size_of_raw_data as usize + last.more;
+    let end = start + rounded_up(size, PAGE as usize);
+    require_unrelocated(bytes, header, target, start, end)
+}
+
+/// The same as `room_with`, of the resource section: before it `SharedSection` of a base relocation.
+fn own_with(
+    bytes: &[u8],
+    header: &Header<'_>,
+    target: &Target,
+    size: usize,
+    last: &LastSection,
+) -> Result<Room, RewriteError>
+    requires inside { headers_end (header_view header.now) ≤ length bytes.now }
+    requires file { 0 < target.now.file_alignment }
+    requires memory { 0 < target.now.section_alignment }
+    requires small { size < 2 ^ 32 }
+    requires more { last.now.more < 2 ^ 33 }
+    requires index { last.now.index ≤ header.now.coff_header.number_of_sections }
+    requires count { last.now.debug.count < 2 ^ 32 }
+    ensures { RewriteReturns result
+        (own_with bytes.now (header_view header.now) target.now size last.now) }
+{
+    require_own(bytes, header, target, last)?;
+    room_with(bytes, header, target, size, last)
+}
+
+/// Room for resources of `size` bytes in their own section. Errors: `NoSection`; `SharedSection` of a base relocation; those of
+/// `room_with`.
 fn own_room(
     bytes: &[u8],
     header: &Header<'_>,
@@ -583,7 +538,7 @@ fn own_room(
 {
     let index = section_index(bytes, header, target.rva)?;
     let last = own_section(bytes, header, target, size, index);
-    room_with(bytes, header, target, size, &last)
+    own_with(bytes, header, target, size, &last)
 }
 
 /// Room for the leaves in a new section. Errors: `ImageTooLarge`; `Leaves`; those of `room_with`.

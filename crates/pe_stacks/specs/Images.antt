@@ -1,5 +1,6 @@
 -- The images of the modules of a dump.
 use Rattle.std.specs.Prelude.{◌≡◌, ℕ, ◌==◌, ◌&&◌, Bool, true, false, List, Option, Some, None, Result, Ok, if◌then◌else◌}
+use Rattle.std.specs.Result.{IsOk}
 use Rattle.pe_core.specs.Directories.{present}
 use Rattle.pe_core.specs.Header.{HeaderView, OptionalHeaderView, header_at}
 use Rattle.pe_core.specs.Refusals.{Refusal, ◌>>=◌}
@@ -58,6 +59,10 @@ image_of b opts m =
     (sections_of b h >>= λ s. exceptions_of b h s opts >>= λ e.
     Ok (Some (record { bytes = b; sections = s; exceptions = e; opts = opts })))
     else Ok None
+
+-- the headers of these bytes are those of the image of a module, and all its section headers are there: then memory is asked for
+abbrev pub AsksForSections : List ℕ → ParseOptions → Module → Type 0
+AsksForSections b opts m = (h : HeaderView) × (header_at b opts.parse_mode ≡ Ok h) × (is_image_of h m ≡ true) × IsOk (sections_of b h)
 
 -- the headers of these bytes are those of the image of a module
 abbrev pub Fits : List ℕ → ParseOptions → Module → Type 0

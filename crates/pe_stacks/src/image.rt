@@ -1,12 +1,12 @@
 //! The images of the modules of a minidump. A dump says of a module the time stamp and the size of its image, by which a symbol server
 //! files images too. The name says nothing: any file may have it.
 
-ghost use Rattle.std.specs.Prelude.{◌≡◌, []};
+ghost use Rattle.std.specs.Prelude.{◌≡◌, [], IfErr};
 ghost use Rattle.std.specs.Option.{option_map};
 ghost use Rattle.pe_core.specs.Header.{header_view};
-ghost use Rattle.pe_core.specs.Refusals.{ReturnsUnlessMemory};
+ghost use Rattle.pe_core.specs.Refusals.{IfMemory, ReturnsAs, ReturnsUnlessMemory};
 ghost use Rattle.pe_stacks.specs.MemoryRuns.{bytes_at};
-ghost use Rattle.pe_stacks.specs.Images.{ModuleImageView, as_loaded, exceptions_of, image_of, is_image_of, module_image_view};
+ghost use Rattle.pe_stacks.specs.Images.{AsksForSections, ModuleImageView, as_loaded, exceptions_of, image_of, is_image_of, module_image_view};
 
 use crate::run_memory::MemoryRuns;
 use pe_core::{
@@ -51,7 +51,7 @@ fn exceptions_of<'a>(
     sections: &[SectionTable],
     opts: &ParseOptions,
 ) -> Result<Option<ExceptionData<'a>>>
-    ensures { ReturnsUnlessMemory (λ d. d) result
+    ensures { ReturnsAs (λ d. d) result
         (exceptions_of bytes.entry.now (header_view header.now) sections.now opts.now) }
 {
     let Some(optional) = &header.optional_header else {
@@ -74,15 +74,18 @@ fn exceptions_of<'a>(
 
 impl<'a, A: Allocator + Drop> ModuleImage<'a, A> {
     /// The image in these bytes, if it is that of a module. `None` if it is another one. Errors, in order: those of
-    /// `Header::parse_with_opts`; then of an image of the module those of its section headers and of its exception data.
+    /// `Header::parse_with_opts`; then of an image of the module those of its section headers and of its exception data. Memory is
+    /// asked for only for the section headers of such an image.
+    #[tactic(auto, using(crate::proofs::NoMemory::header_owes_nothing))]
     pub fn parse(
         alloc: A,
         bytes: &'a [u8],
         opts: &ParseOptions,
         module: &pe_minidump::Module,
     ) -> Result<Option<ModuleImage<'a, A>>>
-        ensures { ReturnsUnlessMemory (option_map module_image_view) result
+        ensures image { ReturnsUnlessMemory (option_map module_image_view) result
             (image_of bytes.entry.now opts.now module.now) }
+        ensures memory { IfErr result (λ e. IfMemory e (AsksForSections bytes.entry.now opts.now module.now)) }
     {
         let header = Header::parse_with_opts(bytes, opts)?;
         if !is_image_of(&header, module) {
@@ -106,9 +109,12 @@ impl<'a, A: Allocator + Drop> ModuleImage<'a, A> {
         opts: &ParseOptions,
         module: &pe_minidump::Module,
     ) -> Result<Option<ModuleImage<'a, A>>>
-        ensures { ReturnsUnlessMemory (option_map module_image_view) result
+        ensures image { ReturnsUnlessMemory (option_map module_image_view) result
             (image_of (bytes_at memory.now.bytes.now memory.now.runs.items module.now.base_of_image module.now.size_of_image)
             (as_loaded opts.now) module.now) }
+        ensures memory { IfErr result (λ e. IfMemory e (AsksForSections
+            (bytes_at memory.now.bytes.now memory.now.runs.items module.now.base_of_image module.now.size_of_image)
+            (as_loaded opts.now) module.now)) }
     {
         let bytes = memory.bytes_at(module.base_of_image, u64::from(module.size_of_image));
         let opts = ParseOptions {

@@ -56,21 +56,19 @@ pub fn full_memory_is_sums()
         listed_byte file (listed_all file l) x ≡ None }
 {}
 
-/// The memory of runs is that of the pieces that they are made of, so that a walk over runs is the walk over these pieces; and in a
-/// full dump without another list it is the walk over the pieces of that list.
-pub fn full_stacks_are_walks()
+/// The memory of runs is that of the pieces that they are made of, so that a walk over runs is the walk over these pieces: those of
+/// any dump, and by `full_memory_is_its_list` those of a full dump.
+pub fn stacks_over_runs_are_walks()
     ensures memory { (file : List ℕ) (pieces runs : List MemoryPiece) → AreRuns pieces runs →
         listed_word file runs ≡ listed_word file pieces }
-    ensures x64 { (d : DumpView) (l : Listed64) (runs : List MemoryPiece) (ms : List modules.Module)
-        (top : StackFrame) (most : ℕ) (frames : List StackFrame) (end : WalkEnd) →
-        memory_list d ≡ Ok None → read_stream memory64_of d 9 ≡ Ok (Some l) → AreRuns (pieces_of d) runs →
-        IsWalk Calls (starting_walk (record { memory = listed_word d.bytes runs; modules = ms }) top most) frames end →
-        IsWalk Calls (starting_walk (record { memory = listed_word d.bytes (listed_all d.bytes l); modules = ms }) top most) frames end }
-    ensures arm64 { (d : DumpView) (l : Listed64) (runs : List MemoryPiece) (ms : List modules.Module)
-        (top : Arm64StackFrame) (most : ℕ) (frames : List Arm64StackFrame) (end : WalkEnd) →
-        memory_list d ≡ Ok None → read_stream memory64_of d 9 ≡ Ok (Some l) → AreRuns (pieces_of d) runs →
-        IsWalk arm64.Calls (starting_walk (record { memory = listed_word d.bytes runs; modules = ms }) top most) frames end →
-        IsWalk arm64.Calls (starting_walk (record { memory = listed_word d.bytes (listed_all d.bytes l); modules = ms }) top most) frames end }
+    ensures x64 { (file : List ℕ) (pieces runs : List MemoryPiece) (ms : List modules.Module)
+        (top : StackFrame) (most : ℕ) (frames : List StackFrame) (end : WalkEnd) → AreRuns pieces runs →
+        IsWalk Calls (starting_walk (record { memory = listed_word file runs; modules = ms }) top most) frames end →
+        IsWalk Calls (starting_walk (record { memory = listed_word file pieces; modules = ms }) top most) frames end }
+    ensures arm64 { (file : List ℕ) (pieces runs : List MemoryPiece) (ms : List modules.Module)
+        (top : Arm64StackFrame) (most : ℕ) (frames : List Arm64StackFrame) (end : WalkEnd) → AreRuns pieces runs →
+        IsWalk arm64.Calls (starting_walk (record { memory = listed_word file runs; modules = ms }) top most) frames end →
+        IsWalk arm64.Calls (starting_walk (record { memory = listed_word file pieces; modules = ms }) top most) frames end }
 {}
 
 /// The registers of a thread are those of the exception, where it names the thread and they can be read (`raised`); and its own where

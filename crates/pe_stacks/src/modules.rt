@@ -54,6 +54,13 @@ impl<'a, A: Allocator + Copy + Drop> CallSites for IndexedModules<'a, A> {
         }
     }
 
+    fn has_code(&self, address: u64) -> bool {
+        match self.find(address) {
+            Some(module) => module.is_code(address),
+            None => false,
+        }
+    }
+
     fn ends_call_arm64(&self, address: u64) -> bool {
         match self.find(address.saturating_sub(1)) {
             Some(module) => module.is_after_call_arm64(address),

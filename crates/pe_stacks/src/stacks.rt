@@ -1,7 +1,7 @@
 //! The frames of threads, over the modules and the memory of their process, with a bound on all of them together: in a dump many
 //! threads may share one deep stack.
 
-ghost use Rattle.std.specs.Prelude.{◌≡◌, ◌+◌, length, min, IfOk};
+ghost use Rattle.std.specs.Prelude.{◌≡◌, ◌+◌, ◌<◌, length, min, IfErr, IfOk};
 ghost use Rattle.std.specs.Iterator.{at_most};
 ghost use Rattle.std.specs.Option.{option_map};
 ghost use Rattle.pe_frame.specs.FrameWalks.{Advances, IsWalk, end_of, starting_walk};
@@ -94,7 +94,8 @@ impl<'s, L: LoadedModules, M: Memory> Stacks<'s, L, M> {
         self.left
     }
 
-    /// The frames of a thread from its top frame on, at most `most`, and at most as many as are left.
+    /// The frames of a thread from its top frame on, at most `most`, and at most as many as are left. Where an allocation fails, as
+    /// many are left as before; a walk of no frame asks for no memory.
     pub fn walk<F: WalkFrame + Drop, A: Allocator + Drop>(
         &mut self,
         alloc: A,
@@ -105,6 +106,8 @@ impl<'s, L: LoadedModules, M: Memory> Stacks<'s, L, M> {
             (starting_walk (process_of (L.modules) (M.word) self.old.modules.now self.old.memory.now) top (min most self.old.left))
             s.frames.items s.end) }
         ensures left { IfOk result (λ s. length s.frames.items + self.new.left ≡ self.old.left) }
+        ensures refused { IfErr result (λ e. 0 < min most self.old.left) }
+        ensures kept { IfErr result (λ e. self.new.left ≡ self.old.left) }
         ensures modules { self.new.modules ≡ self.old.modules }
         ensures memory { self.new.memory ≡ self.old.memory }
     {

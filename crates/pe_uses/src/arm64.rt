@@ -8,6 +8,11 @@ use std::alloc::Global;
 pub fn arm64_codes(alloc: Global, bytes: &[u8]) -> Result<Vec<Arm64UnwindCodeData>> {
     let opts = ParseOptions::default().with_parse_mode(ParseMode::Permissive);
     let image = PE::parse_with_opts(alloc, bytes, &opts)?;
+    codes_of(alloc, &image)
+}
+
+/// The same of an image that is parsed.
+fn codes_of(alloc: Global, image: &PE) -> Result<Vec<Arm64UnwindCodeData>> {
     let mut codes = Vec::new(alloc);
     let Some(exceptions) = image.arm64_exceptions() else {
         return Ok(codes);

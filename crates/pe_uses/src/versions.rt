@@ -8,10 +8,15 @@ use std::alloc::Global;
 pub fn file_version(alloc: Global, bytes: &[u8]) -> Result<Option<String>> {
     let opts = ParseOptions::default().with_parse_mode(ParseMode::Permissive);
     let image = PE::parse_with_opts(alloc, bytes, &opts)?;
-    let Some(resources) = image.resource_data else {
+    version_of(alloc, &image)
+}
+
+/// The same of an image that is parsed.
+fn version_of(alloc: Global, image: &PE) -> Result<Option<String>> {
+    let Some(resources) = &image.resource_data else {
         return Ok(None);
     };
-    let Some(version) = resources.version_info else {
+    let Some(version) = &resources.version_info else {
         return Ok(None);
     };
     let Some(fixed) = version.fixed_info else {

@@ -13,3 +13,4 @@ pub mod Setting
 pub mod Measures
 pub mod Heads
 pub mod Records
+pub mod Least

@@ -4,10 +4,11 @@ use Rattle.std.specs.List.{flat_map, list_all}
 use Rattle.pe_core.specs.Bytes.{bytes_of, holds}
 use Rattle.pe_core.specs.Refusals.{Short, outcome, ◌>>=◌}
 use Rattle.pe_edit.specs.Views.{part_of}
+use Rattle.pe_edit.specs.Written.{total}
 use Rattle.pe_resource.specs.VersionStrings.{up_to_four}
 use Rattle.pe_resource.specs.declared.version.VsFixedFileInfo.{VsFixedFileInfo}
 use Rattle.pe_resource.specs.declared.version_block.Translation.{Translation}
-use Rattle.pe_version.specs.VersionRefusals.{VersionRefusal, Image, block_tests}
+use Rattle.pe_version.specs.VersionRefusals.{VersionRefusal, Image, TooLong, block_tests}
 use Rattle.pe_version.specs.VersionValues.{TableValue, TextValue, Value, blocks_of_table, table_block, table_blocks, text_block, text_blocks, translation_block, variables_block, version_of}
 use Rattle.pe_version.specs.WrittenBlocks.{BlockValue, padded_block, type_number}
 use Rattle.pe_version.specs.declared.record.LanguageRecord.{LanguageRecord}
@@ -44,8 +45,19 @@ string_fits d r = holds d r.name.offset r.name.length && holds d r.text.offset r
 abbrev pub table_fits : ℕ → TableRecord → Bool
 table_fits n t = nat_le (t.first + t.count) n
 
+-- the least bytes of the block of a string, with its name and its text; and of a table, with its key and its strings
+abbrev pub least_of_string : StringRecord → ℕ
+least_of_string r = 8 + (r.name.length + r.text.length)
+
+abbrev pub least_of_table : List StringRecord → TableRecord → ℕ
+least_of_table rs t = 24 + total least_of_string (strings_of rs t)
+
+-- all ranges lie in their arrays; and the block of the tables is not too long by its least bytes, so that what is read is bounded
 abbrev pub tests_at : List TableRecord → List StringRecord → List ℕ → List (Bool × VersionRefusal)
-tests_at ts rs d = (list_all (string_fits d) rs, Image Short) ∷ (list_all (table_fits (length rs)) ts, Image Short) ∷ []
+tests_at ts rs d =
+    (list_all (string_fits d) rs, Image Short)
+    ∷ (list_all (table_fits (length rs)) ts, Image Short)
+    ∷ (nat_le (total (least_of_table rs) ts) 65535, TooLong) ∷ []
 
 abbrev pub record_tests : VersionRecords → List (Bool × VersionRefusal)
 record_tests v = tests_at v.tables.now v.strings.now v.texts.now

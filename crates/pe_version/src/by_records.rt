@@ -22,6 +22,7 @@ pub fn version_len(value: &VersionRecords<'_>) -> Result<usize, VersionError>
 ///
 /// Errors, in this order, each of which leaves `out` as it was:
 /// - `Image` with `Short` if a range of a record does not lie in its array;
+/// - `TooLong` if the blocks of the tables have more than 65,535 bytes by the lengths of their names and texts;
 /// - those of `block_len` of the first block that is refused, each block after those that it has;
 /// - `Image` with `WriteFit` if it does not fit into `out`.
 pub fn write_version(value: &VersionRecords<'_>, out: &mut [u8]) -> Result<usize, VersionError>

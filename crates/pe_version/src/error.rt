@@ -18,7 +18,7 @@ pub enum VersionError {
     /// The value is a text of an odd number of bytes.
     #[error("text of a version block has an odd number of bytes")]
     Text,
-    /// The size of the block in bytes, above 65,535.
+    /// The size of the block in bytes, above 65,535, or 65,536 where it is not known how much more it has.
     #[error("version block has {0} bytes, more than 65,535")]
     TooLong(usize),
 }

@@ -1,5 +1,8 @@
-//! Version information read into a value that a caller changes and writes again: what is there is kept, each string with the bytes of
-//! its text. See Microsoft's [VS_VERSIONINFO](https://learn.microsoft.com/windows/win32/menurc/vs-versioninfo).
+//! Version information read into a value that a caller changes and writes again: the fixed file information, the strings of the first
+//! `StringFileInfo`, each with the bytes of its text, and the languages and code pages of `Translation` are kept. All else is lost:
+//! a second `StringFileInfo`, another `Var`, blocks with other keys, whether a string is marked as binary, what stands in a string
+//! beside its value, and what is after the 52 bytes of the fixed file information. See Microsoft's
+//! [VS_VERSIONINFO](https://learn.microsoft.com/windows/win32/menurc/vs-versioninfo).
 
 ghost use Rattle.std.specs.Prelude.{◌≡◌, map, IfOk};
 ghost use Rattle.std.specs.Option.{option_map};

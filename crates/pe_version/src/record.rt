@@ -1,18 +1,24 @@
 //! Version information as records of numbers, for callers whose values have no references in them. Names and texts are ranges of
 //! one array of bytes, the strings of a table a range of one array of strings.
 
-ghost use Rattle.std.specs.Prelude.{◌≡◌, [], ◌∷◌, length};
+ghost use Rattle.std.specs.Prelude.{◌≡◌, ◌≤◌, [], ◌∷◌, length, nat_le};
 ghost use Rattle.std.specs.List.{list_all};
 ghost use Rattle.pe_core.specs.Bytes.{holds};
 ghost use Rattle.pe_core.specs.Refusals.{Short, outcome};
+ghost use Rattle.pe_edit.specs.RecordRefusals.{sum_within};
 ghost use Rattle.pe_edit.specs.Views.{part_of};
-ghost use Rattle.pe_version.specs.VersionRecords.{pair_of, record_tests, string_fits, strings_of, table_fits};
-ghost use Rattle.pe_version.specs.VersionRefusals.{Image, VersionReturns};
+ghost use Rattle.pe_edit.specs.Written.{total};
+ghost use Rattle.pe_version.specs.VersionRecords.{least_of_string, least_of_table, pair_of, record_tests, string_fits, strings_of, table_fits};
+ghost use Rattle.pe_version.specs.VersionRefusals.{Image, TooLong, VersionReturns};
 
+use crate::block::MOST;
 use crate::error::VersionError;
 use pe_core::{Error, require_bytes, slice_at};
-use pe_edit::RecordRange;
+use pe_edit::{RecordRange, sum_within};
 use pe_resource::{Translation, VsFixedFileInfo};
+
+/// The most bytes that a block has.
+const MOST_BYTES: u64 = MOST as u64;
 
 /// A string of version information.
 #[repr(C)]
@@ -145,7 +151,64 @@ fn tables_fit(tables: &[TableRecord], strings: usize) -> bool
     true
 }
 
-/// `Image` with `Short` if a range of a record does not lie in its array, at the end of that array.
+/// The sum of a number and the least bytes of the block of a string.
+fn string_added(sum: u64, string: &StringRecord) -> Option<u64>
+    requires { sum ≤ 65535 }
+    ensures { result ≡ sum_within 65535 sum (least_of_string string.now) }
+{
+    let Some(head) = sum_within(MOST_BYTES, sum, 8) else {
+        return None;
+    };
+    let Some(named) = sum_within(MOST_BYTES, head, string.name.length) else {
+        return None;
+    };
+    sum_within(MOST_BYTES, named, string.text.length)
+}
+
+/// The sum of a number and those of some strings.
+fn strings_added(sum: u64, strings: &[StringRecord]) -> Option<u64>
+    requires { sum ≤ 65535 }
+    ensures { result ≡ sum_within 65535 sum (total least_of_string strings.now) }
+{
+    let mut end = sum;
+    for index in 0..strings.len() {
+        match string_added(end, &strings[index]) {
+            Some(more) => end = more,
+            None => return None,
+        }
+    }
+    Some(end)
+}
+
+/// The sum of a number and the least bytes of the block of a table.
+fn table_added(sum: u64, strings: &[StringRecord], table: &TableRecord) -> Option<u64>
+    requires { sum ≤ 65535 }
+    ensures { result ≡ sum_within 65535 sum (least_of_table strings.now table.now) }
+{
+    let Some(head) = sum_within(MOST_BYTES, sum, 24) else {
+        return None;
+    };
+    strings_added(head, table.strings(strings))
+}
+
+/// `TooLong` if the blocks of all tables are too long by their least bytes. No more strings are read than a block can have, even
+/// where tables share them.
+fn require_short(tables: &[TableRecord], strings: &[StringRecord]) -> Result<(), VersionError>
+    ensures { VersionReturns result (outcome
+        ((nat_le (total (least_of_table strings.now) tables.now) 65535, TooLong) ∷ []) tt) }
+{
+    let mut end = 0;
+    for index in 0..tables.len() {
+        match table_added(end, strings, &tables[index]) {
+            Some(more) => end = more,
+            None => return Err(VersionError::TooLong(MOST + 1)),
+        }
+    }
+    Ok(())
+}
+
+/// Errors, in order: `Image` with `Short` if a range of a record does not lie in its array, at the end of that array; `TooLong` if
+/// the blocks of the tables have more than 65,535 bytes, by the lengths of names and texts.
 pub fn require_records(value: &VersionRecords<'_>) -> Result<(), VersionError>
     ensures { VersionReturns result (outcome (record_tests value.now) tt) }
 {
@@ -162,5 +225,5 @@ pub fn require_records(value: &VersionRecords<'_>) -> Result<(), VersionError>
             needed: 1,
         }));
     }
-    Ok(())
+    require_short(value.tables, value.strings)
 }

@@ -1,6 +1,6 @@
 //! Version information written whole, of a value: the fixed file information, string tables by language and code page, and
-//! translations. See Microsoft's [VS_VERSIONINFO](https://learn.microsoft.com/windows/win32/menurc/vs-versioninfo). pe_resource's
-//! walks read what is there, of which a caller makes such a value, and changes a text of it: all others stay.
+//! translations. See Microsoft's [VS_VERSIONINFO](https://learn.microsoft.com/windows/win32/menurc/vs-versioninfo). It has no place
+//! for other blocks: those of what was read are written block by block, by `write_block`, or lost.
 
 ghost use Rattle.std.specs.Prelude.{◌≡◌, ◌<◌, [], ◌∷◌, Ok, codes};
 ghost use Rattle.std.specs.List.{flat_map};

@@ -1,18 +1,23 @@
 //! Hashes by which images are known. These are the program's own: of the image the library says what they cover.
 
-use super::{both, hex_of, ordinals};
+use super::{both, hex_of, imports, ordinals};
 use md5::Md5;
 use pe_c::{Image, Import, Layout};
 use serde::Serialize;
+use sha1::Sha1;
 use sha2::{Digest as _, Sha256};
 
 #[derive(Clone, Debug, Serialize)]
 pub struct Hashes {
-    /// SHA-256 of the file.
+    /// Of the file. Those by which older lists know it are left out of a summary.
+    pub md5_hex: Option<String>,
+    pub sha1_hex: Option<String>,
     pub sha256_hex: String,
     /// MD5 of the imports, `dll.function` in lower case, with commas between them, as pefile has it. Null without imports, and
     /// where an import is refused or is not UTF-8.
     pub imphash: Option<String>,
+    /// What it is of: `lookup_tables`, or `address_tables` where a lookup table is unmapped, in whose place the address table stands.
+    pub imphash_of: Option<&'static str>,
     /// MD5 of the Rich header without its key, as pefile has it. Null without one.
     pub rich_hash: Option<String>,
     /// SHA-256 of what an Authenticode signature covers. Null of a module in memory, and where headers have no room for one.
@@ -46,12 +51,17 @@ fn function_of(library: &str, import: &Import<'_>) -> Option<String> {
     }
 }
 
-fn imphash_of(image: &Image<'_>) -> Option<String> {
+/// The hash, and what it is of.
+fn imphash_of(image: &Image<'_>) -> Option<(String, &'static str)> {
     let (mut hash, mut left, mut is_first) = (Md5::new(), image.bytes().len().saturating_mul(READINGS), true);
+    let mut of = "lookup_tables";
     for library in image.libraries().ok()? {
         let library = library.ok()?;
+        if library.has_unmapped_list() {
+            of = "address_tables";
+        }
         let name = std::str::from_utf8(library.name).ok()?.to_lowercase();
-        for import in library.imports() {
+        for import in imports::functions_of(&library) {
             let text = format!("{}.{}", stem_of(&name), function_of(&name, &import.ok()?)?);
             left = left.checked_sub(text.len())?;
             if !is_first {
@@ -61,7 +71,7 @@ fn imphash_of(image: &Image<'_>) -> Option<String> {
             is_first = false;
         }
     }
-    (!is_first).then(|| hex_of(&hash.finalize()))
+    (!is_first).then(|| (hex_of(&hash.finalize()), of))
 }
 
 /// `DanS` and three numbers that are 0, and the entries: each a product and a build in one number, and a count.
@@ -87,17 +97,43 @@ pub fn authenticode_of(image: &Image<'_>) -> Result<String, pe_c::Error> {
     Ok(hex_of(&hash.finalize()))
 }
 
-/// The hashes, and the Authenticode digest where it is wanted.
-pub fn of(image: &Image<'_>, has_digest: bool) -> Hashes {
-    let has_digest = has_digest && image.layout() == Layout::File;
+impl Hashes {
+    /// The imphash for text, with what it is of where that is not the lookup tables.
+    pub fn shown_imphash(&self) -> Option<String> {
+        let of = if self.imphash_of == Some("address_tables") { ", of address tables" } else { "" };
+        self.imphash.as_ref().map(|it| format!("{it}{of}"))
+    }
+}
+
+/// The hashes; where all are wanted the older ones of the file and the Authenticode digest too.
+pub fn of(image: &Image<'_>, has_all: bool) -> Hashes {
+    let has_digest = has_all && image.layout() == Layout::File;
     let digest = || if has_digest { authenticode_of(image).ok() } else { None };
-    let (sha256_hex, authenticode_sha256_hex) = both(image, || sha256_of(image.bytes()), digest);
-    Hashes { sha256_hex, imphash: imphash_of(image), rich_hash: rich_hash_of(image), authenticode_sha256_hex }
+    let older = || has_all.then(|| older_of(image.bytes())).unzip();
+    let (sha256_hex, (authenticode_sha256_hex, (md5_hex, sha1_hex))) =
+        both(image, || sha256_of(image.bytes()), || both(image, digest, older));
+    let (imphash, imphash_of) = imphash_of(image).unzip();
+    let rich_hash = rich_hash_of(image);
+    Hashes { md5_hex, sha1_hex, sha256_hex, imphash, imphash_of, rich_hash, authenticode_sha256_hex }
+}
+
+/// MD5 and SHA-1.
+fn older_of(bytes: &[u8]) -> (String, String) {
+    (hex_of(&Md5::digest(bytes)), hex_of(&Sha1::digest(bytes)))
 }
 
 /// The hash of a file that is no image.
 pub fn of_bytes(bytes: &[u8]) -> Hashes {
-    Hashes { sha256_hex: sha256_of(bytes), imphash: None, rich_hash: None, authenticode_sha256_hex: None }
+    let (md5_hex, sha1_hex) = Some(older_of(bytes)).unzip();
+    Hashes {
+        md5_hex,
+        sha1_hex,
+        sha256_hex: sha256_of(bytes),
+        imphash: None,
+        imphash_of: None,
+        rich_hash: None,
+        authenticode_sha256_hex: None,
+    }
 }
 
 #[cfg(test)]

@@ -4,6 +4,7 @@ use super::all_headers::{self, AllHeaders};
 use super::overlay::{self, Overlay};
 use super::{Flags, Named, Stamp};
 use crate::names::{CHARACTERISTICS, DIRECTORIES, DLL_CHARACTERISTICS, MACHINES, SUBSYSTEMS};
+use pe_c::sys::Directory as DataDirectory;
 use pe_c::{Image, Layout};
 use serde::Serialize;
 
@@ -85,7 +86,7 @@ pub fn of(image: &Image<'_>, file_name: &str, has_hashes: bool) -> Headers {
         characteristics: Flags::of(info.characteristics.into(), CHARACTERISTICS),
         dll_characteristics: Flags::of(info.dll_characteristics.into(), DLL_CHARACTERISTICS),
         all: all_headers::of(image),
-        directories: directories_of(image),
+        directories: directories_of(info.directories.iter().enumerate(), 0),
         overlay: overlay::of(image),
         symbol_server_path: info.symbol_path(file_name).map(|path| path.to_string()),
     }
@@ -110,13 +111,12 @@ pub fn checksum_state(own: u32, right: u32) -> &'static str {
     }
 }
 
-fn directories_of(image: &Image<'_>) -> Vec<Directory> {
-    let rows = image.info().directories.iter().zip(DIRECTORIES).enumerate();
-    let present = rows.filter(|(_, (row, _))| row.virtual_address != 0 || row.size != 0);
-    present
-        .map(|(index, (row, name))| Directory {
+/// Those that are not absent, by their indexes. In a TE image RVAs are `less` than the header has them.
+pub fn directories_of<'r>(rows: impl Iterator<Item = (usize, &'r DataDirectory)>, less: u32) -> Vec<Directory> {
+    rows.filter(|(_, row)| row.virtual_address.wrapping_add(less) != 0 || row.size != 0)
+        .map(|(index, row)| Directory {
             index,
-            name,
+            name: DIRECTORIES[index],
             rva: (index != SECURITY).then_some(row.virtual_address),
             file_offset: (index == SECURITY).then_some(row.virtual_address),
             size: row.size,

@@ -1,7 +1,7 @@
 //! The imports: DLLs, and what is taken of each by name or by ordinal.
 
-use super::{entry, Budget, List, Name, Part, ENTRY};
-use pe_c::{DirectoryIndex, Image};
+use super::{entry, Budget, List, Name, Part, Refusal, ENTRY};
+use pe_c::{DirectoryIndex, Error, Image};
 use serde::Serialize;
 
 #[derive(Clone, Debug, Serialize)]
@@ -10,6 +10,8 @@ pub struct Library<'a> {
     pub name_lower: Option<String>,
     #[serde(flatten)]
     pub functions: Part<List<Import<'a>>>,
+    /// Why the lookup table is not read: `functions` has what the address table names in its place.
+    pub lookup_table_error: Option<Refusal>,
 }
 
 entry!(Library<'_>, "imports");
@@ -44,6 +46,23 @@ fn import_of<'a>(import: pe_c::Import<'a>, library: &[u8], budget: &mut Budget) 
     })
 }
 
+/// The imports of a library: those that its address table names where its lookup table is unmapped.
+pub fn functions_of<'a>(library: &pe_c::Library<'a, 'a>) -> pe_c::Imports<'a, 'a> {
+    if library.has_unmapped_list() {
+        library.address_table()
+    } else {
+        library.imports()
+    }
+}
+
+fn lookup_table_error_of(library: &pe_c::Library<'_, '_>) -> Option<Refusal> {
+    let start = library.raw().lookup_table_rva;
+    let said = || {
+        format!("lookup table of {} at RVA {start:#x}: unmapped, so its address table is listed", Name(library.name))
+    };
+    (library.has_unmapped_list() && start != 0).then(|| Refusal { said: Some(said()), ..Error::UNMAPPED.into() })
+}
+
 pub fn is_limited(libraries: &List<Library>) -> bool {
     libraries.is_limited_in(|library| &library.functions)
 }
@@ -52,11 +71,12 @@ pub fn of<'a>(image: &'a Image<'_>) -> Part<List<Library<'a>>> {
     let mut budget = Budget::of(image);
     let library_of = |library: pe_c::Library<'a, 'a>| {
         budget.takes(ENTRY + library.name.len()).then(|| {
-            let functions = List::limited(library.imports(), |it| import_of(it, library.name, &mut budget));
+            let functions = List::limited(functions_of(&library), |it| import_of(it, library.name, &mut budget));
             Library {
                 name: Name(library.name),
                 name_lower: Name(library.name).lower(),
                 functions: Part::Present(budget.inside(functions)),
+                lookup_table_error: lookup_table_error_of(&library),
             }
         })
     };

@@ -2,9 +2,9 @@
 //! which a compiler makes and a linker reads. <https://uefi.org/specs/PI/1.8/V1_TE_Image.html>,
 //! <https://learn.microsoft.com/windows/win32/debug/pe-format#coff-file-header-object-and-image>
 
-use super::headers::Directory;
+use super::headers::{directories_of, Directory};
 use super::{kind_of, Named, Stamp, OBJECT_AS_IT_SEEMS, TE_IMAGE};
-use crate::names::{DIRECTORIES, MACHINES, SUBSYSTEMS};
+use crate::names::{MACHINES, SUBSYSTEMS};
 use pe_c::{Coff, Te};
 use serde::Serialize;
 
@@ -94,6 +94,9 @@ pub struct ObjectHeaders {
 const BASE_RELOCATION: usize = 5;
 const DEBUG: usize = 6;
 
+/// Bytes of a TE image's own header, in place of those that were stripped.
+const SIZE_OF_HEADER: u32 = 40;
+
 pub fn headers_of(other: &Other<'_>) -> Headers {
     match other {
         Other::Te(te) => Headers::Te(te_headers_of(te)),
@@ -104,7 +107,6 @@ pub fn headers_of(other: &Other<'_>) -> Headers {
 fn te_headers_of(te: &Te<'_>) -> TeHeaders {
     let header = te.header();
     let rows = [(BASE_RELOCATION, &header.reloc_dir), (DEBUG, &header.debug_dir)];
-    let present = rows.into_iter().filter(|(_, row)| row.size != 0);
     TeHeaders {
         machine: Named::of(header.machine.into(), MACHINES),
         subsystem: Named::of(header.subsystem.into(), SUBSYSTEMS),
@@ -113,15 +115,7 @@ fn te_headers_of(te: &Te<'_>) -> TeHeaders {
         entry_rva: header.entry_point,
         base_of_code_rva: header.base_of_code,
         image_base_va: header.image_base,
-        directories: present
-            .map(|(index, row)| Directory {
-                index,
-                name: DIRECTORIES[index],
-                rva: Some(row.virtual_address),
-                file_offset: None,
-                size: row.size,
-            })
-            .collect(),
+        directories: directories_of(rows.into_iter(), u32::from(header.stripped_size).wrapping_sub(SIZE_OF_HEADER)),
     }
 }
 

@@ -51,7 +51,7 @@ pub struct Version<'a>(ResourceLeaf<'a>);
 
 impl Version<'_> {
     pub fn fixed(&self) -> Part<Fixed> {
-        self.0.version().map(|found| found.map(fixed_of)).into()
+        self.0.fixed_version().map(|found| found.map(fixed_of)).into()
     }
 }
 

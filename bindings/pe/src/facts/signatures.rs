@@ -50,6 +50,9 @@ pub struct Certificate {
     pub subject: String,
     pub issuer: String,
     pub serial_hex: String,
+    /// Thumbprints: hashes of all of it.
+    pub sha1_hex: String,
+    pub sha256_hex: String,
     /// By RFC 3339. Null where the time is none.
     pub not_before: Option<String>,
     pub not_after: Option<String>,
@@ -61,6 +64,8 @@ impl Certificate {
             subject: text_of(certificate.subject()),
             issuer: text_of(certificate.issuer()),
             serial_hex: hex_of(certificate.serial()),
+            sha1_hex: hex_of(&Hash::Sha1.digest([certificate.der()].into_iter())),
+            sha256_hex: hex_of(&Hash::Sha256.digest([certificate.der()].into_iter())),
             not_before: certificate.not_before().ok().map(|it| it.to_string()),
             not_after: certificate.not_after().ok().map(|it| it.to_string()),
         }

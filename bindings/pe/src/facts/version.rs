@@ -11,6 +11,8 @@ pub struct Version {
     /// Of the first resource of version information.
     #[serde(flatten)]
     pub fixed: Part<Fixed>,
+    /// Why a string of the same resource is refused, where the fixed file information is not. Another reader may have no string at all.
+    pub strings_error: Option<Refusal>,
     /// The language of `strings`: neutral or English (US) where there is one of these, else the first.
     pub language: Option<Label>,
     /// The strings in that language by their names, such as `ProductName`.
@@ -58,7 +60,8 @@ impl Version {
     /// The refusals, each with the part that it is of. Numbers and strings are of one resource: the first counts.
     pub fn refusals(&self) -> Vec<(&'static str, &Refusal)> {
         let version = self.fixed.refusal().or(self.languages.list_refusal()).map(|it| ("version information", it));
-        version.into_iter().chain(self.manifest.refusal().map(|it| ("manifest", it))).collect()
+        let strings = self.strings_error.as_ref().map(|it| ("version strings", it));
+        version.into_iter().chain(strings).chain(self.manifest.refusal().map(|it| ("manifest", it))).collect()
     }
 
     /// Whether there is neither version information nor a manifest.
@@ -174,9 +177,10 @@ fn manifest_of(bytes: &[u8]) -> Manifest {
 
 pub fn of(image: &Image<'_>) -> Version {
     let languages = languages_of(image);
-    let first = first_of(&languages);
+    let (first, fixed) = (first_of(&languages), image.fixed_version());
     Version {
-        fixed: image.version().map(|it| it.map(fixed_of)).into(),
+        strings_error: fixed.as_ref().ok().and_then(|_| image.version().err()).map(Refusal::from),
+        fixed: fixed.map(|it| it.map(fixed_of)).into(),
         language: first.map(|it| it.language.clone()),
         strings: first.map(|it| it.strings.clone()),
         languages,

@@ -5,6 +5,7 @@ use super::{end, filter, grouped, head, list, table, warnings, OPEN_ROWS};
 use crate::escape::escaped;
 use crate::facts::counted;
 use crate::files::{self, Report};
+use crate::new_file::Target;
 use crate::stack::{self, Asked, Known, Told};
 use crate::tables::Table;
 use crate::Status;
@@ -14,7 +15,7 @@ use std::path::Path;
 const FRAMES: usize = 20_000;
 
 /// Writes the page of a dump. One of a file that is no dump says why.
-pub fn write_to(file: (&Path, &[u8]), known: &Known, asked: Asked, to: &Path) -> Report {
+pub fn write_to(file: (&Path, &[u8]), known: &Known, asked: Asked, to: &Target) -> Report {
     let (path, bytes) = file;
     let told = stack::told(path, bytes, known, asked);
     let status = if told.is_refused() { Status::Refused } else { Status::Done };

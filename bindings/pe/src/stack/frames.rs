@@ -41,6 +41,7 @@ fn frame_of(frame: &pe_c::Frame<DumpRegisters>, loaded: &Loaded<'_>, has_registe
         offset,
         way: way_of(frame.way),
         has_called: frame.has_called,
+        is_guess: frame.is_guess,
         registers: has_registers.then(|| registers_of(&frame.registers)),
     }
 }
@@ -62,6 +63,8 @@ fn words_of(end: &End) -> (&'static str, Option<Refusal>) {
     match end {
         End::Bound => ("bound", None),
         End::Bottom => ("bottom", None),
+        End::Zero => ("zero", None),
+        End::NoReturnAddress => ("no-return-address", None),
         End::NoModule => ("no-module", None),
         End::NoFunction => ("no-function", None),
         End::LongChain => ("long-chain", None),

@@ -2,7 +2,7 @@
 
 use super::told::{Exception, Memory, Module, System, Thread, Told, Unloaded};
 use crate::escape::escaped;
-use crate::facts::counted;
+use crate::facts::{counted, Named};
 use crate::page::{Page, Style};
 use crate::show::time_of;
 use crate::tables::{number, text, Row, Table};
@@ -46,6 +46,8 @@ pub fn summary(told: &Told) -> Vec<Row> {
     let mut rows = Vec::new();
     if let Some(raised) = told.exception.present() {
         rows.push(("reason", reason_of(raised)));
+        let shown = raised.parameters.iter().map(|it| format!("{it:#x}")).collect::<Vec<_>>().join(", ");
+        rows.extend((!shown.is_empty()).then_some(("parameters", shown)));
         rows.push(("at", place_of(&raised.module, raised.offset, raised.address_va)));
     }
     rows.extend(told.system.present().map(|it| ("system", words_of(it))));
@@ -55,19 +57,37 @@ pub fn summary(told: &Told) -> Vec<Row> {
             process.create_time.filter(|it| *it != 0).map_or(String::new(), |it| format!(", made {}", time_of(it)));
         rows.push(("process", id + &made));
     }
-    rows.extend(told.written.as_ref().filter(|it| it.seconds != 0).map(|it| ("written", time_of(it.seconds))));
+    rows.extend(told.written.0.filter(|it| it.seconds != 0).map(|it| ("written", time_of(it.seconds))));
     rows.extend(told.memory.iter().map(|it| ("memory", memory_of(it))));
+    if told.lost() > 0 && told.without_images() > 0 {
+        let (lost, without) = (counted(told.lost(), "stack"), counted(told.without_images(), "module"));
+        rows.push((
+            "images",
+            format!("{without} without one, {lost} lost: --images FOLDER reads the images below a folder"),
+        ));
+    }
+    if told.texts_is_limited {
+        rows.push(("names", "the dump has more names than are shown".to_string()));
+    }
     rows
 }
 
 fn reason_of(raised: &Exception) -> String {
-    let code = match raised.code.name {
-        Some(name) => format!("{name} ({:#010x})", raised.code.number),
-        None => format!("{:#010x}", raised.code.number),
-    };
-    match (raised.access, raised.access_va) {
-        (Some(access), Some(address)) => format!("{code}: {access} at {address:#x}"),
+    let code = code_of(&raised.code);
+    let status = raised.in_page_status.as_ref().map_or(String::new(), |it| format!(", {}", code_of(it)));
+    match (raised.access, raised.access_va, &raised.fast_fail) {
+        (Some(access), Some(address), _) => format!("{code}: {access} at {address:#x}{status}"),
+        (_, _, Some(why)) => {
+            format!("{code}: {}", why.name.map_or(format!("__fastfail({})", why.number), str::to_string))
+        }
         _ => code,
+    }
+}
+
+fn code_of(code: &Named) -> String {
+    match code.name {
+        Some(name) => format!("{name} ({:#010x})", code.number),
+        None => format!("{:#010x}", code.number),
     }
 }
 
@@ -99,7 +119,7 @@ pub fn frames_of(thread: &Thread) -> Table {
             index.to_string(),
             format!("{:#018x}", it.ip_va),
             place_of(&it.module, it.offset, it.ip_va),
-            it.way.to_string(),
+            if it.is_guess { format!("{}, a guess", it.way) } else { it.way.to_string() },
         ]
     });
     Table::new(&[number("frame"), number("address"), text("place"), text("found by")], rows)
@@ -122,9 +142,11 @@ fn thread_of(thread: &Thread, page: &mut Page) {
 pub fn end_of(thread: &Thread) -> String {
     let words = match thread.end {
         Some("bottom") => "the stack is whole",
+        Some("zero") => "the last frame returns to 0, after a guess or without records: frames may be missing or wrong",
         Some("bound") => "there may be more frames",
         Some("no-module") => "LOST: no module with an image has the address of the last frame",
-        Some("no-function") => "LOST: no function covers the call in the last frame",
+        Some("no-function") => "LOST: no function covers the call in the last frame, and no return address is found",
+        Some("no-return-address") => "LOST: the last frame, without records, would return to no executable code",
         Some("long-chain") => "LOST: more than 32 unwind records are chained",
         Some(_) => "LOST",
         None => "not walked",

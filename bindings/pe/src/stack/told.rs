@@ -1,10 +1,25 @@
 //! What is said of a minidump, as records: JSON is made of them as they are, and text by `text`.
 
 use crate::facts::{entry, field, List, Named, Origin, Part, Refusal, Stamp};
+use crate::Status;
 use pe_c::Error;
-use serde::Serialize;
+use serde::ser::SerializeMap;
+use serde::{Serialize, Serializer};
 use std::collections::BTreeMap;
 use std::path::Path;
+
+/// A time stamp that is null where it is not known.
+#[derive(Debug)]
+pub struct Written(pub Option<Stamp>);
+
+impl Serialize for Written {
+    fn serialize<S: Serializer>(&self, serializer: S) -> Result<S::Ok, S::Error> {
+        let mut map = serializer.serialize_map(Some(2))?;
+        map.serialize_entry("time_date_stamp", &self.0.map(|it| it.seconds))?;
+        map.serialize_entry("time", &self.0.and_then(Stamp::time))?;
+        map.end()
+    }
+}
 
 /// What is said of a dump.
 #[derive(Debug, Serialize)]
@@ -13,7 +28,7 @@ pub struct Told {
     pub origin: Origin,
     /// When it was written.
     #[serde(flatten)]
-    pub written: Option<Stamp>,
+    pub written: Written,
     /// `MINIDUMP_TYPE`.
     pub flags: Option<u64>,
     #[serde(flatten)]
@@ -30,6 +45,8 @@ pub struct Told {
     #[serde(flatten)]
     pub unloaded_modules: Part<List<Unloaded>>,
     pub memory: Option<Memory>,
+    /// Whether there are more names and paths than are shown: those after the last are null.
+    pub texts_is_limited: bool,
     /// Why it is refused whole.
     pub error: Option<Refusal>,
 }
@@ -64,6 +81,10 @@ pub struct Exception {
     pub access: Option<&'static str>,
     /// Of the memory that was asked for.
     pub access_va: Option<u64>,
+    /// Of an in-page error the `NTSTATUS` of what was to read the page.
+    pub in_page_status: Option<Named>,
+    /// Why `__fastfail` was called, of an exception that it raised.
+    pub fast_fail: Option<Named>,
     pub thread_id: u32,
     pub address_va: u64,
     /// The module that has the address, and how far into it.
@@ -83,7 +104,7 @@ pub struct Thread {
     pub is_crashed: bool,
     /// From the top frame outwards.
     pub frames: Vec<Frame>,
-    /// Why there are no more: `bottom` where the stack is whole.
+    /// Why there are no more: `bottom` where the stack is whole, `zero` where it comes to 0 too, but past a guess.
     pub end: Option<&'static str>,
     /// More on it; or why the registers of the thread cannot be read.
     pub end_error: Option<Refusal>,
@@ -100,6 +121,8 @@ pub struct Frame {
     pub way: &'static str,
     /// Whether its function has called: then `ip_va` is the return address.
     pub has_called: bool,
+    /// Whether it may be wrong: it, or a frame before it, was guessed.
+    pub is_guess: bool,
     /// By name; null unless they are asked for.
     pub registers: Option<BTreeMap<String, u64>>,
 }
@@ -149,7 +172,7 @@ impl Told {
     pub fn refused(path: &Path, error: Error) -> Told {
         Told {
             origin: Origin::of(path),
-            written: None,
+            written: Written(None),
             flags: None,
             system: Part::Absent,
             process: Part::Absent,
@@ -158,6 +181,7 @@ impl Told {
             modules: Part::Absent,
             unloaded_modules: Part::Absent,
             memory: None,
+            texts_is_limited: false,
             error: Some(error.into()),
         }
     }
@@ -178,6 +202,25 @@ impl Told {
         found.extend(self.unloaded_modules.list_refusal().map(|it| ("unloaded modules", it)));
         found.extend(self.memory.iter().flat_map(|it| &it.errors).map(|it| ("memory", it)));
         found
+    }
+
+    /// The stacks that did not end at their bottom, nor where no more was asked for.
+    pub fn lost(&self) -> usize {
+        let is_lost = |it: &&Thread| it.end.is_some_and(|end| end != "bottom" && end != "bound");
+        self.threads.entries().iter().filter(is_lost).count()
+    }
+
+    /// How many modules have no image.
+    pub fn without_images(&self) -> usize {
+        self.modules.entries().iter().filter(|it| it.image.is_none()).count()
+    }
+
+    pub fn status(&self) -> Status {
+        match (self.is_refused(), self.lost()) {
+            (true, _) => Status::Refused,
+            (false, 0) => Status::Done,
+            (false, _) => Status::Lost,
+        }
     }
 
     pub fn is_refused(&self) -> bool {

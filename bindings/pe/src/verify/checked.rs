@@ -1,8 +1,14 @@
-//! Whether a signature is that of a key, and whether a chain of certificates leads to a root. OpenSSL says it, where the program is
-//! built with the feature `openssl`; else nothing is checked, and that is said.
+//! Whether a signature is that of a key, and whether a chain of certificates leads to a root. OpenSSL says it (`by_openssl`); in a
+//! program that is built without the feature `openssl` nothing is checked, and that is said.
 
-use pe_c::X509;
+use super::hashing::Hash;
+use pe_c::{Algorithm, X509};
 use std::path::Path;
+
+#[cfg(feature = "openssl")]
+pub use super::by_openssl::{checked_by, is_of_key, Roots};
+#[cfg(not(feature = "openssl"))]
+pub use without::{checked_by, is_of_key, Roots};
 
 /// Whether a signature is that of a key.
 #[derive(Clone, Debug, PartialEq, Eq)]
@@ -27,17 +33,53 @@ pub const NO_CERTIFICATE: Checked = Checked::Not("its certificate is not in the 
 pub const NO_ISSUER: Checked = Checked::Not("that of its issuer is not in the file");
 pub const NO_ROOTS: Checked = Checked::Not("no roots are given");
 
+/// Whether a chain leads to a root, and where it is wrong why.
+#[derive(Clone, Debug)]
+pub struct Trust {
+    pub checked: Checked,
+    pub why: Option<String>,
+}
+
+impl From<Checked> for Trust {
+    fn from(checked: Checked) -> Trust {
+        Trust { checked, why: None }
+    }
+}
+
+/// A signature over a message, and how it was made.
+#[cfg_attr(not(feature = "openssl"), allow(dead_code))]
+#[derive(Clone, Copy)]
+pub struct Signing<'a> {
+    pub algorithm: Algorithm<'a>,
+    /// The digest of the signer, where the algorithm says none.
+    pub hash: Option<Hash>,
+    pub message: &'a [&'a [u8]],
+    pub signature: &'a [u8],
+}
+
 /// Whether a certificate is signed by the key of another.
 pub fn is_signed_by(certificate: &X509<'_>, issuer: &X509<'_>) -> Checked {
-    let algorithm = certificate.signature_algorithm().oid();
-    check(*issuer, algorithm, None, &[certificate.to_be_signed()], certificate.signature())
+    let (algorithm, message) = (certificate.signature_algorithm(), [certificate.to_be_signed()]);
+    is_of_key(*issuer, Signing { algorithm, hash: None, message: &message, signature: certificate.signature() })
+}
+
+/// Where systems have the roots that they trust, in PEM: Debian, Fedora, openSUSE, Alpine.
+const OF_SYSTEMS: [&str; 4] = [
+    "/etc/ssl/certs/ca-certificates.crt",
+    "/etc/pki/tls/certs/ca-bundle.crt",
+    "/etc/ssl/ca-bundle.pem",
+    "/etc/ssl/cert.pem",
+];
+
+/// The file of the system's roots: the first that is there.
+pub fn roots_of_system() -> &'static Path {
+    Path::new(OF_SYSTEMS.into_iter().find(|it| Path::new(it).exists()).unwrap_or(OF_SYSTEMS[0]))
 }
 
 #[cfg(not(feature = "openssl"))]
-mod by {
-    use super::{Checked, Path};
-    use crate::verify::hashing::Hash;
-    use pe_c::{Oid, Time, X509};
+mod without {
+    use super::{Checked, Path, Signing, Trust, X509};
+    use pe_c::Time;
 
     /// The program is built without what checks signatures.
     const WITHOUT: Checked = Checked::Not("this program is built without OpenSSL");
@@ -46,135 +88,19 @@ mod by {
 
     impl Roots {
         pub fn read(_: &Path) -> Result<Roots, String> {
-            Err("--roots needs a program that is built with the feature openssl".to_string())
+            Err("roots need a program that is built with the feature openssl".to_string())
         }
 
-        pub fn lead_to(&self, _: X509<'_>, _: &mut dyn Iterator<Item = X509<'_>>, _: Option<Time>) -> Checked {
-            WITHOUT
+        pub fn lead_to(&self, _: X509<'_>, _: &mut dyn Iterator<Item = X509<'_>>, _: Option<Time>) -> Trust {
+            WITHOUT.into()
         }
     }
 
-    pub fn check(_: X509<'_>, _: Oid<'_>, _: Option<Hash>, _: &[&[u8]], _: &[u8]) -> Checked {
+    pub fn is_of_key(_: X509<'_>, _: Signing<'_>) -> Checked {
         WITHOUT
     }
-}
 
-#[cfg(feature = "openssl")]
-mod by {
-    use super::{Checked, Path};
-    use crate::verify::hashing::Hash;
-    use openssl::error::ErrorStack;
-    use openssl::hash::MessageDigest;
-    use openssl::pkey::PKey;
-    use openssl::sign::Verifier;
-    use openssl::stack::Stack;
-    use openssl::x509::store::{X509Store, X509StoreBuilder};
-    use openssl::x509::verify::X509VerifyParam;
-    use openssl::x509::{X509StoreContext, X509 as Parsed};
-    use pe_c::{KnownOid, Oid, Time, X509};
-
-    /// Roots that the user trusts.
-    pub struct Roots {
-        certificates: Vec<Parsed>,
-    }
-
-    impl Roots {
-        /// Those of a file of PEM.
-        pub fn read(path: &Path) -> Result<Roots, String> {
-            let text = std::fs::read(path).map_err(|error| error.to_string())?;
-            let certificates = Parsed::stack_from_pem(&text).map_err(|error| error.to_string())?;
-            match certificates.is_empty() {
-                true => Err("it has no certificate in PEM".to_string()),
-                false => Ok(Roots { certificates }),
-            }
-        }
-
-        /// Whether a certificate leads to a root, over these others, at a time, or now.
-        pub fn lead_to(
-            &self,
-            first: X509<'_>,
-            others: &mut dyn Iterator<Item = X509<'_>>,
-            time: Option<Time>,
-        ) -> Checked {
-            match self.is_led_to(first, others, time) {
-                Ok(true) => Checked::Good,
-                Ok(false) => Checked::Wrong,
-                Err(_) => Checked::Not("OpenSSL refuses a certificate"),
-            }
-        }
-
-        fn store(&self, time: Option<Time>) -> Result<X509Store, ErrorStack> {
-            let mut store = X509StoreBuilder::new()?;
-            for root in &self.certificates {
-                store.add_cert(root.clone())?;
-            }
-            if let Some(time) = time {
-                let mut parameters = X509VerifyParam::new()?;
-                parameters.set_time(time.unix());
-                store.set_param(&parameters)?;
-            }
-            Ok(store.build())
-        }
-
-        fn is_led_to(
-            &self,
-            first: X509<'_>,
-            others: &mut dyn Iterator<Item = X509<'_>>,
-            time: Option<Time>,
-        ) -> Result<bool, ErrorStack> {
-            let (store, first) = (self.store(time)?, Parsed::from_der(first.der())?);
-            let mut between = Stack::new()?;
-            // One that OpenSSL does not read leads nowhere.
-            for other in others.filter_map(|it| Parsed::from_der(it.der()).ok()) {
-                between.push(other)?;
-            }
-            X509StoreContext::new()?.init(&store, &first, &between, |context| context.verify_cert())
-        }
-    }
-
-    /// The digest of a signature's algorithm. RSA alone, and without a digest, is by that of the signer.
-    fn digest_of(algorithm: Oid<'_>, signer: Option<Hash>) -> Option<MessageDigest> {
-        let hash = match algorithm.known()? {
-            KnownOid::RSA | KnownOid::EC | KnownOid::DSA => signer?,
-            _ => Hash::of_signature(algorithm)?,
-        };
-        Some(match hash {
-            Hash::Md5 => MessageDigest::md5(),
-            Hash::Sha1 => MessageDigest::sha1(),
-            Hash::Sha256 => MessageDigest::sha256(),
-            Hash::Sha384 => MessageDigest::sha384(),
-            Hash::Sha512 => MessageDigest::sha512(),
-        })
-    }
-
-    /// Whether a signature over a message is by the key of a certificate.
-    pub fn check(
-        certificate: X509<'_>,
-        algorithm: Oid<'_>,
-        signer: Option<Hash>,
-        message: &[&[u8]],
-        signature: &[u8],
-    ) -> Checked {
-        let Some(digest) = digest_of(algorithm, signer) else {
-            return Checked::Not("its algorithm is not known here");
-        };
-        let Ok(key) = PKey::public_key_from_der(certificate.public_key()) else {
-            return Checked::Not("OpenSSL refuses the key");
-        };
-        let Ok(mut verifier) = Verifier::new(digest, &key) else {
-            return Checked::Not("OpenSSL refuses the algorithm");
-        };
-        let mut verify = || {
-            message.iter().try_for_each(|part| verifier.update(part))?;
-            verifier.verify(signature)
-        };
-        // An error says that the signature cannot be one of the key, as by its length.
-        if verify().unwrap_or(false) {
-            Checked::Good
-        } else {
-            Checked::Wrong
-        }
+    pub fn checked_by() -> &'static str {
+        "not checked, since this program is built without OpenSSL; pe verify compares digests alone"
     }
 }
-
-pub use by::{check, Roots};

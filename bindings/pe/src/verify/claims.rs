@@ -33,6 +33,16 @@ fn is_for(certificate: &X509<'_>, purpose: &Purpose) -> Result<bool, SignatureEr
     Ok(found.transpose()?.is_some())
 }
 
+/// `digitalSignature` and `contentCommitment` of the extension `keyUsage`.
+const MAY_SIGN: u32 = 0x80 | 0x40;
+
+/// A warning where the usage of a certificate's key does not have signatures
+/// ([RFC 5280](https://www.rfc-editor.org/rfc/rfc5280), 4.2.1.3).
+pub fn usage_warning(certificate: Option<X509<'_>>) -> Option<&'static str> {
+    let usage = certificate?.key_usage().ok()??;
+    (usage & MAY_SIGN == 0).then_some("the usage of its key (keyUsage) does not have signatures")
+}
+
 /// Whether a signer says the type that what is signed has ([RFC 5652](https://www.rfc-editor.org/rfc/rfc5652), 11.1).
 pub fn content_type(said: Option<Oid<'_>>, content: Oid<'_>) -> Checked {
     said.map_or(NOT_SAID, |it| checked(it == content))

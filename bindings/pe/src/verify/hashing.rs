@@ -2,7 +2,7 @@
 
 use crate::facts::hex_of;
 use md5::Md5;
-use pe_c::KnownOid;
+use pe_c::{Algorithm, KnownOid};
 use sha1::Sha1;
 use sha2::{Digest, Sha256, Sha384, Sha512};
 use std::collections::BTreeSet;
@@ -30,11 +30,12 @@ impl Hash {
         })
     }
 
-    /// The algorithm of the digest that is signed. `None` where the object identifier does not say one.
-    pub fn of_signature(oid: pe_c::Oid<'_>) -> Option<Hash> {
-        Some(match oid.known()? {
+    /// The algorithm of the digest that is signed. `None` where the algorithm does not say one.
+    pub fn of_signature(algorithm: Algorithm<'_>) -> Option<Hash> {
+        Some(match algorithm.oid().known()? {
+            KnownOid::RSA_PSS => super::der::pss_of(algorithm)?.hash,
             KnownOid::MD5_RSA => Hash::Md5,
-            KnownOid::SHA1_RSA | KnownOid::ECDSA_SHA1 | KnownOid::DSA_SHA1 => Hash::Sha1,
+            KnownOid::SHA1_RSA | KnownOid::SHA1_RSA_OIW | KnownOid::ECDSA_SHA1 | KnownOid::DSA_SHA1 => Hash::Sha1,
             KnownOid::SHA256_RSA | KnownOid::ECDSA_SHA256 => Hash::Sha256,
             KnownOid::SHA384_RSA | KnownOid::ECDSA_SHA384 => Hash::Sha384,
             KnownOid::SHA512_RSA | KnownOid::ECDSA_SHA512 => Hash::Sha512,

@@ -1,6 +1,6 @@
 //! A signer, and what of it fits: the digest of what is signed, the signature, the chain of its certificates, its time stamps.
 
-use super::checked::{self, Checked, Roots, NO_CERTIFICATE, NO_ISSUER, NO_ROOTS};
+use super::checked::{self, Checked, Roots, Signing, Trust, NO_CERTIFICATE, NO_ISSUER, NO_ROOTS};
 use super::claims::{self, CODE_SIGNING, TIME_STAMPING};
 use super::hashing::{weak_of, Compared, Digests, Hash};
 use super::or_refused;
@@ -41,8 +41,11 @@ pub struct Told {
     pub is_chain_whole: bool,
     /// Whether each certificate is signed by the next.
     pub chain_signatures: Checked,
-    /// Whether the chain leads to one of the roots that were given.
+    /// Whether the chain leads to one of the roots that were given, and where it does not why.
     pub trust: Checked,
+    pub trust_error: Option<String>,
+    /// What is wrong with it and does not count.
+    pub warnings: Vec<&'static str>,
     pub time_stamps: Vec<Stamp>,
     /// Whether there are more time stamps.
     #[serde(skip)]
@@ -70,8 +73,12 @@ pub struct Stamp {
     pub signature: Checked,
     /// Whether the certificate's key is for time stamps.
     pub key_purpose: Checked,
-    /// Whether the chain of its certificate leads to one of the roots that were given, at the time of the stamp.
+    /// Whether the chain of its certificate leads to one of the roots that were given, at the time of the stamp, and where it does not
+    /// why.
     pub trust: Checked,
+    pub trust_error: Option<String>,
+    /// What is wrong with it and does not count.
+    pub warnings: Vec<&'static str>,
     pub error: Option<SignatureRefusal>,
     #[serde(skip)]
     stamped: Option<Time>,
@@ -121,8 +128,10 @@ impl<'a> Signed<'a> {
     /// Whether the signature of a signer is by the key of its certificate.
     fn signature(&self, signer: &Signer<'_>, certificate: Option<X509<'_>>) -> Checked {
         let Some(certificate) = certificate else { return NO_CERTIFICATE };
-        let (algorithm, hash) = (signer.signature_algorithm().oid(), Hash::of(signer.digest_algorithm().oid()));
-        let check = |message: &[&[u8]]| checked::check(certificate, algorithm, hash, message, signer.signature());
+        let (algorithm, hash) = (signer.signature_algorithm(), Hash::of(signer.digest_algorithm().oid()));
+        let check = |message: &[&[u8]]| {
+            checked::is_of_key(certificate, Signing { algorithm, hash, message, signature: signer.signature() })
+        };
         match (signer.signed_bytes(), self.digested) {
             (Some((first, rest)), _) => check(&[&[first], rest]),
             (None, Some(content)) => check(&[content]),
@@ -141,6 +150,7 @@ impl<'a> Signed<'a> {
         let time_stamps: Vec<Stamp> = stamps.by_ref().take(STAMPS).collect();
         let is_limited = stamps.next().is_some();
         let time = time_stamps.iter().find_map(Stamp::good_time);
+        let trust = trust(&chain, &mut self.certificates.all(), roots, time);
         Told {
             certificate: certificate.as_ref().map(Certificate::of),
             issuer: text_of(signer.issuer()),
@@ -156,7 +166,9 @@ impl<'a> Signed<'a> {
             key_purpose: claims::key_purpose(certificate, &CODE_SIGNING),
             is_chain_whole: chain.last().is_some_and(is_self_issued),
             chain_signatures: signatures_of(&chain),
-            trust: trust(&chain, &mut self.certificates.all(), roots, time),
+            trust: trust.checked,
+            trust_error: trust.why,
+            warnings: claims::usage_warning(certificate).into_iter().collect(),
             weak_algorithms: weak_algorithms(signer, &chain, &time_stamps),
             chain: chain.iter().map(|it| text_of(it.subject())).collect(),
             time_stamps,
@@ -190,6 +202,7 @@ impl<'a> Signed<'a> {
         let said = or_refused(stamp.message_digest(), &mut error);
         let algorithm = stamp.digest_algorithm().oid();
         let digest = said.map_or(Compared::Absent, |said| Digests::of(vec![stamped]).compared(algorithm, said));
+        let trust = trust(&self.chain(certificate), &mut self.certificates.all(), roots, time);
         Stamp {
             kind: "PKCS #9",
             time: time.map(|it| it.to_string()),
@@ -199,7 +212,9 @@ impl<'a> Signed<'a> {
             content_type: Checked::Good,
             signature: self.signature(&stamp, certificate),
             key_purpose: claims::key_purpose(certificate, &TIME_STAMPING),
-            trust: trust(&self.chain(certificate), &mut self.certificates.all(), roots, time),
+            trust: trust.checked,
+            trust_error: trust.why,
+            warnings: claims::usage_warning(certificate).into_iter().collect(),
             error,
             stamped: time,
             weak_algorithms: weak_of(hashes_of(&stamp).into_iter()),
@@ -236,7 +251,9 @@ impl<'a> Signed<'a> {
                 signed.content_type,
             ),
             key_purpose: claims::key_purpose(certificate, &TIME_STAMPING),
-            trust,
+            trust: trust.checked,
+            trust_error: trust.why,
+            warnings: claims::usage_warning(certificate).into_iter().collect(),
             weak_algorithms: weak_of(
                 signer.iter().flat_map(hashes_of).chain([said.and_then(|it| Hash::of(it.digest_algorithm().oid()))]),
             ),
@@ -253,27 +270,29 @@ fn trust(
     others: &mut dyn Iterator<Item = X509<'_>>,
     roots: Option<&Roots>,
     time: Option<Time>,
-) -> Checked {
+) -> Trust {
     match (chain, roots) {
-        (_, None) => NO_ROOTS,
-        ([], _) => NO_CERTIFICATE,
-        ([first, issuers @ ..], Some(roots)) => match roots.lead_to(*first, &mut issuers.iter().copied(), time) {
-            Checked::Good => Checked::Good,
-            _ => roots.lead_to(*first, others, time),
-        },
+        (_, None) => NO_ROOTS.into(),
+        ([], _) => NO_CERTIFICATE.into(),
+        ([first, issuers @ ..], Some(roots)) => {
+            let by_chain = roots.lead_to(*first, &mut issuers.iter().copied(), time);
+            let by_all =
+                if by_chain.checked == Checked::Good { None } else { Some(roots.lead_to(*first, others, time)) };
+            by_all.filter(|it| it.checked == Checked::Good).unwrap_or(by_chain)
+        }
     }
 }
 
 /// The algorithms of the digests that a signer has: of what is signed, and of what its signature is over.
 fn hashes_of(signer: &Signer<'_>) -> [Option<Hash>; 2] {
-    [Hash::of(signer.digest_algorithm().oid()), Hash::of_signature(signer.signature_algorithm().oid())]
+    [Hash::of(signer.digest_algorithm().oid()), Hash::of_signature(signer.signature_algorithm())]
 }
 
 /// The weak ones of a signer, of the certificates that others signed, and of the time stamps. The last certificate of a chain that
 /// is by its own word is trusted for itself.
 fn weak_algorithms(signer: &Signer<'_>, chain: &[X509<'_>], stamps: &[Stamp]) -> BTreeSet<&'static str> {
     let signed = chain.iter().filter(|it| !is_self_issued(it));
-    let hashes = signed.map(|it| Hash::of_signature(it.signature_algorithm().oid())).chain(hashes_of(signer));
+    let hashes = signed.map(|it| Hash::of_signature(it.signature_algorithm())).chain(hashes_of(signer));
     let mut weak = weak_of(hashes);
     weak.extend(stamps.iter().flat_map(|it| &it.weak_algorithms));
     weak
@@ -294,6 +313,8 @@ fn refused_stamp(kind: &'static str, refused: SignatureError) -> Stamp {
         signature: NO_CERTIFICATE,
         key_purpose: NO_CERTIFICATE,
         trust: NO_CERTIFICATE,
+        trust_error: None,
+        warnings: Vec::new(),
         error: Some(refused.into()),
         stamped: None,
         weak_algorithms: BTreeSet::new(),

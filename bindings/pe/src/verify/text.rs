@@ -5,6 +5,7 @@ use super::hashing::Compared;
 use super::signer::{Stamp, Told};
 use super::{Signature, State, Verified};
 use crate::escape::escaped;
+use crate::facts::counted;
 use crate::page::{Page, Style};
 
 /// What all of it comes to, in words that say no more than was checked.
@@ -13,6 +14,7 @@ fn words_of(state: State) -> &'static str {
         State::Refused => "damaged: see the errors",
         State::NotSigned => "not signed",
         State::Wrong => "WRONG: see what is different or wrong",
+        State::Weak => "all of it fits, but by MD5: another text with the same digest is made in seconds",
         State::Open => "open: see what was not compared or checked",
         State::DigestsEqual => "all digests are equal; no signature was checked, nor any certificate",
         State::SignaturesGood => "all digests are equal and all signatures good; whom to trust was not checked",
@@ -52,11 +54,16 @@ fn signature_of(signature: &Signature, page: &mut Page) {
         let compared = signature.digest.as_ref().map(words_of_digest).unwrap_or_default();
         page.row("  file digest", format_args!("{algorithm} {digest}, {compared}"));
     }
+    if let Some(hashes) = &signature.page_hashes {
+        let pages = counted(hashes.pages, "page");
+        page.row("  page hashes", format_args!("{}, {pages}, not compared", hashes.algorithm));
+    }
     signature.signers.iter().for_each(|it| signer_of(it, page));
     if !signature.weak_algorithms.is_empty() {
         let weak: Vec<&str> = signature.weak_algorithms.iter().copied().collect();
         page.warning(format_args!("weak: {}; two texts with one such digest have been made", weak.join(", ")));
     }
+    signature.warnings.iter().for_each(|it| page.warning(it));
     if let Some(error) = &signature.error {
         page.warning(error);
     }
@@ -73,6 +80,9 @@ fn signer_of(signer: &Told, page: &mut Page) {
     }
     page.row("  issuer", escaped(&signer.issuer));
     page.row("  serial", &signer.serial_hex);
+    if let Some(certificate) = &signer.certificate {
+        page.row("  thumbprints", format_args!("SHA-1 {}, SHA-256 {}", certificate.sha1_hex, certificate.sha256_hex));
+    }
     for (label, text) in [("  program", &signer.program_name), ("  more at", &signer.program_url)] {
         text.iter().for_each(|it| page.row(label, escaped(it)));
     }
@@ -81,6 +91,7 @@ fn signer_of(signer: &Told, page: &mut Page) {
     page.row("", claims_of(&signer.content_type, &signer.key_purpose, "code signing"));
     page.row("  by", format_args!("{}, {}", signer.signature_algorithm, signer.signature.text()));
     chain_of(signer, page);
+    signer.warnings.iter().for_each(|it| page.warning(it));
     signer.time_stamps.iter().for_each(|it| stamp_of(it, page));
     if let Some(error) = &signer.error {
         page.warning(error);
@@ -110,7 +121,11 @@ fn chain_of(signer: &Told, page: &mut Page) {
             page.row("  chain", format_args!("{}, {end}; signatures {checked}", through.join("; ")));
         }
     }
-    page.row("  trust", signer.trust.text());
+    page.row("  trust", trust_of(&signer.trust, &signer.trust_error));
+}
+
+fn trust_of(trust: &Checked, why: &Option<String>) -> String {
+    trust.text() + &why.as_deref().map_or(String::new(), |why| format!(", {}", escaped(why)))
 }
 
 fn stamp_of(stamp: &Stamp, page: &mut Page) {
@@ -120,7 +135,9 @@ fn stamp_of(stamp: &Stamp, page: &mut Page) {
     page.row("", format_args!("digest of the signature {}", words_of_digest(&stamp.digest)));
     page.row("", format_args!("digest of the stamp {}", words_of_digest(&stamp.message_digest)));
     page.row("", claims_of(&stamp.content_type, &stamp.key_purpose, "time stamps"));
-    page.row("", format_args!("signature {}; trust {}", stamp.signature.text(), stamp.trust.text()));
+    let trust = trust_of(&stamp.trust, &stamp.trust_error);
+    page.row("", format_args!("signature {}; trust {trust}", stamp.signature.text()));
+    stamp.warnings.iter().for_each(|it| page.warning(it));
     if let Some(error) = &stamp.error {
         page.warning(error);
     }

@@ -3,7 +3,6 @@ INNER(rich_entries, pe_c_rich_header_info, pe_c_range, it->entries, pe_c_rich_en
 INNER(pogo_entries, pe_c_pogo, pe_c_range, it->entries, pe_c_pogo_entry, pe_c_next_pogo_entry(BYTES, &walk, &item), ROW_OF(pogo_entry))
 INNER(unwind_codes, pe_c_record, pe_c_walk, it->codes, pe_c_code, pe_c_next_code(BYTES, &walk, &item), ROW_OF(code))
 INNER(arm64_scopes, pe_c_arm64_record, pe_c_range, it->scopes, pe_c_arm64_scope, pe_c_next_arm64_scope(BYTES, &walk, &item), ROW_OF(arm64_scope))
-INNER(imports_of, pe_c_library, pe_c_import_walk, {.imports = it->imports}, pe_c_import, pe_c_next_import(VIEW, &walk, &item), ROW_OF(import))
 INNER(delayed_functions, pe_c_delay_import, pe_c_delayed_function_walk, {.functions = it->functions}, pe_c_delayed_function, pe_c_next_delayed_function(VIEW, &walk, &item), ROW_OF(delayed_function))
 INNER(relocations_of, pe_c_relocation_block, pe_c_range, it->entries, pe_c_relocation, pe_c_next_relocation(BYTES, it->page_rva, &walk, &item), ROW_OF(relocation))
 INNER(metadata_streams, pe_c_metadata, pe_c_metadata_streams, it->streams, pe_c_metadata_stream, pe_c_next_metadata_stream(BYTES, &walk, &item), ROW_OF(metadata_stream))
@@ -23,6 +22,7 @@ ONE(export_table, pe_c_address_table, pe_c_export_addresses(VIEW, &item), ROW_OF
 ONE(export_directory, pe_c_export_fields, pe_c_export_directory(VIEW, &item), ROW_OF(export_fields))
 ONE(resource_root, pe_c_resource_directory, pe_c_resource_root(VIEW, &item), ROW_OF(resource_directory))
 ONE(fixed_version, pe_c_version, pe_c_fixed_version(VIEW, &item), ROW_OF(version))
+ONE(version_content, pe_c_range, pe_c_version_blocks(VIEW, &item), view_of(self, item))
 ONE(manifest, pe_c_range, pe_c_manifest(VIEW, &item), view_of(self, item))
 ONE(dump, pe_c_dump_info, pe_c_dump(BYTES, &item), ROW_OF(dump_info))
 LIST(imports, pe_c_library_walk, pe_c_import_libraries(VIEW, &walk.libraries), pe_c_library, pe_c_next_library(VIEW, &walk, &item), ROW_OF(library))
@@ -92,6 +92,7 @@ CONTEXT(dump_context_arm64, pe_c_arm64_context, pe_c_dump_context_arm64(BYTES, &
     {"export_directory", (PyCFunction)export_directory, METH_NOARGS, NULL}, \
     {"resource_root", (PyCFunction)resource_root, METH_NOARGS, NULL}, \
     {"fixed_version", (PyCFunction)fixed_version, METH_NOARGS, NULL}, \
+    {"version_content", (PyCFunction)version_content, METH_NOARGS, NULL}, \
     {"manifest", (PyCFunction)manifest, METH_NOARGS, NULL}, \
     {"dump", (PyCFunction)dump, METH_NOARGS, NULL}, \
     {"imports", (PyCFunction)imports, METH_NOARGS, NULL}, \

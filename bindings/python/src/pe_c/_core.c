@@ -317,7 +317,50 @@ static PyObject *filled(Image *self, int kind, PyObject **items, Py_ssize_t coun
 #define ROW_OF(name) row_##name(self, &rows, &item)
 
 static PyObject *directories_of(Image *self, Rows *rows, const pe_c_directory *it, uint32_t count);
+
+/* Whether the RVA of a library's list is unmapped. A list at the offset 0 is not empty: the DOS header starts there. */
+static int has_unmapped_list(const pe_c_library *it)
+{
+    return it->imports.left.offset == 0 && it->imports.left.length == 0;
+}
+
 #include "_rows.h"
+
+/* Starts a walk over the address table of a library, which goes on to the end of the file. */
+static uint32_t starts_table(Image *self, const pe_c_library *it, pe_c_imports *walk)
+{
+    uint64_t offset = 0, length = (uint64_t)self->view.len;
+    if (pe_c_offset(VIEW, it->address_table_rva, &offset) != PE_C_DONE)
+        return PE_C_UNMAPPED;
+    *walk = (pe_c_imports){{offset, offset < length ? length - offset : 0}, it->address_table_rva};
+    return PE_C_DONE;
+}
+
+/* The next import of such a table, which a zero entry ends. */
+static uint32_t next_of_table(Image *self, pe_c_import_walk *walk, pe_c_import *item)
+{
+    uint64_t entry = 0, size = self->info.width == 64 ? 8 : 4;
+    pe_c_range left = walk->imports.left;
+    if (left.length < size)
+        return PE_C_SHORT;
+    memcpy(&entry, (const char *)self->view.buf + left.offset, size);
+    return entry ? pe_c_next_import(VIEW, walk, item) : PE_C_NOTHING;
+}
+
+/* The imports of a library: those that its address table names where its lookup table is unmapped. */
+static PyObject *imports_of(Image *self, Rows *outer, const pe_c_library *it)
+{
+    pe_c_import_walk walk = {.imports = it->imports};
+    pe_c_import item = PE_C_EMPTY;
+    Rows rows = rows_of(self, outer->budget);
+    if (!has_unmapped_list(it)) {
+        EACH(&rows, pe_c_next_import(VIEW, &walk, &item), ROW_OF(import));
+        return inside(outer, &rows);
+    }
+    rows.result = starts_table(self, it, &walk.imports);
+    EACH(&rows, next_of_table(self, &walk, &item), ROW_OF(import));
+    return inside(outer, &rows);
+}
 
 static PyObject *directories_of(Image *self, Rows *outer, const pe_c_directory *it, uint32_t count)
 {
@@ -811,6 +854,63 @@ static uint32_t memory64_of(Image *self, pe_c_memory64_walk *out)
 LIST(dump_memory64, pe_c_memory64_walk, memory64_of(self, &walk), pe_c_dump_piece, pe_c_next_memory64(BYTES, &walk, &item),
      ROW_OF(dump_piece))
 
+/* ---- the memory of a dump */
+
+/* Pieces in the order in which they count, in an array that has room for all of them. */
+typedef struct {
+    pe_c_memory_piece *all;
+    uint64_t count;
+} Pieces;
+
+static void add_piece(Image *self, Pieces *to, pe_c_memory_piece piece)
+{
+    uint64_t length = (uint64_t)self->view.len, there = piece.offset < length ? length - piece.offset : 0;
+    piece.length = piece.length < there ? piece.length : there;
+    if (piece.length)
+        to->all[to->count++] = piece;
+}
+
+/* Those of both lists, then the stacks of the threads. */
+static void add_pieces(Image *self, Pieces *to, const pe_c_range *list, pe_c_memory64_walk *full, const pe_c_range *threads)
+{
+    pe_c_dump_piece it = PE_C_EMPTY;
+    pe_c_dump_thread thread = PE_C_EMPTY;
+    for (uint64_t i = 0; pe_c_dump_memory_at(BYTES, list, i, &it) == PE_C_DONE; i++)
+        add_piece(self, to, it.memory);
+    while (pe_c_next_memory64(BYTES, full, &it) == PE_C_DONE)
+        add_piece(self, to, it.memory);
+    for (uint64_t i = 0; pe_c_dump_thread_at(BYTES, threads, i, &thread) == PE_C_DONE; i++)
+        add_piece(self, to, (pe_c_memory_piece){thread.stack.start_of_memory_range, thread.stack.memory.rva, thread.stack.memory.size});
+}
+
+/* The records of pe_c_memory_runs, in bytes. No Python code runs meanwhile. */
+METHOD(dump_runs)
+{
+    OPEN_OWN
+    pe_c_range list = PE_C_EMPTY, threads = PE_C_EMPTY;
+    pe_c_memory64_walk full = PE_C_EMPTY;
+    (void)stream_of(self, PE_C_MEMORY_LIST_STREAM, &list);
+    (void)stream_of(self, PE_C_THREAD_LIST_STREAM, &threads);
+    (void)memory64_of(self, &full);
+    /* Each has 16 bytes of its list or more. */
+    uint64_t most = (list.length + full.entries.length + threads.length) / 16, written = 0;
+    Pieces pieces = {PyMem_Malloc(most * sizeof *pieces.all), 0};
+    pe_c_range_entry *entries = PyMem_Malloc(4 * most * sizeof *entries);
+    pe_c_memory_piece *runs = PyMem_Malloc(2 * most * sizeof *runs);
+    PyObject *found = NULL;
+    if (pieces.all && entries && runs) {
+        add_pieces(self, &pieces, &list, &full, &threads);
+        rows.result = pe_c_memory_runs(pieces.all, pieces.count, entries, 4 * most, runs, 2 * most, &written);
+        found = bytes_of((const uint8_t *)runs, written * sizeof *runs);
+    } else {
+        PyErr_NoMemory();
+    }
+    PyMem_Free(pieces.all);
+    PyMem_Free(entries);
+    PyMem_Free(runs);
+    return answer(found, &rows);
+}
+
 #define CONTEXT(name, Item, call, row) \
     static PyObject *name(Image *self, PyObject *arguments) \
     { \
@@ -1125,8 +1225,8 @@ static PyMethodDef methods[] = {
     WITHOUT(headers), WITHOUT(clr_metadata), WITHOUT(embedded_pdb), WITHOUT(pdb_checksum), WITHOUT(bound_imports),
     WITHOUT(relocations), WITHOUT(certificates), WITHOUT(exports), WITHOUT(functions), WITHOUT(arm64_functions),
     WITHOUT(coff_header), WITHOUT(coff_strings), WITHOUT(symbols), WITHOUT(te_header), WITHOUT(te_symbol_key),
-    WITHOUT(dump_memory64), WITHOUT(checksum), WITHOUT(digest_ranges), WITHOUT(detach), WITH_ONE(offset_of),
-    WITH_ONE(load_config_field), WITH_ONE(find_function), WITH_ONE(find_arm64_function), WITH_ONE(unwind_records),
+    WITHOUT(dump_memory64), WITHOUT(dump_runs), WITHOUT(checksum), WITHOUT(digest_ranges), WITHOUT(detach),
+    WITH_ONE(offset_of), WITH_ONE(load_config_field), WITH_ONE(find_function), WITH_ONE(find_arm64_function), WITH_ONE(unwind_records),
     WITH_SOME(arm64_unwind), WITH_SOME(version_blocks), WITH_SOME(elements), WITH_SOME(name_attributes), WITH_SOME(attributes),
     WITH_SOME(frames), WITH_SOME(arm64_frames), WITH_SOME(histogram), WITH_SOME(attach), WITH_SOME(edited), WITH_ONE(mapped),
     {NULL, NULL, 0, NULL}};

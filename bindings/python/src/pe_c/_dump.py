@@ -7,7 +7,7 @@ import struct
 import typing
 from typing import TYPE_CHECKING, Any
 
-from . import _core
+from . import _core, _names as names
 from ._core import (Arm64Context, Arm64Registers, Arm64StackFrame, Context, DumpEntry, DumpException, DumpHandle, DumpHeader,
                     DumpModule, DumpPiece, DumpProcess, DumpRegion, DumpSystem, DumpThread, DumpThreadInfo, DumpThreadName,
                     DumpUnloadedModule, Registers, StackFrame, SymbolKey)
@@ -22,10 +22,17 @@ if TYPE_CHECKING:
 LISTS = ("entries", "threads", "modules", "thread_names", "unloaded", "thread_infos", "handles", "regions", "memory", "memory64")
 RECORDS = ("exception", "system", "process")
 AMD64, ARM64 = 9, 12
-# How many pieces of memory that overlap are kept, how many modules have images, and how many sections these have together.
-MOST_OVERLAPPING, MOST_IMAGES, MOST_SECTIONS = 4096, 4096, 1 << 20
+# How many modules have images, and how many sections these have together.
+MOST_IMAGES, MOST_SECTIONS = 4096, 1 << 20
+# How many frames all stacks of a dump have together. What else costs as much counts as a frame: so many modules that are looked up or
+# packed for a walk, that it tests, so many pieces of memory that it tests, and so many sections in each frame.
+MOST_FRAMES, PACKED_A_FRAME, MODULES_A_FRAME, PIECES_A_FRAME, SECTIONS_A_FRAME = 1_000_000, 5, 100, 200, 100
 # How often the bytes of a dump may be read for images. Those of modules that do not overlap are all read once.
 MOST_READINGS = 2
+
+# Exceptions whose parameters say more, and what an access was.
+ACCESS_VIOLATION, IN_PAGE_ERROR, FAST_FAIL = 0xC0000005, 0xC0000006, 0xC0000409
+ACCESSES = {0: "read", 1: "write", 8: "execution"}
 
 Piece = tuple[int, int, int]
 AnyFrame = StackFrame | Arm64StackFrame
@@ -35,13 +42,18 @@ class Stack(typing.NamedTuple):
     """A stack that was walked."""
 
     frames: Part[AnyFrame]
-    """the top frame first; of each the registers, and the way by which it was found"""
+    """the top frame first; of each the registers, and the way by which it was found. `is_limited` where modules have no image or frames
+    are left out, since all walks of a dump have a bound together, as only hostile ones reach"""
     end: End
     """why the walk is over"""
     error: Error | None
     """of a record or a step that is refused"""
     address: int
     """what the error of a step speaks of"""
+
+
+def _named(number: int, table: dict[int, str]) -> str:
+    return f"{table[number]} (0x{number:08x})" if number in table else f"0x{number:08x}"
 
 
 def walk(registers: Registers | Arm64Registers, modules: typing.Iterable[tuple[Image, int]], memory: _typeshed.ReadableBuffer,
@@ -53,20 +65,23 @@ def walk(registers: Registers | Arm64Registers, modules: typing.Iterable[tuple[I
     Raises Error where a piece is not inside the memory."""
     core, _ = _core.image(memory, 0, True, BYTES, False)
     assert core is not None
-    return _walk(core, registers, list(modules), list(pieces), most, None)
+    places = b"".join(struct.pack("<3Q", *it) for it in pieces)
+    return _walk(core, registers, _packed(list(modules)), places, most, None)
 
 
-def _walk(core: _core.Image, registers: Registers | Arm64Registers, modules: list[tuple[Image, int]], pieces: list[Piece], most: int,
-          path: str | None) -> Stack:
+def _packed(modules: list[tuple[Image, int]]) -> tuple[tuple[_core.Image, ...], bytes]:
+    """Modules as walks take them: in the order of their addresses, if none overlap."""
     ordered = sorted(modules, key=lambda it: it[1])
     if all(one[1] + one[0].headers.size_of_image <= other[1] for one, other in zip(ordered, ordered[1:])):
         modules = ordered
+    return tuple(it[0]._core for it in modules), struct.pack(f"<{len(modules)}Q", *(it[1] for it in modules))
+
+
+def _walk(core: _core.Image, registers: Registers | Arm64Registers, modules: tuple[tuple[_core.Image, ...], bytes], places: bytes,
+          most: int, path: str | None) -> Stack:
     numbers = [it for field in registers for it in (field if isinstance(field, tuple) else (field,))]
-    bases = struct.pack(f"<{len(modules)}Q", *(it[1] for it in modules))
-    places = b"".join(struct.pack("<3Q", *it) for it in pieces)
     call: Any = core.frames if isinstance(registers, Registers) else core.arm64_frames
-    rows, number, is_limited = call(tuple(it[0]._core for it in modules), bases, places,
-                                    struct.pack(f"<{len(numbers)}Q", *numbers), max(most, 0))
+    rows, number, is_limited = call(*modules, places, struct.pack(f"<{len(numbers)}Q", *numbers), max(most, 0))
     if number or not rows:
         raise error_of(number or Kind.SHORT, "stack walk", path)
     frames: Part[AnyFrame] = Part(rows[:-1])
@@ -82,6 +97,7 @@ class Dump(Reader):
     def __init__(self, data: _typeshed.ReadableBuffer, *, copy: bool = True, path: str | None = None) -> None:
         super().__init__(data, BYTES, "dump", copy=copy, path=path)
         self._one("dump")
+        self._left = MOST_FRAMES
 
     @classmethod
     def open(cls, path: str | os.PathLike[str], *, limit: int = 1 << 34) -> Dump:
@@ -151,6 +167,21 @@ class Dump(Reader):
         return row
 
     @property
+    def reason(self) -> str | None:
+        """Why the process crashed, in words: the exception by its name, and what its parameters say. None without one."""
+        raised = self.exception
+        if raised is None:
+            return None
+        code, parameters = raised.exception_code, raised.exception_information[:raised.number_parameters]
+        said = _named(code, names.EXCEPTIONS)
+        if code in (ACCESS_VIOLATION, IN_PAGE_ERROR) and len(parameters) >= 2 and parameters[0] in ACCESSES:
+            status = f", {_named(parameters[2], names.EXCEPTIONS)}" if code == IN_PAGE_ERROR and len(parameters) > 2 else ""
+            return f"{said}: {ACCESSES[parameters[0]]} at 0x{parameters[1]:x}{status}"
+        if code == FAST_FAIL and parameters:
+            return f"{said}: {names.FAST_FAILS.get(parameters[0], f'__fastfail({parameters[0]})')}"
+        return said
+
+    @property
     def process(self) -> DumpProcess | None:
         row: DumpProcess | None = self._one("dump_process")
         return row
@@ -173,23 +204,23 @@ class Dump(Reader):
 
     @property
     def pieces(self) -> tuple[Piece, ...]:
-        """The memory: of each piece its address, its offset in the dump, and its length; sorted, unless pieces overlap."""
-        def read() -> tuple[Piece, ...]:
-            listed = [(it.start, it.offset, it.length) for part in (self.memory_list, self.memory64) for it in part if it.length]
-            ordered = sorted(listed)
-            overlap = any(one[0] + one[2] > other[0] for one, other in zip(ordered, ordered[1:]))
-            return tuple(listed[:MOST_OVERLAPPING] if overlap else ordered)
-        return self._once("pieces", read)
+        """The memory: of each piece its address, its offset in the dump, and its length. They ascend and do not overlap: an address is
+        that of the first piece that has it, of `memory_list`, then of `memory64`, then of the stacks of threads that neither has; pieces
+        that follow one another, in the file too, are one."""
+        return tuple((start, offset, length) for start, offset, length in struct.iter_unpack("<3Q", self._runs))
+
+    @property
+    def _runs(self) -> bytes:
+        runs: bytes = self._one("dump_runs")
+        return runs
 
     def at(self, address: int, length: int) -> memoryview:
         """The bytes at an address of the process, as far as one piece of memory has them; none where the dump has none."""
-        pieces = self.pieces
-        index = bisect.bisect_right(pieces, (address, 1 << 64, 0)) - 1
-        found = [pieces[index]] if index >= 0 and pieces[index][0] <= address < sum(pieces[index][::2]) else \
-            [it for it in pieces[:MOST_OVERLAPPING] if it[0] <= address < it[0] + it[2]]
-        if not found:
+        numbers = memoryview(self._runs).cast("Q")
+        index = bisect.bisect_right(range(len(numbers) // 3), address, key=lambda it: numbers[3 * it]) - 1
+        start, offset, size = numbers[3 * index:3 * index + 3] if index >= 0 else (0, 0, 0)
+        if not start <= address < start + size:
             return self.memory[:0]
-        start, offset, size = found[0]
         return self.memory[offset + address - start:offset + min(address - start + max(length, 0), size)]
 
     # ---- stacks
@@ -229,13 +260,45 @@ class Dump(Reader):
 
     def stack(self, thread: DumpThread, look_up: typing.Callable[[DumpModule], Image | None] | None = None, most: int = 1000) -> Stack:
         """The stack of a thread. The image of a module is that in the dump's memory, else the one that `look_up` returns for it, if its
-        time stamp and its size are the module's. Raises Error where the registers of the thread can't be read."""
+        time stamp and its size are the module's. `look_up` is asked once for each module as long as it is the same object. Raises Error
+        where the registers of the thread can't be read."""
         registers = self.context(thread).registers
-        return _walk(self._core, registers, self._images(look_up), list(self.pieces), most, self.path)
+        if self._left <= 0:
+            return self._no_frames()
+        kept = self._kept.get("loaded")
+        if kept is None or kept[0] is not look_up:
+            images, is_limited = self._images(look_up)
+            sections = max((it[0].headers.number_of_sections for it in images), default=0)
+            kept = self._kept["loaded"] = (look_up, _packed(images), sections, is_limited)
+            self._left -= len(self.modules) // PACKED_A_FRAME
+        _, packed, sections, is_limited = kept
+        walked = self._walked(registers, packed, 1 + sections // SECTIONS_A_FRAME, most)
+        walked.frames.is_limited = walked.frames.is_limited or is_limited
+        return walked
 
-    def _images(self, look_up: typing.Callable[[DumpModule], Image | None] | None) -> list[tuple[Image, int]]:
-        """The images of the modules and their addresses, in the order of the dump. In a hostile dump all modules may be the same
-        bytes, with as many sections as there can be: the images end where they have too many bytes or sections together."""
+    @staticmethod
+    def _no_frames() -> Stack:
+        """Of a walk that the bound of all walks leaves nothing."""
+        empty: Part[AnyFrame] = Part()
+        empty.is_limited = True
+        return Stack(empty, End.BOUND, None, 0)
+
+    def _walked(self, registers: Registers | Arm64Registers, packed: tuple[tuple[_core.Image, ...], bytes], cost: int, most: int) -> Stack:
+        """A walk, as long as all walks of the dump have not cost too much."""
+        tests = len(packed[0]) // MODULES_A_FRAME + len(self._runs) // 24 // PIECES_A_FRAME
+        self._left -= tests
+        wanted, most = min(max(most, 0), 1 << 14), max(min(most, self._left // cost), 0)
+        if most < wanted and most == 0:
+            return self._no_frames()
+        walked = _walk(self._core, registers, packed, self._runs, most, self.path)
+        self._left -= len(walked.frames) * cost
+        walked.frames.is_limited = walked.frames.is_limited or (walked.end == End.BOUND and most < wanted)
+        return walked
+
+    def _images(self, look_up: typing.Callable[[DumpModule], Image | None] | None) -> tuple[list[tuple[Image, int]], bool]:
+        """The images of the modules and their addresses, in the order of the dump, and whether some were left out. In a hostile dump all
+        modules may be the same bytes, with as many sections as there can be: the images end where they have too many bytes or sections
+        together."""
         found: list[tuple[Image, int]] = []
         left, sections = MOST_READINGS * len(self.memory), MOST_SECTIONS
         for it in self.modules[:MOST_IMAGES]:
@@ -243,16 +306,16 @@ class Dump(Reader):
             image, size = self._once(name, lambda: self._image_and_size(it))
             left -= size
             if left < 0:
-                break
+                return found, True
             if image is None and look_up is not None:
                 image = look_up(it)
                 image = image if image is not None and self._is_of(image, it) else None
             if image is not None:
                 sections -= image.headers.number_of_sections
                 if sections < 0:
-                    break
+                    return found, True
                 found.append((image, it.base_of_image))
-        return found
+        return found, len(self.modules) > MOST_IMAGES
 
     def module_at(self, address: int) -> DumpModule | None:
         """The first module that has an address."""

@@ -44,6 +44,8 @@ class ResourceEditor:
         assert core is not None
         rows, number, is_limited = core.resources()
         self.resources: dict[Place, tuple[int, bytes]] = {}
+        # In a hostile image many resources may share one content; so many bytes of them are not written.
+        left = 16 * (len(image.memory) + (1 << 20))
         if number or is_limited:
             raise error_of(number or Kind.EDIT_TOO_MANY, "resources", image.path)
         for it in rows or ():
@@ -54,6 +56,9 @@ class ResourceEditor:
             place = (it.type, it.name, it.language)
             if place in self.resources:
                 raise error_of(Kind.EDIT_ORDER, "resources", image.path)
+            left -= len(it.content)
+            if left < 0:
+                raise error_of(Kind.EDIT_CONTENTS, "resources", image.path)
             self.resources[place] = (it.code_page, bytes(it.content))
 
     def set(self, type: Key, name: Key, language: int, content: bytes) -> None:

@@ -15,18 +15,18 @@ import typing
 from typing import Any
 
 from . import _core, _guards, _names as names, _tables
-from ._image import Mode
+from ._image import Mode, fixed_version_in
 from ._kinds import Kind
 from ._ordinals import ORDINALS
 from ._part import entropy_of
-from ._reader import IMAGE, OBJECT, TE
+from ._reader import BYTES, IMAGE, OBJECT, TE
 from ._signer import signer_of
 
 Facts = dict[str, Any]
 Triple = tuple[Any, int, bool]
 
 JSON_VERSION = 2
-RT_VERSION = 16
+RT_VERSION, SIZE_OF_TE_HEADER = 16, 40
 TE_IMAGE, OBJECT_AS_IT_SEEMS = "a TE image", "a COFF object, as it seems"
 # How many sections are looked up in the string table, how many leaves and string tables are shown.
 LONG_NAMES, LEAVES, TABLES = 96, 65_536, 4096
@@ -156,15 +156,16 @@ def headers(image: Exact, file: str) -> Facts:
         "characteristics": flags(info.characteristics, names.CHARACTERISTICS),
         "dll_characteristics": flags(info.dll_characteristics, names.DLL_CHARACTERISTICS),
         **all_headers(image, info),
-        "directories": [directory(index, it) for index, it in enumerate(info.directories) if it.virtual_address or it.size],
+        "directories": directories(enumerate(info.directories), 0),
         "overlay": overlay(image, info),
         "symbol_server_path": own and f"{own}/{info.time_date_stamp:08X}{info.size_of_image:x}/{own}"}
 
 
-def directory(index: int, it: _core.Directory) -> Facts:
-    is_offset = index == 4
-    return {"index": index, "name": names.DIRECTORIES[index], "rva": None if is_offset else it.virtual_address,
-            "file_offset": it.virtual_address if is_offset else None, "size": it.size}
+def directories(rows: typing.Iterable[tuple[int, _core.Directory]], less: int) -> list[Facts]:
+    """Those that are not absent, by their indexes. In a TE image RVAs are `less` than the header has them."""
+    return [{"index": index, "name": names.DIRECTORIES[index], "rva": None if index == 4 else it.virtual_address,
+             "file_offset": it.virtual_address if index == 4 else None, "size": it.size}
+            for index, it in rows if (it.virtual_address + less) & 0xFFFFFFFF or it.size]
 
 
 def all_headers(image: Exact, info: _core.Headers) -> Facts:
@@ -245,13 +246,14 @@ def hardening(image: Exact) -> Facts:
         "no_writable_code": all(it.characteristics & 0xA0000000 != 0xA0000000 for it in image.read("sections")[0])}
 
 
-def imphash(image: Exact) -> str | None:
+def imphash(image: Exact) -> tuple[str | None, str | None]:
+    """The hash, and what it is of."""
     found, number, is_limited = image.read("imports")
     texts = []
     for library in found or ():
         functions, inner, is_inner_limited = library.imports
         if inner or is_inner_limited:
-            return None
+            return None, None
         dll = library.name.lower()
         stem, dot, extension = dll.rpartition(".")
         stem = stem if dot and extension in ("ocx", "sys", "dll") else dll
@@ -259,8 +261,9 @@ def imphash(image: Exact) -> str | None:
         texts += [f"{stem}.{(known.get(it.ordinal, f'ord{it.ordinal}') if it.name is None else it.name).lower()}"
                   for it in functions]
     if number or is_limited or not texts:
-        return None
-    return hashlib.md5(",".join(texts).encode("utf-8", "surrogateescape"), usedforsecurity=False).hexdigest()
+        return None, None
+    of = "address_tables" if any(it.has_unmapped_list for it in found or ()) else "lookup_tables"
+    return hashlib.md5(",".join(texts).encode("utf-8", "surrogateescape"), usedforsecurity=False).hexdigest(), of
 
 
 def rich_hash(image: Exact) -> str | None:
@@ -284,8 +287,14 @@ def authenticode(image: Exact) -> str | None:
     return state.hexdigest()
 
 
+def own_hashes(memory: memoryview) -> Facts:
+    """The hashes of a whole file."""
+    return {f"{name}_hex": hashlib.new(name, memory).hexdigest() for name in ("md5", "sha1", "sha256")}
+
+
 def hashes(image: Exact) -> Facts:
-    return {"sha256_hex": hashlib.sha256(image.memory).hexdigest(), "imphash": imphash(image), "rich_hash": rich_hash(image),
+    hashed, of = imphash(image)
+    return {**own_hashes(image.memory), "imphash": hashed, "imphash_of": of, "rich_hash": rich_hash(image),
             "authenticode_sha256_hex": authenticode(image)}
 
 
@@ -357,7 +366,8 @@ def hint_or_ordinal(it: Any) -> Facts:
 def imports(image: Exact) -> Facts:
     return rows("imports", image.read("imports"), lambda it: {
         "name": name_of(it.name), "name_lower": lower(it.name),
-        **rows("functions", it.imports, lambda one: {**hint_or_ordinal(one), "slot_rva": one.rva})})
+        **rows("functions", it.imports, lambda one: {**hint_or_ordinal(one), "slot_rva": one.rva}),
+        "lookup_table_error": refusal(int(Kind.UNMAPPED) if it.has_unmapped_list and it.lookup_table_rva else 0)})
 
 
 def delay_imports(image: Exact) -> Facts:
@@ -496,7 +506,7 @@ def resources(image: Exact) -> Facts:
                 left, digest = left - len(it.content), hashlib.sha256(it.content).hexdigest()
         version = None
         if it.type == RT_VERSION:
-            answer = image.core.fixed_version_in(it.offset or 0, it.size) if it.offset is not None \
+            answer = fixed_version_in(image.core, it.offset or 0, it.size)[0] if it.offset is not None \
                 else (None, it.content_result, False)
             version = part("fixed", answer, fixed)
         return {"type": known(types, resource_type, it.type), "name": known(labels, label, it.name),
@@ -578,11 +588,21 @@ def level_of(manifest: memoryview) -> str | None:
     return rest[1:].split(rest[0])[0]
 
 
+def fixed_version(image: Exact) -> tuple[Triple, int]:
+    """The fixed file information of the first resource, and the error of the strings after it."""
+    answer, content = image.read("fixed_version"), image.value("version_content")
+    if not answer[1] or content is None:
+        return answer, 0
+    first, _ = _core.image(content, 0, False, BYTES, True)
+    return fixed_version_in(first, 0, len(content)) if first else (answer, 0)
+
+
 def version(image: Exact) -> Facts:
     tables = languages(image)
     shown = tables["languages"] or []
     first = next((it for it in shown if it["language"]["id"] in (0, 0x409)), shown[0] if shown else None)
-    return {**part("fixed", image.read("fixed_version"), fixed), "language": first and first["language"],
+    answer, number = fixed_version(image)
+    return {**part("fixed", answer, fixed), "strings_error": refusal(number), "language": first and first["language"],
             "strings": first and first["strings"], **tables,
             **part("manifest", image.read("manifest"), lambda it: {"size": len(it), "requested_level": level_of(it)})}
 
@@ -681,11 +701,10 @@ def rich(image: Exact) -> Facts:
 
 def te_headers(te: Exact) -> Facts:
     it = te.value("te_header")
-    found = [(5, it.reloc_dir), (6, it.debug_dir)]
     return {"machine": named(it.machine, names.MACHINES), "subsystem": named(it.subsystem, names.SUBSYSTEMS),
             "number_of_sections": it.number_of_sections, "stripped_size": it.stripped_size, "entry_rva": it.entry_point,
             "base_of_code_rva": it.base_of_code, "image_base_va": it.image_base,
-            "directories": [directory(index, row) for index, row in found if row.size]}
+            "directories": directories([(5, it.reloc_dir), (6, it.debug_dir)], it.stripped_size - SIZE_OF_TE_HEADER)}
 
 
 def te_debug(te: Exact) -> Facts:
@@ -762,7 +781,7 @@ def of_other(path: str, core: _core.Image, kind: int, has_hashes: bool) -> Facts
     found: Facts = {**origin(path, len(other.memory), kind=what),
                     "headers": te_headers(other) if kind == TE else object_headers(other)}
     if has_hashes:
-        found["hashes"] = {"sha256_hex": hashlib.sha256(other.memory).hexdigest(), "imphash": None, "rich_hash": None,
+        found["hashes"] = {**own_hashes(other.memory), "imphash": None, "imphash_of": None, "rich_hash": None,
                            "authenticode_sha256_hex": None}
     found["sections"] = sections(other, kind)
     return {**found, "debug": te_debug(other)} if kind == TE else {**found, **symbols(other)}

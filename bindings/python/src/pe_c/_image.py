@@ -46,6 +46,18 @@ class Mode(enum.IntFlag):
     """the bytes are a module in memory, or a copy of one, from its first byte on: RVAs are offsets"""
 
 
+# How many bytes version information has up to the end of the fixed file information: lengths, a type, the key, the value.
+UP_TO_FIXED = 6 + 32 + 2 + 52
+
+
+def fixed_version_in(core: _core.Image, offset: int, size: int) -> tuple[tuple[FixedVersion | None, int, bool], int]:
+    """The fixed file information in version information, and the error of the strings after it, which costs them alone."""
+    whole: tuple[FixedVersion | None, int, bool] = core.fixed_version_in(offset, size)
+    first: tuple[FixedVersion | None, int, bool] = core.fixed_version_in(offset, min(size, UP_TO_FIXED))
+    is_there = whole[1] and first[0] is not None and not first[1]
+    return (first, whole[1]) if is_there else (whole, 0)
+
+
 class Version(typing.NamedTuple):
     """Version information in one language."""
 
@@ -59,6 +71,10 @@ class Version(typing.NamedTuple):
     """language and code page of each translation in VarFileInfo"""
     blocks: Part[VersionBlock]
     """all blocks as a tree; its `error` is the first of them"""
+    fixed_error: Error | None = None
+    """why the fixed file information is refused"""
+    strings_error: Error | None = None
+    """why a string is refused, though `strings` has what can be read of it: other readers may have none"""
 
 
 class Unwind(typing.NamedTuple):
@@ -318,7 +334,7 @@ class Image(Reader):
 
     def _version_of(self, leaf: Resource) -> Version:
         place = (leaf.offset or 0, leaf.size)
-        fixed, _, _ = self._read("fixed_version_in", *place)
+        (fixed, number, _), of_strings = fixed_version_in(self._core, *place)
         blocks: Part[VersionBlock] = self._part_of(self._read("version_blocks", *place), "version")
         strings: dict[str, dict[str, str]] = {}
         translations: list[tuple[int, int]] = []
@@ -330,7 +346,9 @@ class Image(Reader):
                         table.setdefault(text.key, text.value if isinstance(text.value, str) else "")
                 elif info.key == "VarFileInfo" and isinstance(it.value, bytes):
                     translations += [(one, two) for one, two in struct.iter_unpack("<HH", it.value[:len(it.value) & ~3])]
-        return Version(leaf.language, fixed, strings, tuple(translations), blocks)
+        errors = [error_of(it, name, self.path) if it else None
+                  for it, name in ((number, "fixed version"), (of_strings, "version strings"))]
+        return Version(leaf.language, fixed, strings, tuple(translations), blocks, *errors)
 
     @property
     def versions(self) -> Part[Version]:
@@ -416,9 +434,9 @@ class Image(Reader):
     # ---- hashes
 
     def imphash(self) -> str | None:
-        """The MD5 of the imports' names, as pefile's get_imphash. None without imports, and where the list is not
-        whole: the hash of a part of it would be that of another image."""
-        if not self.imports or self.imports.error or self.imports.is_limited:
+        """The MD5 of the imports' names, as pefile's get_imphash. None without a name or an ordinal, and where the list is not
+        whole: the hash of a part of it would be that of another image. `imphash_of` says what it is of."""
+        if self.imports.error or self.imports.is_limited:
             return None
         names = []
         for library in self.imports:
@@ -429,7 +447,15 @@ class Image(Reader):
             for it in library.imports:
                 name = known.get(it.ordinal, f"ord{it.ordinal}") if it.name is None else it.name
                 names += [f"{stem}.{name.lower()}"] if name else []
-        return hashlib.md5(",".join(names).encode(), usedforsecurity=False).hexdigest()
+        return hashlib.md5(",".join(names).encode(), usedforsecurity=False).hexdigest() if names else None
+
+    @property
+    def imphash_of(self) -> str | None:
+        """What imphash() is of: "lookup_tables", or "address_tables" where a lookup table is unmapped, in whose place the address
+        table stands. None without an imphash."""
+        if self.imphash() is None:
+            return None
+        return "address_tables" if any(it.has_unmapped_list for it in self.imports) else "lookup_tables"
 
     def exphash(self) -> str | None:
         """The SHA-256 of the exports' names, as pefile's get_exphash. None as for imphash()."""
@@ -494,13 +520,24 @@ class Image(Reader):
         below 512. A directory of zeros is no warning."""
         def read() -> tuple[ImageWarning, ...]:
             errors = [part.error for part in (self._part(name) for name in LISTS) if part.error]
-            errors += [it.blocks.error for it in self.versions if it.blocks.error]
+            errors += [error for it in self.versions for error in (it.fixed_error, it.strings_error, it.blocks.error) if error]
             errors += [it for it in map(self._error_of, RECORDS) if it]
             found = [ImageWarning(WarningKind.DAMAGED, it.part, it.text, it, self.path) for it in errors]
+            found += self._unmapped()
             found += [ImageWarning(WarningKind.LIMITED, it, "more entries than the file's bytes account for", None, self.path)
                       for it in self.limited]
             return tuple(found + self._alignment())
         return self._once("warnings", read)
+
+    def _unmapped(self) -> list[ImageWarning]:
+        """Of the libraries whose lookup table is unmapped."""
+        found = [it for it in self.imports if it.has_unmapped_list]
+        if not found:
+            return []
+        first = f"the first of {found[0].name} at RVA 0x{found[0].lookup_table_rva:x}"
+        text = f"{len(found)} unmapped lookup tables, {first}: what is imported is what the address tables name"
+        error = error_of(Kind.UNMAPPED, "imports", self.path)
+        return [ImageWarning(WarningKind.DAMAGED, "imports", text, error, self.path)]
 
     def _alignment(self) -> list[ImageWarning]:
         headers = self.headers
@@ -529,7 +566,7 @@ class Image(Reader):
                 **{name: plain(it, left) for name, it in answers.items()},
                 "versions": [{"language": it.language, "fixed": plain(it.fixed, left), "strings": it.strings}
                              for it in self.versions],
-                "imphash": self.imphash(), "rich_hash": self.rich_hash(), "digest": digest,
+                "imphash": self.imphash(), "imphash_of": self.imphash_of, "rich_hash": self.rich_hash(), "digest": digest,
                 "warnings": [{"kind": it.kind.value, "part": it.part, "number": it.error and it.error.number, "text": it.text}
                              for it in self.warnings]}
 

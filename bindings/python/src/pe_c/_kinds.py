@@ -179,6 +179,8 @@ class Kind(enum.IntEnum):
     """image with the resources ends after 4 GB"""
     EDIT_DEBUG_DATA = 473
     """debug entries or their data lie where the resources go"""
+    EDIT_CONTENTS = 474
+    """contents of the resources, which share bytes, are too large for their array"""
     SIGNATURE_TRUNCATED = 501
     """element of a signature truncated before its content"""
     SIGNATURE_TAG_NUMBER = 502
@@ -201,6 +203,10 @@ class Kind(enum.IntEnum):
     """content of a signature has another type"""
     SIGNATURE_BAD_TIME = 511
     """time of a signature is not in the form of RFC 5280"""
+    SIGNATURE_END_OF_CONTENTS = 512
+    """element of a signature is an end of contents, which DER does not have"""
+    SIGNATURE_EMPTY_CONTENT = 513
+    """element of a signature has no content, which its type does not allow"""
     DUMP_SIGNATURE = 551
     """invalid signature of a minidump"""
     DUMP_VERSION = 552
@@ -271,6 +277,8 @@ class KnownOid(enum.IntEnum):
     ECDSA_SHA512 = 217
     DSA = 218
     DSA_SHA1 = 219
+    SHA1_RSA_OIW = 220
+    MD2_RSA = 221
     COMMON_NAME = 301
     SERIAL_NUMBER = 302
     COUNTRY = 303
@@ -324,14 +332,20 @@ class End(enum.IntEnum):
     BOUND = 0
     """as many frames were returned as the caller wants"""
     BOTTOM = 1
-    """the stack is whole: its last frame returns to 0, and no frame is found there"""
+    """the stack is whole: by records its last frame returns to 0, no frame is found there, and no frame is a
+    guess"""
     NO_MODULE = 2
     """no module has the last instruction pointer, and no return address is found"""
     NO_FUNCTION = 3
-    """no function covers the call in the last frame"""
+    """no function covers the call in the last frame, and no return address is found"""
     RECORDS = 4
     """an unwind record of the last function cannot be read: `error` says why"""
     LONG_CHAIN = 5
     """more than 32 of them are chained"""
     STEP = 6
     """the step from the last frame is refused: `error` and `address` as in pe_c_step"""
+    ZERO = 7
+    """the last frame returns to 0, but it is a guess, or no records describe its code: frames may be missing or
+    wrong"""
+    NO_RETURN_ADDRESS = 8
+    """no records describe the code of the last frame, and where it would return to is no executable code"""

@@ -955,7 +955,7 @@ static PyStructSequence_Field row_utc_time_fields[] = {
     {"day", "1 to 31; that a month has fewer days is not tested"},
     {"hour", NULL},
     {"minute", NULL},
-    {"second", "0 to 59; a fraction is left out"},
+    {"second", "0 to 59; a fraction is left out. A time stamp may have one; that a certificate and a signing time have none (RFC 5280, RFC 5652) is not tested"},
     {NULL, NULL}};
 
 static PyObject *row_utc_time(Image *self, Rows *rows, const pe_c_utc_time *it)
@@ -1114,6 +1114,7 @@ static PyStructSequence_Field row_stack_walk_fields[] = {
     {"has_called", "1 where the function of the frame has called: rip is the return address. 0 where rip is the instruction that is about to run"},
     {"end", "PE_C_END_* of a walk that is over"},
     {"error", "a result, for PE_C_END_RECORDS, _LONG_CHAIN and _STEP; else 0"},
+    {"is_guess", "1 where the frame may be wrong: nothing proves that it is the caller, or it follows a frame of which this holds"},
     {NULL, NULL}};
 
 static PyObject *row_stack_walk(Image *self, Rows *rows, const pe_c_stack_walk *it)
@@ -1127,8 +1128,9 @@ static PyObject *row_stack_walk(Image *self, Rows *rows, const pe_c_stack_walk *
         B(it->has_called),
         N(it->end),
         N(it->error),
+        B(it->is_guess),
     };
-    return filled(self, ROW_STACK_WALK, items, 6);
+    return filled(self, ROW_STACK_WALK, items, 7);
 }
 
 static PyStructSequence_Field row_arm64_function_fields[] = {
@@ -1272,6 +1274,7 @@ static PyStructSequence_Field row_arm64_stack_walk_fields[] = {
     {"has_called", "1 where the function of the frame has called: pc is the return address. 0 where pc is the instruction that is about to run"},
     {"end", "PE_C_END_* of a walk that is over"},
     {"error", "a result, for PE_C_END_RECORDS and _STEP; else 0"},
+    {"is_guess", "as in pe_c_stack_walk"},
     {NULL, NULL}};
 
 static PyObject *row_arm64_stack_walk(Image *self, Rows *rows, const pe_c_arm64_stack_walk *it)
@@ -1285,8 +1288,9 @@ static PyObject *row_arm64_stack_walk(Image *self, Rows *rows, const pe_c_arm64_
         B(it->has_called),
         N(it->end),
         N(it->error),
+        B(it->is_guess),
     };
-    return filled(self, ROW_ARM64_STACK_WALK, items, 6);
+    return filled(self, ROW_ARM64_STACK_WALK, items, 7);
 }
 
 static PyStructSequence_Field row_address_table_fields[] = {
@@ -1367,12 +1371,13 @@ static PyObject *row_export_fields(Image *self, Rows *rows, const pe_c_export_fi
 
 static PyStructSequence_Field row_library_fields[] = {
     {"name", "of the DLL: UTF-8, without its final zero"},
-    {"imports", "where a walk over its imports starts"},
+    {"imports", "where a walk over its imports starts; imports.left is {0, 0} where the RVA of the list is unmapped, and nowhere else: the signature of the DOS header is at the offset 0"},
     {"lookup_table_rva", "RVA of the list; where it is 0, the list is the address table"},
     {"time_date_stamp", "0, or not 0 where the imports are bound"},
     {"forwarder_chain", "index of the first forwarder, or -1"},
     {"name_rva", "RVA of the DLL's name"},
     {"address_table_rva", "RVA of the slots that the loader fills"},
+    {"has_unmapped_list", "whether the lookup table's RVA is unmapped: the imports are then what the address table names"},
     {NULL, NULL}};
 
 static PyObject *row_library(Image *self, Rows *rows, const pe_c_library *it)
@@ -1387,8 +1392,9 @@ static PyObject *row_library(Image *self, Rows *rows, const pe_c_library *it)
         N(it->forwarder_chain),
         N(it->name_rva),
         N(it->address_table_rva),
+        B(has_unmapped_list(it)),
     };
-    return filled(self, ROW_LIBRARY, items, 7);
+    return filled(self, ROW_LIBRARY, items, 8);
 }
 
 static PyStructSequence_Field row_import_fields[] = {
@@ -2335,18 +2341,18 @@ static const PyStructSequence_Desc row_kinds[] = {
     [ROW_RECORD] = {"pe_c._core.UnwindRecord", "UNWIND_INFO.", row_record_fields, 9},
     [ROW_CODE] = {"pe_c._core.UnwindCode", "UNWIND_CODE.", row_code_fields, 5},
     [ROW_REGISTERS] = {"pe_c._core.Registers", "The registers of a thread that unwinding restores.", row_registers_fields, 3},
-    [ROW_STACK_WALK] = {"pe_c._core.StackFrame", "A walk of a stack, and the frame that was returned last. For a walk from the start set the registers to those of the thread, `remaining` to how many frames are wanted at most, and all else to 0.", row_stack_walk_fields, 6},
+    [ROW_STACK_WALK] = {"pe_c._core.StackFrame", "A walk of a stack, and the frame that was returned last. For a walk from the start set the registers to those of the thread, `remaining` to how many frames are wanted at most, and all else to 0.", row_stack_walk_fields, 7},
     [ROW_ARM64_FUNCTION] = {"pe_c._core.Arm64Function", "An entry of the function table.", row_arm64_function_fields, 2},
     [ROW_ARM64_PACKED] = {"pe_c._core.Arm64Packed", "Packed unwind data. The fields mean nothing unless is_packed.", row_arm64_packed_fields, 8},
     [ROW_ARM64_RECORD] = {"pe_c._core.Arm64Record", "An unwind record (.xdata).", row_arm64_record_fields, 7},
     [ROW_ARM64_SCOPE] = {"pe_c._core.Arm64Scope", "An epilog scope.", row_arm64_scope_fields, 4},
     [ROW_ARM64_CODE] = {"pe_c._core.Arm64Code", "An ARM64 unwind code.", row_arm64_code_fields, 6},
     [ROW_ARM64_REGISTERS] = {"pe_c._core.Arm64Registers", "The registers of a thread that unwinding restores.", row_arm64_registers_fields, 4},
-    [ROW_ARM64_STACK_WALK] = {"pe_c._core.Arm64StackFrame", "A walk of a stack on ARM64, and the frame that was returned last, as pe_c_stack_walk.", row_arm64_stack_walk_fields, 6},
+    [ROW_ARM64_STACK_WALK] = {"pe_c._core.Arm64StackFrame", "A walk of a stack on ARM64, and the frame that was returned last, as pe_c_stack_walk.", row_arm64_stack_walk_fields, 7},
     [ROW_ADDRESS_TABLE] = {"pe_c._core.ExportTable", "The table of RVAs, which has all exports by their index, also those without a name.", row_address_table_fields, 4},
     [ROW_EXPORTED] = {"pe_c._core.Export", "An export by its index.", row_exported_fields, 5},
     [ROW_EXPORT_FIELDS] = {"pe_c._core.ExportDirectory", "The export directory itself, IMAGE_EXPORT_DIRECTORY.", row_export_fields_fields, 11},
-    [ROW_LIBRARY] = {"pe_c._core.Library", "IMAGE_IMPORT_DESCRIPTOR.", row_library_fields, 7},
+    [ROW_LIBRARY] = {"pe_c._core.Library", "IMAGE_IMPORT_DESCRIPTOR.", row_library_fields, 8},
     [ROW_IMPORT] = {"pe_c._core.Import", NULL, row_import_fields, 4},
     [ROW_DELAY_DESCRIPTOR] = {"pe_c._core.DelayDescriptor", "IMAGE_DELAYLOAD_DESCRIPTOR. Addresses are RVAs where bit 0 of the attributes is set, else virtual addresses, as linkers before Visual C++ 7 wrote them.", row_delay_descriptor_fields, 8},
     [ROW_DELAY_IMPORT] = {"pe_c._core.DelayLibrary", NULL, row_delay_import_fields, 3},

@@ -138,6 +138,7 @@ class X509(_Inside):
 
     @property
     def not_before(self) -> str | None:
+        """The first time when it is valid; a fraction of a second, which RFC 5280 does not allow, is left out."""
         return self._time(self.row.not_before)
 
     @property

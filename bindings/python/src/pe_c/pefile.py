@@ -10,11 +10,12 @@ PE(..) raises PEFormatError where the headers are refused. After that methods ra
 attribute raises but AttributeError. """
 from __future__ import annotations
 
+import collections
 import hashlib
 import os
 import struct
 import typing
-from typing import Any
+from typing import Any, TypeVar
 
 from . import _image, _pefile_tables as _tables, _row_names as _rows
 from ._kinds import Kind
@@ -23,6 +24,7 @@ from ._ordinals import ORDINALS
 from ._part import Error, Part, entropy_of
 from ._pefile_gaps import NotInPeC as NotInPeC, missing as _missing
 
+T = TypeVar("T")
 __author__ = "Lovandezh"
 __contact__ = ""
 __version__ = "2023.2.7"
@@ -400,7 +402,8 @@ def _read_imports(pe: PE) -> list[ImportDescData]:
     width = 8 if pe._image.is_64 else 4
     found = []
     for row in pe._image.imports:
-        table, slots = row.lookup_table_rva or row.address_table_rva, row.address_table_rva
+        slots = row.address_table_rva
+        table = slots if row.has_unmapped_list else row.lookup_table_rva or slots
         descriptor = Structure("IMAGE_IMPORT_DESCRIPTOR", None, OriginalFirstThunk=row.lookup_table_rva,
                                Characteristics=row.lookup_table_rva, TimeDateStamp=row.time_date_stamp,
                                ForwarderChain=row.forwarder_chain, Name=row.name_rva, FirstThunk=row.address_table_rva)
@@ -429,12 +432,37 @@ def _read_delay_imports(pe: PE) -> list[ImportDescData]:
     return found
 
 
+def _up_to(pe: PE, most_of_one: int, what: str, rows: typing.Iterable[tuple[Any, T]]) -> typing.Iterator[T]:
+    """The rows, each with what tells it apart, up to max_symbol_exports that are apart, and so many that are the same."""
+    counts: collections.Counter[Any] = collections.Counter()
+    for key, row in rows:
+        counts[key] += 1
+        is_repeated = counts[key] > most_of_one
+        if is_repeated or len(counts) > pe.max_symbol_exports:
+            most = f"{most_of_one} repeated {what}" if is_repeated else f"{pe.max_symbol_exports} {what}"
+            pe._limits.append(f"Export directory contains more than {most} entries. Those after them are left out.")
+            return
+        yield row
+
+
+def _counted_exports(pe: PE) -> list[tuple[str | None, _rows.Export]]:
+    """The exports as pefile counts them: those with a name, then by their ordinals those whose ordinal none of these has, with the name
+    None. They end at max_symbol_exports, or where one is repeated, as a warning says."""
+    rows = [it for it in pe._image.exports if it.rva]
+    named = list(_up_to(pe, 10, "symbol", (((it.name, it.rva), it) for it in rows if it.name is not None)))
+    known = {it.ordinal for it in named}
+    others = {it.ordinal: it for it in rows if it.ordinal not in known}
+    ordered = (others[ordinal] for ordinal in sorted(others))
+    return [(it.name, it) for it in named] + [
+        (None, it) for it in _up_to(pe, pe.max_repeated_symbol, "ordinal", ((it.rva, it) for it in ordered))]
+
+
 def _read_exports(pe: PE) -> ExportDirData | None:
     table = pe._value("export_table")
     if table is None or pe._image.exports.error:
         return None
-    symbols = [ExportData(pe=pe, ordinal=it.ordinal, address=it.rva, name=_bytes(it.name), forwarder=_bytes(it.forwarder))
-               for it in pe._image.exports if it.rva]
+    symbols = [ExportData(pe=pe, ordinal=it.ordinal, address=it.rva, name=_bytes(name), forwarder=_bytes(it.forwarder))
+               for name, it in _counted_exports(pe)]
     it = pe._value("export_directory")
     directory = Structure("IMAGE_EXPORT_DIRECTORY", None, Characteristics=it.characteristics, TimeDateStamp=it.time_date_stamp,
                           MajorVersion=it.major_version, MinorVersion=it.minor_version, Name=it.name, Base=it.base,
@@ -658,6 +686,7 @@ class PE:
         except Error as error:
             raise PEFormatError(str(error)) from None
         self.max_symbol_exports, self.max_repeated_symbol = max_symbol_exports, max_repeated_symbol
+        self._limits: list[str] = []
         self._view = self._image.memory
         whole = self._view.obj
         self.__data__: bytes = whole if isinstance(whole, bytes) and len(whole) == len(self._view) else bytes(self._view)
@@ -743,9 +772,10 @@ class PE:
         """Does nothing: each directory is read when it is asked for, and whole."""
 
     def get_warnings(self) -> list[str]:
-        """What of the image is damaged or limited, and a small file alignment. pefile's texts, and its guesses at packers, are
-        others."""
-        return [*map(str, self._image.warnings)]
+        """What of the image is damaged or limited, a small file alignment, and exports that are left out. pefile's texts, and its guesses
+        at packers, are others."""
+        getattr(self, "DIRECTORY_ENTRY_EXPORT", None)
+        return [*map(str, self._image.warnings), *self._limits]
 
     def show_warnings(self) -> None:
         for it in self.get_warnings():

@@ -117,6 +117,10 @@ object_ids! {
     DSA = 218,
     /// 1.2.840.10040.4.3.
     DSA_SHA1 = 219,
+    /// 1.3.14.3.2.29. The older identifier of SHA1_RSA, sha1WithRSA of the OIW.
+    SHA1_RSA_OIW = 220,
+    /// 1.2.840.113549.1.1.2. PKCS #1 v1.5.
+    MD2_RSA = 221,
     /// 2.5.4.3. CN.
     COMMON_NAME = 301,
     /// 2.5.4.5.

@@ -19,7 +19,8 @@ pub struct Time {
     pub hour: u32,
     /// 0 to 59.
     pub minute: u32,
-    /// 0 to 59.
+    /// 0 to 59. A fraction of a second is left out: a time stamp may have one; that a certificate and a signing time have none (RFC 5280,
+    /// RFC 5652) is not tested.
     pub second: u32,
 }
 

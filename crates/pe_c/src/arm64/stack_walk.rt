@@ -36,6 +36,10 @@ pub struct Arm64StackWalk {
     pub error: u32,
     /// 1 where the pieces of memory are searched, as in `StackWalk`.
     pub is_searched: u32,
+    /// 1 where the frame may be wrong, as in `StackWalk`.
+    pub is_guess: u32,
+    /// 0.
+    pub spare: u32,
 }
 
 /// Writes a frame to a walk. Inlined, as walks are compiled for tested and for searched memory, and each writes every frame.
@@ -49,6 +53,7 @@ fn write_frame(frame: &Arm64StackFrame, walk: &mut Arm64StackWalk)
     walk.has_returned = 1;
     walk.way = number_of_way(frame.way);
     walk.has_called = u32::from(frame.has_called);
+    walk.is_guess = u32::from(frame.is_guess);
 }
 
 impl WalkRecord for Arm64StackWalk {
@@ -62,6 +67,7 @@ impl WalkRecord for Arm64StackWalk {
                 registers: registers_of(&self.registers),
                 way: way_of(self.way),
                 has_called: self.has_called != 0,
+                is_guess: self.is_guess != 0,
             },
             has_returned: self.has_returned != 0,
             remaining: self.remaining as usize,

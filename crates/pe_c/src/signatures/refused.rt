@@ -48,6 +48,8 @@ fn number_of_signature(error: SignatureError) -> u32
         SignatureError::Trailing { .. } => 509,
         SignatureError::ContentType(_) => 510,
         SignatureError::BadTime(_) => 511,
+        SignatureError::EndOfContents(_) => 512,
+        SignatureError::EmptyContent(_) => 513,
     }
 }
 
@@ -90,8 +92,10 @@ fn refused(error: SignatureError) -> SignatureFailure
             ..failure(number, offset, u64::from(found), 0)
         },
         SignatureError::TagNumber(offset)
+        | SignatureError::EndOfContents(offset)
         | SignatureError::IndefiniteLength(offset)
         | SignatureError::LengthForm(offset)
+        | SignatureError::EmptyContent(offset)
         | SignatureError::Missing(offset)
         | SignatureError::ContentType(offset)
         | SignatureError::BadTime(offset) => failure(number, offset, 0, 0),

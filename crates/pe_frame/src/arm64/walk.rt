@@ -16,7 +16,7 @@ ghost use Rattle.pe_core.specs.Refusals.{answer_by};
 ghost use Rattle.pe_unwind.specs.Arm64Record.{info_view};
 ghost use Rattle.pe_unwind.specs.Arm64Unwinding.{info_by};
 ghost use Rattle.pe_frame.specs.AddressRanges.{has_address};
-ghost use Rattle.pe_frame.specs.Arm64Walks.{frame_of, code_return, scanned, leaf_frame, without_records, lookup_address, place_of, caller_of_leaf, caller_outside, called_frame, frame_after, stepped_out_packed, CallsByInfo, CallsFound, CallsIn};
+ghost use Rattle.pe_frame.specs.Arm64Walks.{frame_of, code_return, scanned, leaf_frame, without_records, lookup_address, place_of, jumped_frame, caller_of_leaf, caller_outside, called_frame, frame_after, stepped_out_packed, CallsByInfo, CallsFound, CallsIn};
 ghost use Rattle.pe_frame.specs.Modules.{map_of_module, module_base, module_size};
 
 use super::registers::{Arm64Registers, LINK_REGISTER};
@@ -28,7 +28,7 @@ use crate::modules::{Module, ModuleMap, Modules};
 use crate::position::{WalkFrame, WalkPosition};
 use crate::process::{CallSites, LoadedModules};
 use crate::scan::{ReturnWords, first_return_above};
-use crate::walk::{WalkEnd, Way};
+use crate::walk::{WalkEnd, Way, end_at_0};
 use pe_unwind::{Arm64RuntimeFunction, ExceptionData};
 
 /// The bytes of an instruction.
@@ -45,11 +45,18 @@ pub struct Arm64StackFrame {
     /// that no call left, as the records of the frame before it say, and in one that records lead to where no call ends at `pc`,
     /// which was interrupted too.
     pub has_called: bool,
+    /// Whether it may be wrong, as `is_guess` of `StackFrame`.
+    pub is_guess: bool,
 }
 
 /// A frame with these registers, found in this way.
-fn frame_of<L: CallSites>(modules: &L, way: Way, registers: Arm64Registers) -> Arm64StackFrame
-    ensures { result ≡ frame_of (L.list modules.now) way registers }
+fn frame_of<L: CallSites>(
+    modules: &L,
+    way: Way,
+    is_guess: bool,
+    registers: Arm64Registers,
+) -> Arm64StackFrame
+    ensures { result ≡ frame_of (L.list modules.now) way is_guess registers }
 {
     let has_called = match way {
         Way::Top => false,
@@ -62,6 +69,7 @@ fn frame_of<L: CallSites>(modules: &L, way: Way, registers: Arm64Registers) -> A
         registers,
         way,
         has_called,
+        is_guess,
     }
 }
 
@@ -111,52 +119,75 @@ fn scanned<L: CallSites, M: Memory>(
     let mut caller = *registers;
     caller.sp = address + SIZE_OF_WORD;
     caller.pc = word;
-    Some(frame_of(modules, Way::Scanned, caller))
+    Some(frame_of(modules, Way::Scanned, true, caller))
 }
 
 /// The frame of the caller of a leaf function, if a call ends at the link register.
-fn leaf_frame<L: CallSites>(modules: &L, registers: &Arm64Registers) -> Option<Arm64StackFrame>
-    ensures { result ≡ leaf_frame (L.list modules.now) registers.now }
+fn leaf_frame<L: CallSites>(
+    modules: &L,
+    is_guess: bool,
+    registers: &Arm64Registers,
+) -> Option<Arm64StackFrame>
+    ensures { result ≡ leaf_frame (L.list modules.now) is_guess registers.now }
 {
     if modules.ends_call_arm64(registers.general[LINK_REGISTER]) {
-        Some(frame_of(modules, Way::Leaf, leaf_arm64(*registers)))
+        Some(frame_of(modules, Way::Leaf, is_guess, leaf_arm64(*registers)))
     } else {
         None
     }
 }
 
-/// The frame that is found from registers without records.
+/// The frame that is found from registers without records, by whether it is a guess that their function is a leaf function.
 fn without_records<L: CallSites, M: Memory>(
     modules: &L,
     memory: &M,
+    is_guess: bool,
     registers: &Arm64Registers,
 ) -> Option<Arm64StackFrame>
-    ensures { result ≡ without_records (M.word memory.now) (L.list modules.now) registers.now }
+    ensures { result ≡ without_records (M.word memory.now) (L.list modules.now) is_guess registers.now }
 {
-    match leaf_frame(modules, registers) {
+    match leaf_frame(modules, is_guess, registers) {
         Some(frame) => Some(frame),
         None => scanned(modules, memory, registers),
     }
 }
 
-/// The frame of the caller of a frame in no function.
+/// The frame of the caller of a leaf function to which no call led, if it returns to executable code.
+fn jumped_frame<L: CallSites>(
+    modules: &L,
+    registers: &Arm64Registers,
+) -> Result<Arm64StackFrame, WalkEnd>
+    ensures { result ≡ jumped_frame (L.list modules.now) registers.now }
+{
+    let address = registers.general[LINK_REGISTER];
+    if address == 0 {
+        return Err(WalkEnd::Zero);
+    }
+    if modules.has_code(address) {
+        return Ok(frame_of(modules, Way::Leaf, true, leaf_arm64(*registers)));
+    }
+    Err(WalkEnd::NoReturnAddress)
+}
+
+/// The frame of the caller of a frame in no function, by whether it is a guess that this is one of a leaf function.
 fn caller_of_leaf<L: CallSites, M: Memory>(
     modules: &L,
+    is_guess: bool,
     frame: &Arm64StackFrame,
     memory: &M,
 ) -> Result<Arm64StackFrame, WalkEnd>
-    ensures { result ≡ caller_of_leaf (M.word memory.now) (L.list modules.now) frame.now }
+    ensures { result ≡ caller_of_leaf (M.word memory.now) (L.list modules.now) is_guess frame.now }
 {
     if frame.has_called {
-        return Err(WalkEnd::NoFunction);
+        return match scanned(modules, memory, &frame.registers) {
+            Some(caller) => Ok(caller),
+            None => Err(WalkEnd::NoFunction),
+        };
     }
-    if let Some(caller) = without_records(modules, memory, &frame.registers) {
-        return Ok(caller);
+    match without_records(modules, memory, is_guess, &frame.registers) {
+        Some(caller) => Ok(caller),
+        None => jumped_frame(modules, &frame.registers),
     }
-    if frame.registers.general[LINK_REGISTER] == 0 {
-        return Err(WalkEnd::Bottom);
-    }
-    Ok(frame_of(modules, Way::Leaf, leaf_arm64(frame.registers)))
 }
 
 /// The frame of the caller of a frame in no module.
@@ -170,7 +201,7 @@ pub fn caller_outside_arm64<L: CallSites, M: Memory>(
     if frame.has_called {
         return Err(WalkEnd::NoModule);
     }
-    match without_records(modules, memory, &frame.registers) {
+    match without_records(modules, memory, true, &frame.registers) {
         Some(caller) => Ok(caller),
         None => Err(WalkEnd::NoModule),
     }
@@ -188,9 +219,9 @@ fn called_frame<L: CallSites>(
         return Err(WalkEnd::Step(FrameError::NotRising(registers.sp)));
     }
     if registers.pc == 0 {
-        return Err(WalkEnd::Bottom);
+        return Err(end_at_0(frame.is_guess));
     }
-    Ok(frame_of(modules, Way::Records, registers))
+    Ok(frame_of(modules, Way::Records, frame.is_guess, registers))
 }
 
 /// What a step returned, as a frame.
@@ -202,7 +233,9 @@ fn frame_after<L: CallSites>(
     ensures { result ≡ frame_after (L.list modules.now) frame.now left }
 {
     match left {
-        Ok((registers, true)) => Ok(frame_of(modules, Way::Interrupt, registers)),
+        Ok((registers, true)) => {
+            Ok(frame_of(modules, Way::Interrupt, frame.is_guess, registers))
+        }
         Ok((registers, false)) => called_frame(modules, frame, registers),
         Err(error) => Err(WalkEnd::Step(error)),
     }
@@ -288,7 +321,7 @@ pub fn caller_in_module_arm64<L: CallSites, M: Memory>(
         frame.now (Some module.now) result }
 {
     let Some(exceptions) = module.exceptions else {
-        return caller_of_leaf(modules, frame, memory);
+        return caller_of_leaf(modules, true, frame, memory);
     };
     let rva = module.rva_of(frame.lookup_address());
     match exceptions.find_function_arm64_with_map(rva, &ModuleMap { module, exceptions }) {
@@ -300,7 +333,7 @@ pub fn caller_in_module_arm64<L: CallSites, M: Memory>(
             };
             caller_by_records(modules, &found, frame, memory)
         }
-        Ok(None) => caller_of_leaf(modules, frame, memory),
+        Ok(None) => caller_of_leaf(modules, frame.is_guess, frame, memory),
         Err(error) => Err(WalkEnd::Records(error)),
     }
 }
@@ -329,15 +362,16 @@ impl WalkFrame for Arm64StackFrame {
 ///
 /// The modules have exception data that [`ExceptionData::parse_arm64_with_opts`] parsed.
 ///
-/// It is over at the bottom of the stack, where a frame returns to 0; at a frame in no module or, in a frame that has called, in
-/// no function; at memory that is not known, at any other error of a step, and after as many frames as the caller asks for. `end`
+/// It is over at the bottom of the stack, where a frame returns to 0; at a frame in no module or in no function from which no return
+/// address is found; at memory that is not known, at any other error of a step, and after as many frames as the caller asks for. `end`
 /// says which. A function that calls has stored the link register, so in a frame that has called the stack pointer has to rise:
 /// where it stays, the end is `NotRising`. It may stay in the top frame and in one that was interrupted, and past a frame of the
 /// operating system's own it may be anywhere.
 ///
 /// In the top frame, and in one that was interrupted, the return address of code that no unwind data describe is the link register,
 /// if a call ends at it, else the first of 128 words from the stack pointer on that is, without its signature, after a call in an
-/// executable section. In a module, where neither is, it is the link register, whatever that is.
+/// executable section. In a module, where neither is, it is the link register, if that is an address of executable code. In a frame
+/// that has called it is the first such word. Where none is found, a walk that comes to 0 says `Zero`.
 #[derive(Drop)]
 pub struct Arm64StackFrames<'a, M> {
     modules: Modules<'a>,
@@ -364,6 +398,7 @@ impl<'a, M: Memory> Arm64StackFrames<'a, M> {
             registers,
             way: Way::Top,
             has_called: false,
+            is_guess: false,
         };
         Arm64StackFrames {
             modules,

@@ -2,19 +2,19 @@
 
 ghost use Rattle.std.specs.Prelude.{Bool, ◌≡◌, ◌≢◌, ◌≤◌, ◌<◌, ◌⊎◌, ℕ, true, false, List, length, Option, None, Some, Ok, Err};
 ghost use Rattle.std.specs.Iterator.{YieldsThen};
+ghost use Rattle.std.specs.List.{AllByRecursion};
 ghost use Rattle.pe_unwind.specs.Arm64Record.{Arm64InfoView};
 ghost use Rattle.pe_unwind.specs.declared.arm64.function.Arm64RuntimeFunction.{Arm64RuntimeFunction};
 ghost use Rattle.pe_frame.specs.Arm64Packed.{stepped_arm64_packed};
 ghost use Rattle.pe_frame.specs.Arm64Steps.{StepsOutArm64};
-ghost use Rattle.pe_frame.specs.Arm64Undoing.{link_register};
-ghost use Rattle.pe_frame.specs.Arm64Walks.{AreModulesOfBytes, AreSortedModules, Calls, CallsByInfo, has_called, caller_of_leaf, caller_outside, place_of, walk_of, without_records};
-ghost use Rattle.pe_frame.specs.FrameWalks.{FrameWalk, IsWalk, Process};
+ghost use Rattle.pe_frame.specs.Arm64Walks.{AreModulesOfBytes, AreSortedModules, Calls, CallsByInfo, has_called, caller_of_leaf, caller_outside, place_of, top_frame, walk_of};
+ghost use Rattle.pe_frame.specs.FrameWalks.{FrameWalk, IsWalk, Process, starting_walk};
 ghost use Rattle.pe_frame.specs.Walks.{end_kind};
 ghost use Rattle.pe_frame.specs.declared.arm64.registers.Arm64Registers.{Arm64Registers};
 ghost use Rattle.pe_frame.specs.declared.arm64.walk.Arm64StackFrame.{Arm64StackFrame};
 ghost use Rattle.pe_frame.specs.declared.arm64.walk.Arm64StackFrames.{Arm64StackFrames};
 ghost use Rattle.pe_frame.specs.declared.modules.Module.{Module};
-ghost use Rattle.pe_frame.specs.declared.walk.Way.TheVariants.{Records, Interrupt};
+ghost use Rattle.pe_frame.specs.declared.walk.Way.TheVariants.{Records, Interrupt, Scanned};
 ghost use Rattle.pe_frame.specs.declared.walk.WalkEnd.{WalkEnd};
 ghost use Rattle.pe_frame.specs.declared.walk.WalkEnd.TheVariants.{Bottom};
 
@@ -57,13 +57,22 @@ pub fn arm64_frames_are_steps()
         stepped_arm64_packed p.memory f.unwind_data (place_of m f s) s.registers ≡ Ok t.registers }
 {}
 
-/// Each frame says whether it has called, by its way and the bytes before its instruction pointer (`called`). What was found
-/// without records was found from the top frame or from one that was interrupted: from one that has not called (`guessed`).
+/// Each frame says whether it has called, by its way and the bytes before its instruction pointer (`called`). From a frame that has
+/// called only records lead on, or a scan: the caller of a leaf function is found from one that has not (`led`).
 pub fn arm64_frames_say_whether_they_called()
     ensures called { (p : Process) (s t : Arm64StackFrame) →
         Calls p s (Ok t) → t.has_called ≡ has_called p.modules t.way (t.registers).pc }
-    ensures guessed { (p : Process) (s t : Arm64StackFrame) →
-        Calls p s (Ok t) → s.has_called ≡ true → (t.way ≡ Records) ⊎ (t.way ≡ Interrupt) }
+    ensures led { (p : Process) (s t : Arm64StackFrame) →
+        Calls p s (Ok t) → s.has_called ≡ true →
+        (t.way ≡ Records) ⊎ ((t.way ≡ Interrupt) ⊎ (t.way ≡ Scanned)) }
+{}
+
+/// What a scan finds is a guess (`scans`), and so is each frame after a guess (`follows`).
+pub fn arm64_frames_say_whether_they_are_guesses()
+    ensures scans { (p : Process) (s t : Arm64StackFrame) →
+        Calls p s (Ok t) → t.way ≡ Scanned → t.is_guess ≡ true }
+    ensures follows { (p : Process) (s t : Arm64StackFrame) →
+        Calls p s (Ok t) → s.is_guess ≡ true → t.is_guess ≡ true }
 {}
 
 /// From a frame that has called to one that is found by records the stack pointer rises, so that such frames do not go round.
@@ -73,23 +82,26 @@ pub fn arm64_frames_that_called_rise()
         t.way ≡ Records → (s.registers).sp < (t.registers).sp }
 {}
 
-/// At the bottom a caller's instruction pointer is 0: one to which records led (`records`) or packed unwind data (`packed`), or
-/// the link register of a frame that has not called, from whose registers no frame is found (`leaf`). A frame in no module is never the bottom (`outside`).
+/// A walk of a thread ends at the bottom only if none of its frames is a guess (`whole`). There a caller's instruction pointer is 0,
+/// to which records led (`records`) or packed unwind data (`packed`), from a frame that is no guess. A frame that no unwind data
+/// describe is never the bottom: in no function of a module (`leaf`), or in no module (`outside`).
 pub fn arm64_bottoms_are_returns_to_0()
     ensures records { (p : Process) (m : Module) (f : Arm64RuntimeFunction)
         (s : Arm64StackFrame) (i : Arm64InfoView) →
         CallsByInfo p m f s (Some (Ok i)) (Err Bottom) →
         (u : Arm64Registers)
-        × StepsOutArm64 p.memory i (place_of m f s) s.registers (Ok (u, false)) × (u.pc ≡ 0) }
+        × StepsOutArm64 p.memory i (place_of m f s) s.registers (Ok (u, false)) × (u.pc ≡ 0)
+        × (s.is_guess ≡ false) }
     ensures packed { (p : Process) (m : Module) (f : Arm64RuntimeFunction) (s : Arm64StackFrame) →
         CallsByInfo p m f s None (Err Bottom) →
         (u : Arm64Registers)
         × (stepped_arm64_packed p.memory f.unwind_data (place_of m f s) s.registers ≡ Ok u)
-        × (u.pc ≡ 0) }
-    ensures leaf { (memory : ℕ → Option ℕ) (modules : List Module) (s : Arm64StackFrame) →
-        caller_of_leaf memory modules s ≡ Err Bottom →
-        (s.has_called ≡ false) × (without_records memory modules s.registers ≡ None)
-        × (link_register s.registers ≡ 0) }
+        × (u.pc ≡ 0) × (s.is_guess ≡ false) }
+    ensures leaf { (memory : ℕ → Option ℕ) (modules : List Module) (guess : Bool) (s : Arm64StackFrame) →
+        caller_of_leaf memory modules guess s ≢ Err Bottom }
     ensures outside { (memory : ℕ → Option ℕ) (modules : List Module) (s : Arm64StackFrame) →
         caller_outside memory modules s ≢ Err Bottom }
+    ensures whole { (p : Process) (g : Arm64Registers) (most : ℕ) (frames : List Arm64StackFrame) →
+        IsWalk Calls (starting_walk p (top_frame g) most) frames Bottom →
+        AllByRecursion (λ s. s.is_guess ≡ false) frames }
 {}

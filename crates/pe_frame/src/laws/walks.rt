@@ -2,20 +2,20 @@
 
 ghost use Rattle.std.specs.Prelude.{Bool, ◌≡◌, ◌≢◌, ◌≤◌, ◌<◌, ◌+◌, ◌-◌, ◌*◌, ◌⊎◌, ℕ, true, false, List, [], length, Option, Some, None, Ok, Err};
 ghost use Rattle.std.specs.Iterator.{YieldsThen};
+ghost use Rattle.std.specs.List.{AllByRecursion};
 ghost use Rattle.pe_unwind.specs.ExceptionTable.{ExceptionView};
 ghost use Rattle.pe_unwind.specs.UnwindRecord.{UnwindInfoView};
 ghost use Rattle.pe_unwind.specs.declared.function_table.RuntimeFunction.{RuntimeFunction};
 ghost use Rattle.pe_frame.specs.Epilogs.{epilog_at};
 ghost use Rattle.pe_frame.specs.Scans.{IsFirstReturn, first_return, most_words, return_at};
 ghost use Rattle.pe_frame.specs.Steps.{Steps};
-ghost use Rattle.pe_frame.specs.Undoing.{popped};
-ghost use Rattle.pe_frame.specs.FrameWalks.{FrameWalk, IsWalk, Process};
-ghost use Rattle.pe_frame.specs.Walks.{AreSortedModules, Calls, CallsByPlan, end_kind, has_called, caller_of_leaf, caller_outside, walk_of, without_records, StepsFromFrame};
+ghost use Rattle.pe_frame.specs.FrameWalks.{FrameWalk, IsWalk, Process, starting_walk};
+ghost use Rattle.pe_frame.specs.Walks.{AreSortedModules, Calls, CallsByPlan, end_kind, has_called, caller_of_leaf, caller_outside, top_frame, walk_of, without_records, StepsFromFrame};
 ghost use Rattle.pe_frame.specs.declared.modules.Module.{Module};
 ghost use Rattle.pe_frame.specs.declared.registers.Registers.{Registers};
 ghost use Rattle.pe_frame.specs.declared.walk.StackFrame.{StackFrame};
 ghost use Rattle.pe_frame.specs.declared.walk.StackFrames.{StackFrames};
-ghost use Rattle.pe_frame.specs.declared.walk.Way.TheVariants.{Records, Interrupt};
+ghost use Rattle.pe_frame.specs.declared.walk.Way.TheVariants.{Records, Interrupt, Scanned};
 ghost use Rattle.pe_frame.specs.declared.walk.WalkEnd.{WalkEnd};
 ghost use Rattle.pe_frame.specs.declared.walk.WalkEnd.TheVariants.{Bottom};
 
@@ -75,29 +75,38 @@ pub fn scans_find_the_first()
         return_at memory returns (start + 8 * k) ≡ None }
 {}
 
-/// Each frame says whether it has called, by its way and the bytes before its instruction pointer (`called`). What was found
-/// without records was found from the top frame or from one that was interrupted: from one that has not called (`guessed`).
+/// Each frame says whether it has called, by its way and the bytes before its instruction pointer (`called`). From a frame that has
+/// called only records lead on, or a scan: the caller of a leaf function is found from one that has not (`led`).
 pub fn frames_say_whether_they_called()
     ensures called { (p : Process) (s t : StackFrame) →
         Calls p s (Ok t) → t.has_called ≡ has_called p.modules t.way (t.registers).rip }
-    ensures guessed { (p : Process) (s t : StackFrame) →
+    ensures led { (p : Process) (s t : StackFrame) →
         Calls p s (Ok t) → s.has_called ≡ true →
-        (t.way ≡ Records) ⊎ (t.way ≡ Interrupt) }
+        (t.way ≡ Records) ⊎ ((t.way ≡ Interrupt) ⊎ (t.way ≡ Scanned)) }
 {}
 
-/// At the bottom a caller's instruction pointer is 0. Where records led there, no frame is found from that caller's registers
-/// (`records`). Without records the frame has not called, no frame is found from its own registers, and the word at its stack
-/// pointer is 0 (`leaf`). A frame in no module is never the bottom (`outside`).
+/// What a scan finds is a guess (`scans`), and so is each frame after a guess (`follows`).
+pub fn frames_say_whether_they_are_guesses()
+    ensures scans { (p : Process) (s t : StackFrame) →
+        Calls p s (Ok t) → t.way ≡ Scanned → t.is_guess ≡ true }
+    ensures follows { (p : Process) (s t : StackFrame) →
+        Calls p s (Ok t) → s.is_guess ≡ true → t.is_guess ≡ true }
+{}
+
+/// A walk of a thread ends at the bottom only if none of its frames is a guess (`whole`). There a caller's instruction pointer is 0,
+/// to which records led from a frame that is no guess, and no frame is found from that caller's registers (`records`). A frame that
+/// no records describe is never the bottom: in no function of a module (`leaf`), or in no module (`outside`).
 pub fn bottoms_are_returns_to_0()
     ensures records { (memory : ℕ → Option ℕ) (modules : List Module) (m : Module) (e : ExceptionView)
         (f : RuntimeFunction) (s : StackFrame) (plan : List UnwindInfoView) →
         CallsByPlan memory modules m e f s (Ok (Some plan)) (Err Bottom) →
         (u : Registers) × StepsFromFrame memory m e f plan s (Ok (u, false))
-        × (u.rip ≡ 0) × (without_records memory modules u ≡ None) }
-    ensures leaf { (memory : ℕ → Option ℕ) (modules : List Module) (s : StackFrame) →
-        caller_of_leaf memory modules s ≡ Err Bottom →
-        (s.has_called ≡ false) × (without_records memory modules s.registers ≡ None)
-        × (u : Registers) × (popped memory s.registers ≡ Ok u) × (u.rip ≡ 0) }
+        × (u.rip ≡ 0) × (without_records memory modules true u ≡ None) × (s.is_guess ≡ false) }
+    ensures leaf { (memory : ℕ → Option ℕ) (modules : List Module) (guess : Bool) (s : StackFrame) →
+        caller_of_leaf memory modules guess s ≢ Err Bottom }
     ensures outside { (memory : ℕ → Option ℕ) (modules : List Module) (s : StackFrame) →
         caller_outside memory modules s ≢ Err Bottom }
+    ensures whole { (p : Process) (g : Registers) (most : ℕ) (frames : List StackFrame) →
+        IsWalk Calls (starting_walk p (top_frame g) most) frames Bottom →
+        AllByRecursion (λ s. s.is_guess ≡ false) frames }
 {}

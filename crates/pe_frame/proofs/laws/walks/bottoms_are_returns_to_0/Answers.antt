@@ -1,4 +1,4 @@
-use Rattle.pe_frame.proofs.Found.{leaf_at_bottom, outside_at_bottom, records_at_bottom}
+use Rattle.pe_frame.proofs.Found.{leaf_at_bottom, outside_at_bottom, records_at_bottom, whole_is_sure}
 use Rattle.pe_frame.proofs.laws.walks.bottoms_are_returns_to_0.Goals as goal
 
 pub returns-clause-records : goal.returns-clause-records
@@ -9,3 +9,6 @@ returns-clause-leaf c = leaf_at_bottom
 
 pub returns-clause-outside : goal.returns-clause-outside
 returns-clause-outside c = outside_at_bottom
+
+pub returns-clause-whole : goal.returns-clause-whole
+returns-clause-whole c = whole_is_sure

@@ -3,7 +3,7 @@ use Rattle.pe_core.specs.Header.{header_view}
 use Rattle.pe_core.specs.Rows.{each}
 use Rattle.pe_core.specs.SectionMap.{offset_of}
 use Rattle.pe_rewrite.specs.Places.{section_header}
-use Rattle.pe_rewrite.proofs.room.offset_of.Given as goal
+use Rattle.pe_rewrite.proofs.directory.offset_of.Given as goal
 
 -- no section so far covers the RVA
 abbrev pub invariant-loop-index : goal.invariant-loop-index

@@ -2,7 +2,7 @@ use Rattle.std.proofs.Common.{Some, None, sym}
 use Rattle.pe_core.specs.Header.{header_view}
 use Rattle.pe_rewrite.specs.Places.{section_header}
 use Rattle.pe_rewrite.proofs.Mapped.{map_found, map_next, one_section}
-use Rattle.pe_rewrite.proofs.room.offset_of.Goals as goal
+use Rattle.pe_rewrite.proofs.directory.offset_of.Goals as goal
 
 pub returns-in-Some : goal.returns-in-Some
 returns-in-Some c =

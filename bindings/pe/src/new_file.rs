@@ -1,0 +1,85 @@
+//! Files that the program writes. Each is whole under its name, or absent: its bytes go to a temporary file beside it, which is
+//! synced and then linked to the name. Who ends the program meanwhile, or fills the disk, leaves no part of it there. After
+//! SIGKILL alone the temporary file stays, as `.pe-NUMBER-NUMBER.tmp`.
+
+use crate::system::{self, Doomed};
+use clap::Args;
+use std::fs::{self, File, OpenOptions};
+use std::io::{self, Write};
+use std::path::{Path, PathBuf};
+use std::time::{SystemTime, UNIX_EPOCH};
+
+/// Where a command writes what it made.
+#[derive(Args, Clone, Debug)]
+pub struct Target {
+    /// The file to write, or - for standard output.
+    #[arg(value_name = "OUT")]
+    pub to: PathBuf,
+    /// Replace OUT where it exists. The file that is read may be OUT.
+    #[arg(long)]
+    pub replace: bool,
+}
+
+impl Target {
+    /// Writes the file, with the permissions of another one where one is named. Without `--replace` it must not exist.
+    pub fn write(&self, bytes: &[u8], like: Option<&Path>) -> io::Result<()> {
+        let name = self.name()?;
+        let mut begun = Begun::beside(&name, like.is_some())?;
+        begun.file.write_all(bytes)?;
+        if let Some(like) = like {
+            begun.file.set_permissions(system::permissions_of(&fs::metadata(like)?))?;
+        }
+        begun.file.sync_all()?;
+        match self.replace {
+            true => fs::rename(&begun.path, &name),
+            false => link(&begun.path, &name),
+        }
+    }
+
+    /// The name of the new file: of a link that is replaced, the file that it leads to.
+    fn name(&self) -> io::Result<PathBuf> {
+        match (self.to.symlink_metadata(), self.replace) {
+            (Err(_), _) => Ok(self.to.clone()),
+            (Ok(_), false) => Err(io::ErrorKind::AlreadyExists.into()),
+            (Ok(_), true) if fs::metadata(&self.to)?.is_file() => fs::canonicalize(&self.to),
+            (Ok(_), true) => {
+                Err(io::Error::new(io::ErrorKind::InvalidInput, "it is no regular file, and not replaced"))
+            }
+        }
+    }
+}
+
+/// A second name of a file, which must not exist. Where a file system has no second names the file is moved.
+fn link(from: &Path, to: &Path) -> io::Result<()> {
+    match fs::hard_link(from, to) {
+        Err(error) if error.kind() != io::ErrorKind::AlreadyExists => system::move_new(from, to),
+        other => other,
+    }
+}
+
+/// A temporary file, which goes away by its name when it is dropped or a signal ends the program.
+struct Begun {
+    file: File,
+    path: PathBuf,
+    _doomed: Doomed,
+}
+
+impl Begun {
+    /// One in the folder of another file. What is private is so from the start.
+    fn beside(name: &Path, is_private: bool) -> io::Result<Begun> {
+        let folder = name.parent().unwrap_or(Path::new(""));
+        let time = SystemTime::now().duration_since(UNIX_EPOCH).map_or(0, |it| it.as_nanos());
+        let path = folder.join(format!(".pe-{}-{time}.tmp", std::process::id()));
+        let doomed = Doomed::put(&path);
+        let mut options = OpenOptions::new();
+        let file = system::private(options.write(true).create_new(true), is_private).open(&path)?;
+        Ok(Begun { file, path, _doomed: doomed })
+    }
+}
+
+impl Drop for Begun {
+    fn drop(&mut self) {
+        // After it was moved it is no more.
+        drop(fs::remove_file(&self.path));
+    }
+}

@@ -1,0 +1,71 @@
+//! Standard output and standard error. Either may be full or closed: then the status is that of an error of a file.
+
+use crate::system;
+use crate::Status;
+use std::fmt::Display;
+use std::io::{self, BufWriter, Write};
+use std::path::Path;
+use std::process::ExitCode;
+use std::sync::atomic::{AtomicBool, Ordering};
+
+/// Whether a line for standard error was lost.
+static IS_LOST: AtomicBool = AtomicBool::new(false);
+
+/// Writes lines to standard error.
+pub fn complain(lines: impl Display) {
+    let lines = lines.to_string();
+    let is_written = lines.is_empty() || !system::is_closed(2) && io::stderr().write_all(lines.as_bytes()).is_ok();
+    IS_LOST.fetch_or(!is_written, Ordering::Relaxed);
+}
+
+/// The line that says why a file is refused.
+pub fn complaint(path: &Path, why: impl Display) -> String {
+    format!("pe: {}: {why}\n", crate::escape::escaped(&path.to_string_lossy()))
+}
+
+/// Standard output, where each write fails if it was closed when the program started.
+pub fn output() -> Box<dyn Write> {
+    match system::is_closed(1) {
+        true => Box::new(Closed),
+        false => Box::new(BufWriter::new(io::stdout().lock())),
+    }
+}
+
+struct Closed;
+
+impl Write for Closed {
+    fn write(&mut self, bytes: &[u8]) -> io::Result<usize> {
+        match bytes.len() {
+            0 => Ok(0),
+            _ => Err(io::Error::other("it is closed")),
+        }
+    }
+
+    fn flush(&mut self) -> io::Result<()> {
+        Ok(())
+    }
+}
+
+/// The exit status of a run.
+pub fn status_of(ended: io::Result<Status>) -> ExitCode {
+    let status = ended.unwrap_or_else(|error| {
+        // Whoever read the output has seen enough, as `head` has.
+        if error.kind() != io::ErrorKind::BrokenPipe {
+            complain(format_args!("pe: standard output: {error}\n"));
+        }
+        Status::FileError
+    });
+    let is_lost = IS_LOST.load(Ordering::Relaxed);
+    ExitCode::from(if is_lost { Status::FileError } else { status } as u8)
+}
+
+/// Prints what clap says of the arguments, on standard output where it was asked for, and returns the exit status.
+pub fn said_by_clap(error: &clap::Error) -> u8 {
+    let (stream, status) = if error.use_stderr() { (2, 2) } else { (1, 0) };
+    let is_printed = !system::is_closed(stream) && error.print().and_then(|()| io::stdout().flush()).is_ok();
+    if is_printed {
+        status
+    } else {
+        Status::FileError as u8
+    }
+}

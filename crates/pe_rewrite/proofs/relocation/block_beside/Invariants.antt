@@ -1,0 +1,13 @@
+use Rattle.std.proofs.Common.{◌≡◌}
+use Rattle.std.specs.List.{list_all}
+use Rattle.pe_directories.specs.BaseRelocations.{block_view, page_of}
+use Rattle.pe_directories.proofs.WordsLeft.{items_of_block, relocations_of}
+use Rattle.pe_rewrite.specs.Relocations.{is_beside}
+use Rattle.pe_rewrite.proofs.relocation.block_beside.Given as goal
+
+-- the relocations so far are beside
+abbrev pub invariant-loop-item : goal.invariant-loop-item
+invariant-loop-item l = record {
+  page : page_of l.relocations ≡ l.block.page_rva;
+  rest : list_all (is_beside l.start l.end) (relocations_of l.block.page_rva l.relocations) ≡ list_all (is_beside l.start l.end) (items_of_block (block_view l.block));
+}

@@ -1,0 +1,7 @@
+use Rattle.pe_version.specs.VersionRecords.{least_of_string}
+use Rattle.pe_edit.proofs.Records.{Added}
+use Rattle.pe_version.proofs.record.strings_added.Given as goal
+
+-- the strings so far are added
+abbrev pub invariant-loop-index : goal.invariant-loop-index
+invariant-loop-index l = Added least_of_string 65535 l.strings l.fn.sum l.end l.index
