@@ -97,7 +97,8 @@ def version_of(text):
 def said_by(*words):
     """What a command prints; nothing where there is none, or it fails."""
     try:
-        return subprocess.run(words, stdin=subprocess.DEVNULL, stdout=subprocess.PIPE, stderr=subprocess.DEVNULL, text=True).stdout
+        plain = {**os.environ, "LC_ALL": "C"}
+        return subprocess.run(words, stdin=subprocess.DEVNULL, stdout=subprocess.PIPE, stderr=subprocess.DEVNULL, text=True, env=plain).stdout
     except OSError:
         return ""
 

@@ -10,10 +10,12 @@ import hashlib
 import os
 import re
 import tempfile
+import time
 
 TOOLS = ("try_edits", "rooms.py", "contracts.py", "contracts.toml", "views.py", "views.toml", "verdicts.py")
 HERE = os.path.dirname(os.path.realpath(__file__))
 AGAIN = 10
+MONTH = 30 * 24 * 3600
 
 
 def sum_of(*parts):
@@ -36,13 +38,57 @@ def bare(text):
     return [line for line in (it.strip() for it in text.split("\n")) if line and not re.match(r"//|--( |$)", line)]
 
 
-class Verdicts:
+class Store:
+    """Texts under keys in a folder of the user's cache. Where it cannot be used nothing is kept, which is said once."""
+
+    def __init__(self, name):
+        cache = os.environ.get("XDG_CACHE_HOME") or os.path.expanduser("~/.cache")
+        self.folder, self.is_lost = f"{cache}/lovandezh/{name}", False
+
+    def kept(self, key):
+        """The text under a key, or None. What nothing has asked for in a month goes."""
+        try:
+            os.utime(f"{self.folder}/{key}")
+            with open(f"{self.folder}/{key}", encoding="utf-8") as file:
+                return file.read()
+        except (OSError, ValueError):
+            return None
+
+    def keep(self, key, text):
+        try:
+            os.makedirs(self.folder, mode=0o700, exist_ok=True)
+            handle, path = tempfile.mkstemp(dir=self.folder, prefix="new-")
+            with open(handle, "w", encoding="utf-8") as file:
+                file.write(text)
+            os.replace(path, f"{self.folder}/{key}")
+        except OSError as why:
+            if not self.is_lost:
+                print(f"{self.folder}: nothing is kept there: {why.strerror}", flush=True)
+            self.is_lost = True
+
+    def forget(self, key):
+        """What failed is not taken from before, though it passed then."""
+        try:
+            os.unlink(f"{self.folder}/{key}")
+        except OSError:
+            pass
+
+    def tidy(self):
+        """Removes what is older than a month."""
+        try:
+            for entry in os.scandir(self.folder):
+                if entry.stat().st_mtime < time.time() - MONTH:
+                    os.unlink(entry.path)
+        except OSError:
+            pass
+
+
+class Verdicts(Store):
     """The verdicts that are kept of a crate."""
 
     def __init__(self, crate, kit):
-        cache = os.environ.get("XDG_CACHE_HOME") or os.path.expanduser("~/.cache")
-        self.crate, self.folder = crate, f"{cache}/lovandezh/verdicts"
-        os.makedirs(self.folder, mode=0o700, exist_ok=True)
+        super().__init__("verdicts")
+        self.crate = crate
         own = {os.path.relpath(it, f"{crate.folder}/proofs") for path in crate.functions for it in crate.answers_of(path)}
         blank = [(file, bare(crate.without_bodies(file, text, set()))) for file, text in sorted(crate.texts.items())]
         specs = [(path, bare(text.decode())) for path, text in files_of(f"{crate.folder}/specs")]
@@ -57,17 +103,3 @@ class Verdicts:
         files = sorted({self.crate.files[it] for it in paths if it in self.crate.files})
         proofs = [files_of(it) for path in sorted(paths) for it in self.crate.answers_of(path)]
         return sum_of(self.sum, text, sorted(paths), [(it, self.crate.texts[it]) for it in files], proofs)
-
-    def kept(self, key):
-        """The verdict that is kept under a key, or None."""
-        try:
-            with open(f"{self.folder}/{key}", encoding="utf-8") as file:
-                return file.read()
-        except FileNotFoundError:
-            return None
-
-    def keep(self, key, said):
-        handle, path = tempfile.mkstemp(dir=self.folder)
-        with open(handle, "w", encoding="utf-8") as file:
-            file.write(said)
-        os.replace(path, f"{self.folder}/{key}")
