@@ -16,7 +16,7 @@ pub sign_text_past : (n : ℕ) → 6 ≤ n → codes "unknown result" ≡ sign_t
 unfolding sign_text
 sign_text_past n h = sym (get_or_past sign_texts n (codes "unknown result") (omega arith))
 
-pub edit_text_past : (n : ℕ) → 23 ≤ n → codes "unknown result" ≡ edit_text n
+pub edit_text_past : (n : ℕ) → 24 ≤ n → codes "unknown result" ≡ edit_text n
 unfolding edit_text
 edit_text_past n h = sym (get_or_past edit_texts n (codes "unknown result") (omega arith))
 
