@@ -361,6 +361,8 @@ fn only_the_top_frame_is_in_an_epilog() {
     const BASE: u64 = 0x1_8000_0000;
     let mut code = 0;
     let bytes = with_records(X64, |made| {
+        // code, so that what a leaf function returns to is an address of code
+        made.characteristics = 0x6000_0020;
         code = made.put(&[0x90; 32]);
         let at = (code - ADDRESS) as usize + 8;
         made.content[at..at + 2].copy_from_slice(&[0x5D, 0xC3]);
