@@ -68,14 +68,21 @@ fn thread_of(test: &str, size_of_table: u32, rva: u64, stack: &[u64]) -> (Value,
         made::pieces(&[(0x2_0000, 8 * stack.len() as u32, made::DUMP_DATA + 1232)]),
     ];
     let dump = folder.file("a.dmp", &made::dump_of(&streams, &data));
-    let [json, text] = [&["--json"][..], &[]].map(|more| {
+    let [(json, status), (text, same)] = [&["--json"][..], &[]].map(|more| {
         let (out, complaints, status) =
             run(&[&["stack", &dump, "--images", folder.0.to_str().unwrap()], more].concat());
-        assert_eq!((complaints.as_str(), status), ("", 0));
-        out
+        assert_eq!(complaints, "");
+        (out, status)
     });
-    (serde_json::from_str::<Value>(&json).unwrap()["threads"][0].take(), text)
+    let thread = serde_json::from_str::<Value>(&json).unwrap()["threads"][0].take();
+    // A stack that ends elsewhere than at its bottom is lost.
+    let wanted = if thread["end"] == "bottom" { 0 } else { 4 };
+    assert_eq!([status, same], [wanted; 2]);
+    (thread, text)
 }
+
+/// A folder, the size of the function table, the top frame's RVA, the stack, the frames, the end, and words of the text.
+type Case<'a> = (&'a str, u32, u64, &'a [u64], Value, &'a str, &'a str);
 
 /// A stack is whole where records lead to 0 and no frame is a guess. A function table of another size than its entries have is none.
 #[test]
@@ -83,7 +90,7 @@ fn a_stack_is_whole_only_without_a_guess() {
     let call = 0x1_8000_1010;
     let outer = [0, 0, 0, 0, 0xB0, 0];
     let scanned = [&[7, call], &outer[..]].concat();
-    let cases: [(&str, u32, u64, &[u64], Value, &str, &str); 6] = [
+    let cases: [Case; 6] = [
         ("stack-whole", 12, 0x1010, &outer, json!([["top", false]]), "bottom", "the stack is whole"),
         ("stack-zero", 12, 0x1050, &[0], json!([["top", false]]), "zero", "frames may be missing or wrong"),
         ("stack-data", 12, 0x1050, &[0x30], json!([["top", false]]), "no-return-address", "no executable code"),
