@@ -97,6 +97,13 @@ def views_beside():
     return {view: others for view, others in beside.items() if others}
 
 
+def views_known(crates, words):
+    """The functions that a law or a row of tools/views.py holds to show a value: what contracts compare by, and what is named so."""
+    rows = {view.split(".")[0] for part in views.read_table().values() for view in part}
+    used = {it.rsplit(".", 1)[-1] for crate in crates for it in views.compared_by(crate) if not it.startswith("Rattle.std.")}
+    return rows | used | {it for it in words if views.NAMED.match(it)}
+
+
 def split_outside(text, mark):
     """The parts of a text between marks that stand in no brackets."""
     parts, depth, last = [], 0, 0
@@ -145,9 +152,9 @@ def named(text):
 class Contract:
     """A function's signature and clauses, and what they fix."""
 
-    def __init__(self, crate, path, table, beside):
+    def __init__(self, crate, path, table, known):
         self.crate, self.path, self.function = crate, path, crate.functions[path]
-        self.table, self.beside = table, beside
+        self.table, (self.views, self.beside) = table, known
         text = crate.texts[crate.files[path]]
         head = text[self.function.start:self.function.body]
         name = re.search(r"\bfn \w+", head)
@@ -212,8 +219,14 @@ class Contract:
         return found
 
     def is_partial(self, text):
-        """Whether an expression shows by a word of std less than what it speaks of."""
-        return bool({*re.findall(r"[\w◌+-]+", text)} & {*self.table["partial"]["words"]})
+        """Whether an expression may show less than what it speaks of: by an operator, or a function that no law or row holds to it."""
+        for it in self.types:
+            text = re.sub(rf"(?<![\w.]){re.escape(it)}(?:\.\w+)*", "", text)
+        text = re.sub(r"\{[^}]*\}", "", text)
+        bound = {*re.findall(r"λ (\w+)\.", text), "self", *self.arguments(), *self.table["seen"]["words"], *self.views}
+        words = re.findall(r"(?<![\w.])([a-zA-Z_]\w*)(?!\w*\.[A-Z])", text)
+        return bool(re.search(r"[%/*<>&|+-]|==", text)) or any(
+            not (it in bound or it.endswith("kind_of") or re.match(r"[A-Z]", it)) for it in words)
 
     def missing(self):
         """What the clauses do not fix of the result and of the written arguments: the first of it, or ''."""
@@ -226,6 +239,10 @@ class Contract:
             if not ("" in fields or self.has_all_fields(of, fields)):
                 return f"no clause fixes {target}" if not fields else f"its clauses fix parts of {target}: {', '.join(fields)}"
         named = {word for it in self.fixed for word in re.findall(r"\w+", it.text)}
+        said = {word for clause in self.clauses for word in re.findall(r"\w+", clause.text)}
+        for view, more in self.table["beside"].items():
+            if self.is_public() and view in named and more not in said:
+                return f"{view} leaves what {more} says"
         alone = sorted(it for it in named if it in self.beside and not self.beside[it] <= named)
         return f"{alone[0]} leaves what {', '.join(self.beside[alone[0]])} has" if alone else ""
 
@@ -347,11 +364,7 @@ class Contracts:
     """The contracts of a crate's functions, and where the words stand that their clauses name."""
 
     def __init__(self, crate, below):
-        table, beside = read_table(), views_beside()
-        self.crate = crate
-        self.all = {path: Contract(crate, path, table, beside) for path, it in sorted(crate.functions.items())
-                    if not (path.startswith("laws") or it.trait)}
-        self.copied, self.places = set(), {}
+        self.crate, self.copied, self.places = crate, set(), {}
         for it in [crate, *below]:
             for text in it.texts.values():
                 self.copied.update(DERIVES_COPY.findall(text))
@@ -366,6 +379,9 @@ class Contracts:
                             self.places.setdefault(word, f"Rattle.{it.name}.specs.{module}")
         self.places.update({it: f"Rattle.{crate.name}.specs.{SPECS}" for it in ("seen", "But")})
         self.places["◌≡◌"] = "Rattle.std.specs.Prelude"
+        table, known = read_table(), (views_known([*below, crate], self.places), views_beside())
+        self.all = {path: Contract(crate, path, table, known) for path, it in sorted(crate.functions.items())
+                    if not (path.startswith("laws") or it.trait)}
 
     def shown(self):
         """The functions that show it, of those whose contract has one answer by its form."""
