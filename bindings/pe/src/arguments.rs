@@ -27,7 +27,8 @@ pub const EXAMPLES: &str = "  pe program.exe                        what it is, 
 
 pub const STATUSES: &str =
     "0 done; 1 an image, or a part that was asked for, is refused, verify found no good signature, diff a difference, or find \
-     nothing; 2 misused arguments; 3 an error of a file or of a stream, or out of memory; 4 stack lost a stack before its bottom.";
+     nothing; 2 misused arguments; 3 an error of a file or of a stream, or out of memory; 4 stack lost a stack before \
+     its bottom, and nothing is refused.";
 
 fn after_help() -> String {
     format!("Examples:\n{EXAMPLES}\n\nExit status: {STATUSES}")

@@ -5,10 +5,10 @@ mod regions;
 
 use crate::escape::escaped;
 use crate::facts::resources::Label;
-use crate::facts::{Facts, Name, Origin, Part};
+use crate::facts::{Facts, Name, Origin, Part, Refusal};
 use crate::page::Style;
 use crate::tables;
-use pe_c::Image;
+use pe_c::{Error, Image};
 use regions::Changed;
 use serde::Serialize;
 use std::collections::BTreeMap;
@@ -33,6 +33,9 @@ pub struct Differences {
     pub after_hex: Option<String>,
     pub differences: Vec<Difference>,
     pub regions: Vec<Changed>,
+    /// Why a file is refused. Then the bytes alone are compared, as one region.
+    pub before_error: Option<Refusal>,
+    pub after_error: Option<Refusal>,
 }
 
 /// The rows of a part, by their names. Of several with one name each has its number, from 0 on.
@@ -172,6 +175,13 @@ pub fn of(paths: [&Path; 2], images: [&Image<'_>; 2], [before, after]: [&Facts; 
     Differences { differences, regions: regions::changed(images, [before, after]), ..Differences::none(paths) }
 }
 
+/// What differs between two files of which at least one is refused.
+pub fn refused(paths: [&Path; 2], contents: [&[u8]; 2], errors: [Option<Error>; 2]) -> Differences {
+    let [before_error, after_error] = errors.map(|it| it.map(Refusal::from));
+    let regions = vec![Changed::of("file".to_string(), contents)];
+    Differences { regions, before_error, after_error, ..Differences::none(paths) }
+}
+
 impl Differences {
     /// Of two files of the same bytes.
     pub fn none(paths: [&Path; 2]) -> Differences {
@@ -184,6 +194,8 @@ impl Differences {
             after_hex: after.file_hex,
             differences: Vec::new(),
             regions: Vec::new(),
+            before_error: None,
+            after_error: None,
         }
     }
 

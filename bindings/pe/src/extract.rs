@@ -91,6 +91,11 @@ fn is_called(name: ResourceName<'_>, wanted: &Option<String>, name_of: impl Fn(u
     is_named(name, wanted) || called.zip(wanted.as_ref()).is_some_and(|(it, wanted)| it.eq_ignore_ascii_case(wanted))
 }
 
+/// Whether an image has more resources than are looked at.
+fn has_more_leaves(image: &Image<'_>) -> bool {
+    image.resource_leaves().is_ok_and(|it| it.into_iter().flatten().nth(LEAVES).is_some())
+}
+
 /// The resources of a type, by the name and the language that are asked for.
 fn leaves_of<'a>(image: &Image<'a>, which: &Which, kind: Option<u16>) -> Result<Vec<ResourceLeaf<'a>>, Error> {
     let mut found = Vec::new();
@@ -209,14 +214,21 @@ impl ExtractedPart {
         if let (ExtractedPart::Resources, Ok(image)) = (self, &image) {
             return write_resources((path, image), which, to);
         }
-        match image.and_then(|image| self.bytes_of(&image, which)) {
-            Ok(Some(bytes)) => files::deliver(&bytes, to, Status::Done),
-            Ok(None) => {
+        let found = image.and_then(|image| self.bytes_of(&image, which).map(|bytes| (bytes, image)));
+        match found {
+            Ok((Some(bytes), _)) => files::deliver(&bytes, to, Status::Done),
+            Ok((None, image)) => {
                 let part = self.to_possible_value().map_or(String::new(), |it| it.get_name().to_string());
-                Report::refused(path, format_args!("the image has no such part: {part}"))
+                let is_open = self.is_of_resources() && has_more_leaves(&image);
+                let among = if is_open { format!(" among the first {LEAVES} resources") } else { String::new() };
+                Report::refused(path, format_args!("the image has no such part: {part}{among}"))
             }
             Err(error) => Report::refused(path, Refusal::from(error)),
         }
+    }
+
+    fn is_of_resources(self) -> bool {
+        matches!(self, ExtractedPart::Resource | ExtractedPart::Icon | ExtractedPart::Cursor)
     }
 }
 
@@ -298,6 +310,12 @@ fn write_resources((path, image): (&Path, &Image<'_>), which: &Which, to: &Targe
         };
         report.complaints += &one.complaints;
         report.status = report.status.max(one.status);
+    }
+    if has_more_leaves(image) {
+        let more = format_args!("it has more than {LEAVES} resources: only the first {LEAVES} are looked at");
+        let more = Report::refused(path, more);
+        report.complaints += &more.complaints;
+        report.status = report.status.max(more.status);
     }
     report
 }

@@ -1,5 +1,6 @@
 //! `pe list`: a table of images as CSV, a row each, for spreadsheets and databases. Numbers are in decimal digits and texts as the image
-//! has them; what an image lacks, and what is refused, is an empty cell.
+//! has them; what an image lacks, and what is refused, is an empty cell. The cell `limited` has the parts whose counts are too small:
+//! more is in the image than is looked at.
 
 use crate::csv::written;
 use crate::escape::{escaped, raw};
@@ -117,6 +118,7 @@ fn row_of(facts: &Facts) -> Vec<Cell> {
     let refused = facts.refusals();
     let first = refused.first().map(|(part, refusal)| format!("{part}: {refusal}"));
     let own = vec![cell("file", &facts.file), cell("file_size", facts.file_size), ("error", first)];
+    let limited = Some(facts.limited().join("; ")).filter(|it| !it.is_empty());
     [
         own,
         of_headers(facts.headers.as_ref()),
@@ -125,6 +127,7 @@ fn row_of(facts: &Facts) -> Vec<Cell> {
         of_signer(signers.into_iter().next()),
         of_version(facts.version.as_ref()),
         of_pdb(facts.debug.as_ref().and_then(|it| it.pdb.present())),
+        vec![("limited", limited)],
     ]
     .concat()
 }

@@ -32,6 +32,7 @@ mod verify;
 use arguments::{Arguments, Command, Files, Hashing, Output, Reading, Walk};
 use clap::error::ErrorKind;
 use clap::{CommandFactory, Parser, ValueEnum};
+use extract::ExtractedPart;
 use facts::others::Other;
 use facts::{Facts, Topic, Wanted};
 use files::Report;
@@ -244,9 +245,14 @@ fn refuse_unknown_parts(files: &Files) {
 /// The commands that write a new file.
 fn write_file(command: &Command, out: &mut dyn Write) -> io::Result<Status> {
     match command {
-        Command::Extract { file, part, to, which, reading } => files::each(&Files::one(file), out, |path, bytes| {
-            of_image(bytes, reading, |image| part.write_to((path, image), which, to))
-        }),
+        Command::Extract { file, part, to, which, reading } => {
+            if *part == ExtractedPart::Resources && to.to == Path::new("-") {
+                misused("resources are written to a folder, and none to standard output");
+            }
+            files::each(&Files::one(file), out, |path, bytes| {
+                of_image(bytes, reading, |image| part.write_to((path, image), which, to))
+            })
+        }
         Command::Attach { file, certificate, to, in_place, reading } => {
             refuse_mapped(reading, "a certificate");
             let placement = if *in_place { Placement::InPlace } else { Placement::After };
@@ -388,8 +394,13 @@ fn compare(paths: [&Path; 2], how: How, out: &mut dyn Write) -> io::Result<Statu
         });
     }
     facts.iter().for_each(|facts| complain(show::complaints(facts)));
-    if let ([Ok(one), Ok(other)], [before, after]) = (images.as_slice(), facts.as_slice()) {
-        say(&diff::of(paths, [one, other], [before, after]))?;
+    match (images.as_slice(), facts.as_slice()) {
+        ([Ok(one), Ok(other)], [before, after]) => say(&diff::of(paths, [one, other], [before, after]))?,
+        ([one, other], _) if how.is_json => {
+            let errors = [one, other].map(|it| it.as_ref().err().copied());
+            say(&diff::refused(paths, [&contents[0], &contents[1]], errors))?;
+        }
+        _ => (),
     }
     Ok(Status::Refused)
 }

@@ -1,6 +1,7 @@
 //! Files that the program writes. Each is whole under its name, or absent: its bytes go to a temporary file beside it, which is
-//! synced and then linked to the name. Who ends the program meanwhile, or fills the disk, leaves no part of it there. After
-//! SIGKILL alone the temporary file stays, as `.pe-NUMBER-NUMBER.tmp`.
+//! synced, where the file system can, and then linked to the name. Who ends the program meanwhile, or fills the disk, leaves no part
+//! of it there. After SIGKILL and others that are not caught (`system`), a crash of the program or of the machine, and under Windows,
+//! the temporary file stays, as `.pe-NUMBER-NUMBER.tmp`.
 
 use crate::system::{self, Doomed};
 use clap::Args;
@@ -21,15 +22,21 @@ pub struct Target {
 }
 
 impl Target {
-    /// Writes the file, with the permissions of another one where one is named. Without `--replace` it must not exist.
+    /// Writes the file, with the permissions of the one that it replaces, else of another one where one is named. Without `--replace`
+    /// it must not exist.
     pub fn write(&self, bytes: &[u8], like: Option<&Path>) -> io::Result<()> {
         let name = self.name()?;
+        let like = if self.replace && name.exists() { Some(name.as_path()) } else { like };
         let mut begun = Begun::beside(&name, like.is_some())?;
         begun.file.write_all(bytes)?;
         if let Some(like) = like {
             begun.file.set_permissions(system::permissions_of(&fs::metadata(like)?))?;
         }
-        begun.file.sync_all()?;
+        match begun.file.sync_all() {
+            // The file system has no call for it.
+            Err(error) if error.kind() == io::ErrorKind::InvalidInput => (),
+            other => other?,
+        }
         match self.replace {
             true => fs::rename(&begun.path, &name),
             false => link(&begun.path, &name),

@@ -242,7 +242,10 @@ fn threads_of(dump: &Dump<'_>, loaded: Option<&Loaded<'_>>, asked: Asked, texts:
         is_crashed: Some(thread.thread_id) == crashed,
         ..frames::of(dump, thread, stacks.as_mut().zip(loaded), asked)
     });
-    Part::Present(List { entries: told.collect(), error: None, is_limited: false })
+    let entries: Vec<Thread> = told.collect();
+    // A walk that ended before the bound of its own was cut by that of all.
+    let is_limited = entries.iter().any(|it| it.end == Some("bound") && it.frames.len() < asked.frames);
+    Part::Present(List { entries, error: None, is_limited })
 }
 
 fn unloaded_of(dump: &Dump<'_>, texts: &mut Texts<'_>) -> Part<List<Unloaded>> {

@@ -50,6 +50,7 @@ mod own {
     }
 
     extern "C" fn end(_: libc::c_int) {
+        remove_doomed();
         // SAFETY: a handler of a signal may call it.
         unsafe { libc::_exit(crate::Status::FileError as libc::c_int) }
     }
@@ -134,25 +135,33 @@ mod own {
     /// The path of the temporary file, which a signal that ends the program removes first.
     static DOOMED: AtomicPtr<c_char> = AtomicPtr::new(null_mut());
 
-    /// The signals that end a program and can be caught.
-    const ENDS: [c_int; 8] = [
+    /// The signals that end a program and are caught. `end` has that of `abort`; those of a crash end it as it is.
+    const ENDS: [c_int; 10] = [
         libc::SIGHUP,
         libc::SIGINT,
         libc::SIGQUIT,
         libc::SIGTERM,
         libc::SIGXCPU,
         libc::SIGALRM,
+        libc::SIGVTALRM,
+        libc::SIGPROF,
         libc::SIGUSR1,
         libc::SIGUSR2,
     ];
 
-    extern "C" fn remove_and_end(signal: c_int) {
+    /// Removes the temporary file, in a handler.
+    fn remove_doomed() {
         let path = DOOMED.swap(null_mut(), Ordering::SeqCst);
-        // SAFETY: what is called may be called in a handler, and the path is a text that nobody frees any more.
+        if !path.is_null() {
+            // SAFETY: it may be called in a handler, and the path is a text that nobody frees any more.
+            unsafe { libc::unlink(path) };
+        }
+    }
+
+    extern "C" fn remove_and_end(signal: c_int) {
+        remove_doomed();
+        // SAFETY: what is called may be called in a handler.
         unsafe {
-            if !path.is_null() {
-                libc::unlink(path);
-            }
             libc::signal(signal, libc::SIG_DFL);
             libc::raise(signal);
         }

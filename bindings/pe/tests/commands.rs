@@ -89,7 +89,8 @@ fn hardening_is_what_the_headers_say() {
     assert_eq!(hardening(&bytes)["no_writable_code"], false);
     let folder = Folder::new("hardening-text");
     let (out, _, _) = run(&[&folder.file("a.exe", &with_flags(0x140))]);
-    let line = "yes: ASLR, DEP, signed, no writable code; no: high-entropy ASLR, CFG, CET, force integrity";
+    let line =
+        "yes: ASLR, DEP, has a signature entry, no writable code; no: high-entropy ASLR, CFG, CET, force integrity";
     assert!(out.contains(&format!("\n  hardening     {line}\n")), "{out}");
 }
 
@@ -699,6 +700,13 @@ fn differences_are_what_came_went_and_changed() {
     assert_eq!(run(&["diff", &text, &text]), (String::new(), String::new(), 0));
     let (_, error, status) = run(&["diff", &one, &folder.file("d.dll", b"MZ")]);
     assert_eq!((error.contains("d.dll: image: truncated (SHORT)"), status), (true, 1));
+    let (out, error, status) = run(&["diff", "--json", &folder.file("d.dll", b"MZ"), &one]);
+    assert_eq!((error.contains("d.dll: image: truncated (SHORT)"), status), (true, 1));
+    let found: Value = serde_json::from_str(&out).unwrap();
+    let length = made::with_exports().len();
+    let region = json!([{"name": "file", "before": 2, "after": length, "different": length - 2}]);
+    assert_eq!((&found["differences"], &found["regions"]), (&json!([]), &region));
+    assert_eq!((&found["before_error"]["name"], &found["after_error"]), (&json!("SHORT"), &json!(null)));
     assert_eq!(run(&["diff", &one, folder.0.join("none").to_str().unwrap()]).2, 3);
 }
 
@@ -822,6 +830,57 @@ fn a_list_has_a_row_of_each_image() {
     );
     assert_eq!([cell(0, "signer"), cell(0, "pdb_key"), cell(1, "file_version")], ["", "", ""]);
     assert_eq!(run(&["list", "--no-hashes", &named]).0.lines().count(), 2);
+}
+
+#[test]
+fn a_list_says_which_counts_are_too_small() {
+    let folder = Folder::new("list-limited");
+    let limited_of = |bytes: &[u8]| {
+        let (out, _, _) = run(&["list", "--no-hashes", &folder.file("a.dll", bytes)]);
+        let mut rows = csv::Reader::from_reader(out.as_bytes());
+        let at = rows.headers().unwrap().iter().position(|it| it == "limited").unwrap();
+        rows.records().next().unwrap().unwrap()[at].to_string()
+    };
+    assert_eq!(limited_of(&made::with_names_in_one_text()), "imports");
+    assert_eq!(limited_of(&made::with_late_names_in_one_text()), "delay imports");
+    assert_eq!(limited_of(&made::with_exports()), "");
+}
+
+/// An image with so many resources of one type, in as many languages of two names.
+fn with_many_resources(count: u32) -> Vec<u8> {
+    let mut made = made::Made::new(made::X64);
+    let content = made.put(b"text");
+    let halves = [count / 2, count - count / 2];
+    let below = |offset: u32| 1 << 31 | offset;
+    let directory = |entries: u32| [0, 0, 0, entries << 16];
+    let (first, second) = (56, 56 + 16 + 8 * halves[0]);
+    let data = second + 16 + 8 * halves[1];
+    let mut tree = [&directory(1)[..], &[10, below(24)], &directory(2), &[1, below(first), 2, below(second)]].concat();
+    for half in halves {
+        tree.extend(directory(half));
+        tree.extend((0..half).flat_map(|language| [language, data]));
+    }
+    tree.extend([content, 4, 0, 0]);
+    let root = made.put_words(&tree);
+    made.directory(made::RESOURCES, root, 4 * tree.len() as u32);
+    made.image()
+}
+
+#[test]
+fn resources_that_are_not_looked_at_are_said() {
+    let folder = Folder::new("many-resources");
+    for (count, more, status) in [(65_536, "", 0), (65_537, "it has more than 65536 resources", 1)] {
+        let (image, out) = (folder.file("a.dll", &with_many_resources(count)), folder.0.join(count.to_string()));
+        let words = ["extract", &image, "resources", out.to_str().unwrap(), "--language", "1033"];
+        let (said, complaints, code) = run(&words);
+        assert_eq!((said.as_str(), code, complaints.is_empty()), ("", status, more.is_empty()), "{complaints}");
+        assert!(complaints.contains(more), "{complaints}");
+        assert_eq!(fs::read_dir(&out).unwrap().count(), 2);
+        let (_, complaints, code) = run(&["extract", &image, "icon", "-"]);
+        assert_eq!((complaints.contains(" among the first 65536 resources"), code), (!more.is_empty(), 1));
+    }
+    let image = folder.file("a.dll", &made::with_resources());
+    assert_eq!(run(&["extract", &image, "resources", "-"]).2, 2);
 }
 
 #[test]

@@ -55,8 +55,8 @@ fn program(size_of_table: u32) -> Vec<u8> {
     made.image()
 }
 
-/// What is said of a thread at this RVA of such an image, with these words on its stack, in JSON and in text.
-fn thread_of(test: &str, size_of_table: u32, rva: u64, stack: &[u64]) -> (Value, String) {
+/// What is said of a thread at this RVA of such an image, with these words on its stack, in JSON and in text, with this status.
+fn thread_of(test: &str, (size_of_table, rva): (u32, u64), stack: &[u64], wanted: i32) -> (Value, String) {
     let folder = Folder::new(test);
     folder.file("a.exe", &program(size_of_table));
     let words: Vec<u8> = stack.iter().flat_map(|it| it.to_le_bytes()).collect();
@@ -68,17 +68,13 @@ fn thread_of(test: &str, size_of_table: u32, rva: u64, stack: &[u64]) -> (Value,
         made::pieces(&[(0x2_0000, 8 * stack.len() as u32, made::DUMP_DATA + 1232)]),
     ];
     let dump = folder.file("a.dmp", &made::dump_of(&streams, &data));
-    let [(json, status), (text, same)] = [&["--json"][..], &[]].map(|more| {
+    let [json, text] = [&["--json"][..], &[]].map(|more| {
         let (out, complaints, status) =
             run(&[&["stack", &dump, "--images", folder.0.to_str().unwrap()], more].concat());
-        assert_eq!(complaints, "");
-        (out, status)
+        assert_eq!((complaints.as_str(), status), ("", wanted));
+        out
     });
-    let thread = serde_json::from_str::<Value>(&json).unwrap()["threads"][0].take();
-    // A stack that ends elsewhere than at its bottom is lost.
-    let wanted = if thread["end"] == "bottom" { 0 } else { 4 };
-    assert_eq!([status, same], [wanted; 2]);
-    (thread, text)
+    (serde_json::from_str::<Value>(&json).unwrap()["threads"][0].take(), text)
 }
 
 /// A folder, the size of the function table, the top frame's RVA, the stack, the frames, the end, and words of the text.
@@ -115,7 +111,8 @@ fn a_stack_is_whole_only_without_a_guess() {
         ),
     ];
     for (test, size_of_table, rva, stack, frames, end, words) in cases {
-        let (thread, text) = thread_of(test, size_of_table, rva, stack);
+        let wanted = if end == "bottom" { 0 } else { LOST };
+        let (thread, text) = thread_of(test, (size_of_table, rva), stack, wanted);
         let found: Vec<_> =
             thread["frames"].as_array().unwrap().iter().map(|it| json!([it["way"], it["is_guess"]])).collect();
         assert_eq!((json!(found), &thread["end"]), (frames, &json!(end)), "{test}");
@@ -211,6 +208,35 @@ fn names_have_a_bound_in_all() {
     assert_eq!((named, &said["texts_is_limited"]), ((16 << 20) / 4000, &json!(true)));
     let (said, _) = said_of("stack-few-names", &made::full_dump(made::X64), &[]);
     assert_eq!(said["texts_is_limited"], false);
+}
+
+/// Two stacks of 60,000 frames each: of both together 100,000 are shown, and what is past them is said.
+#[test]
+fn frames_have_a_bound_in_all() {
+    let folder = Folder::new("stack-frames");
+    folder.file("a.exe", &program(12));
+    let words = [0, 0, 0, 0, 0xB0, 0x1_8000_1010u64].repeat(60_000);
+    let stack: Vec<u8> = words.iter().chain(&[0; 6]).flat_map(|it| it.to_le_bytes()).collect();
+    let data = [made::context(0x1_8000_1010, 0x2_0000), stack.clone()].concat();
+    let streams = [
+        made::x64_system(),
+        made::threads(&[(0x24, made::DUMP_DATA), (0x25, made::DUMP_DATA)]),
+        made::modules(&[(0x1_8000_0000, 0x6000, 0, 0, [0, 0])]),
+        made::pieces(&[(0x2_0000, stack.len() as u32, made::DUMP_DATA + 1232)]),
+    ];
+    let bytes = made::dump_of(&streams, &data);
+    let images = ["--images", folder.0.to_str().unwrap()];
+    let (said, status) = said_of("stack-many", &bytes, &[&images[..], &["--frames", "70000"]].concat());
+    let threads = said["threads"].as_array().unwrap();
+    let found: Vec<_> =
+        threads.iter().map(|it| (it["frames"].as_array().unwrap().len(), it["end"].as_str().unwrap())).collect();
+    assert_eq!((found, status), (vec![(60_001, "bottom"), (39_999, "bound")], 0));
+    assert_eq!(said["threads_is_limited"], true);
+    let (said, _) = said_of("stack-cut", &bytes, &[&images[..], &["--frames", "10"]].concat());
+    assert_eq!(said["threads_is_limited"], false);
+    let dump = folder.file("a.dmp", &bytes);
+    let words = [&["stack", &dump, "--frames", "70000"], &images[..]].concat();
+    assert!(run(&words).0.contains("the stacks have more than the 100000 that are shown of a dump"));
 }
 
 /// With 200 MB of memory, which a dump of 32 MB needs more of.

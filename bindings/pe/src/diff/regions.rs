@@ -103,16 +103,21 @@ pub fn changed(images: [&Image<'_>; 2], facts: [&Facts; 2]) -> Vec<Changed> {
     let region =
         |number: usize, name| found[number].get(name).map_or(&[][..], |it| &images[number].bytes()[it.clone()]);
     let compared = names.into_iter().map(|name| {
-        let (before, after) = (region(0, name), region(1, name));
-        let unlike = before.iter().zip(after).filter(|(one, other)| one != other).count();
-        let different = (unlike + before.len().abs_diff(after.len())) as u64;
+        let contents = [region(0, name), region(1, name)];
         let name = if name.1 == 0 { name.0.clone() } else { format!("{} ({})", name.0, name.1 + 1) };
-        Changed { name, before: before.len() as u64, after: after.len() as u64, different }
+        Changed::of(name, contents)
     });
     compared.filter(|it| it.different > 0).collect()
 }
 
 impl Changed {
+    /// A region with these bytes in each file.
+    pub fn of(name: String, [before, after]: [&[u8]; 2]) -> Changed {
+        let unlike = before.iter().zip(after).filter(|(one, other)| one != other).count();
+        let different = (unlike + before.len().abs_diff(after.len())) as u64;
+        Changed { name, before: before.len() as u64, after: after.len() as u64, different }
+    }
+
     /// What follows the name in text.
     pub fn text(&self) -> String {
         let Changed { before, after, different, .. } = self;

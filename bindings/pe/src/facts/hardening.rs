@@ -80,7 +80,7 @@ impl Hardening {
             ("CET", self.cet),
             ("SafeSEH", self.safe_seh),
             ("force integrity", Some(self.force_integrity)),
-            ("signed", Some(self.signed)),
+            ("has a signature entry", Some(self.signed)),
             ("no writable code", Some(self.no_writable_code)),
         ]
     }

@@ -1,6 +1,7 @@
 //! What is said of a minidump, as text.
 
 use super::told::{Exception, Memory, Module, System, Thread, Told, Unloaded};
+use super::FRAMES;
 use crate::escape::escaped;
 use crate::facts::{counted, Named};
 use crate::page::{Page, Style};
@@ -65,6 +66,9 @@ pub fn summary(told: &Told) -> Vec<Row> {
             "images",
             format!("{without} without one, {lost} lost: --images FOLDER reads the images below a folder"),
         ));
+    }
+    if told.threads.present().is_some_and(|it| it.is_limited) {
+        rows.push(("frames", format!("the stacks have more than the {FRAMES} that are shown of a dump")));
     }
     if told.texts_is_limited {
         rows.push(("names", "the dump has more names than are shown".to_string()));

@@ -17,7 +17,7 @@ pub const CODE_SIGNING: Purpose = Purpose { octets: &[0x2B, 6, 1, 5, 5, 7, 3, 3]
 /// 1.3.6.1.5.5.7.3.8, which the certificate has to say ([RFC 3161](https://www.rfc-editor.org/rfc/rfc3161), 2.3).
 pub const TIME_STAMPING: Purpose = Purpose { octets: &[0x2B, 6, 1, 5, 5, 7, 3, 8], is_usual: false };
 
-pub const NOT_SAID: Checked = Checked::Not("the signer does not say it");
+const NOT_SAID: Checked = Checked::Not("the signer does not say it");
 const REFUSED: Checked = Checked::Not("its extensions are refused");
 
 /// Whether a certificate's key is for a purpose.

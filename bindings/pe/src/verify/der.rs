@@ -58,13 +58,19 @@ fn pss_at(parameters: &[u8]) -> Option<Pss> {
     // What is left out is by SHA-1.
     let mut found = Pss { hash: Hash::Sha1, mask: Hash::Sha1, salt: 20 };
     let (mut rest, after) = content_of(parameters, SEQUENCE)?;
+    let mut last = 0;
     while let Some(field) = element(rest) {
+        // Each stands once, in this order.
+        if field.tag <= last {
+            return None;
+        }
+        last = field.tag;
         match field.tag {
             0xA0 => found.hash = hash_at(field.content)?,
             0xA1 => found.mask = mask_at(field.content)?,
             0xA2 => found.salt = number_of(content_of(field.content, INTEGER)?.0)?,
             // The trailer, which has one value.
-            0xA3 => (),
+            0xA3 if number_of(content_of(field.content, INTEGER)?.0)? == 1 => (),
             _ => return None,
         }
         rest = field.rest;
@@ -141,6 +147,13 @@ mod tests {
         assert_eq!(pss_at(&[0x30, 0]), Some(Pss { hash: Hash::Sha1, mask: Hash::Sha1, salt: 20 }));
         assert_eq!(pss_at(&whole[..whole.len() - 1]), None);
         assert_eq!(pss_at(&[0x30, 5, 0xA2, 3, 2, 1, 0x80]), None);
+        let sequence = |fields: &[&[u8]]| {
+            let fields = fields.concat();
+            pss_at(&[&[0x30, fields.len() as u8][..], &fields].concat()).map(|it| it.salt)
+        };
+        let (salt, trailer): (&[u8], &[u8]) = (&[0xA2, 3, 2, 1, 32], &[0xA3, 3, 2, 1, 1]);
+        assert_eq!(sequence(&[salt, trailer]), Some(32));
+        assert_eq!([sequence(&[trailer, salt]), sequence(&[salt, salt]), sequence(&[&[0xA3, 3, 2, 1, 2]])], [None; 3]);
         assert_eq!(pss_at(&[]), None);
     }
 

@@ -68,8 +68,9 @@ pub struct Stamp {
     pub digest: Compared,
     /// Of what the stamp signs.
     pub message_digest: Compared,
-    /// Whether the stamp says the type that what it signs has. A counter-signature says none.
-    pub content_type: Checked,
+    /// Whether the stamp says the type that what it signs has. Null of a counter-signature, which says none, and of one
+    /// that is refused.
+    pub content_type: Option<Checked>,
     pub signature: Checked,
     /// Whether the certificate's key is for time stamps.
     pub key_purpose: Checked,
@@ -90,8 +91,9 @@ impl Stamp {
     /// When it was stamped, where all of the stamp fits.
     fn good_time(&self) -> Option<Time> {
         let digests = [&self.digest, &self.message_digest];
-        let checks = [&self.signature, &self.trust, &self.content_type, &self.key_purpose];
-        let is_good = checks.iter().all(|it| **it == Checked::Good) && digests.iter().all(|it| **it == Compared::Equal);
+        let checks = [&self.signature, &self.trust, &self.key_purpose];
+        let is_good = checks.into_iter().chain(&self.content_type).all(|it| *it == Checked::Good)
+            && digests.iter().all(|it| **it == Compared::Equal);
         self.stamped.filter(|_| is_good && self.error.is_none())
     }
 }
@@ -209,7 +211,7 @@ impl<'a> Signed<'a> {
             subject: certificate.map(|it| text_of(it.subject())),
             message_digest: digest.clone(),
             digest,
-            content_type: Checked::Good,
+            content_type: None,
             signature: self.signature(&stamp, certificate),
             key_purpose: claims::key_purpose(certificate, &TIME_STAMPING),
             trust: trust.checked,
@@ -246,10 +248,10 @@ impl<'a> Signed<'a> {
             digest,
             message_digest: signer.map_or(Compared::Absent, |it| signed.message_digest(&it, &mut error)),
             signature: signer.map_or(NO_CERTIFICATE, |it| signed.signature(&it, certificate)),
-            content_type: claims::content_type(
+            content_type: Some(claims::content_type(
                 signer.and_then(|it| or_refused(it.content_type(), &mut error)),
                 signed.content_type,
-            ),
+            )),
             key_purpose: claims::key_purpose(certificate, &TIME_STAMPING),
             trust: trust.checked,
             trust_error: trust.why,
@@ -309,7 +311,7 @@ fn refused_stamp(kind: &'static str, refused: SignatureError) -> Stamp {
         subject: None,
         digest: Compared::Absent,
         message_digest: Compared::Absent,
-        content_type: claims::NOT_SAID,
+        content_type: None,
         signature: NO_CERTIFICATE,
         key_purpose: NO_CERTIFICATE,
         trust: NO_CERTIFICATE,

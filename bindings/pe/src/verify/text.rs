@@ -16,12 +16,26 @@ fn words_of(state: State) -> &'static str {
         State::Wrong => "WRONG: see what is different or wrong",
         State::Weak => "all of it fits, but by MD5: another text with the same digest is made in seconds",
         State::Open => "open: see what was not compared or checked",
-        State::DigestsEqual => "all digests are equal; no signature was checked, nor any certificate",
-        State::SignaturesGood => "all digests are equal and all signatures good; whom to trust was not checked",
+        State::DigestsEqual => {
+            "the digests of file, signers and stamps are equal; no signature was checked, nor any certificate"
+        }
+        State::SignaturesGood => {
+            "the digests of file, signers and stamps are equal and their signatures good; chains and whom to trust were \
+             not checked"
+        }
         State::Trusted => {
-            "all digests are equal, all signatures good, and the chains lead to the roots that were given"
+            "the digests of file, signers and stamps are equal, their signatures good, and the chains lead to the roots \
+             that were given"
         }
     }
+}
+
+/// The words, and what of page hashes is left open where all else fits.
+fn result_of(verified: &Verified) -> String {
+    let fits = [State::Weak, State::DigestsEqual, State::SignaturesGood, State::Trusted].contains(&verified.state);
+    let has_page_hashes = verified.signatures.iter().any(|it| it.page_hashes.is_some());
+    let pages = if fits && has_page_hashes { "; page hashes were not compared" } else { "" };
+    format!("{}{pages}", words_of(verified.state))
 }
 
 fn words_of_digest(digest: &Compared) -> String {
@@ -43,7 +57,11 @@ pub fn of(verified: &Verified, style: Style) -> String {
     if verified.is_limited {
         page.warning("there are more signers, time stamps or nested signatures");
     }
-    page.row("result", words_of(verified.state));
+    if verified.other_entries > 0 {
+        let entries = if verified.other_entries == 1 { "entry" } else { "entries" };
+        page.warning(format_args!("{} {entries} of other types, which are not looked at", verified.other_entries));
+    }
+    page.row("result", result_of(verified));
     page.into_text()
 }
 
@@ -88,7 +106,7 @@ fn signer_of(signer: &Told, page: &mut Page) {
     }
     signer.signing_time.iter().for_each(|it| page.row("  says signed", it));
     page.row("  digest", format_args!("{}, {}", signer.digest_algorithm, words_of_digest(&signer.message_digest)));
-    page.row("", claims_of(&signer.content_type, &signer.key_purpose, "code signing"));
+    page.row("", claims_of(Some(&signer.content_type), &signer.key_purpose, "code signing"));
     page.row("  by", format_args!("{}, {}", signer.signature_algorithm, signer.signature.text()));
     chain_of(signer, page);
     signer.warnings.iter().for_each(|it| page.warning(it));
@@ -98,10 +116,11 @@ fn signer_of(signer: &Told, page: &mut Page) {
     }
 }
 
-/// What is said of the type of the content, and of what the key is for.
-fn claims_of(content_type: &Checked, key_purpose: &Checked, purpose: &str) -> String {
+/// What is said of the type of the content, if it has to be said, and of what the key is for.
+fn claims_of(content_type: Option<&Checked>, key_purpose: &Checked, purpose: &str) -> String {
     let words = |it: &Checked| it.text().replace("wrong", "WRONG");
-    format!("type of the content {}; a key for {purpose}: {}", words(content_type), words(key_purpose))
+    let of_type = content_type.map_or(String::new(), |it| format!("type of the content {}; ", words(it)));
+    format!("{of_type}a key for {purpose}: {}", words(key_purpose))
 }
 
 fn chain_of(signer: &Told, page: &mut Page) {
@@ -134,7 +153,7 @@ fn stamp_of(stamp: &Stamp, page: &mut Page) {
     page.row("  time stamp", format_args!("{time}, {}, by {subject}", stamp.kind));
     page.row("", format_args!("digest of the signature {}", words_of_digest(&stamp.digest)));
     page.row("", format_args!("digest of the stamp {}", words_of_digest(&stamp.message_digest)));
-    page.row("", claims_of(&stamp.content_type, &stamp.key_purpose, "time stamps"));
+    page.row("", claims_of(stamp.content_type.as_ref(), &stamp.key_purpose, "time stamps"));
     let trust = trust_of(&stamp.trust, &stamp.trust_error);
     page.row("", format_args!("signature {}; trust {trust}", stamp.signature.text()));
     stamp.warnings.iter().for_each(|it| page.warning(it));
