@@ -383,9 +383,10 @@ class Contracts:
         self.all = {path: Contract(crate, path, table, known) for path, it in sorted(crate.functions.items())
                     if not (path.startswith("laws") or it.trait)}
 
-    def shown(self):
-        """The functions that show it, of those whose contract has one answer by its form."""
-        found = [it.shown(self.copied) for it in self.all.values() if not it.missing()]
+    def shown(self, has_private=True):
+        """The functions that show it, of those whose contract has one answer by its form, perhaps of public ones alone."""
+        wanted = [it for it in self.all.values() if has_private or (it.is_for_c() if self.crate.kind == "staticlib" else it.is_public())]
+        found = [it.shown(self.copied) for it in wanted if not it.missing()]
         return [it for it in found if it]
 
     def with_shown(self, texts, shown):
