@@ -58,6 +58,8 @@ LAMBDA = re.compile(r"\([^()]*λ(?:[^()]|\([^()]*\))*\)")
 PROJECTION = re.compile(r"(?:\.(?:now|items|entry))+\Z")
 USE = re.compile(r"^([ \t]*)ghost use ([\w.«»]+)\.\{([^}]*)\}", re.M)
 DEFINED = re.compile(r"^(?:abbrev |unfoldable )*pub (\S+) :", re.M)
+# What a crate's root makes public.
+EXPORT = re.compile(r"^pub (?:mod (\w+);|use [\w:]*?(\w+|\{[^}]*\})(?: as \w+)?;)", re.M)
 HEAD_OF_FILE = re.compile(r"(?:(?://!|#!\[)[^\n]*\n|\s*\n)*")
 SPECS = "OneAnswer"
 COMPARED = """-- What two calls have in common.
@@ -383,9 +385,20 @@ class Contracts:
         self.all = {path: Contract(crate, path, table, known) for path, it in sorted(crate.functions.items())
                     if not (path.startswith("laws") or it.trait)}
 
+        root = re.sub(r"//[^\n]*", "", crate.texts.get("src/lib.rt", ""))
+        self.exported = {name for it in EXPORT.finditer(root) for name in re.findall(r"\w+", it[1] or it[2])}
+
+    def is_called_from_outside(self, path):
+        """Whether other crates can call a function, of the library for C whether C can. Of a program nobody can call any."""
+        contract, function = self.all[path], self.all[path].function
+        if self.crate.kind == "staticlib":
+            return contract.is_for_c()
+        own = function.type.split("+")[0] if function.type else function.name
+        return contract.is_public() and bool({own, path.split("::")[0]} & self.exported)
+
     def shown(self, has_private=True):
-        """The functions that show it, of those whose contract has one answer by its form, perhaps of public ones alone."""
-        wanted = [it for it in self.all.values() if has_private or (it.is_for_c() if self.crate.kind == "staticlib" else it.is_public())]
+        """The functions that show it, of those whose contract has one answer by its form, perhaps of those alone that others call."""
+        wanted = [it for path, it in self.all.items() if has_private or self.is_called_from_outside(path)]
         found = [it.shown(self.copied) for it in wanted if not it.missing()]
         return [it for it in found if it]
 

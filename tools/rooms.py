@@ -23,7 +23,6 @@ BODY_LEFT_OUT = """{
 PROOF_LEFT_OUT = "pub left_out {ℓ} : {A : Type ℓ} → A\nleft_out = ?\n"
 # The file of the hole. No type of a crate may have its name.
 HOLE = "HoleOfWhatIsLeftOut"
-WHOLE_LIMITS = "whole"
 ANSWERS = ("Answers.antt", "Invariants.antt")
 HEAD = re.compile(r"^[ \t]*(?:pub(?:\([a-z ]+\))? )?(?:const )?(?:unsafe )?(?:extern \"C\" )?fn (\w+)", re.M)
 IMPL = re.compile(r"^impl(?:<[^{]*?>)? (?:(?:\w+::)*(?P<trait>\w+)(?:<(?P<of>\w+).*?>)? for )?(?P<ref>&'\w+ )?(?P<type>\w+)(?P<args><(?:[^<>{]|<[^<>{]*>)*>)?", re.M)
@@ -250,10 +249,10 @@ class Room:
             file.write(f"use {proofs}.{path.replace('::', '.')}.Statement.{{statement}}\nuse {proofs}.{HOLE}.{{left_out}}\n\n")
             file.write(f"pub {name}_spec : {{M : Type 1}} → statement M\n{name}_spec = left_out\n")
 
-    def check(self, asked, jobs, limits):
+    def check(self, asked, jobs):
         """What a check of the room prints about the functions that are asked for."""
         words = [f"{self.kit}/bin/rattle", *self.crate.words(self.kit), "--allow-holes"]
-        words += ["--jobs", str(jobs), "--incremental", self.kept, *["--margin"] * (limits != WHOLE_LIMITS)]
+        words += ["--jobs", str(jobs), "--incremental", self.kept, "--margin"]
         for path in sorted(asked):
             words += ["--only", path]
         how = {"cwd": self.room, "stdin": subprocess.DEVNULL, "stdout": subprocess.PIPE, "stderr": subprocess.STDOUT}
