@@ -33,6 +33,7 @@ field of a tuple or a struct.
 """
 
 import collections
+import functools
 import os
 import re
 import tomllib
@@ -52,7 +53,7 @@ DERIVES_COPY = re.compile(r"#\[derive\([^)]*\bCopy\b[^)]*\)\]\s*(?:#\[[^\n]*\]\s
 ELIDED = re.compile(r"&(?!')|'_\b")
 # A type with a lifetime, other than a reference without a name.
 BORROWS = re.compile(r"'(?!static)|(?<=.)&(?!'static)")
-STRUCT = r"\bstruct {}(?:<[^{{(;]*?>)?\s*\{{(.*?)^\}}"
+STRUCT = re.compile(r"\bstruct (\w+)(?:<[^{(;]*?>)?\s*\{(.*?)^\}", re.S | re.M)
 CONDITIONAL = re.compile(r"→|↔")
 LAMBDA = re.compile(r"\([^()]*λ(?:[^()]|\([^()]*\))*\)")
 PROJECTION = re.compile(r"(?:\.(?:now|items|entry))+\Z")
@@ -81,6 +82,12 @@ Clause = collections.namedtuple("Clause", "kind name text")
 Fixed = collections.namedtuple("Fixed", "text targets unless")
 # A function that shows that another one's contract has one answer: its path, that of the other, its text, the words in its clauses.
 Shown = collections.namedtuple("Shown", "path of text words")
+
+
+@functools.cache
+def structs_of(crate):
+    """Of each struct of a crate what stands in its braces, without comments."""
+    return {it[1]: re.sub(r"//[^\n]*", "", it[2]) for text in crate.texts.values() for it in STRUCT.finditer(text)}
 
 
 def read_table():
@@ -260,12 +267,8 @@ class Contract:
         if of.startswith("("):
             return {str(it) for it in range(len(split_outside(of[1:-1], ",")))} <= {*fields}
         name = re.match(r"\w+", self.function.type if of == "Self" else of or "")
-        for text in self.crate.texts.values():
-            found = re.search(STRUCT.format(name[0]), text, re.S | re.M) if name else None
-            if found:
-                inside = re.sub(r"//[^\n]*", "", found[1])
-                return {*re.findall(r"^\s*(?:pub(?:\([a-z ]+\))? )?(\w+):", inside, re.M)} <= {*fields}
-        return False
+        inside = structs_of(self.crate).get(name[0]) if name else None
+        return inside is not None and {*re.findall(r"^\s*(?:pub(?:\([a-z ]+\))? )?(\w+):", inside, re.M)} <= {*fields}
 
     def shown(self, copied):
         """The function that shows that the contract has one answer, or None where a parameter is a pattern."""

@@ -88,16 +88,19 @@ def module_of(file):
     return "::".join(it for it in file[len("src/"):-len(".rt")].split("/") if it not in ("lib", "main"))
 
 
+def crates_below(name, lines):
+    """The crates of the repository that a crate rests on, the lowest first."""
+    found = [one for it in lines[name][1] if it in lines for one in (*crates_below(it, lines), it)]
+    return [*dict.fromkeys(found)]
+
+
 class Crate:
     """A crate of the repository, its functions by their paths, and its edits."""
 
     def __init__(self, top, name, lines):
         self.top, self.name, self.folder = top, name, f"{top}/crates/{name}"
         self.kind, self.uses = lines[name]
-        self.below = []
-        for it in self.uses:
-            if it in lines:
-                self.below += [one for one in [*Crate(top, it, lines).below, it] if one not in self.below]
+        self.below = crates_below(name, lines)
         self.texts = {}
         for at, _, files in os.walk(f"{self.folder}/src"):
             for path in (os.path.join(at, it) for it in files):
