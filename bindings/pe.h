@@ -79,7 +79,7 @@ extern "C" {
 /* ---- the ABI
  *
  * The number of the ABI is in the name of this call, and grows with each change that breaks callers. A program refers to the name
- * from each file that includes this header, so it does not link with an archive of another ABI. Returns the number. */
+ * from each file that includes pe.h, so it does not link with an archive of another ABI. Returns the number. */
 uint32_t pe_c_abi_4(void);
 #if defined(__GNUC__)
 static uint32_t (*const pe_c_abi)(void) __attribute__((used)) = pe_c_abi_4;
@@ -208,7 +208,7 @@ enum pe_c_result {
 /* Modes. PE_C_MAPPED is added to one of the others, or stands for PE_C_STRICT | PE_C_MAPPED. */
 enum {
     PE_C_STRICT = 0,
-    PE_C_PERMISSIVE = 1,            /* a mode; without it a mode is strict */
+    PE_C_PERMISSIVE = 1,            /* accepts what the head of pe.h lists; a mode without it is strict */
     PE_C_MAPPED = 2                 /* added to a mode: the bytes are an image as loaded */
 };
 

@@ -101,7 +101,7 @@ class Header:
         self.functions, text = self.without_functions(text)
         self.version = re.search(r'^#define PE_C_VERSION "(.*)"$', text, re.M)[1]
         self.records = self.read_records(text, whole)
-        self.calls = self.read_calls(text, self.comments_of_calls(whole))
+        self.calls = self.read_calls(text, self.comments_of_calls(whole), {*WIDTHS, *self.records})
         self.constants = self.read_constants(text)
         self.results = self.read_constants(re.search(r"\benum pe_c_result \{.*?\}", text, re.S)[0])
         # Of each constant that has one the comment after it, on one line.
@@ -149,16 +149,18 @@ class Header:
         return comments
 
     @staticmethod
-    def read_calls(text, comments):
+    def read_calls(text, comments, kinds):
         calls = {}
         for result, name, body in re.findall(r"^(\w+) (pe_c_\w+)\(([^)]*)\)(?:\s+PE_C_\w+\([\d, ]+\))?;", text, re.M):
             parameters = []
             for it in re.split(r"\s*,\s*", body.strip()) if body.strip() != "void" else []:
                 form = re.fullmatch(r"(const )?(\w+) (\*?)(\w+)", re.sub(r"\s+", " ", it))
-                if not form:
+                if not form or form[2] not in kinds:
                     raise Unknown(f"{name}: the parameter {it}")
                 is_const, kind, star, own = form.groups()
                 parameters.append(Parameter(own, kind, bool(star), bool(is_const)))
+            if result not in WIDTHS:
+                raise Unknown(f"{name}: the result {result}")
             calls[name] = Call(name, result, tuple(parameters), comments.get(name, ""))
         declared = set(re.findall(r"\b(pe_c_\w+)\(", text))
         if declared != set(calls):

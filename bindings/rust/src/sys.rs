@@ -14,7 +14,7 @@ use crate::Error;
 pub const DONE: u32 = 0;
 /// There is nothing of the kind, or the walk is over.
 pub const NOTHING: u32 = 100;
-/// A mode; without it a mode is strict.
+/// Accepts what the head of pe.h lists; a mode without it is strict.
 pub const PERMISSIVE: u32 = 1;
 /// Added to a mode: the bytes are an image as loaded.
 pub const MAPPED: u32 = 2;
@@ -87,9 +87,8 @@ pub struct ImageInfo {
     pub entry: u32,
     /// Bytes; a power of two, or no RVA of a file is mapped.
     pub file_alignment: u32,
-    /// How the image is read: [`PERMISSIVE`], [`MAPPED`], both or 0, that of the call of [`pe_c_image`].
-    ///
-    /// A caller may change it.
+    /// How the image is read: [`PERMISSIVE`], [`MAPPED`], both or 0, that of the call of [`pe_c_image`]. A caller may
+    /// change it.
     pub mode: u32,
     /// Bytes: sections start at multiples of it in memory.
     pub section_alignment: u32,
@@ -934,9 +933,8 @@ pub struct UtcTime {
     pub hour: u32,
     /// 0 to 59.
     pub minute: u32,
-    /// 0 to 59; a fraction is left out.
-    ///
-    /// A time stamp may have one; that a certificate and a signing time have none (RFC 5280, RFC 5652) is not tested.
+    /// 0 to 59; a fraction is left out. A time stamp may have one; that a certificate and a signing time have none (RFC
+    /// 5280, RFC 5652) is not tested.
     pub second: u32,
 }
 const _: () = assert!(core::mem::size_of::<UtcTime>() == 24);
@@ -1056,9 +1054,8 @@ pub struct Code {
     /// A register: 0 to 15 rax, rcx, rdx, rbx, rsp, rbp, rsi, rdi, r8 .. r15; 17 to 32 xmm0 .. xmm15; or as the
     /// operation says; else 0.
     pub operand: u8,
-    /// 1: once `PE_C_SET_FRAME` has run, `value` counts from the frame register minus `frame_register_offset`.
-    ///
-    /// Before that, and if this is 0, it counts from rsp.
+    /// 1: once `PE_C_SET_FRAME` has run, `value` counts from the frame register minus `frame_register_offset`. Before
+    /// that, and if this is 0, it counts from rsp.
     pub from_frame: u8,
     /// Bytes, or as the operation says; else 0.
     pub value: u32,
@@ -1156,9 +1153,8 @@ pub struct Frame {
     /// 0, or where [`pe_c_find_function`] returned [`NOTHING`] 1: a leaf function, of which neither `function` nor
     /// `rva` is read.
     pub leaf: u32,
-    /// After a step 1 where an interrupt stopped the caller: its rip is the instruction that is about to run.
-    ///
-    /// Else 0: it is a return address.
+    /// After a step 1 where an interrupt stopped the caller: its rip is the instruction that is about to run. Else 0:
+    /// it is a return address.
     pub interrupted: u32,
 }
 const _: () = assert!(core::mem::size_of::<Frame>() == 424);
@@ -1365,9 +1361,7 @@ pub struct Arm64Frame {
     /// 0, or where [`pe_c_find_arm64_function`] returned [`NOTHING`] 1: a leaf function, of which neither `function`
     /// nor `rva` is read.
     pub leaf: u32,
-    /// After a step 1 where no call left the caller: its pc is the instruction that is about to run.
-    ///
-    /// Else 0.
+    /// After a step 1 where no call left the caller: its pc is the instruction that is about to run. Else 0.
     pub interrupted: u32,
     /// 0
     pub spare: u32,
@@ -2410,9 +2404,7 @@ pub struct DumpModule {
     pub module_name_rva: u32,
     /// Its version.
     pub version_info: DumpVersion,
-    /// Its CodeView record: [`pe_c_dump_range`], then [`pe_c_codeview`].
-    ///
-    /// No bytes where there is none.
+    /// Its CodeView record: [`pe_c_dump_range`], then [`pe_c_codeview`]. No bytes where there is none.
     pub cv_record: DumpLocation,
     /// Its `IMAGE_DEBUG_MISC`.
     pub misc_record: DumpLocation,
@@ -2689,8 +2681,8 @@ const _: () = assert!(core::mem::size_of::<Arm64Context>() == 336);
 extern "C" {
     /// The number of the ABI is in the name of this call, and grows with each change that breaks callers.
     ///
-    /// A program refers to the name from each file that includes this header, so it does not link with an archive of
-    /// another ABI. Returns the number.
+    /// A program refers to the name from each file that includes pe.h, so it does not link with an archive of another
+    /// ABI. Returns the number.
     pub fn pe_c_abi_4() -> u32;
     /// Writes the text of a result to the start of the array, in UTF-8, with a zero after it; where the array is too
     /// small as much of it as has room before the zero.
