@@ -1,10 +1,8 @@
 //! What each call returns for images made by hand. Expected values come from how the images are made.
 
-mod facts;
-mod made;
-
-use facts::{as_loaded, facts};
-use made::*;
+use crate::facts::{as_loaded, facts};
+use crate::made;
+use crate::made::*;
 use pe_c::{
     Arm64Operation, Arm64Unwinding, DirectoryIndex, Error, Handler, Image, Layout, Mode, Offset, Operation, Placement,
     Register, Relocation, Repro, ResourceName, SymbolKey, VersionName,

@@ -1,10 +1,7 @@
 //! The CLR header of images, the root of their metadata, and its streams.
 
-mod facts;
-mod made;
-
-use facts::as_loaded;
-use made::*;
+use crate::facts::as_loaded;
+use crate::made::*;
 use pe_c::{sys, Directory, Error, Image, Layout, MetadataStream, Mode};
 
 fn strict(bytes: &[u8]) -> Image<'_> {

@@ -1,8 +1,6 @@
 //! Walks of threads that crashed, over a made image and stacks by hand: what is expected is what each function was entered with.
 
-mod made;
-
-use made::{Made, ADDRESS, CALL, EXCEPTIONS, X64};
+use crate::made::{Made, ADDRESS, CALL, EXCEPTIONS, X64};
 use pe_c::{End, Frames, Image, MemoryList, MemoryPiece, Mode, Module, Registers, StepError, Way};
 
 /// Where the image is loaded.

@@ -1,10 +1,7 @@
 //! The DLLs of the delay import directory, and what is imported of each.
 
-mod facts;
-mod made;
-
-use facts::as_loaded;
-use made::*;
+use crate::facts::as_loaded;
+use crate::made::*;
 use pe_c::{sys, DelayedFunction, Error, Image, Layout, Mode};
 
 fn strict(bytes: &[u8]) -> Image<'_> {

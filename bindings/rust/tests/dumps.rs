@@ -1,14 +1,12 @@
 //! Minidumps: streams, memory and modules by their addresses, which images are taken, and stacks, of dumps that are made by hand.
 
-mod made;
-mod reading;
-
-use made::{context, dump_of, full_dump, modules, pieces, threads, words, x64_system, DUMP_DATA};
+use crate::made;
+use crate::made::{context, dump_of, full_dump, modules, pieces, threads, words, x64_system, DUMP_DATA};
+use crate::reading::{read_dump, Seen};
 use pe_c::{
     Dump, DumpContext, DumpImages, DumpLocation, DumpMemory, End, Error, ImageSource, MemoryPiece, Stacks, SymbolKey,
     Way,
 };
-use reading::{read_dump, Seen};
 
 /// Where `with_calls` is loaded, which has 6000h bytes.
 const BASE: u64 = 0x1_8000_0000;

@@ -1,8 +1,6 @@
 //! Why items of iterators, and what is read by its key, are errors. Expected values come from how the images are made.
 
-mod made;
-
-use made::*;
+use crate::made::*;
 use pe_c::{Arm64Unwinding, Coff, DirectoryIndex, Error, Failure, Image, Mode, Te};
 
 /// The file offset of a directory.

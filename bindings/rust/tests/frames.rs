@@ -1,6 +1,6 @@
 //! Steps and walks over a made image. The stacks are by hand, from what the prologs of its functions do.
 
-mod made;
+use crate::made;
 
 use pe_c::{
     sys, Arm64Registers, End, Error, Frame, Frames, Function, Image, MemoryList, MemoryPiece, Mode, Module, Registers,

@@ -1,11 +1,9 @@
 //! Damaged and truncated bytes, and wrong records: every call returns, and the ranges that it returns lie in the bytes.
 
-mod made;
-mod reading;
-
-use made::*;
+use crate::made;
+use crate::made::*;
+use crate::reading::{read_all, Seen};
 use pe_c::{sys, Image, Layout, Mode};
-use reading::{read_all, Seen};
 
 const WAYS: [(Mode, Layout); 4] = [
     (Mode::Strict, Layout::File),

@@ -1,9 +1,7 @@
 //! Iterators return what the steps of their walks do, one after the other, and an error in its place: also those that take several
 //! items a call, as those of codes and functions of x64 do.
 
-mod made;
-
-use made::*;
+use crate::made::*;
 use pe_c::{sys, Arm64Code, Arm64Unwinding, Code, Error, Failure, Image, Mode};
 use std::fmt::Debug;
 

@@ -1,10 +1,7 @@
 //! The load configuration of images: each field, and which are there.
 
-mod facts;
-mod made;
-
-use facts::as_loaded;
-use made::*;
+use crate::facts::as_loaded;
+use crate::made::*;
 use pe_c::{DirectoryIndex, Error, GuardTable, Image, Layout, LoadConfig, LoadConfigField, Mode};
 
 fn strict(bytes: &[u8]) -> Image<'_> {

@@ -1,6 +1,6 @@
 //! Images of many sections, of which an index is made: what is read of them is what is read of an image with one section.
 
-mod made;
+use crate::made;
 
 use pe_c::{sys, Image, Mode};
 use std::time::{Duration, Instant};

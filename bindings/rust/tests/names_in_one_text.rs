@@ -1,9 +1,7 @@
 //! Lists over files of some megabytes whose names all start in one long text, so that to read each by itself takes minutes or hours: the
 //! contracts say what a list holds and leave open how its names are read, so only the time shows that they are read together.
 
-mod made;
-
-use made::*;
+use crate::made::*;
 use pe_c::{Coff, Error, Image, Mode};
 use std::sync::mpsc;
 use std::thread;

@@ -1,11 +1,8 @@
 //! COFF objects, COFF symbols of images, TE images, and why headers are refused.
 
-mod made;
-mod reading;
-
-use made::{object, object_with_names_in_one_text, te_image, with_long_section_name, OFFSET, SMALL};
+use crate::made::{object, object_with_names_in_one_text, te_image, with_long_section_name, OFFSET, SMALL};
+use crate::reading::{read_others, Seen};
 use pe_c::{Coff, Error, Image, Layout, Mode, Te};
-use reading::{read_others, Seen};
 use std::time::{Duration, Instant};
 
 #[test]

@@ -1,7 +1,7 @@
 //! Resources and version information that are changed, of images made by hand. What is written is read back by the walks of the
 //! library, which are other code; its bytes are tested in the tests of the library for C.
 
-mod made;
+use crate::made;
 
 use pe_c::{sys, Error, Image, Mode, ResourceEditor, ResourceKey, VersionInfo};
 

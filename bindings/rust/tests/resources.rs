@@ -1,11 +1,8 @@
 //! Resources one by one, the Rich header, bound imports and long section names, of images made by hand. Expected values come
 //! from how the images are made.
 
-mod facts;
-mod made;
-
-use facts::as_loaded;
-use made::*;
+use crate::facts::as_loaded;
+use crate::made::*;
 use pe_c::{
     BoundForwarder, Error, Image, Layout, LibraryForwarder, Mode, ResourceDirectory, ResourceName, RichEntry, Text,
     VersionName,

@@ -1,12 +1,10 @@
 //! What `{:?}` prints: names as text, contents by their length, and of no record the file. Expected texts come from how the images
 //! are made.
 
-mod made;
-mod reading;
-
-use made::*;
+use crate::made;
+use crate::made::*;
+use crate::reading::{print_all, read_dump, read_others, Seen, MOST_PRINTED};
 use pe_c::{Coff, Guid, Image, Layout, Mode, Name, ResourceKey, Te, Text, VersionInfo};
-use reading::{print_all, read_dump, read_others, Seen, MOST_PRINTED};
 
 const MEBIBYTE: usize = 1 << 20;
 

@@ -1,8 +1,7 @@
 //! Signatures: one that osslsigncode made, by what `openssl asn1parse`, `openssl x509` and `osslsigncode verify` print of it.
 
-mod made;
-
-use made::signature;
+use crate::made;
+use crate::made::signature;
 use pe_c::{Error, Image, KnownOid, Mode, Name, Signature, Signer, Time, X509};
 
 fn time(text: &str) -> impl Fn(Time) -> bool + '_ {

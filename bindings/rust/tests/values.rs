@@ -1,11 +1,8 @@
 //! Values that lie close to others: zeros and empty texts that are there, flags that stand alone, sums, loops. Expected values
 //! come from how the images are made, by the PE format.
 
-mod facts;
-mod made;
-
-use facts::as_loaded;
-use made::*;
+use crate::facts::as_loaded;
+use crate::made::*;
 use pe_c::{
     Arm64Unwinding, DirectoryIndex, Error, Frames, Handler, Image, Layout, MemoryList, MemoryPiece, Mode, Module,
     Registers, Repro, Text, VersionName, Way,

@@ -1,8 +1,6 @@
 //! Version information by its blocks.
 
-mod made;
-
-use made::{with_resources, with_version_strings, SMALL};
+use crate::made::{with_resources, with_version_strings, SMALL};
 use pe_c::{Error, Image, Mode, VersionBlock, VersionLanguage};
 
 fn strict(bytes: &[u8]) -> Image<'_> {
