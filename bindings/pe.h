@@ -78,8 +78,8 @@ extern "C" {
 
 /* ---- the ABI
  *
- * Its number is in the name of this call, and grows with each change that breaks callers. A program refers to the name
- * from each file that includes this header, so it does not link with an archive of another ABI. Returns the number. */
+ * The number of the ABI is in the name of this call, and grows with each change that breaks callers. A program refers to the name
+ * from each file that includes pe.h, so it does not link with an archive of another ABI. Returns the number. */
 uint32_t pe_c_abi_4(void);
 #if defined(__GNUC__)
 static uint32_t (*const pe_c_abi)(void) __attribute__((used)) = pe_c_abi_4;
@@ -91,7 +91,7 @@ static uint32_t (*const pe_c_abi)(void) __attribute__((used)) = pe_c_abi_4;
  * width of an enum open; debuggers show a number by its name where it is cast to this one. tools/make_errors writes it. */
 
 enum pe_c_result {
-    PE_C_DONE = 0,
+    PE_C_DONE = 0,                  /* the call succeeded */
     PE_C_MEMORY = 1,                /* out of memory; never returned */
     PE_C_SHORT = 2,                 /* truncated */
     PE_C_BAD_MAGIC = 3,             /* invalid magic number */
@@ -206,7 +206,11 @@ enum pe_c_result {
 };
 
 /* Modes. PE_C_MAPPED is added to one of the others, or stands for PE_C_STRICT | PE_C_MAPPED. */
-enum { PE_C_STRICT = 0, PE_C_PERMISSIVE = 1, PE_C_MAPPED = 2 };
+enum {
+    PE_C_STRICT = 0,
+    PE_C_PERMISSIVE = 1,            /* accepts what the head of pe.h lists; a mode without it is strict */
+    PE_C_MAPPED = 2                 /* added to a mode: the bytes are an image as loaded */
+};
 
 /* Writes the text of a result to the start of the array, in UTF-8, with a zero after it; where the array is too small as
  * much of it as has room before the zero. Returns the length of the whole text in bytes, which is below 128.
@@ -356,7 +360,7 @@ typedef struct {
 
 /* A data directory. Both fields are 0 where it is absent. */
 typedef struct {
-    uint32_t virtual_address;       /* RVA */
+    uint32_t virtual_address;       /* RVA; of the certificate table a file offset */
     uint32_t size;                  /* bytes */
 } pe_c_directory;
 
@@ -383,11 +387,12 @@ enum {
 typedef struct {
     uint64_t base;                  /* ImageBase, the preferred virtual address of the image; add RVAs to it */
     uint64_t sections_offset;       /* offset of the section headers */
-    uint64_t checksum_offset;       /* offset of the field CheckSum, 4 bytes */
+    uint64_t checksum_offset;       /* offset of the field CheckSum, 4 bytes; 0 without an optional header */
     uint64_t certificate_entry_offset;  /* offset of directory PE_C_DIRECTORY_SECURITY, 8 bytes; 0 without that entry */
     uint32_t entry;                 /* RVA of the entry point */
     uint32_t file_alignment;        /* bytes; a power of two, or no RVA of a file is mapped */
-    uint32_t mode;                  /* how the image is read: that of the call of pe_c_image. A caller may change it */
+    uint32_t mode;                  /* how the image is read: PE_C_PERMISSIVE, PE_C_MAPPED, both or 0, that of the
+                                       call of pe_c_image. A caller may change it */
     uint32_t section_alignment;     /* bytes: sections start at multiples of it in memory */
     uint32_t size_of_image;         /* bytes of the image in memory */
     uint32_t size_of_headers;       /* bytes of the headers in the file, rounded up to the file alignment */
@@ -397,23 +402,23 @@ typedef struct {
     pe_c_directory directories[16]; /* by their indices, PE_C_DIRECTORY_EXPORT and so on */
     uint16_t machine;               /* IMAGE_FILE_MACHINE_AMD64 0x8664, _ARM64 0xAA64, _I386 0x14C, or another */
     uint16_t width;                 /* 64 for PE32+, 32 for PE32, 0 without an optional header */
-    uint16_t number_of_sections;
+    uint16_t number_of_sections;    /* the number of section headers */
     uint16_t characteristics;       /* IMAGE_FILE_ flags; IMAGE_FILE_DLL 0x2000 */
     uint16_t subsystem;             /* IMAGE_SUBSYSTEM_: 1 native, 2 Windows GUI, 3 Windows console, 10 EFI, or another */
     uint16_t dll_characteristics;   /* IMAGE_DLLCHARACTERISTICS_ flags */
 } pe_c_image_info;
 
-/* IMAGE_SECTION_HEADER. */
+/* A section header, IMAGE_SECTION_HEADER. */
 typedef struct {
     uint8_t name[8];                /* padded with zeros; a name of 8 bytes is not NUL-terminated */
     uint32_t virtual_size;          /* bytes in memory */
     uint32_t virtual_address;       /* RVA of its first byte */
     uint32_t size_of_raw_data;      /* bytes in the file */
-    uint32_t pointer_to_raw_data;   /* file offset */
+    uint32_t pointer_to_raw_data;   /* file offset of its first byte */
     uint32_t pointer_to_relocations;    /* file offset; 0 in images */
     uint32_t pointer_to_linenumbers;    /* file offset, or 0 */
-    uint16_t number_of_relocations;
-    uint16_t number_of_linenumbers;
+    uint16_t number_of_relocations; /* 0 in images */
+    uint16_t number_of_linenumbers; /* the number of COFF line numbers */
     uint32_t characteristics;       /* IMAGE_SCN_ flags */
 } pe_c_section;
 
@@ -432,10 +437,10 @@ typedef struct {
  * none. A caller makes one view and passes it to all calls. Digests, certificates, edits, the string table and bound imports
  * need no sections: of these the view may have none. */
 typedef struct {
-    const uint8_t *bytes;
+    const uint8_t *bytes;           /* the bytes of the image */
     size_t length;                  /* of the bytes */
-    const pe_c_image_info *image;   /* not NULL */
-    const pe_c_section *sections;
+    const pe_c_image_info *image;   /* its headers, which say how it is read; not NULL */
+    const pe_c_section *sections;   /* its section headers */
     size_t count;                   /* of the sections */
     const pe_c_index_entry *index;  /* what pe_c_index made of these sections; NULL for no index */
     size_t entries;                 /* of the index; 0 for no index, and then calls test the sections in turn */
@@ -484,7 +489,7 @@ typedef struct {
     uint16_t signature;             /* e_magic: 0x5A4D, "MZ" */
     uint16_t bytes_on_last_page;    /* e_cblp */
     uint16_t pages_in_file;         /* e_cp: of 512 bytes */
-    uint16_t relocations;           /* e_crlc */
+    uint16_t relocations;           /* e_crlc: how many */
     uint16_t size_of_header_in_paragraphs;  /* e_cparhdr: of 16 bytes */
     uint16_t minimum_extra_paragraphs;  /* e_minalloc */
     uint16_t maximum_extra_paragraphs;  /* e_maxalloc */
@@ -493,7 +498,7 @@ typedef struct {
     uint16_t checksum;              /* e_csum */
     uint16_t initial_ip;            /* e_ip */
     uint16_t initial_relative_cs;   /* e_cs */
-    uint16_t relocations_offset;    /* e_lfarlc */
+    uint16_t relocations_offset;    /* e_lfarlc: file offset of the relocations */
     uint16_t overlay_number;        /* e_ovno */
     uint16_t reserved[4];           /* e_res */
     uint16_t oem_id;                /* e_oemid */
@@ -508,7 +513,7 @@ typedef struct {
     uint32_t pointer_to_symbol_table;   /* file offset of the COFF symbols, or 0 */
     uint32_t number_of_symbol_table;    /* their entries of 18 bytes, auxiliary records included */
     uint16_t machine;               /* IMAGE_FILE_MACHINE_ */
-    uint16_t number_of_sections;
+    uint16_t number_of_sections;    /* the number of section headers */
     uint16_t size_of_optional_header;   /* bytes; 0 where there is no optional header */
     uint16_t characteristics;       /* IMAGE_FILE_ flags */
 } pe_c_coff_header;
@@ -516,13 +521,13 @@ typedef struct {
 /* IMAGE_OPTIONAL_HEADER32 or IMAGE_OPTIONAL_HEADER64. */
 typedef struct {
     uint64_t image_base;            /* preferred virtual address of the image */
-    uint64_t size_of_stack_reserve; /* bytes */
-    uint64_t size_of_stack_commit;  /* bytes */
-    uint64_t size_of_heap_reserve;  /* bytes */
-    uint64_t size_of_heap_commit;   /* bytes */
-    uint32_t size_of_code;          /* bytes */
-    uint32_t size_of_initialized_data;  /* bytes */
-    uint32_t size_of_uninitialized_data;    /* bytes */
+    uint64_t size_of_stack_reserve; /* bytes of the stack to reserve */
+    uint64_t size_of_stack_commit;  /* bytes of the stack to commit */
+    uint64_t size_of_heap_reserve;  /* bytes of the heap to reserve */
+    uint64_t size_of_heap_commit;   /* bytes of the heap to commit */
+    uint32_t size_of_code;          /* bytes of all sections of code */
+    uint32_t size_of_initialized_data;  /* bytes of all sections of initialized data */
+    uint32_t size_of_uninitialized_data;  /* bytes of all sections of uninitialized data */
     uint32_t address_of_entry_point;    /* RVA, or 0 */
     uint32_t base_of_code;          /* RVA */
     uint32_t base_of_data;          /* RVA; 0 in PE32+, which has no such field */
@@ -531,31 +536,32 @@ typedef struct {
     uint32_t win32_version_value;   /* reserved */
     uint32_t size_of_image;         /* bytes in memory */
     uint32_t size_of_headers;       /* bytes in the file, rounded up to the file alignment */
-    uint32_t check_sum;
+    uint32_t check_sum;             /* `CheckSum`, as the file has it */
     uint32_t loader_flags;          /* reserved */
     uint32_t number_of_rva_and_sizes;   /* directories, as the header says */
     uint32_t number_of_directories; /* those of them that are kept, at most 16 */
     uint16_t magic;                 /* 0x10B in PE32, 0x20B in PE32+ */
-    uint16_t major_operating_system_version;
-    uint16_t minor_operating_system_version;
-    uint16_t major_image_version;
-    uint16_t minor_image_version;
-    uint16_t major_subsystem_version;
-    uint16_t minor_subsystem_version;
+    uint16_t major_operating_system_version;  /* the major version of the operating system that is required */
+    uint16_t minor_operating_system_version;  /* the minor version of the operating system that is required */
+    uint16_t major_image_version;   /* the major version of the image */
+    uint16_t minor_image_version;   /* the minor version of the image */
+    uint16_t major_subsystem_version;  /* the major version of the subsystem */
+    uint16_t minor_subsystem_version;  /* the minor version of the subsystem */
     uint16_t subsystem;             /* IMAGE_SUBSYSTEM_ */
     uint16_t dll_characteristics;   /* IMAGE_DLLCHARACTERISTICS_ flags */
-    uint8_t major_linker_version;
-    uint8_t minor_linker_version;
+    uint8_t major_linker_version;   /* the major version of the linker */
+    uint8_t minor_linker_version;   /* the minor version of the linker */
 } pe_c_optional_header;
 
-/* Without an optional header its numbers and both offsets are 0, and all directories are absent. */
+/* All numbers of the headers of an image. Without an optional header its numbers and both offsets are 0, and all directories are
+ * absent. */
 typedef struct {
-    pe_c_optional_header optional;
+    pe_c_optional_header optional;  /* the optional header */
     pe_c_range dos_stub;            /* between the DOS header and the PE signature; no bytes where these overlap */
-    uint64_t optional_offset;       /* of the optional header */
-    uint64_t directories_offset;    /* of the data directories, 8 bytes each */
-    pe_c_dos_header dos;
-    pe_c_coff_header coff;
+    uint64_t optional_offset;       /* offset of the optional header */
+    uint64_t directories_offset;    /* offset of the data directories, 8 bytes each */
+    pe_c_dos_header dos;            /* the DOS header */
+    pe_c_coff_header coff;          /* the COFF header */
     uint32_t signature;             /* 0x4550, "PE" */
     pe_c_directory directories[16]; /* by their indices; absent from number_of_directories on */
 } pe_c_headers_info;
@@ -667,10 +673,10 @@ uint32_t pe_c_long_section_name(const uint8_t *bytes, size_t length, const pe_c_
 /* A COFF symbol, IMAGE_SYMBOL, with what its entry says of others. */
 typedef struct {
     pe_c_range auxiliary;           /* its auxiliary records, 18 bytes each, up to the end of the table */
-    uint64_t index;                 /* of its entry in the table; auxiliary records count */
+    uint64_t index;                 /* index of its entry in the table; auxiliary records count */
     uint8_t name[8];                /* padded with zeros; or 4 zeros, and the offset of a longer name in the string table */
     uint32_t value;                 /* by the storage class, for instance an offset in the section */
-    uint32_t string_offset;         /* of the name in the string table, from its size field; 0 where `name` has the name */
+    uint32_t string_offset;         /* offset of the name in the string table, from its size field; 0 where `name` has it */
     int16_t section_number;         /* from 1; 0 IMAGE_SYM_UNDEFINED, -1 _ABSOLUTE, -2 _DEBUG */
     uint16_t type;                  /* IMAGE_SYM_TYPE_ and IMAGE_SYM_DTYPE_ */
     uint8_t storage_class;          /* IMAGE_SYM_CLASS_ */
@@ -732,6 +738,7 @@ uint32_t pe_c_symbol_name(const uint8_t *bytes, size_t length, const pe_c_range 
  * Microsoft's linker writes it between the DOS stub and the PE header: which tools made the objects of the image. Microsoft
  * does not document it; https://www.ntcore.com/files/richsign.htm does. */
 
+/* The Rich header. */
 typedef struct {
     pe_c_range entries;             /* 8 bytes each, XORed with the key; a walk through them */
     uint64_t count;                 /* how many entries there are */
@@ -741,6 +748,7 @@ typedef struct {
     uint32_t spare;                 /* 0 */
 } pe_c_rich_header_info;
 
+/* An entry of a Rich header. */
 typedef struct {
     uint16_t build;                 /* the build of the tool */
     uint16_t product;               /* which tool it is */
@@ -768,7 +776,7 @@ uint32_t pe_c_next_rich_entry(const uint8_t *bytes, size_t length, uint32_t key,
  * A record is read from one entry: the first of its type, or one that the caller has. No other entry is read, so what
  * damages one record makes no difference to another. */
 
-/* IMAGE_DEBUG_DIRECTORY. */
+/* An entry of the debug directory, IMAGE_DEBUG_DIRECTORY. */
 typedef struct {
     uint32_t characteristics;       /* reserved */
     uint32_t time_date_stamp;       /* seconds since 1970, or a hash in a reproducible build */
@@ -820,6 +828,7 @@ typedef struct {
     uint32_t spare;                 /* 0 */
 } pe_c_pogo;
 
+/* An entry of a POGO record. */
 typedef struct {
     pe_c_range name;                /* with its final zero */
     uint32_t rva;                   /* RVA of the part */
@@ -848,7 +857,8 @@ typedef struct {
     pe_c_pogo pogo;                 /* of pe_c_debug_pogo */
     pe_c_vc_features features;      /* of pe_c_debug_vc_features */
     uint32_t characteristics;       /* of pe_c_debug_characteristics */
-    uint32_t key_result, pdb20_result, repro_result, pogo_result, features_result, characteristics_result;
+    uint32_t key_result, pdb20_result, repro_result;    /* of each of these fields the result of its call */
+    uint32_t pogo_result, features_result, characteristics_result;  /* of these too */
 } pe_c_debug_records;
 
 PE_C_SIZE(pe_c_debug_entry, 28);
@@ -970,15 +980,15 @@ uint32_t pe_c_next_pogo_entry(const uint8_t *bytes, size_t length, pe_c_range *w
 /* The header of a TE image, EFI_TE_IMAGE_HEADER. Its RVAs are reduced by rva_offset. */
 typedef struct {
     uint64_t image_base;            /* preferred virtual address of the image */
-    uint32_t entry_point;           /* RVA */
-    uint32_t base_of_code;          /* RVA */
+    uint32_t entry_point;           /* RVA of the entry point */
+    uint32_t base_of_code;          /* RVA of the code */
     pe_c_directory reloc_dir;       /* the base relocations; the RVA is reduced where it is absent too */
     pe_c_directory debug_dir;       /* the debug directory; both fields are 0 where it is absent */
     uint32_t rva_offset;            /* how many bytes the file is shorter: stripped_size less 40 */
     uint16_t signature;             /* 0x5A56, "VZ" */
     uint16_t machine;               /* IMAGE_FILE_MACHINE_ */
     uint16_t stripped_size;         /* bytes of headers that were stripped */
-    uint8_t number_of_sections;
+    uint8_t number_of_sections;     /* the number of section headers */
     uint8_t subsystem;              /* IMAGE_SUBSYSTEM_ */
     uint32_t spare;                 /* 0 */
 } pe_c_te_image;
@@ -1092,7 +1102,7 @@ uint32_t pe_c_debug_failure(const uint8_t *bytes, size_t length, uint32_t mode, 
  * offset of something else.
  * https://learn.microsoft.com/windows/win32/debug/pe-format#the-attribute-certificate-table-image-only */
 
-/* WIN_CERTIFICATE. */
+/* An attribute certificate, WIN_CERTIFICATE. */
 typedef struct {
     pe_c_range body;                /* what follows the header of 8 bytes */
     uint32_t length;                /* dwLength: bytes of header and body */
@@ -1225,7 +1235,7 @@ enum {
 
 /* An object identifier. */
 typedef struct {
-    pe_c_range octets;
+    pe_c_range octets;              /* its content */
     uint32_t id;                    /* PE_C_OID_, of the group that the field has */
     uint32_t spare;                 /* 0 */
 } pe_c_oid;
@@ -1238,8 +1248,8 @@ typedef struct {
 
 /* An element of DER. */
 typedef struct {
-    pe_c_range whole;
-    pe_c_range content;
+    pe_c_range whole;               /* all octets: tag, length and content */
+    pe_c_range content;             /* the content */
     uint32_t tag;                   /* the identifier octet, such as 0x30 for a SEQUENCE, 4 for an OCTET STRING */
     uint32_t spare;                 /* 0 */
 } pe_c_der_element;
@@ -1263,11 +1273,11 @@ typedef struct {
 typedef struct {
     pe_c_oid value_type;            /* by content types; of an image PE_C_OID_SPC_PE_IMAGE_DATA */
     pe_c_range value;               /* whole; of an image for pe_c_image_data */
-    pe_c_algorithm digest_algorithm;
+    pe_c_algorithm digest_algorithm;  /* of the digest */
     pe_c_range digest;              /* of what pe_c_digest_ranges says */
 } pe_c_spc_indirect_data;
 
-/* SpcPeImageData. */
+/* What a signature says of an image as a file, SpcPeImageData. */
 typedef struct {
     pe_c_range flags;               /* a BIT STRING, not used */
     pe_c_range file;                /* whole: [2] with the text <<<Obsolete>>>, or [1] with page hashes */
@@ -1278,13 +1288,13 @@ typedef struct {
 typedef struct {
     pe_c_range version;             /* an INTEGER, which is 1 with an issuer and a serial number */
     pe_c_range issuer;              /* whole, for pe_c_name */
-    pe_c_range serial;              /* an INTEGER: two's complement, the high byte first */
+    pe_c_range serial;              /* serial number, an INTEGER: two's complement, the high byte first */
     pe_c_range key_identifier;      /* of the certificate, where there is no issuer */
-    pe_c_algorithm digest_algorithm;
+    pe_c_algorithm digest_algorithm;  /* of `messageDigest`, and of what is signed */
     pe_c_range signed_attributes;   /* a walk for pe_c_next_element, each for pe_c_attribute */
     pe_c_range signed_rest;         /* the octets of the signed attributes after their tag */
-    pe_c_algorithm signature_algorithm;
-    pe_c_range signature;
+    pe_c_algorithm signature_algorithm;  /* of the signature */
+    pe_c_range signature;           /* the signature */
     pe_c_range unsigned_attributes; /* a walk, each for pe_c_attribute */
     uint32_t has_signed_attributes; /* 1 where there are signed attributes, else 0 */
     uint32_t signed_first;          /* 0x31, the tag of a SET, in place of their own tag; 0 without them */
@@ -1299,13 +1309,13 @@ typedef struct {
  *   PE_C_OID_NESTED_SIGNATURE    each for pe_c_signature */
 typedef struct {
     pe_c_oid type;                  /* by attributes */
-    pe_c_range values;
+    pe_c_range values;              /* a walk over its values */
 } pe_c_signer_attribute;
 
 /* What a signer says of the program, SpcSpOpusInfo. */
 typedef struct {
-    pe_c_range program_name;
-    pe_c_range more_info;
+    pe_c_range program_name;        /* the name of the program */
+    pe_c_range more_info;           /* where more is said */
     uint32_t program_name_tag;      /* 0x80 for UTF-16, the high byte first; 0x81 for ASCII; 0 without a name */
     uint32_t more_info_tag;         /* 0x80 for a URL in ASCII; 0xA1 for an object, 0xA2 for a file; 0 without one */
 } pe_c_spc_opus_info;
@@ -1313,14 +1323,14 @@ typedef struct {
 /* A certificate of X.509, of those in a signature. The issuer's signature is over the bytes of to_be_signed. */
 typedef struct {
     pe_c_range to_be_signed;        /* whole */
-    pe_c_range serial;              /* an INTEGER: two's complement, the high byte first */
+    pe_c_range serial;              /* serial number, an INTEGER: two's complement, the high byte first */
     pe_c_range issuer;              /* whole, for pe_c_name */
     pe_c_range subject;             /* whole, for pe_c_name */
-    pe_c_range not_before;          /* whole, for pe_c_time */
-    pe_c_range not_after;           /* whole, for pe_c_time */
+    pe_c_range not_before;          /* the first time when it is valid: whole, for pe_c_time */
+    pe_c_range not_after;           /* the last one: whole, for pe_c_time */
     pe_c_range public_key;          /* whole: SubjectPublicKeyInfo */
     pe_c_range extensions;          /* a walk for pe_c_next_element, each for pe_c_extension */
-    pe_c_algorithm signature_algorithm;
+    pe_c_algorithm signature_algorithm;  /* of the signature */
     pe_c_range signature;           /* the bits of the BIT STRING, without the octet before them */
 } pe_c_x509_certificate;
 
@@ -1341,7 +1351,7 @@ typedef struct {
 /* An attribute of a name. */
 typedef struct {
     pe_c_oid type;                  /* by attributes of names */
-    pe_c_range value;
+    pe_c_range value;               /* the content of the value */
     uint32_t tag;                   /* of the value: PrintableString 0x13, UTF8String 0x0C, IA5String 0x16, BMPString 0x1E,
                                        .. */
     uint32_t starts_rdn;            /* 1 where it is the first of its relative distinguished name, else 0 */
@@ -1352,8 +1362,8 @@ typedef struct {
     uint32_t year;                  /* 0 to 9999 */
     uint32_t month;                 /* 1 to 12 */
     uint32_t day;                   /* 1 to 31; that a month has fewer days is not tested */
-    uint32_t hour;
-    uint32_t minute;
+    uint32_t hour;                  /* 0 to 23 */
+    uint32_t minute;                /* 0 to 59 */
     uint32_t second;                /* 0 to 59; a fraction is left out. A time stamp may have one; that a certificate and a
                                        signing time have none (RFC 5280, RFC 5652) is not tested */
 } pe_c_utc_time;
@@ -1361,13 +1371,13 @@ typedef struct {
 /* What a time-stamp token says, TSTInfo. */
 typedef struct {
     pe_c_range version;             /* an INTEGER, which is 1 */
-    pe_c_range policy;              /* an object identifier */
-    pe_c_algorithm digest_algorithm;
+    pe_c_range policy;              /* the policy, an object identifier */
+    pe_c_algorithm digest_algorithm;  /* of the digest */
     pe_c_range digest;              /* of the signature that is stamped, the field `signature` of its signer */
-    pe_c_range serial;              /* an INTEGER */
+    pe_c_range serial;              /* serial number of the token, an INTEGER */
     pe_c_range time;                /* whole, for pe_c_time */
-    pe_c_range accuracy;            /* whole */
-    pe_c_range nonce;               /* an INTEGER */
+    pe_c_range accuracy;            /* how exact the time is: whole */
+    pe_c_range nonce;               /* the number of who asked, an INTEGER */
     pe_c_range authority;           /* who stamps, a GeneralName */
 } pe_c_tst_info;
 
@@ -1599,14 +1609,14 @@ uint32_t pe_c_write_whole(const pe_c_view *view, uint8_t *room, size_t room_leng
  * For the registers of the caller: pe_c_function_table, pe_c_find_function, then pe_c_step. For the records and codes
  * themselves: pe_c_plan_from, then pe_c_next_record until PE_C_NOTHING, and pe_c_next_code for each record. */
 
-/* RUNTIME_FUNCTION. */
+/* An entry of the x64 function table, RUNTIME_FUNCTION. */
 typedef struct {
     uint32_t begin;                 /* RVA of its first byte */
     uint32_t end;                   /* RVA after its last byte */
     uint32_t unwind;                /* RVA of its unwind record; an odd one is a link: the RVA of another entry, plus 1 */
 } pe_c_function;
 
-/* A walk over unwind codes. */
+/* A walk over x64 unwind codes. */
 typedef struct {
     pe_c_range left;                /* the code bytes that are left, 2 for each slot */
     uint8_t version;                /* of the unwind record, 1 or 2 */
@@ -1614,7 +1624,7 @@ typedef struct {
     uint8_t spare[6];               /* 0 */
 } pe_c_walk;
 
-/* UNWIND_INFO. */
+/* An x64 unwind record, UNWIND_INFO. */
 typedef struct {
     pe_c_walk codes;                /* a walk for pe_c_next_code, at its start */
     pe_c_range handler_data;        /* what follows the handler's RVA, up to the end of the file; empty without a handler */
@@ -1641,7 +1651,7 @@ enum {
     PE_C_NOOP = 8                   /* opcode 7 of version 2: nothing to undo */
 };
 
-/* UNWIND_CODE. */
+/* An x64 unwind code, UNWIND_CODE. */
 typedef struct {
     uint8_t code_offset;            /* bytes from the start of the prolog to the end of the instruction; undo the code at
                                        this offset and after it */
@@ -1656,12 +1666,12 @@ typedef struct {
 /* How codes are read: two fields of their unwind record, for pe_c_all_codes. */
 typedef struct {
     uint8_t version;                /* of the record, 1 or 2 */
-    uint8_t frame_register;         /* its number; 0 without one */
+    uint8_t frame_register;         /* number of the frame register; 0 without one */
 } pe_c_code_form;
 
 /* An entry of the scope table of a C handler: a __try block. */
 typedef struct {
-    uint32_t begin, end;            /* RVAs of the guarded code, without the end */
+    uint32_t begin, end;            /* RVAs of the first guarded byte and after the last one */
     uint32_t handler;               /* RVA of the filter or of the __finally block; 1 means EXCEPTION_EXECUTE_HANDLER */
     uint32_t target;                /* RVA of the __except block; 0 for __finally */
 } pe_c_scope;
@@ -1679,15 +1689,15 @@ typedef struct {
 /* A plan, step by step. It starts as PE_C_EMPTY with what pe_c_plan_from returns. The plan of another function of the same
  * image may start in the same walk, at &walk.plan, with `kept` as the last steps left it: that spares its first search. */
 typedef struct {
-    pe_c_plan plan;
-    pe_c_kept_sections kept;
+    pe_c_plan plan;                 /* where it stands */
+    pe_c_kept_sections kept;        /* the sections of its last RVAs */
 } pe_c_plan_walk;
 
 /* The registers of a thread that unwinding restores. */
 typedef struct {
-    uint64_t general[16];           /* rax, rcx, rdx, rbx, rsp, rbp, rsi, rdi, r8 .. r15: rsp is general[4] */
+    uint64_t general[16];           /* by their numbers: rax, rcx, rdx, rbx, rsp, rbp, rsi, rdi, r8 .. r15; rsp is general[4] */
     uint64_t xmm[32];               /* of xmm0 .. xmm15 the low half and then the high half, as CONTEXT has them */
-    uint64_t rip;
+    uint64_t rip;                   /* the instruction pointer */
 } pe_c_registers;
 
 /* A frame of a stack walk. A caller sets all fields but `address` and `interrupted`.
@@ -1696,7 +1706,7 @@ typedef struct {
     pe_c_registers registers;       /* inside the function; after a step those of its caller */
     uint64_t address;               /* the one that PE_C_MISSING, _BAD_ADDRESS or _NOT_RISING speaks of */
     pe_c_function function;         /* the one that pe_c_find_function returned */
-    uint32_t rva;                   /* rip less the address where the image is loaded */
+    uint32_t rva;                   /* `rip` less the address where the image is loaded */
     uint32_t leaf;                  /* 0, or where pe_c_find_function returned PE_C_NOTHING 1: a leaf function, of which
                                        neither `function` nor `rva` is read */
     uint32_t interrupted;           /* after a step 1 where an interrupt stopped the caller: its rip is the instruction that
@@ -1713,7 +1723,7 @@ typedef struct {
 /* A module of a process: its image, which has size_of_image bytes where it is loaded. What the view leads to stays readable
  * as long as the record is passed. */
 typedef struct {
-    pe_c_view image;
+    pe_c_view image;                /* the image */
     pe_c_range table;               /* of pe_c_function_table, on ARM64 pe_c_arm64_table; all 0 where that returned
                                        PE_C_NOTHING: no records describe its functions */
     uint64_t base;                  /* address where it is loaded */
@@ -1746,7 +1756,7 @@ enum {
                                        executable code */
 };
 
-/* A walk of a stack, and the frame that was returned last. For a walk from the start set the registers to those of the
+/* A walk of a stack on x64, and the frame that was returned last. For a walk from the start set the registers to those of the
  * thread, `remaining` to how many frames are wanted at most, and all else to 0. */
 typedef struct {
     pe_c_registers registers;       /* inside the function of the frame */
@@ -1901,13 +1911,13 @@ uint32_t pe_c_next_frames(const pe_c_module *modules, size_t module_count, const
  * pe_c_next_arm64_frame.
  * https://learn.microsoft.com/cpp/build/arm64-exception-handling */
 
-/* An entry of the function table. */
+/* An entry of the ARM64 function table. */
 typedef struct {
     uint32_t begin;                 /* RVA of its first byte */
     uint32_t unwind;                /* packed unwind data, or the RVA of its unwind record: its two lowest bits say which */
 } pe_c_arm64_function;
 
-/* Packed unwind data. The fields mean nothing unless is_packed. */
+/* Packed unwind data of an ARM64 function. The fields mean nothing unless is_packed. */
 typedef struct {
     uint32_t flag;                  /* 0: `unwind` is the RVA of a record; 1 a function; 2 a fragment; 3 reserved */
     uint32_t function_length;       /* bytes */
@@ -1919,7 +1929,7 @@ typedef struct {
     uint32_t is_packed;             /* 1 unless `flag` is 0 */
 } pe_c_arm64_packed;
 
-/* An unwind record (.xdata). */
+/* An ARM64 unwind record (.xdata). */
 typedef struct {
     pe_c_range scopes;              /* a walk for pe_c_next_arm64_scope, at its start */
     pe_c_range codes;               /* the code bytes, for pe_c_arm64_codes */
@@ -1932,7 +1942,7 @@ typedef struct {
     uint32_t version;               /* 0 */
 } pe_c_arm64_record;
 
-/* An epilog scope. */
+/* An epilog scope: where an epilog of an ARM64 function is, and where its codes are. */
 typedef struct {
     uint32_t start_offset;          /* bytes, from the start of the function to that of the epilog */
     uint32_t start_index;           /* index of the epilog's first code byte, for pe_c_arm64_codes */
@@ -1993,21 +2003,21 @@ typedef struct {
     uint32_t flags;                 /* of PE_C_ARM64_SAVE_ANY_REG; else 0 */
 } pe_c_arm64_code;
 
-/* The registers of a thread that unwinding restores. */
+/* The registers of a thread on ARM64 that unwinding restores. */
 typedef struct {
     uint64_t general[31];           /* x0 .. x30: the frame pointer is general[29], the link register general[30] */
     uint64_t floats[8];             /* d8 .. d15, the low halves of v8 .. v15 */
-    uint64_t sp;
-    uint64_t pc;
+    uint64_t sp;                    /* the stack pointer */
+    uint64_t pc;                    /* the instruction pointer */
 } pe_c_arm64_registers;
 
-/* A frame of a stack walk. A caller sets all fields but `address` and `interrupted`.
+/* A frame of a stack walk on ARM64. A caller sets all fields but `address` and `interrupted`.
  * A step changes `registers` and `interrupted`, or after an error `address`. */
 typedef struct {
     pe_c_arm64_registers registers; /* inside the function; after a step those of its caller */
     uint64_t address;               /* the one that PE_C_MISSING, _BAD_ADDRESS or _NOT_RISING speaks of */
     pe_c_arm64_function function;   /* the one that pe_c_find_arm64_function returned */
-    uint32_t rva;                   /* pc less the address where the image is loaded */
+    uint32_t rva;                   /* `pc` less the address where the image is loaded */
     uint32_t leaf;                  /* 0, or where pe_c_find_arm64_function returned PE_C_NOTHING 1: a leaf function, of
                                        which neither `function` nor `rva` is read */
     uint32_t interrupted;           /* after a step 1 where no call left the caller: its pc is the instruction that is about
@@ -2143,10 +2153,11 @@ typedef struct {
 
 /* A walk over exports, step by step. It starts as PE_C_EMPTY with what pe_c_export_tables returns. */
 typedef struct {
-    pe_c_exports exports;
-    pe_c_kept_sections kept;
+    pe_c_exports exports;           /* where it stands */
+    pe_c_kept_sections kept;        /* the sections of its last RVAs */
 } pe_c_export_walk;
 
+/* An export. */
 typedef struct {
     pe_c_range name;                /* UTF-8, without its final zero */
     pe_c_range forwarder;           /* the forwarder's text, "DLL.NAME" or "DLL.#ORDINAL": UTF-8, without its final zero;
@@ -2158,7 +2169,7 @@ typedef struct {
     uint32_t is_forwarder;          /* 1 where the RVA lies in the export directory, else 0 */
 } pe_c_export;
 
-/* The table of RVAs, which has all exports by their index, also those without a name. */
+/* The export directory's table of RVAs, which has all exports by their index, also those without a name. */
 typedef struct {
     pe_c_range name;                /* of the DLL: UTF-8, without its final zero; empty unless has_name */
     pe_c_range addresses;           /* RVAs of what is exported, 4 bytes each */
@@ -2180,8 +2191,8 @@ typedef struct {
 typedef struct {
     uint32_t characteristics;       /* reserved */
     uint32_t time_date_stamp;       /* seconds since the start of 1970, or a hash */
-    uint16_t major_version;
-    uint16_t minor_version;
+    uint16_t major_version;         /* of the directory */
+    uint16_t minor_version;         /* of the directory */
     uint32_t name;                  /* RVA of the DLL's name, or 0 */
     uint32_t base;                  /* ordinal of the export with the index 0 */
     uint32_t number_of_functions;   /* entries of the table of RVAs */
@@ -2254,17 +2265,17 @@ typedef struct {
 
 /* A walk over libraries, step by step. */
 typedef struct {
-    pe_c_libraries libraries;
-    pe_c_kept_sections kept;
+    pe_c_libraries libraries;       /* where it stands */
+    pe_c_kept_sections kept;        /* the sections of its last RVAs */
 } pe_c_library_walk;
 
 /* A walk over the imports of a library, step by step. */
 typedef struct {
-    pe_c_imports imports;
-    pe_c_kept_sections kept;
+    pe_c_imports imports;           /* where it stands */
+    pe_c_kept_sections kept;        /* the sections of its last RVAs */
 } pe_c_import_walk;
 
-/* IMAGE_IMPORT_DESCRIPTOR. */
+/* A DLL that an image imports from, IMAGE_IMPORT_DESCRIPTOR. */
 typedef struct {
     pe_c_range name;                /* of the DLL: UTF-8, without its final zero */
     pe_c_imports imports;           /* where a walk over its imports starts; imports.left is {0, 0} where the RVA of the list is
@@ -2277,6 +2288,7 @@ typedef struct {
     uint32_t spare;                 /* 0 */
 } pe_c_library;
 
+/* An import. */
 typedef struct {
     pe_c_range name;                /* UTF-8, without its final zero; empty unless has_name */
     uint64_t rva;                   /* RVA of the slot that the loader fills */
@@ -2338,8 +2350,8 @@ uint32_t pe_c_all_imports(const pe_c_view *view, pe_c_library_imports *out) PE_C
  * There are two walks: one over the DLLs, and for each one over its functions, which starts at import.functions. A third
  * walk goes through both, for pe_c_list_all_delayed_functions_together. */
 
-/* IMAGE_DELAYLOAD_DESCRIPTOR. Addresses are RVAs where bit 0 of the attributes is set, else virtual addresses, as linkers
- * before Visual C++ 7 wrote them. */
+/* An entry of the delay import directory, IMAGE_DELAYLOAD_DESCRIPTOR. Addresses are RVAs where bit 0 of the attributes
+ * is set, else virtual addresses, as linkers before Visual C++ 7 wrote them. */
 typedef struct {
     uint32_t attributes;            /* flags, of which bit 0 is defined */
     uint32_t name;                  /* where the DLL's name is */
@@ -2361,28 +2373,30 @@ typedef struct {
 /* A walk over the DLLs, step by step. */
 typedef struct {
     pe_c_range entries;             /* those of the directory that are left */
-    pe_c_kept_sections kept;
+    pe_c_kept_sections kept;        /* the sections of its last RVAs */
 } pe_c_delay_import_walk;
 
 /* A walk over what is imported of a DLL, step by step. */
 typedef struct {
-    pe_c_delayed_functions functions;
-    pe_c_kept_sections kept;
+    pe_c_delayed_functions functions;  /* where it stands */
+    pe_c_kept_sections kept;        /* the sections of its last RVAs */
 } pe_c_delayed_function_walk;
 
+/* A DLL that is loaded later. */
 typedef struct {
     pe_c_range name;                /* of the DLL: UTF-8, without its final zero */
     pe_c_delayed_functions functions;   /* where a walk over its functions starts */
-    pe_c_delay_descriptor descriptor;
+    pe_c_delay_descriptor descriptor;  /* the entry */
 } pe_c_delay_import;
 
+/* What is imported of a DLL that is loaded later. */
 typedef struct {
     pe_c_range name;                /* UTF-8, without its final zero; empty unless has_name */
     uint32_t ordinal;               /* the ordinal; with a name its hint, an index into the DLL's table of names */
     uint32_t has_name;              /* 1 or 0 */
 } pe_c_delayed_function;
 
-/* A walk over the functions of all DLLs. */
+/* A walk over the functions of all DLLs that are loaded later. */
 typedef struct {
     pe_c_range libraries;           /* the entries of the directory after that of the DLL that is walked over */
     pe_c_delayed_functions functions;   /* the functions that this one has left */
@@ -2432,7 +2446,7 @@ uint32_t pe_c_all_delayed_functions(const pe_c_view *view, pe_c_library_function
  * DLL has the time stamp that stands here. Each is followed by the DLLs that it forwards to. The directory stands in the
  * headers, so its RVA is an offset, and the offsets of names count from its start. */
 
-/* IMAGE_BOUND_IMPORT_DESCRIPTOR. */
+/* A bound import, IMAGE_BOUND_IMPORT_DESCRIPTOR. */
 typedef struct {
     pe_c_range name;                /* UTF-8, not NUL-terminated */
     pe_c_range forwarders;          /* 8 bytes each; a walk through the DLLs that this one forwards to */
@@ -2440,7 +2454,7 @@ typedef struct {
     uint32_t spare;                 /* 0 */
 } pe_c_bound_import;
 
-/* IMAGE_BOUND_FORWARDER_REF. */
+/* A DLL that another one forwards to, IMAGE_BOUND_FORWARDER_REF. */
 typedef struct {
     pe_c_range name;                /* UTF-8, not NUL-terminated */
     uint32_t time_date_stamp;       /* of the DLL */
@@ -2480,10 +2494,10 @@ uint32_t pe_c_next_bound_forwarder(const uint8_t *bytes, size_t length, const pe
  *   - the version strings: PE_C_SHORT, PE_C_RESOURCE_STRING;
  *   - the fixed file information: PE_C_SHORT. */
 
-/* VS_FIXEDFILEINFO. */
+/* The fixed file information, VS_FIXEDFILEINFO. */
 typedef struct {
     uint32_t signature;             /* 0xFEEF04BD */
-    uint32_t struct_version;        /* major in the high 16 bits, minor in the low */
+    uint32_t struct_version;        /* of this record: major in the high 16 bits, minor in the low */
     uint32_t file_version_ms, file_version_ls;          /* 1.2.3.4 is 0x00010002 and 0x00030004 */
     uint32_t product_version_ms, product_version_ls;    /* likewise */
     uint32_t file_flags_mask;       /* which bits of file_flags are valid */
@@ -2564,6 +2578,7 @@ typedef struct {
     uint32_t has_name;              /* 1 with a name, 0 with an id */
 } pe_c_resource_name;
 
+/* A leaf of a resource tree. */
 typedef struct {
     pe_c_resource_name resource_type;   /* an id is RT_ of winuser.h */
     pe_c_resource_name name;        /* the resource among those of its type */
@@ -2594,24 +2609,24 @@ typedef struct {
 
 /* A walk over leaves, step by step. */
 typedef struct {
-    pe_c_resource_walk leaves;
-    pe_c_kept_sections kept;
+    pe_c_resource_walk leaves;      /* where it stands */
+    pe_c_kept_sections kept;        /* the sections of its last RVAs */
 } pe_c_leaf_walk;
 
 /* A directory of the tree, IMAGE_RESOURCE_DIRECTORY. */
 typedef struct {
     uint32_t characteristics;       /* reserved */
     uint32_t time_date_stamp;       /* seconds since the start of 1970, mostly 0 */
-    uint16_t major_version;
-    uint16_t minor_version;
+    uint16_t major_version;         /* of the resources */
+    uint16_t minor_version;         /* of the resources */
     uint16_t number_of_named_entries;   /* which come first */
-    uint16_t number_of_id_entries;
+    uint16_t number_of_id_entries;  /* which follow them */
     pe_c_range entries;             /* a walk for pe_c_next_resource_item: of 65,535 entries at most */
 } pe_c_resource_directory;
 
 /* An entry of a directory, by its name. */
 typedef struct {
-    pe_c_resource_name name;
+    pe_c_resource_name name;        /* what names it */
     uint32_t offset;                /* of the directory to which it leads, or of the data entry, from the start of the
                                        tree */
     uint32_t is_directory;          /* 1 where it leads to a directory, else 0 */
@@ -2763,7 +2778,7 @@ PE_C_SIZE(pe_c_version_language, 4);
 /* The strings of a language and a code page: so many of an array, one after the other. */
 typedef struct {
     uint32_t first;                 /* the index of the first */
-    uint32_t count;
+    uint32_t count;                 /* how many there are */
     pe_c_version_language language; /* in which the key of the table is written */
 } pe_c_version_table;
 
@@ -2796,7 +2811,7 @@ uint32_t pe_c_write_version(const pe_c_version *fixed, const pe_c_version_table 
  * thread starts and ends, for the first thread before the entry point. All its addresses are virtual addresses.
  * https://learn.microsoft.com/windows/win32/debug/pe-format#the-tls-section */
 
-/* IMAGE_TLS_DIRECTORY. */
+/* The TLS directory, IMAGE_TLS_DIRECTORY. */
 typedef struct {
     uint64_t start_address_of_raw_data; /* where the data starts of which each thread gets a copy */
     uint64_t end_address_of_raw_data;   /* where this data ends */
@@ -2841,22 +2856,22 @@ typedef struct {
     uint32_t size;                  /* bytes of the structure, as it says itself */
     uint32_t time_date_stamp;       /* seconds since 1970 */
     uint32_t guard_flags;           /* IMAGE_GUARD_ flags */
-    uint16_t major_version;
-    uint16_t minor_version;
+    uint16_t major_version;         /* major part of a version */
+    uint16_t minor_version;         /* minor part of a version */
     uint16_t dependent_load_flags;  /* where DLLs that the image imports are looked for, flags of LoadLibraryEx */
     uint16_t spare;                 /* 0 */
     uint8_t has_time_date_stamp;    /* 1 or 0, and so all that follow */
-    uint8_t has_major_version;
-    uint8_t has_minor_version;
-    uint8_t has_dependent_load_flags;
-    uint8_t has_security_cookie;
-    uint8_t has_se_handler_table;
-    uint8_t has_se_handler_count;
-    uint8_t has_guard_cf_check_function_pointer;
-    uint8_t has_guard_cf_dispatch_function_pointer;
-    uint8_t has_guard_cf_function_table;
-    uint8_t has_guard_cf_function_count;
-    uint8_t has_guard_flags;
+    uint8_t has_major_version;      /* 1 or 0 */
+    uint8_t has_minor_version;      /* 1 or 0 */
+    uint8_t has_dependent_load_flags;  /* 1 or 0 */
+    uint8_t has_security_cookie;    /* 1 or 0 */
+    uint8_t has_se_handler_table;   /* 1 or 0 */
+    uint8_t has_se_handler_count;   /* 1 or 0 */
+    uint8_t has_guard_cf_check_function_pointer;  /* 1 or 0 */
+    uint8_t has_guard_cf_dispatch_function_pointer;  /* 1 or 0 */
+    uint8_t has_guard_cf_function_table;  /* 1 or 0 */
+    uint8_t has_guard_cf_function_count;  /* 1 or 0 */
+    uint8_t has_guard_flags;        /* 1 or 0 */
 } pe_c_load_config_directory;
 
 PE_C_SIZE(pe_c_load_config_directory, 88);
@@ -2939,9 +2954,10 @@ typedef struct {
 
 PE_C_SIZE(pe_c_guard_entries, 32);
 
+/* An entry of a table of a load configuration. */
 typedef struct {
     pe_c_range flag_bytes;          /* the flags that follow the RVA */
-    uint32_t rva;
+    uint32_t rva;                   /* an RVA */
     uint32_t flags;                 /* their first byte, IMAGE_GUARD_FLAG_ flags; 0 where there is none */
 } pe_c_guard_entry;
 
@@ -2962,7 +2978,7 @@ uint32_t pe_c_next_guard_entry(const uint8_t *bytes, size_t length, pe_c_guard_e
  * What to change in an image that is not at its preferred base, in blocks of one page each.
  * https://learn.microsoft.com/windows/win32/debug/pe-format#the-reloc-section-image-only */
 
-/* IMAGE_BASE_RELOCATION. */
+/* A block of base relocations, IMAGE_BASE_RELOCATION. */
 typedef struct {
     pe_c_range entries;             /* 2 bytes each; a walk through the relocations of the block */
     uint32_t page_rva;              /* RVA of the page that they count from */
@@ -2971,6 +2987,7 @@ typedef struct {
 
 PE_C_SIZE(pe_c_relocation_block, 24);
 
+/* A base relocation. */
 typedef struct {
     uint64_t rva;                   /* RVA of what to change; in a hostile block it may pass 32 bits */
     uint32_t kind;                  /* IMAGE_REL_BASED_ of winnt.h, below 16 */
@@ -3000,16 +3017,16 @@ uint32_t pe_c_next_relocation(const uint8_t *bytes, size_t length, uint32_t page
  * runtime that the image was made for, and streams by their names, "#~" the tables, "#Strings", "#US", "#GUID", "#Blob".
  * ECMA-335, II.25.3.3 and II.24.2: https://www.ecma-international.org/publications-and-standards/standards/ecma-335/ */
 
-/* IMAGE_COR20_HEADER. */
+/* The CLR header, IMAGE_COR20_HEADER. */
 typedef struct {
     uint32_t cb;                    /* bytes of the header, as it says itself: 72 or more */
     uint16_t major_runtime_version; /* the version of the runtime that is needed */
-    uint16_t minor_runtime_version;
-    pe_c_directory metadata;
+    uint16_t minor_runtime_version; /* the version of the runtime that is needed, minor part */
+    pe_c_directory metadata;        /* the metadata */
     uint32_t flags;                 /* COMIMAGE_FLAGS_ */
     uint32_t entry_point_token;     /* a metadata token; an RVA with COMIMAGE_FLAGS_NATIVE_ENTRYPOINT (0x10) */
     pe_c_directory resources;       /* managed resources */
-    pe_c_directory strong_name_signature;
+    pe_c_directory strong_name_signature;  /* the strong name signature */
     pe_c_directory code_manager_table;  /* 0 */
     pe_c_directory vtable_fixups;   /* fixups of tables of virtual functions */
     pe_c_directory export_address_table_jumps;  /* 0 */
@@ -3030,11 +3047,12 @@ typedef struct {
     pe_c_range version;             /* such as "v4.0.30319": UTF-8 up to the first zero, and the zeros after it */
     pe_c_metadata_streams streams;  /* a walk for pe_c_next_metadata_stream, at its start */
     uint16_t major_version;         /* of the format of metadata */
-    uint16_t minor_version;
+    uint16_t minor_version;         /* of the format of metadata */
     uint16_t flags;                 /* reserved */
     uint16_t spare;                 /* 0 */
 } pe_c_metadata;
 
+/* A stream of CLR metadata. */
 typedef struct {
     pe_c_range name;                /* without its final zero; at most 31 bytes */
     pe_c_range content;             /* the stream's bytes; empty unless has_content */
@@ -3172,9 +3190,9 @@ uint32_t pe_c_list_imports(const pe_c_view *view, pe_c_imports *walk, pe_c_impor
 
 /* Room for what the calls that take runs find out of names and lists; what is in it has no meaning to callers. */
 typedef struct {
-    uint64_t start;
-    uint64_t end;
-    uint64_t text;
+    uint64_t start;                 /* the offset of a name */
+    uint64_t end;                   /* the offset of the zero after it */
+    uint64_t text;                  /* where the longest text starts that ends there */
 } pe_c_run;
 
 PE_C_SIZE(pe_c_run, 24);
@@ -3233,7 +3251,7 @@ uint32_t pe_c_list_long_section_names(const pe_c_view *view, const pe_c_range *t
 
 /* A COFF symbol with its name. */
 typedef struct {
-    pe_c_symbol_entry symbol;
+    pe_c_symbol_entry symbol;       /* the symbol */
     pe_c_range name;                /* UTF-8, not NUL-terminated; empty after an error */
     uint32_t name_result;           /* what pe_c_symbol_name returns: PE_C_DONE, or the error of this name alone */
     uint32_t spare;                 /* 0 */
@@ -3242,8 +3260,8 @@ typedef struct {
 /* A walk over COFF symbols with their names: of an object what pe_c_coff_symbols and pe_c_coff_strings return. Without a
  * string table the range is empty. */
 typedef struct {
-    pe_c_symbol_walk symbols;
-    pe_c_range strings;
+    pe_c_symbol_walk symbols;       /* what pe_c_coff_symbols returns */
+    pe_c_range strings;             /* what pe_c_coff_strings returns */
 } pe_c_named_symbol_walk;
 
 PE_C_SIZE(pe_c_named_symbol, 72);
@@ -3422,19 +3440,19 @@ uint32_t pe_c_symbol_name_failure(const uint8_t *bytes, size_t length, const pe_
 
 /* Kinds of streams, MINIDUMP_STREAM_TYPE. Others are bytes. */
 enum {
-    PE_C_THREAD_LIST_STREAM = 3,
-    PE_C_MODULE_LIST_STREAM = 4,
-    PE_C_MEMORY_LIST_STREAM = 5,
-    PE_C_EXCEPTION_STREAM = 6,
-    PE_C_SYSTEM_INFO_STREAM = 7,
-    PE_C_MEMORY64_LIST_STREAM = 9,
-    PE_C_HANDLE_DATA_STREAM = 12,
-    PE_C_FUNCTION_TABLE_STREAM = 13,
-    PE_C_UNLOADED_MODULE_LIST_STREAM = 14,
-    PE_C_MISC_INFO_STREAM = 15,
-    PE_C_MEMORY_INFO_LIST_STREAM = 16,
-    PE_C_THREAD_INFO_LIST_STREAM = 17,
-    PE_C_THREAD_NAMES_STREAM = 24
+    PE_C_THREAD_LIST_STREAM = 3,    /* threads */
+    PE_C_MODULE_LIST_STREAM = 4,    /* modules */
+    PE_C_MEMORY_LIST_STREAM = 5,    /* pieces of memory */
+    PE_C_EXCEPTION_STREAM = 6,      /* the exception */
+    PE_C_SYSTEM_INFO_STREAM = 7,    /* the system */
+    PE_C_MEMORY64_LIST_STREAM = 9,  /* pieces of memory of a full dump */
+    PE_C_HANDLE_DATA_STREAM = 12,   /* handles */
+    PE_C_FUNCTION_TABLE_STREAM = 13, /* function tables of code that was made as the process ran, as bytes */
+    PE_C_UNLOADED_MODULE_LIST_STREAM = 14, /* modules that were unloaded */
+    PE_C_MISC_INFO_STREAM = 15,     /* the process */
+    PE_C_MEMORY_INFO_LIST_STREAM = 16, /* regions of memory */
+    PE_C_THREAD_INFO_LIST_STREAM = 17, /* more on threads */
+    PE_C_THREAD_NAMES_STREAM = 24   /* names of threads */
 };
 
 /* The header, MINIDUMP_HEADER. */
@@ -3442,55 +3460,55 @@ typedef struct {
     pe_c_range directory;           /* entries of 12 bytes */
     uint64_t flags;                 /* what the writer was asked for, MINIDUMP_TYPE */
     uint32_t version;               /* A793h in the low 16 bits; the others are the writer's own */
-    uint32_t number_of_streams;
+    uint32_t number_of_streams;     /* the number of entries of the directory */
     uint32_t check_sum;             /* mostly 0 */
     uint32_t time_date_stamp;       /* when the dump was written, in seconds since 1970 */
 } pe_c_dump_info;
 
 /* Where bytes are, MINIDUMP_LOCATION_DESCRIPTOR. One of no bytes says that there are none. */
 typedef struct {
-    uint32_t size;
+    uint32_t size;                  /* in bytes */
     uint32_t rva;                   /* offset in the dump */
 } pe_c_dump_location;
 
 /* An entry of the directory, MINIDUMP_DIRECTORY. */
 typedef struct {
     uint32_t stream_type;           /* PE_C_*_STREAM; 0 is none */
-    pe_c_dump_location location;
+    pe_c_dump_location location;    /* where the stream is */
 } pe_c_dump_entry;
 
 /* The memory of a stack, MINIDUMP_MEMORY_DESCRIPTOR. It may be empty: the pieces of memory have what there is of it. */
 typedef struct {
-    uint64_t start_of_memory_range;
-    pe_c_dump_location memory;
+    uint64_t start_of_memory_range; /* address of the first byte */
+    pe_c_dump_location memory;      /* where its bytes are */
 } pe_c_dump_stack;
 
 /* A thread, MINIDUMP_THREAD. */
 typedef struct {
-    uint32_t thread_id;
+    uint32_t thread_id;             /* the ID of the thread */
     uint32_t suspend_count;         /* 0 if it runs */
-    uint32_t priority_class;
-    uint32_t priority;
+    uint32_t priority_class;        /* the priority class of the process */
+    uint32_t priority;              /* the priority of the thread */
     uint64_t teb;                   /* address of its environment block */
-    pe_c_dump_stack stack;
+    pe_c_dump_stack stack;          /* the memory of its stack */
     pe_c_dump_location thread_context; /* no bytes where it has none */
 } pe_c_dump_thread;
 
 /* The version of a module, VS_FIXEDFILEINFO. A signature of 0 says that there is none. */
 typedef struct {
     uint32_t signature;             /* FEEF04BDh */
-    uint32_t struc_version;
+    uint32_t struc_version;         /* the version of this structure */
     uint32_t file_version_ms;       /* major part in the upper 16 bits, minor part in the lower */
     uint32_t file_version_ls;       /* build and revision */
-    uint32_t product_version_ms;
-    uint32_t product_version_ls;
-    uint32_t file_flags_mask;
-    uint32_t file_flags;
-    uint32_t file_os;
-    uint32_t file_type;
-    uint32_t file_subtype;
-    uint32_t file_date_ms;
-    uint32_t file_date_ls;
+    uint32_t product_version_ms;    /* of the product: major and minor part */
+    uint32_t product_version_ls;    /* build and revision */
+    uint32_t file_flags_mask;       /* which bits of the flags are valid */
+    uint32_t file_flags;            /* `VS_FF_*` */
+    uint32_t file_os;               /* `VOS_*` */
+    uint32_t file_type;             /* `VFT_*` */
+    uint32_t file_subtype;          /* `VFT2_*` */
+    uint32_t file_date_ms;          /* the date of the file, upper half */
+    uint32_t file_date_ls;          /* lower half */
 } pe_c_dump_version;
 
 /* A module, MINIDUMP_MODULE. */
@@ -3500,7 +3518,7 @@ typedef struct {
     uint32_t check_sum;             /* CheckSum of its image */
     uint32_t time_date_stamp;       /* TimeDateStamp of its image */
     uint32_t module_name_rva;       /* its path, for pe_c_dump_text */
-    pe_c_dump_version version_info;
+    pe_c_dump_version version_info; /* its version */
     pe_c_dump_location cv_record;   /* its CodeView record: pe_c_dump_range, then pe_c_codeview. No bytes where there is
                                        none */
     pe_c_dump_location misc_record; /* its IMAGE_DEBUG_MISC */
@@ -3510,49 +3528,49 @@ typedef struct {
 /* The name of a thread, MINIDUMP_THREAD_NAME. */
 typedef struct {
     uint64_t rva_of_thread_name;    /* for pe_c_dump_text */
-    uint32_t thread_id;
+    uint32_t thread_id;             /* the ID of the thread */
     uint32_t spare;                 /* 0 */
 } pe_c_dump_thread_name;
 
 /* A module that was unloaded, MINIDUMP_UNLOADED_MODULE. */
 typedef struct {
-    uint64_t base_of_image;
-    uint32_t size_of_image;
-    uint32_t check_sum;
-    uint32_t time_date_stamp;
+    uint64_t base_of_image;         /* address where it was loaded */
+    uint32_t size_of_image;         /* in bytes */
+    uint32_t check_sum;             /* `CheckSum` of its image */
+    uint32_t time_date_stamp;       /* `TimeDateStamp` of its image */
     uint32_t module_name_rva;       /* for pe_c_dump_text */
 } pe_c_dump_unloaded;
 
 /* More on a thread, MINIDUMP_THREAD_INFO. */
 typedef struct {
-    uint32_t thread_id;
+    uint32_t thread_id;             /* the ID of the thread */
     uint32_t dump_flags;            /* MINIDUMP_THREAD_INFO_*: 2 is the thread that wrote the dump */
     uint32_t dump_error;            /* an HRESULT of the writer */
     uint32_t exit_status;           /* 259 while it runs */
     uint64_t create_time;           /* in 100 ns since 1601 */
-    uint64_t exit_time;
+    uint64_t exit_time;             /* when it ended, likewise */
     uint64_t kernel_time;           /* in 100 ns */
-    uint64_t user_time;
+    uint64_t user_time;             /* likewise */
     uint64_t start_address;         /* of its function */
-    uint64_t affinity;
+    uint64_t affinity;              /* the processors on which it may run */
 } pe_c_dump_thread_info;
 
 /* A handle, MINIDUMP_HANDLE_DESCRIPTOR. */
 typedef struct {
-    uint64_t handle;
+    uint64_t handle;                /* the value of the handle */
     uint32_t type_name_rva;         /* for pe_c_dump_text; 0 if there is none */
     uint32_t object_name_rva;       /* likewise */
-    uint32_t attributes;
-    uint32_t granted_access;
-    uint32_t handle_count;
-    uint32_t pointer_count;
+    uint32_t attributes;            /* its attributes */
+    uint32_t granted_access;        /* what its holder may do */
+    uint32_t handle_count;          /* how many handles its object has */
+    uint32_t pointer_count;         /* how many references its object has */
 } pe_c_dump_handle;
 
 /* A region of memory, MINIDUMP_MEMORY_INFO. */
 typedef struct {
-    uint64_t base_address;
-    uint64_t allocation_base;
-    uint64_t region_size;
+    uint64_t base_address;          /* address of the first byte */
+    uint64_t allocation_base;       /* address of the allocation that it is part of */
+    uint64_t region_size;           /* in bytes */
     uint32_t allocation_protect;    /* PAGE_* */
     uint32_t state;                 /* MEM_COMMIT, MEM_RESERVE or MEM_FREE */
     uint32_t protect;               /* PAGE_* */
@@ -3561,26 +3579,27 @@ typedef struct {
 
 /* The exception that a dump was written for, MINIDUMP_EXCEPTION_STREAM. */
 typedef struct {
-    uint32_t thread_id;
-    uint32_t exception_code;
-    uint32_t exception_flags;
+    uint32_t thread_id;             /* the ID of the thread */
+    uint32_t exception_code;        /* the code, as C0000005h */
+    uint32_t exception_flags;       /* 1 if the thread cannot go on, or 0 */
     uint32_t number_parameters;     /* as the file says, so it may be above 15 */
     uint64_t exception_record;      /* address, in the process, of another exception that it belongs to, or 0 */
     uint64_t exception_address;     /* of the instruction */
-    uint64_t exception_information[15];
+    uint64_t exception_information[15]; /* parameters: of an access violation 0 for a read, 1 for a write, 8 for execution, and
+                                           the address */
     pe_c_dump_location thread_context; /* of the thread as it crashed */
 } pe_c_dump_raised;
 
 /* The system, MINIDUMP_SYSTEM_INFO. */
 typedef struct {
     uint16_t processor_architecture; /* 9 x64, 12 ARM64, 0 x86: of which machine the contexts are */
-    uint16_t processor_level;
-    uint16_t processor_revision;
-    uint8_t number_of_processors;
+    uint16_t processor_level;       /* the family of the processor */
+    uint16_t processor_revision;    /* its model and stepping */
+    uint8_t number_of_processors;   /* the number of processors */
     uint8_t product_type;           /* VER_NT_* */
-    uint32_t major_version;
-    uint32_t minor_version;
-    uint32_t build_number;
+    uint32_t major_version;         /* the version of the system, major part */
+    uint32_t minor_version;         /* minor part */
+    uint32_t build_number;          /* the build of the system */
     uint32_t platform_id;           /* VER_PLATFORM_* */
     uint32_t csd_version_rva;       /* the name of the service pack, for pe_c_dump_text */
     uint16_t suite_mask;            /* VER_SUITE_* */
@@ -3591,16 +3610,16 @@ typedef struct {
 typedef struct {
     uint32_t process_create_time;   /* in seconds since 1970 */
     uint32_t process_user_time;     /* in seconds */
-    uint32_t process_kernel_time;
+    uint32_t process_kernel_time;   /* in seconds, in the kernel */
 } pe_c_dump_times;
 
 /* The speed of the processor. */
 typedef struct {
-    uint32_t processor_max_mhz;
-    uint32_t processor_current_mhz;
-    uint32_t processor_mhz_limit;
-    uint32_t processor_max_idle_state;
-    uint32_t processor_current_idle_state;
+    uint32_t processor_max_mhz;     /* the most that it may have, in MHz */
+    uint32_t processor_current_mhz; /* what it had, in MHz */
+    uint32_t processor_mhz_limit;   /* the limit that was set, in MHz */
+    uint32_t processor_max_idle_state;  /* the deepest idle state that it may have */
+    uint32_t processor_current_idle_state;  /* the idle state that it had */
 } pe_c_dump_power;
 
 /* What is known of a process, MINIDUMP_MISC_INFO and _2. What is not there is 0. */
@@ -3610,12 +3629,12 @@ typedef struct {
     uint32_t process_id;            /* with bit 0 of the flags */
     pe_c_dump_times process_times;  /* with bit 1 */
     uint32_t has_processor_power;   /* 1 with bit 2 in a stream of 44 bytes or more, else 0 */
-    pe_c_dump_power processor_power;
+    pe_c_dump_power processor_power;  /* the speed of the processor */
 } pe_c_dump_process_info;
 
 /* A piece of memory, as pe_c_next_frame takes it with the bytes of the dump as its memory. */
 typedef struct {
-    pe_c_memory_piece memory;
+    pe_c_memory_piece memory;       /* where its bytes are */
     uint64_t lost;                  /* how many more bytes the dump says it has, which a truncated file does not have */
 } pe_c_dump_piece;
 
@@ -3628,22 +3647,22 @@ typedef struct {
 /* An entry of an index of pieces of memory, which pe_c_memory_runs makes on the way: the addresses from `start` up to the
  * start of the next entry. */
 typedef struct {
-    uint64_t start;
+    uint64_t start;                 /* the first address */
     uint64_t number;                /* index of the piece that has them, plus 1; 0 where none does */
 } pe_c_range_entry;
 
 /* The registers of a thread on x64, CONTEXT. */
 typedef struct {
-    pe_c_registers registers;       /* xmm is 0 where it was not saved */
+    pe_c_registers registers;       /* `xmm` is 0 where it was not saved */
     uint32_t context_flags;         /* CONTEXT_*: bit 3 says that xmm was saved */
-    uint32_t eflags;
+    uint32_t eflags;                /* the flags of the processor */
 } pe_c_context;
 
 /* The registers of a thread on ARM64, ARM64_NT_CONTEXT. */
 typedef struct {
     pe_c_arm64_registers registers; /* d8 to d15 are 0 where they were not saved */
     uint32_t context_flags;         /* CONTEXT_ARM64_*: bit 2 says that they were */
-    uint32_t cpsr;
+    uint32_t cpsr;                  /* the flags of the processor */
 } pe_c_arm64_context;
 
 PE_C_SIZE(pe_c_dump_info, 40);

@@ -1,5 +1,5 @@
-"""What bindings/pe.h declares: its calls, its records with their layouts, its constants, its version and the number
-of its ABI; and its own functions, which are defined there and are no calls of the library.
+"""What bindings/pe.h declares: its calls, its records with their layouts, its constants, each with its comment, its version and
+the number of its ABI; and its own functions, which are defined there and are no calls of the library.
 
 The header is C11 of a few plain forms, and a form that is not known is an error. All targets of the library are little-endian, with
 pointers of 64 bits, and a number is aligned to its width on each, so a record has one layout on all of them."""
@@ -10,19 +10,22 @@ import re
 
 TOP = os.path.dirname(os.path.dirname(os.path.realpath(__file__)))
 PE_H = os.path.join(TOP, "bindings", "pe.h")
+# A comment right above something.
+ABOUT = r"(?:/\*((?:(?!\*/).)*?)\*/\n)?"
 WIDTHS = {"char": 1, "uint8_t": 1, "uint16_t": 2, "uint32_t": 4, "uint64_t": 8, "size_t": 8, "int16_t": 2}
 
 
 @dataclasses.dataclass(frozen=True)
 class Field:
     """A field of a record: its offset in bytes, and how many values an array has, or 0. A pointer is one to constant values; a
-    record may have some inside."""
+    record may have some inside. `about` is the comment after it, on one line."""
     name: str
     type: str
     offset: int
     count: int
     is_pointer: bool = False
     has_pointers: bool = False
+    about: str = ""
 
     def kind(self):
         """Its type in C, but for const and the length of an array."""
@@ -31,11 +34,12 @@ class Field:
 
 @dataclasses.dataclass(frozen=True)
 class Record:
-    """A record. `about` is the comment above it."""
+    """A record. `about` is the comment above it, in its lines."""
     name: str
     size: int
     align: int
     fields: tuple
+    about: str
 
     def has_pointers(self):
         return any(it.has_pointers for it in self.fields)
@@ -55,10 +59,11 @@ class Parameter:
 
 @dataclasses.dataclass(frozen=True)
 class Call:
-    """A call: `name` is its whole name."""
+    """A call: `name` is its whole name, `about` the comment above it, in its lines; calls with no line between have the same."""
     name: str
     result: str
     parameters: tuple
+    about: str
 
     def names(self):
         return tuple(it.name for it in self.parameters)
@@ -73,19 +78,35 @@ class Unknown(Exception):
     """What of the header is in no form that is known."""
 
 
+def without_comments(text):
+    return re.sub(r"/\*.*?\*/", "", text, flags=re.S)
+
+
+def plain(comment):
+    """The lines of a comment, without stars and the title of a section; "" without one."""
+    return re.sub(r"^---- .*\n+", "", re.sub(r"\n *\*(?: |$)", "\n", comment or "", flags=re.M).strip())
+
+
+def on_one_line(comment):
+    return " ".join(plain(comment).split())
+
+
 class Header:
     """The header, read."""
 
     def __init__(self, path=PE_H):
         with open(path, encoding="utf-8") as file:
             whole = file.read()
-        text = re.sub(r"/\*.*?\*/", "", whole, flags=re.S)
+        text = without_comments(whole)
         self.functions, text = self.without_functions(text)
         self.version = re.search(r'^#define PE_C_VERSION "(.*)"$', text, re.M)[1]
-        self.records = self.read_records(text)
-        self.calls = self.read_calls(text)
+        self.records = self.read_records(text, whole)
+        self.calls = self.read_calls(text, self.comments_of_calls(whole), {*WIDTHS, *self.records})
         self.constants = self.read_constants(text)
         self.results = self.read_constants(re.search(r"\benum pe_c_result \{.*?\}", text, re.S)[0])
+        # Of each constant that has one the comment after it, on one line.
+        comments = re.findall(r"^    (PE_C_\w+) = \d+,?[ \t]*/\*(.*?)\*/", whole, re.M | re.S)
+        self.about = {name: on_one_line(it) for name, it in comments}
         self.abi = next(int(name.removeprefix("pe_c_abi_")) for name in self.calls if name.startswith("pe_c_abi_"))
 
     @staticmethod
@@ -96,12 +117,12 @@ class Header:
         return tuple(re.findall(form, text, re.M)), re.sub(form, "", text, flags=re.M)
 
     @staticmethod
-    def read_records(text):
+    def read_records(text, whole):
         sizes = {name: int(size) for name, size in re.findall(r"^PE_C_SIZE\((\w+), (\d+)\);", text, re.M)}
         records = {}
-        for body, name in re.findall(r"typedef struct \{(.*?)\}\s*(\w+);", text, re.S):
+        for about, body, name in re.findall(rf"{ABOUT}typedef struct \{{(.*?)\}}\s*(\w+);", whole, re.S):
             fields, end, most = [], 0, 1
-            for declared in filter(None, map(str.strip, body.split(";"))):
+            for declared, comment in re.findall(r"\s*([^;]*);(?:[ \t]*/\*(.*?)\*/)?", body, re.S):
                 form = re.fullmatch(r"(const )?(\w+) (\*?)([^*]+)", declared)
                 if not form or bool(form[1]) != bool(form[3]) or form[2] not in WIDTHS and form[2] not in records:
                     raise Unknown(f"{name}: the field {declared}")
@@ -111,26 +132,36 @@ class Header:
                     field, count = re.fullmatch(r"\s*(\w+)(?:\[(\d+)\])?", one).groups()
                     offset = -(-end // align) * align
                     has_pointers = bool(star) or kind in records and records[kind].has_pointers()
-                    fields.append(Field(field, kind, offset, int(count or 0), bool(star), has_pointers))
+                    fields.append(Field(field, kind, offset, int(count or 0), bool(star), has_pointers, on_one_line(comment)))
                     end, most = offset + size * int(count or 1), max(most, align)
-            records[name] = Record(name, -(-end // most) * most, most, tuple(fields))
+            records[name] = Record(name, -(-end // most) * most, most, tuple(fields), plain(about))
         reckoned = {name: it.size for name, it in records.items()}
         if reckoned != sizes:
             raise Unknown(f"sizes of records: {sorted(set(reckoned.items()) ^ set(sizes.items()))}")
         return records
 
     @staticmethod
-    def read_calls(text):
+    def comments_of_calls(whole):
+        comments, end, about = {}, None, ""
+        for it in re.finditer(rf"^{ABOUT}^\w+ (pe_c_\w+)\([^)]*\)[^;{{]*;", whole, re.M | re.S):
+            about = plain(it[1]) or (about if end is not None and whole[end:it.start()] == "\n" else "")
+            comments[it[2]], end = about, it.end()
+        return comments
+
+    @staticmethod
+    def read_calls(text, comments, kinds):
         calls = {}
         for result, name, body in re.findall(r"^(\w+) (pe_c_\w+)\(([^)]*)\)(?:\s+PE_C_\w+\([\d, ]+\))?;", text, re.M):
             parameters = []
             for it in re.split(r"\s*,\s*", body.strip()) if body.strip() != "void" else []:
                 form = re.fullmatch(r"(const )?(\w+) (\*?)(\w+)", re.sub(r"\s+", " ", it))
-                if not form:
+                if not form or form[2] not in kinds:
                     raise Unknown(f"{name}: the parameter {it}")
                 is_const, kind, star, own = form.groups()
                 parameters.append(Parameter(own, kind, bool(star), bool(is_const)))
-            calls[name] = Call(name, result, tuple(parameters))
+            if result not in WIDTHS:
+                raise Unknown(f"{name}: the result {result}")
+            calls[name] = Call(name, result, tuple(parameters), comments.get(name, ""))
         declared = set(re.findall(r"\b(pe_c_\w+)\(", text))
         if declared != set(calls):
             raise Unknown(f"the declarations of {sorted(declared ^ set(calls))}")

@@ -132,6 +132,14 @@ pub(crate) fn stepped<R>(number: u32, registers: R, address: u64) -> Result<R, S
 
 impl Registers {
     /// The stack pointer.
+    ///
+    /// ```
+    /// let mut registers = pe_c::Registers::default();
+    /// registers.set_rsp(0x2_0000);
+    /// registers.set_xmm(6, 1 << 64);
+    /// assert_eq!((registers.general[4], registers.xmm[13]), (0x2_0000, 1));
+    /// assert_eq!((registers.rsp(), registers.xmm(6)), (0x2_0000, 1 << 64));
+    /// ```
     pub fn rsp(&self) -> u64 {
         self.general[4]
     }

@@ -345,6 +345,31 @@ pub(crate) fn returned<T>(number: u32, value: T) -> Result<Option<T>, Error> {
     }
 }
 
+impl sys::View {
+    /// The view of an image by its parts, for calls that end before any of them changes or ends. Without an index, and for calls
+    /// that need no sections, a part is empty.
+    pub fn of(bytes: &[u8], image: &ImageInfo, sections: &[Section], index: &[IndexEntry]) -> sys::View {
+        sys::View {
+            bytes: bytes.as_ptr(),
+            length: bytes.len(),
+            image,
+            sections: sections.as_ptr(),
+            count: sections.len(),
+            index: index.as_ptr(),
+            entries: index.len(),
+        }
+    }
+}
+
+impl sys::Range {
+    /// The bytes of a range, or `None` if they are not all there.
+    pub fn of<'a>(&self, bytes: &'a [u8]) -> Option<&'a [u8]> {
+        let offset = usize::try_from(self.offset).ok()?;
+        let length = usize::try_from(self.length).ok()?;
+        bytes.get(offset..offset.checked_add(length)?)
+    }
+}
+
 /// The bytes of a range that the library returned. They are always there; `SHORT` stands in for a panic.
 pub(crate) fn bytes_of(range: sys::Range, bytes: &[u8]) -> Result<&[u8], Error> {
     range.of(bytes).ok_or(Error::SHORT)

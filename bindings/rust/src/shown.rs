@@ -2,7 +2,7 @@
 //! one record is bounded, whatever a file says: no record prints the file that it is of.
 
 use crate::image::up_to_zero;
-use crate::sys::Section;
+use crate::sys::{Section, SymbolEntry};
 use alloc::string::String;
 use core::fmt;
 
@@ -146,3 +146,14 @@ macro_rules! shown {
 }
 
 pub(crate) use shown;
+
+// Records of sys that have a name: tools/make_sys writes the others with the Debug that is derived.
+shown! {
+    Section<> {
+        name: Padded, virtual_size, virtual_address, size_of_raw_data, pointer_to_raw_data, pointer_to_relocations,
+        pointer_to_linenumbers, number_of_relocations, number_of_linenumbers, characteristics
+    }
+    SymbolEntry<> {
+        auxiliary, index, name: Padded, value, string_offset, section_number, kind, storage_class, number_of_aux_symbols
+    }
+}

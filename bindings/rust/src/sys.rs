@@ -1,26 +1,23 @@
-//! The calls and records of `pe.h`, for callers that want no allocation at all.
-//!
-//! `pe.h` has their contracts: what each call returns, its errors in order, and what its caller owes. In short: every
-//! pointer is valid for its type and its length, `out`, walks and `room` overlap no other argument, and every value of
-//! every field is legal. A call returns [`DONE`] and fills `out`, or another number and leaves it unchanged; the numbers
-//! of errors are those of [`Error`](crate::Error).
-//!
-//! `tools/bindings` compares the names, the parameters and the fields with the header and the archive.
+// Made by tools/make_sys of bindings/pe.h, which is the place to change.
 
-use crate::shown::{self, shown};
+//! The calls and records of `pe.h`, for callers that want no allocation at all. The docs are its comments.
+//!
+//! The head of `pe.h` has what its caller owes. In short: every pointer is valid for its type and its length, `out`, walks and
+//! `room` overlap no other argument, and every value of every field is legal. A call returns [`DONE`] and fills `out`, or another
+//! number and leaves it unchanged; the numbers of errors are those of [`Error`]. The types of the crate's root over records of
+//! the same names lend what a range leads to.
+
+#[cfg(doc)]
+use crate::Error;
 
 /// The call succeeded.
 pub const DONE: u32 = 0;
 /// There is nothing of the kind, or the walk is over.
 pub const NOTHING: u32 = 100;
-
-/// A mode: as [`Mode::Permissive`](crate::Mode::Permissive). Without it a mode is strict.
+/// Accepts what the head of pe.h lists; a mode without it is strict.
 pub const PERMISSIVE: u32 = 1;
-/// Added to a mode: as [`Layout::Mapped`](crate::Layout::Mapped).
+/// Added to a mode: the bytes are an image as loaded.
 pub const MAPPED: u32 = 2;
-
-// Kinds of streams of a minidump, `MINIDUMP_STREAM_TYPE`.
-
 /// Threads.
 pub const THREAD_LIST_STREAM: u32 = 3;
 /// Modules.
@@ -48,81 +45,85 @@ pub const THREAD_INFO_LIST_STREAM: u32 = 17;
 /// Names of threads.
 pub const THREAD_NAMES_STREAM: u32 = 24;
 
-macro_rules! record {
-    ($(#[$doc:meta])* $name:ident, $size:literal { $($(#[$field_doc:meta])* $field:ident: $type:ty),* $(,)? }) => {
-        $(#[$doc])*
-        #[repr(C)]
-        #[derive(Clone, Copy, Debug, Default, PartialEq, Eq)]
-        pub struct $name { $($(#[$field_doc])* pub $field: $type),* }
-        const _: () = assert!(core::mem::size_of::<$name>() == $size);
-    };
-}
-
-record!(
-/// A range of the bytes of the image. As a walk over entries of one size, it is what is left.
-Range, 16 {
+/// A range of the bytes of the image.
+#[repr(C)]
+#[derive(Clone, Copy, Debug, Default, PartialEq, Eq)]
+pub struct Range {
     /// From the start of the bytes.
-    offset: u64,
-    /// In bytes.
-    length: u64,
-});
-record!(
-/// A data directory. Both fields are 0 where it is absent.
-Directory, 8 {
+    pub offset: u64,
+    /// Bytes.
+    pub length: u64,
+}
+const _: () = assert!(core::mem::size_of::<Range>() == 16);
+
+/// A data directory.
+///
+/// Both fields are 0 where it is absent.
+#[repr(C)]
+#[derive(Clone, Copy, Debug, Default, PartialEq, Eq)]
+pub struct Directory {
     /// RVA; of the certificate table a file offset.
-    virtual_address: u32,
-    /// In bytes.
-    size: u32,
-});
-record!(
-/// The headers of an image. Without an optional header the numbers that it has are 0, and its directories are absent.
-ImageInfo, 208 {
-    /// `ImageBase`: the preferred virtual address of the image. Add RVAs to it.
-    base: u64,
+    pub virtual_address: u32,
+    /// Bytes.
+    pub size: u32,
+}
+const _: () = assert!(core::mem::size_of::<Directory>() == 8);
+
+/// The headers of an image.
+///
+/// Without an optional header the numbers that it has are 0, and its directories are absent.
+#[repr(C)]
+#[derive(Clone, Copy, Debug, Default, PartialEq, Eq)]
+pub struct ImageInfo {
+    /// ImageBase, the preferred virtual address of the image; add RVAs to it.
+    pub base: u64,
     /// Offset of the section headers.
-    sections_offset: u64,
-    /// Offset of the field that holds the checksum, 4 bytes; 0 without an optional header.
-    checksum_offset: u64,
-    /// Offset of the certificate table's entry among the directories, 8 bytes; 0 where there is no such entry.
-    certificate_entry_offset: u64,
+    pub sections_offset: u64,
+    /// Offset of the field CheckSum, 4 bytes; 0 without an optional header.
+    pub checksum_offset: u64,
+    /// Offset of directory `PE_C_DIRECTORY_SECURITY`, 8 bytes; 0 without that entry.
+    pub certificate_entry_offset: u64,
     /// RVA of the entry point.
-    entry: u32,
-    /// In bytes. If it is not a power of two, no RVA of a file is mapped.
-    file_alignment: u32,
-    /// How the image is read: [`PERMISSIVE`], [`MAPPED`], both or 0.
-    mode: u32,
-    /// In bytes: sections start at multiples of it in memory.
-    section_alignment: u32,
-    /// `SizeOfImage`: bytes of the image in memory.
-    size_of_image: u32,
+    pub entry: u32,
+    /// Bytes; a power of two, or no RVA of a file is mapped.
+    pub file_alignment: u32,
+    /// How the image is read: [`PERMISSIVE`], [`MAPPED`], both or 0, that of the call of [`pe_c_image`]. A caller may
+    /// change it.
+    pub mode: u32,
+    /// Bytes: sections start at multiples of it in memory.
+    pub section_alignment: u32,
+    /// Bytes of the image in memory.
+    pub size_of_image: u32,
     /// Bytes of the headers in the file, rounded up to the file alignment.
-    size_of_headers: u32,
-    /// `CheckSum`, as the file has it; 0 in most that are no drivers.
-    checksum: u32,
+    pub size_of_headers: u32,
+    /// CheckSum, as the file has it; 0 in most that are no drivers.
+    pub checksum: u32,
     /// Seconds since 1970, or a hash in a reproducible build.
-    time_date_stamp: u32,
+    pub time_date_stamp: u32,
     /// Those that the optional header has, at most 16; the others are absent.
-    number_of_directories: u32,
-    /// By their indices, `IMAGE_DIRECTORY_ENTRY_` of winnt.h. [`ImageInfo::directory`] has names for them.
-    directories: [Directory; 16],
+    pub number_of_directories: u32,
+    /// By their indices, `PE_C_DIRECTORY_EXPORT` and so on.
+    pub directories: [Directory; 16],
     /// `IMAGE_FILE_MACHINE_AMD64` 0x8664, `_ARM64` 0xAA64, `_I386` 0x14C, or another.
-    machine: u16,
+    pub machine: u16,
     /// 64 for PE32+, 32 for PE32, 0 without an optional header.
-    width: u16,
+    pub width: u16,
     /// The number of section headers.
-    number_of_sections: u16,
-    /// `IMAGE_FILE_` flags.
-    characteristics: u16,
+    pub number_of_sections: u16,
+    /// `IMAGE_FILE_` flags; `IMAGE_FILE_DLL` 0x2000.
+    pub characteristics: u16,
     /// `IMAGE_SUBSYSTEM_`: 1 native, 2 Windows GUI, 3 Windows console, 10 EFI, or another.
-    subsystem: u16,
+    pub subsystem: u16,
     /// `IMAGE_DLLCHARACTERISTICS_` flags.
-    dll_characteristics: u16,
-});
+    pub dll_characteristics: u16,
+}
+const _: () = assert!(core::mem::size_of::<ImageInfo>() == 208);
+
 /// A section header, `IMAGE_SECTION_HEADER`.
 #[repr(C)]
 #[derive(Clone, Copy, Default, PartialEq, Eq)]
 pub struct Section {
-    /// Padded with zeros; a name of 8 bytes is not NUL-terminated. [`Section::name`] is without the zeros.
+    /// Padded with zeros; a name of 8 bytes is not NUL-terminated.
     pub name: [u8; 8],
     /// Bytes in memory.
     pub virtual_size: u32,
@@ -144,2161 +145,2567 @@ pub struct Section {
     pub characteristics: u32,
 }
 const _: () = assert!(core::mem::size_of::<Section>() == 40);
-shown! {
-    Section<> {
-        name: shown::Padded, virtual_size, virtual_address, size_of_raw_data, pointer_to_raw_data, pointer_to_relocations,
-        pointer_to_linenumbers, number_of_relocations, number_of_linenumbers, characteristics
-    }
-}
 
-record!(
-/// An entry of an index of the sections: the RVAs from `start` up to the start of the next entry.
-IndexEntry, 16 {
+/// An entry of an index of the sections, which [`pe_c_index`] makes: the RVAs from `start` up to the start of the next
+/// entry.
+#[repr(C)]
+#[derive(Clone, Copy, Debug, Default, PartialEq, Eq)]
+pub struct IndexEntry {
     /// The first RVA.
-    start: u64,
-    /// The index of the section that maps them, plus 1; 0 where none does.
-    section: u64,
-});
-record!(
-/// The sections of the last RVAs of a walk, which the steps over exports, imports, delay imports, resources and the records of a plan
-/// test before the others. All 0 at the start of a walk; only these calls read and write it.
-KeptSections, 8 {
-    /// The index of a section plus 1; 0 for none; `u32::MAX` for none, and the walk keeps no more, where sections may overlap.
-    first: u32,
-    /// The same of the one that was kept before it.
-    second: u32,
-});
-record!(
-/// Room for what the calls that read names together find out; what is in it has no meaning to callers.
-Run, 24 {
-    /// The offset of a name.
-    start: u64,
-    /// The offset of the zero after it.
-    end: u64,
-    /// Where the longest text starts that ends there.
-    text: u64,
-});
-/// An image as calls take it.
+    pub start: u64,
+    /// Index of the section that maps them, plus 1; 0 where none does.
+    pub section: u64,
+}
+const _: () = assert!(core::mem::size_of::<IndexEntry>() == 16);
+
+/// An image as calls take it: its bytes, what [`pe_c_image`] and [`pe_c_sections`] returned of them, and an index of
+/// the sections or none.
+///
+/// A caller makes one view and passes it to all calls. Digests, certificates, edits, the string table and bound imports
+/// need no sections: of these the view may have none.
 #[repr(C)]
 #[derive(Clone, Copy, Debug)]
 pub struct View {
     /// The bytes of the image.
     pub bytes: *const u8,
-    /// Their number.
+    /// Of the bytes.
     pub length: usize,
-    /// Its headers, which say how it is read.
+    /// Its headers, which say how it is read; not NULL.
     pub image: *const ImageInfo,
     /// Its section headers.
     pub sections: *const Section,
-    /// Their number.
+    /// Of the sections.
     pub count: usize,
-    /// What [`pe_c_index`] made of these sections.
+    /// What [`pe_c_index`] made of these sections; NULL for no index.
     pub index: *const IndexEntry,
-    /// The entries of the index; 0 without one.
+    /// Of the index; 0 for no index, and then calls test the sections in turn.
     pub entries: usize,
 }
+const _: () = assert!(core::mem::size_of::<View>() == 56);
 
-impl View {
-    /// The view of an image by its parts, for calls that end before any of them changes or ends. Without an index, and for calls
-    /// that need no sections, a part is empty.
-    pub fn of(bytes: &[u8], image: &ImageInfo, sections: &[Section], index: &[IndexEntry]) -> View {
-        View {
-            bytes: bytes.as_ptr(),
-            length: bytes.len(),
-            image,
-            sections: sections.as_ptr(),
-            count: sections.len(),
-            index: index.as_ptr(),
-            entries: index.len(),
-        }
-    }
-}
-
-record!(
-/// `IMAGE_DOS_HEADER`. Windows reads the first field and the last alone.
-DosHeader, 64 {
-    /// `e_magic`: 0x5A4D, "MZ".
-    signature: u16,
-    /// `e_cblp`.
-    bytes_on_last_page: u16,
-    /// `e_cp`: of 512 bytes.
-    pages_in_file: u16,
-    /// `e_crlc`: how many.
-    relocations: u16,
-    /// `e_cparhdr`: of 16 bytes.
-    size_of_header_in_paragraphs: u16,
-    /// `e_minalloc`.
-    minimum_extra_paragraphs: u16,
-    /// `e_maxalloc`.
-    maximum_extra_paragraphs: u16,
-    /// `e_ss`.
-    initial_relative_ss: u16,
-    /// `e_sp`.
-    initial_sp: u16,
-    /// `e_csum`.
-    checksum: u16,
-    /// `e_ip`.
-    initial_ip: u16,
-    /// `e_cs`.
-    initial_relative_cs: u16,
-    /// `e_lfarlc`: file offset of the relocations.
-    relocations_offset: u16,
-    /// `e_ovno`.
-    overlay_number: u16,
-    /// `e_res`.
-    reserved: [u16; 4],
-    /// `e_oemid`.
-    oem_id: u16,
-    /// `e_oeminfo`.
-    oem_information: u16,
-    /// `e_res2`.
-    reserved2: [u16; 10],
-    /// `e_lfanew`: file offset of the PE signature.
-    pe_pointer: u32,
-});
-record!(
-/// `IMAGE_FILE_HEADER`.
-CoffHeader, 20 {
-    /// Seconds since 1970, or a hash in a reproducible build.
-    time_date_stamp: u32,
-    /// File offset of the COFF symbols, or 0.
-    pointer_to_symbol_table: u32,
-    /// Their entries of 18 bytes, auxiliary records included.
-    number_of_symbol_table: u32,
-    /// `IMAGE_FILE_MACHINE_`.
-    machine: u16,
-    /// The number of section headers.
-    number_of_sections: u16,
-    /// In bytes; 0 where there is no optional header.
-    size_of_optional_header: u16,
-    /// `IMAGE_FILE_` flags.
-    characteristics: u16,
-});
-record!(
-/// `IMAGE_OPTIONAL_HEADER32` or `IMAGE_OPTIONAL_HEADER64`.
-OptionalHeader, 120 {
-    /// The preferred virtual address of the image.
-    image_base: u64,
-    /// Bytes of the stack to reserve.
-    size_of_stack_reserve: u64,
-    /// Bytes of the stack to commit.
-    size_of_stack_commit: u64,
-    /// Bytes of the heap to reserve.
-    size_of_heap_reserve: u64,
-    /// Bytes of the heap to commit.
-    size_of_heap_commit: u64,
-    /// In bytes, of all sections of code.
-    size_of_code: u32,
-    /// In bytes, of all sections of initialized data.
-    size_of_initialized_data: u32,
-    /// In bytes, of all sections of uninitialized data.
-    size_of_uninitialized_data: u32,
-    /// RVA, or 0.
-    address_of_entry_point: u32,
-    /// RVA.
-    base_of_code: u32,
-    /// RVA; 0 in PE32+, which has no such field.
-    base_of_data: u32,
-    /// In bytes.
-    section_alignment: u32,
-    /// In bytes.
-    file_alignment: u32,
-    /// Reserved.
-    win32_version_value: u32,
-    /// In bytes, of the image in memory.
-    size_of_image: u32,
-    /// In bytes, rounded up to the file alignment.
-    size_of_headers: u32,
-    /// `CheckSum`, as the file has it.
-    check_sum: u32,
-    /// Reserved.
-    loader_flags: u32,
-    /// Directories, as the header says.
-    number_of_rva_and_sizes: u32,
-    /// Those of them that are kept, at most 16.
-    number_of_directories: u32,
-    /// 0x10B in PE32, 0x20B in PE32+.
-    magic: u16,
-    /// The major version of the operating system that is required.
-    major_operating_system_version: u16,
-    /// The minor version of the operating system that is required.
-    minor_operating_system_version: u16,
-    /// The major version of the image.
-    major_image_version: u16,
-    /// The minor version of the image.
-    minor_image_version: u16,
-    /// The major version of the subsystem.
-    major_subsystem_version: u16,
-    /// The minor version of the subsystem.
-    minor_subsystem_version: u16,
-    /// `IMAGE_SUBSYSTEM_`.
-    subsystem: u16,
-    /// `IMAGE_DLLCHARACTERISTICS_` flags.
-    dll_characteristics: u16,
-    /// The major version of the linker.
-    major_linker_version: u8,
-    /// The minor version of the linker.
-    minor_linker_version: u8,
-});
-record!(
-/// All numbers of the headers of an image. Without an optional header its numbers and both offsets are 0, and all directories are
-/// absent.
-Headers, 368 {
-    /// The optional header.
-    optional: OptionalHeader,
-    /// Between the DOS header and the PE signature; no bytes where these overlap.
-    dos_stub: Range,
-    /// Offset of the optional header.
-    optional_offset: u64,
-    /// Offset of the data directories, 8 bytes each.
-    directories_offset: u64,
-    /// The DOS header.
-    dos: DosHeader,
-    /// The COFF header.
-    coff: CoffHeader,
-    /// 0x4550, "PE".
-    signature: u32,
-    /// By their indices, `IMAGE_DIRECTORY_ENTRY_` of winnt.h; absent from `number_of_directories` on.
-    directories: [Directory; 16],
-});
-record!(
-/// An entry of the debug directory, `IMAGE_DEBUG_DIRECTORY`.
-DebugEntry, 28 {
-    /// Reserved.
-    characteristics: u32,
-    /// Seconds since 1970, or a hash in a reproducible build.
-    time_date_stamp: u32,
-    /// Of the record's format.
-    major_version: u16,
-    /// Of the record's format.
-    minor_version: u16,
-    /// `IMAGE_DEBUG_TYPE_CODEVIEW` 2, `_VC_FEATURE` 12, `_POGO` 13, `_REPRO` 16, `_EX_DLLCHARACTERISTICS` 20, or another.
-    data_type: u32,
-    /// Bytes of the record.
-    size_of_data: u32,
-    /// RVA of the record, or 0. In an image as loaded the library reads it there.
-    address_of_raw_data: u32,
-    /// File offset of the record. In a file the library reads it there.
-    pointer_to_raw_data: u32,
-});
-record!(
-/// A CodeView record of PDB 7.0 ("RSDS"). See [`SymbolKey`](crate::SymbolKey).
-Key, 40 {
-    /// As in the file: little-endian u32, u16, u16, then 8 bytes.
-    guid: [u8; 16],
-    /// Grows by one each time the PDB is written.
-    age: u32,
-    /// 0.
-    spare: u32,
-    /// The rest of the record: the PDB file's name, as a rule with a zero after it.
-    name: Range,
-});
-record!(
-/// A CodeView record of PDB 2.0 ("NB10"). See [`Pdb20`](crate::Pdb20).
-Pdb20, 32 {
-    /// The rest of the record: the PDB file's name, as a rule with a zero after it.
-    name: Range,
-    /// 0 where the symbols are in a file of their own.
-    offset: u32,
-    /// Time stamp of the PDB, seconds since 1970.
-    signature: u32,
-    /// Grows by one each time the PDB is written.
-    age: u32,
-    /// 0.
-    spare: u32,
-});
-record!(
-/// VC features: the counts that `dumpbin /headers` shows, in its words.
-VcFeatures, 20 {
-    /// "Pre-VC++ 11.00".
-    pre_vc_plusplus_count: u32,
-    /// "C/C++".
-    c_and_cplusplus_count: u32,
-    /// "/GS".
-    guard_stack_count: u32,
-    /// "/sdl".
-    sdl_count: u32,
-    /// "guardN".
-    guard_count: u32,
-});
-record!(
-/// A Repro record. See [`Repro`](crate::Repro).
-Repro, 24 {
-    /// Empty unless `has_hash`.
-    hash: Range,
-    /// 1 or 0; 0 means that the image's time stamps are a hash.
-    has_hash: u32,
-    /// 0.
-    spare: u32,
-});
-record!(
-/// A POGO record. See [`Pogo`](crate::Pogo).
-Pogo, 24 {
-    /// A walk for [`pe_c_next_pogo_entry`], at its start.
-    entries: Range,
-    /// 0x4C544347 (LTCG) or 0x50475500 (PGU).
-    signature: u32,
-    /// 0.
-    spare: u32,
-});
-record!(
-/// What is read of the first debug entry of each type, each with its own result: [`DONE`], and then the record is here; else it is as
-/// it was.
-DebugRecords, 168 {
-    /// That of [`pe_c_symbol_key`].
-    key: Key,
-    /// That of [`pe_c_debug_pdb20`].
-    pdb20: Pdb20,
-    /// That of [`pe_c_debug_repro`].
-    repro: Repro,
-    /// That of [`pe_c_debug_pogo`].
-    pogo: Pogo,
-    /// Those of [`pe_c_debug_vc_features`].
-    features: VcFeatures,
-    /// Those of [`pe_c_debug_characteristics`].
-    characteristics: u32,
-    /// The result of `key`.
-    key_result: u32,
-    /// The result of `pdb20`.
-    pdb20_result: u32,
-    /// The result of `repro`.
-    repro_result: u32,
-    /// The result of `pogo`.
-    pogo_result: u32,
-    /// The result of `features`.
-    features_result: u32,
-    /// The result of `characteristics`.
-    characteristics_result: u32,
-});
-record!(
-/// A portable PDB in the image itself. See [`EmbeddedPdb`](crate::EmbeddedPdb).
-EmbeddedPdb, 24 {
-    /// Raw Deflate data.
-    compressed: Range,
-    /// In bytes, of the PDB, as the record states it.
-    uncompressed_size: u32,
-    /// 0.
-    spare: u32,
-});
-record!(
-/// A checksum of the PDB file. See [`PdbChecksum`](crate::PdbChecksum).
-PdbChecksum, 32 {
-    /// The name of the algorithm, not NUL-terminated.
-    algorithm: Range,
-    /// The rest of the record.
-    checksum: Range,
-});
-record!(
-/// An entry of a POGO record.
-PogoEntry, 24 {
-    /// With its final zero.
-    name: Range,
-    /// RVA of the part.
-    rva: u32,
-    /// Bytes of the part.
-    size: u32,
-});
-record!(
-/// An attribute certificate, `WIN_CERTIFICATE`. See [`Certificate`](crate::Certificate).
-Certificate, 24 {
-    /// What follows the header of 8 bytes.
-    body: Range,
-    /// `dwLength`: bytes of header and body.
-    length: u32,
-    /// 0x100 or 0x200.
-    revision: u16,
-    /// `wCertificateType`, 1 to 4.
-    kind: u16,
-});
-record!(
-/// What an Authenticode digest covers. See [`DigestRanges`](crate::DigestRanges).
-Digest, 72 {
-    /// In the order of the file. Those that are not needed are at the end, and empty.
-    ranges: [Range; 4],
-    /// How many bytes of zero follow, at most 7.
-    zeros: u64,
-});
-record!(
-/// The checksum that an image should have. See [`Checksum`](crate::Checksum).
-ChecksumField, 16 {
-    /// File offset of the field that holds it, 4 bytes.
-    offset: u64,
-    /// What the field has to hold.
-    value: u32,
-    /// 0.
-    spare: u32,
-});
-record!(
-/// An entry of the x64 function table, `RUNTIME_FUNCTION`.
-Function, 12 {
-    /// RVA of its first byte.
-    begin: u32,
-    /// RVA after its last byte.
-    end: u32,
-    /// RVA of its unwind record. An odd one is a link: the RVA of another entry, plus 1.
-    unwind: u32,
-});
-record!(
-/// A walk over x64 unwind codes.
-Walk, 24 {
-    /// The code bytes that are left, 2 for each slot.
-    left: Range,
-    /// Of the unwind record, 1 or 2.
-    version: u8,
-    /// Its number, as in [`Code::operand`]; 0 without one.
-    frame_register: u8,
-    /// 0.
-    spare: [u8; 6],
-});
-record!(
-/// An x64 unwind record, `UNWIND_INFO`. See [`UnwindRecord`](crate::UnwindRecord).
-Record, 72 {
-    /// A walk for [`pe_c_next_code`], at its start.
-    codes: Walk,
-    /// What follows the handler's RVA, up to the end of the file. Empty without a handler.
-    handler_data: Range,
-    /// RVA of the handler, or 0.
-    handler: u32,
-    /// The function whose record continues this one; 0 unless `is_chained`.
-    chained: Function,
-    /// 1 or 0.
-    is_chained: u32,
-    /// In bytes. Subtract it from the frame register to get the base of saves.
-    frame_register_offset: u32,
-    /// In bytes.
-    size_of_prolog: u8,
-    /// 0 none, 1 exception handler (also with both flags), 2 termination handler.
-    handler_kind: u8,
-    /// 0.
-    spare: [u8; 6],
-});
-record!(
-/// An x64 unwind code, `UNWIND_CODE`. See [`Code`](crate::Code).
-Code, 8 {
-    /// Bytes, from the start of the prolog to the end of the instruction.
-    code_offset: u8,
-    /// 0 to 8, in the order of [`Operation`](crate::Operation).
-    operation: u8,
-    /// A register as [`Register`](crate::Register) numbers it. Of an epilog its flags or the high part of its offset; of a
-    /// machine frame 1 with an error code; else 0.
-    operand: u8,
-    /// 1 where `value` is an [`Offset::Frame`](crate::Offset::Frame), else 0.
-    from_frame: u8,
-    /// In bytes: a size or an offset. Of an epilog its size or the low part of its offset; else 0.
-    value: u32,
-});
-record!(
-/// How codes are read: two fields of their unwind record.
-CodeForm, 2 {
-    /// The version of the record, 1 or 2.
-    version: u8,
-    /// The number of the frame register; 0 without one.
-    frame_register: u8,
-});
-record!(
-/// An entry of the scope table of a C handler: a `__try` block.
-Scope, 16 {
-    /// RVA of the first guarded byte.
-    begin: u32,
-    /// RVA after the last guarded byte.
-    end: u32,
-    /// RVA of the filter or of the `__finally` block. 1 means `EXCEPTION_EXECUTE_HANDLER`.
-    handler: u32,
-    /// RVA of the `__except` block; 0 for `__finally`.
-    target: u32,
-});
-record!(
-/// Where a walk over the records of a function stands, up to the root of its chain. [`pe_c_plan_from`] starts it.
-Plan, 32 {
-    /// Unwind RVA of the next record.
-    unwind: u32,
-    /// 1 after the root or an error, else 0.
-    is_over: u32,
-    /// An unwind RVA on the way: if it comes again, the chain never ends.
-    saved: u32,
-    /// 0.
-    spare: u32,
-    /// Records returned since that RVA was saved.
-    steps: u64,
-    /// Records after which another RVA is saved.
-    limit: u64,
-});
-record!(
-/// A walk over the records of a function, step by step.
-PlanWalk, 40 {
-    /// Where it stands.
-    plan: Plan,
-    /// The sections of its last RVAs.
-    kept: KeptSections,
-});
-record!(
-/// The registers of a thread that unwinding restores.
+/// The sections of the last RVAs of a walk, which the steps over exports, imports, delay imports, resources and the
+/// records of a plan test before the others: the RVAs of a table mostly lie in one section or two.
 ///
-/// ```
-/// let mut registers = pe_c::Registers::default();
-/// registers.set_rsp(0x2_0000);
-/// registers.set_xmm(6, 1 << 64);
-/// assert_eq!((registers.general[4], registers.xmm[13]), (0x2_0000, 1));
-/// assert_eq!((registers.rsp(), registers.xmm(6)), (0x2_0000, 1 << 64));
-/// ```
-Registers, 392 {
-    /// rax, rcx, rdx, rbx, rsp, rbp, rsi, rdi, r8 to r15.
-    general: [u64; 16],
-    /// Of xmm0 to xmm15 the low half and then the high half.
-    xmm: [u64; 32],
-    /// The instruction pointer.
-    rip: u64,
-});
-record!(
-/// A frame of a stack walk, as [`pe_c_step`] takes it and leaves it.
-Frame, 424 {
-    /// Inside the function; after a step those of its caller.
-    registers: Registers,
-    /// The address that an error speaks of.
-    address: u64,
-    /// The function that lookup found.
-    function: Function,
-    /// `rip` less the address where the image is loaded.
-    rva: u32,
-    /// 1 in a leaf function, which lookup did not find, else 0.
-    leaf: u32,
-    /// After a step 1 where an interrupt stopped the caller, else 0.
-    interrupted: u32,
-});
-/// A module of a process: its image, which has as many bytes where it is loaded as `size_of_image` says. What the view leads to
-/// stays readable as long as the record is passed.
+/// `kept` of such a walk is all 0 at the start, and only the step calls read and write it. Where a caller changes it
+/// and sections overlap, a step may return an offset by another section, and no other harm is done; a number past the
+/// last section maps nothing.
 #[repr(C)]
-#[derive(Clone, Copy, Debug)]
-pub struct Module {
-    /// The image.
-    pub image: View,
-    /// The range of its function table; all 0 where it has none.
-    pub table: Range,
-    /// The address where it is loaded.
-    pub base: u64,
+#[derive(Clone, Copy, Debug, Default, PartialEq, Eq)]
+pub struct KeptSections {
+    /// Index of a section plus 1; 0 for none, as at the start of a walk; 0xFFFFFFFF for none, and the walk keeps no
+    /// more, where that of an RVA may share some with an earlier one.
+    pub first: u32,
+    /// The same of the one that was kept before it.
+    pub second: u32,
 }
+const _: () = assert!(core::mem::size_of::<KeptSections>() == 8);
 
-record!(
-/// A walk of a stack on x64, and the frame that was returned last.
-StackWalk, 440 {
-    /// Inside the function of the frame; before the first call those of the thread.
-    registers: Registers,
-    /// How many frames follow at most; 0 once the walk is over.
-    remaining: u64,
-    /// Of a walk that is over the address that its error speaks of, or 0.
-    address: u64,
-    /// 0 before the first call, else 1.
-    has_returned: u32,
-    /// How the frame was found, by the numbers of [`Way`](crate::Way) from 0 on.
-    way: u32,
-    /// 1 where the function of the frame has called, else 0.
-    has_called: u32,
-    /// Why the walk is over, by the numbers of [`End`](crate::End) from 0 on.
-    end: u32,
-    /// Of a walk that is over the number of its error, or 0.
-    error: u32,
-    /// 1 where a call found that the pieces of memory lie in it, ascend and do not overlap: later calls test only those that they
-    /// read. 0 before the first call.
-    is_searched: u32,
-    /// 1 where the frame may be wrong: nothing proves that it is the caller, or it follows a frame of which this holds. Else 0.
-    is_guess: u32,
-    /// 0.
-    spare: u32,
-});
-record!(
-/// A piece of memory: its address, and where in a memory that is passed its bytes are, as a minidump has it.
-MemoryPiece, 24 {
-    /// Address of the first byte.
-    start: u64,
-    /// Of the first byte, from the start of the memory that is passed.
-    offset: u64,
-    /// In bytes.
-    length: u64,
-});
-record!(
-/// An entry of the ARM64 function table.
-Arm64Function, 8 {
-    /// RVA of its first byte.
-    begin: u32,
-    /// Packed unwind data, or the RVA of its unwind record: its two lowest bits say which.
-    unwind: u32,
-});
-record!(
-/// Packed unwind data of an ARM64 function. The fields mean nothing unless `is_packed`.
-Arm64Packed, 32 {
-    /// 1 a function, 2 a fragment without prolog and epilog, 3 reserved; 0 where the unwind data is a record.
-    flag: u32,
-    /// In bytes.
-    function_length: u32,
-    /// Bytes of stack that the function allocates.
-    frame_size: u32,
-    /// RegF: 0, or the number of saved registers from d8 on, less 1.
-    reg_f: u32,
-    /// RegI: the number of saved registers from x19 on.
-    reg_i: u32,
-    /// H: 1 where x0 to x7 are stored at the start of the function.
-    h: u32,
-    /// CR: 0 x29 and lr are not saved, 1 lr is, 2 and 3 both are, with 2 signed.
-    cr: u32,
-    /// 1 unless `flag` is 0.
-    is_packed: u32,
-});
-record!(
-/// An ARM64 unwind record. See [`Arm64Record`](crate::Arm64Record).
-Arm64Record, 72 {
-    /// A walk for [`pe_c_next_arm64_scope`], at its start.
-    scopes: Range,
-    /// The code bytes, for [`pe_c_arm64_codes`].
-    codes: Range,
-    /// What follows the handler's RVA, up to the end of the file. Empty without a handler.
-    handler_data: Range,
-    /// RVA of the handler, or 0.
-    handler: u32,
-    /// 1 or 0.
-    has_handler: u32,
-    /// In bytes.
-    function_length: u32,
-    /// 1 where the one epilog has no scope: its codes start at `epilog_start`.
-    epilog_in_header: u32,
-    /// Index of that epilog's first code byte; else 0.
-    epilog_start: u32,
-    /// 0.
-    version: u32,
-});
-record!(
-/// An epilog scope: where an epilog of an ARM64 function is, and where its codes are.
-Arm64Scope, 16 {
-    /// Bytes, from the start of the function to that of the epilog.
-    start_offset: u32,
-    /// Index of the epilog's first code byte. Pass it to [`Arm64Record::codes`](crate::Arm64Record::codes).
-    start_index: u32,
-    /// Bits 18 to 21.
-    reserved: u32,
-    /// The whole entry.
-    word: u32,
-});
-record!(
-/// A walk over ARM64 unwind codes.
-Arm64Walk, 24 {
-    /// The code bytes that are left.
-    left: Range,
-    /// Bytes, from the start of the record's codes to these.
-    offset: u64,
-});
-record!(
-/// An ARM64 unwind code. See [`Arm64Code`](crate::Arm64Code).
-Arm64Code, 24 {
-    /// Bytes, from the start of the record's codes to this one.
-    offset: u32,
-    /// Bytes of the code, 1 to 5.
-    length: u32,
-    /// 0 to 27, in the order of [`Arm64Operation`](crate::Arm64Operation).
-    kind: u32,
-    /// A register, a count, a case or the first operand; else 0.
-    operand: u32,
-    /// Bytes, or the second operand; else 0.
-    value: u32,
-    /// Of `SaveAnyReg`: bit 0 a pair, bit 1 preindexed, bits 2 and 3 the kind of register; else 0.
-    flags: u32,
-});
-record!(
-/// The registers of a thread on ARM64 that unwinding restores.
-Arm64Registers, 328 {
-    /// x0 to x30: the frame pointer is the one at 29, the link register that at 30.
-    general: [u64; 31],
-    /// d8 to d15, the low halves of v8 to v15.
-    floats: [u64; 8],
-    /// The stack pointer.
-    sp: u64,
-    /// The instruction pointer.
-    pc: u64,
-});
-record!(
-/// A frame of a stack walk on ARM64, as [`pe_c_step_arm64`] takes it and leaves it.
-Arm64Frame, 360 {
-    /// Inside the function; after a step those of its caller.
-    registers: Arm64Registers,
-    /// The address that an error speaks of.
-    address: u64,
-    /// The function that lookup found.
-    function: Arm64Function,
-    /// `pc` less the address where the image is loaded.
-    rva: u32,
-    /// 1 in a leaf function, which lookup did not find, else 0.
-    leaf: u32,
-    /// After a step 1 where no call left the caller, else 0.
-    interrupted: u32,
-    /// 0.
-    spare: u32,
-});
-record!(
-/// A walk of a stack on ARM64, and the frame that was returned last.
-Arm64StackWalk, 376 {
-    /// Inside the function of the frame; before the first call those of the thread.
-    registers: Arm64Registers,
-    /// How many frames follow at most; 0 once the walk is over.
-    remaining: u64,
-    /// Of a walk that is over the address that its error speaks of, or 0.
-    address: u64,
-    /// 0 before the first call, else 1.
-    has_returned: u32,
-    /// How the frame was found, by the numbers of [`Way`](crate::Way) from 0 on.
-    way: u32,
-    /// 1 where the function of the frame has called, else 0.
-    has_called: u32,
-    /// Why the walk is over, by the numbers of [`End`](crate::End) from 0 on.
-    end: u32,
-    /// Of a walk that is over the number of its error, or 0.
-    error: u32,
-    /// 1 where a call found that the pieces of memory lie in it, ascend and do not overlap: later calls test only those that they
-    /// read. 0 before the first call.
-    is_searched: u32,
-    /// 1 where the frame may be wrong: nothing proves that it is the caller, or it follows a frame of which this holds. Else 0.
-    is_guess: u32,
-    /// 0.
-    spare: u32,
-});
-record!(
-/// Where a walk over exports stands.
-Exports, 64 {
-    /// RVAs of names, 4 bytes each.
-    names: Range,
-    /// For each name the index of its RVA in `addresses`, 2 bytes each.
-    ordinals: Range,
-    /// RVAs of what is exported, 4 bytes each.
-    addresses: Range,
-    /// Index of the next name.
-    next: u64,
-    /// The export directory: an RVA inside it is that of a forwarder's text.
-    directory: Directory,
-});
-record!(
-/// A walk over exports, step by step.
-ExportWalk, 72 {
-    /// Where it stands.
-    exports: Exports,
-    /// The sections of its last RVAs.
-    kept: KeptSections,
-});
-record!(
-/// An export. See [`Export`](crate::Export).
-Export, 56 {
-    /// UTF-8, without its final zero.
-    name: Range,
-    /// A forwarder's text: UTF-8, without its final zero; empty unless `is_forwarder`, and where no text is there.
-    forwarder: Range,
-    /// File offset of the RVA; 0 unless `has_offset`.
-    offset: u64,
-    /// RVA of what is exported, or of the forwarder's text.
-    rva: u32,
-    /// 1 where the RVA is mapped, else 0.
-    has_offset: u32,
-    /// Index in the table of RVAs.
-    index: u32,
-    /// 1 where the RVA lies in the export directory, else 0.
-    is_forwarder: u32,
-});
-record!(
-/// The export directory's table of RVAs. See [`AddressTable`](crate::AddressTable).
-AddressTable, 48 {
-    /// The DLL's name: UTF-8, without its final zero; empty unless `has_name`.
-    name: Range,
-    /// RVAs of what is exported, 4 bytes each.
-    addresses: Range,
-    /// The export directory: an RVA inside it is that of a forwarder's text.
-    directory: Directory,
-    /// Ordinal of the export with the index 0.
-    ordinal_base: u32,
-    /// 1 where the directory has a name that is mapped and is UTF-8 text, else 0.
-    has_name: u32,
-});
-record!(
-/// The export directory itself, `IMAGE_EXPORT_DIRECTORY`.
-ExportFields, 40 {
-    /// Reserved.
-    characteristics: u32,
-    /// Seconds since the start of 1970, or a hash.
-    time_date_stamp: u32,
-    /// Of the directory.
-    major_version: u16,
-    /// Of the directory.
-    minor_version: u16,
-    /// RVA of the DLL's name, or 0.
-    name: u32,
-    /// Ordinal of the export with the index 0.
-    base: u32,
-    /// Entries of the table of RVAs.
-    number_of_functions: u32,
-    /// Entries of the table of names, and of that of indices.
-    number_of_names: u32,
-    /// RVA of the table of RVAs.
-    address_of_functions: u32,
-    /// RVA of the table of names.
-    address_of_names: u32,
-    /// RVA of the table of indices.
-    address_of_name_ordinals: u32,
-});
-record!(
-/// An export by its index. See [`Exported`](crate::Exported).
-Exported, 32 {
-    /// A forwarder's text: UTF-8, without its final zero; empty unless `is_forwarder`, and where no text is there.
-    forwarder: Range,
-    /// The index plus the ordinal base.
-    ordinal: u64,
-    /// RVA of what is exported, or of the forwarder's text; 0 for an unused ordinal.
-    rva: u32,
-    /// 1 or 0.
-    is_forwarder: u32,
-});
-record!(
-/// Where a walk over the libraries of an import directory stands.
-Libraries, 16 {
-    /// File offset of the next record.
-    next: u64,
-    /// 1 after the last library or an error, else 0.
-    is_over: u32,
-    /// 0.
-    spare: u32,
-});
-record!(
-/// Where a walk over the imports of a library stands.
-Imports, 24 {
-    /// The entries of the list that are left: 8 bytes each in PE32+, else 4.
-    left: Range,
-    /// RVA of the next import's slot in the address table.
-    rva: u64,
-});
-record!(
-/// A walk over libraries, step by step.
-LibraryWalk, 24 {
-    /// Where it stands.
-    libraries: Libraries,
-    /// The sections of its last RVAs.
-    kept: KeptSections,
-});
-record!(
-/// A walk over the imports of a library, step by step.
-ImportWalk, 32 {
-    /// Where it stands.
-    imports: Imports,
-    /// The sections of its last RVAs.
-    kept: KeptSections,
-});
-record!(
-/// A DLL that an image imports from, `IMAGE_IMPORT_DESCRIPTOR`. See [`Library`](crate::Library).
-Library, 64 {
-    /// UTF-8, without its final zero.
-    name: Range,
-    /// Where a walk over its imports starts, for [`pe_c_next_import`].
-    imports: Imports,
-    /// RVA of the list of imports. Where it is 0, the list is the address table.
-    lookup_table_rva: u32,
-    /// 0, or not 0 where the imports are bound.
-    time_date_stamp: u32,
-    /// Index of the first forwarder, or -1.
-    forwarder_chain: u32,
-    /// RVA of the DLL's name.
-    name_rva: u32,
-    /// RVA of the slots that the loader fills.
-    address_table_rva: u32,
-    /// 0.
-    spare: u32,
-});
-record!(
-/// An import. See [`Import`](crate::Import).
-Import, 32 {
-    /// UTF-8, without its final zero; empty unless `has_name`.
-    name: Range,
-    /// RVA of the slot that the loader fills.
-    rva: u64,
-    /// The ordinal; with a name its hint.
-    ordinal: u32,
-    /// 1 or 0.
-    has_name: u32,
-});
-record!(
-/// A walk over the imports of all libraries.
-LibraryImports, 64 {
-    /// The libraries after the one that is walked over.
-    libraries: Libraries,
-    /// The imports that this one has left.
-    imports: Imports,
-    /// Of this one: UTF-8, without its final zero.
-    library_name: Range,
-    /// How many libraries were begun; 0 before the first.
-    begun: u64,
-});
-record!(
-/// An import, and the library that it is from. See [`LibraryImport`](crate::LibraryImport).
-LibraryImport, 64 {
-    /// What [`pe_c_next_import`] returns.
-    import: Import,
-    /// Of the DLL: UTF-8, without its final zero.
-    library_name: Range,
-    /// Index of the library in the order of the import directory.
-    library: u64,
-    /// RVA of the hint, which the name follows; 0 unless the import has a name.
-    hint_rva: u32,
-    /// 0.
-    spare: u32,
-});
-record!(
-/// The fixed file information, `VS_FIXEDFILEINFO`: versions, file type and flags as numbers.
+/// `IMAGE_DOS_HEADER`, in its layout.
 ///
-/// ```
-/// # #[path = "../tests/made/mod.rs"] mod made;
-/// # let bytes = made::with_resources();
-/// use pe_c::{Image, Mode};
-///
-/// let image = Image::parse(&bytes, Mode::Permissive)?;
-/// let version = image.version()?.expect("the image has version information");
-/// assert_eq!(version.file_version(), [3, 11, 3150, 1013]);
-/// assert_eq!(version.product_version(), [1, 2, 3, 4]);
-/// # Ok::<(), pe_c::Error>(())
-/// ```
-Version, 52 {
-    /// 0xFEEF04BD.
-    signature: u32,
-    /// Of this record: major in the high 16 bits, minor in the low.
-    struct_version: u32,
-    /// High half of the file's version: 1.2.3.4 is 0x00010002 and 0x00030004.
-    file_version_ms: u32,
-    /// Low half of the file's version.
-    file_version_ls: u32,
-    /// High half of the product's version.
-    product_version_ms: u32,
-    /// Low half of the product's version.
-    product_version_ls: u32,
-    /// Which bits of `file_flags` are valid.
-    file_flags_mask: u32,
-    /// `VS_FF_` flags.
-    file_flags: u32,
-    /// `VOS_`: the operating system that the file is for.
-    file_os: u32,
-    /// `VFT_`: 1 application, 2 DLL, 3 driver.
-    file_type: u32,
-    /// `VFT2_`: which driver or font.
-    file_subtype: u32,
-    /// High half of a `FILETIME`, mostly 0.
-    file_date_ms: u32,
-    /// Low half of it.
-    file_date_ls: u32,
-});
-record!(
-/// A block of version information. See [`VersionBlock`](crate::VersionBlock).
-VersionBlock, 64 {
-    /// UTF-16 code units, without the zero that ends them.
-    key: Range,
-    /// A text in UTF-16, which ends at the first zero, or binary data.
-    value: Range,
-    /// A walk over the blocks that it contains.
-    children: Range,
-    /// 1 where the value is a text, 0 where it is binary data.
-    value_type: u32,
-    /// 1 where the key is eight hexadecimal digits, as that of a string table; else 0.
-    has_language: u32,
-    /// The language identifier that the first four digits are; else 0.
-    language: u32,
-    /// The code page that the last four digits are; else 0.
-    code_page: u32,
-});
-
-impl Range {
-    /// The bytes of a range, or `None` if they are not all there.
-    pub fn of<'a>(&self, bytes: &'a [u8]) -> Option<&'a [u8]> {
-        let offset = usize::try_from(self.offset).ok()?;
-        let length = usize::try_from(self.length).ok()?;
-        bytes.get(offset..offset.checked_add(length)?)
-    }
+/// Windows reads the first field and the last alone.
+#[repr(C)]
+#[derive(Clone, Copy, Debug, Default, PartialEq, Eq)]
+pub struct DosHeader {
+    /// `e_magic`: 0x5A4D, "MZ".
+    pub signature: u16,
+    /// `e_cblp`.
+    pub bytes_on_last_page: u16,
+    /// `e_cp`: of 512 bytes.
+    pub pages_in_file: u16,
+    /// `e_crlc`: how many.
+    pub relocations: u16,
+    /// `e_cparhdr`: of 16 bytes.
+    pub size_of_header_in_paragraphs: u16,
+    /// `e_minalloc`.
+    pub minimum_extra_paragraphs: u16,
+    /// `e_maxalloc`.
+    pub maximum_extra_paragraphs: u16,
+    /// `e_ss`.
+    pub initial_relative_ss: u16,
+    /// `e_sp`.
+    pub initial_sp: u16,
+    /// `e_csum`.
+    pub checksum: u16,
+    /// `e_ip`.
+    pub initial_ip: u16,
+    /// `e_cs`.
+    pub initial_relative_cs: u16,
+    /// `e_lfarlc`: file offset of the relocations.
+    pub relocations_offset: u16,
+    /// `e_ovno`.
+    pub overlay_number: u16,
+    /// `e_res`.
+    pub reserved: [u16; 4],
+    /// `e_oemid`.
+    pub oem_id: u16,
+    /// `e_oeminfo`.
+    pub oem_information: u16,
+    /// `e_res2`.
+    pub reserved2: [u16; 10],
+    /// `e_lfanew`: file offset of the PE signature.
+    pub pe_pointer: u32,
 }
+const _: () = assert!(core::mem::size_of::<DosHeader>() == 64);
 
-record!(
-/// The TLS directory, `IMAGE_TLS_DIRECTORY`. See [`Tls`](crate::Tls).
-TlsDirectory, 40 {
-    /// Where the data starts of which each thread gets a copy: a virtual address, as all addresses here.
-    start_address_of_raw_data: u64,
-    /// Where this data ends.
-    end_address_of_raw_data: u64,
-    /// Where the loader writes the number of the slot that leads to a copy.
-    address_of_index: u64,
-    /// Where the table of callbacks is; 0 where there are none.
-    address_of_callbacks: u64,
-    /// How many zeros follow the data in a copy, in bytes.
-    size_of_zero_fill: u32,
-    /// Bits 20 to 23: the alignment, 1 to 14 for 1 to 8192 bytes.
-    characteristics: u32,
-});
-record!(
-/// The load configuration, up to the guard flags. A field that its structure is too short for is 0, and so is the field of its
-/// name with `has_`, which else is 1. Addresses are virtual addresses. See [`LoadConfig`](crate::LoadConfig).
-LoadConfig, 88 {
-    /// Where the security cookie is.
-    security_cookie: u64,
-    /// Where the sorted table of the RVAs of exception handlers is, on x86.
-    se_handler_table: u64,
-    /// How many entries it has.
-    se_handler_count: u64,
-    /// Where the pointer is to what checks the target of an indirect call.
-    guard_cf_check_function_pointer: u64,
-    /// Where the pointer is to what checks the target and calls it.
-    guard_cf_dispatch_function_pointer: u64,
-    /// Where the sorted table of the functions is that may be called indirectly.
-    guard_cf_function_table: u64,
-    /// How many entries it has.
-    guard_cf_function_count: u64,
-    /// Of the structure in bytes, as it says itself.
-    size: u32,
-    /// Seconds since 1970.
-    time_date_stamp: u32,
-    /// `IMAGE_GUARD_*`.
-    guard_flags: u32,
-    /// Major part of a version.
-    major_version: u16,
-    /// Minor part of a version.
-    minor_version: u16,
-    /// Where DLLs that the image imports are looked for: flags of `LoadLibraryEx`.
-    dependent_load_flags: u16,
-    /// 0.
-    spare: u16,
-    /// 1 or 0.
-    has_time_date_stamp: u8,
-    /// 1 or 0.
-    has_major_version: u8,
-    /// 1 or 0.
-    has_minor_version: u8,
-    /// 1 or 0.
-    has_dependent_load_flags: u8,
-    /// 1 or 0.
-    has_security_cookie: u8,
-    /// 1 or 0.
-    has_se_handler_table: u8,
-    /// 1 or 0.
-    has_se_handler_count: u8,
-    /// 1 or 0.
-    has_guard_cf_check_function_pointer: u8,
-    /// 1 or 0.
-    has_guard_cf_dispatch_function_pointer: u8,
-    /// 1 or 0.
-    has_guard_cf_function_table: u8,
-    /// 1 or 0.
-    has_guard_cf_function_count: u8,
-    /// 1 or 0.
-    has_guard_flags: u8,
-});
-record!(
-/// A text in the bytes.
-TextInBytes, 24 {
-    /// What stands before the first zero.
-    text: Range,
-    /// 1 where a zero follows, else 0.
-    is_terminated: u32,
-    /// 0.
-    spare: u32,
-});
-record!(
-/// A walk over the entries of a table of a load configuration.
-GuardEntries, 32 {
-    /// From the next entry to the end of the bytes.
-    entries: Range,
-    /// How many entries are left.
-    count: u64,
-    /// Bytes of flags that an entry has after its RVA.
-    flag_size: u32,
-    /// 0.
-    spare: u32,
-});
-record!(
-/// An entry of a table of a load configuration. See [`GuardEntry`](crate::GuardEntry).
-GuardEntry, 24 {
-    /// The flags that follow the RVA.
-    flag_bytes: Range,
-    /// An RVA.
-    rva: u32,
-    /// The first byte of flags; 0 where there is none.
-    flags: u32,
-});
-record!(
-/// A block of base relocations. See [`RelocationBlock`](crate::RelocationBlock).
-RelocationBlock, 24 {
-    /// 2 bytes each; a walk through the relocations of the block.
-    entries: Range,
-    /// RVA of the page that they count from.
-    page_rva: u32,
-    /// 0.
-    spare: u32,
-});
-record!(
-/// A base relocation. See [`Relocation`](crate::Relocation).
-Relocation, 16 {
-    /// RVA of what to change; in a hostile block it may pass 32 bits.
-    rva: u64,
-    /// `IMAGE_REL_BASED_*` of winnt.h, below 16.
-    kind: u32,
-    /// Low 16 bits of the number that `IMAGE_REL_BASED_HIGHADJ` (4) changes; else 0.
-    argument: u32,
-});
-record!(
-/// The CLR header, `IMAGE_COR20_HEADER`. See [`Clr`](crate::Clr).
-ClrHeader, 72 {
-    /// Of the header in bytes, as it says itself: 72 or more.
-    cb: u32,
-    /// The version of the runtime that is needed, major part.
-    major_runtime_version: u16,
-    /// The version of the runtime that is needed, minor part.
-    minor_runtime_version: u16,
-    /// The metadata.
-    metadata: Directory,
-    /// `COMIMAGE_FLAGS_*`.
-    flags: u32,
-    /// A metadata token; an RVA with `COMIMAGE_FLAGS_NATIVE_ENTRYPOINT` (0x10).
-    entry_point_token: u32,
-    /// The managed resources.
-    resources: Directory,
-    /// The strong name signature.
-    strong_name_signature: Directory,
-    /// 0.
-    code_manager_table: Directory,
-    /// The fixups of tables of virtual functions.
-    vtable_fixups: Directory,
-    /// 0.
-    export_address_table_jumps: Directory,
-    /// The header of code that was compiled ahead of time (ReadyToRun), else 0.
-    managed_native_header: Directory,
-});
-record!(
-/// A walk over the streams of CLR metadata.
-MetadataStreams, 40 {
-    /// The metadata, from which the offsets of streams count.
-    metadata: Range,
-    /// The stream headers that are left, and the rest of the metadata.
-    headers: Range,
-    /// How many streams are left.
-    count: u16,
-    /// 0.
-    spare: u16,
-    /// 0.
-    spare_too: u32,
-});
-record!(
-/// The root of CLR metadata. See [`Metadata`](crate::Metadata).
-Metadata, 64 {
-    /// UTF-8 up to the first zero, and the zeros after it.
-    version: Range,
-    /// A walk over the streams, at its start.
-    streams: MetadataStreams,
-    /// Of the format of metadata.
-    major_version: u16,
-    /// Of the format of metadata.
-    minor_version: u16,
-    /// Reserved.
-    flags: u16,
-    /// 0.
-    spare: u16,
-});
-record!(
-/// A stream of CLR metadata. See [`MetadataStream`](crate::MetadataStream).
-MetadataStream, 48 {
-    /// Without its final zero.
-    name: Range,
-    /// The stream's bytes; empty unless `has_content`.
-    content: Range,
-    /// From the start of the metadata.
-    offset: u32,
-    /// In bytes.
-    size: u32,
-    /// 1 where the stream lies in the metadata, else 0.
-    has_content: u32,
-    /// 0.
-    spare: u32,
-});
-record!(
-/// An entry of the delay import directory, `IMAGE_DELAYLOAD_DESCRIPTOR`. Its addresses are RVAs where bit 0 of the attributes is
-/// set, else virtual addresses.
-DelayDescriptor, 32 {
-    /// Flags, of which bit 0 is defined.
-    attributes: u32,
-    /// Where the DLL's name is.
-    name: u32,
-    /// Where the DLL's handle is written when it is loaded.
-    module_handle: u32,
-    /// Where the functions' addresses are written.
-    import_address_table: u32,
-    /// Where the table of what is imported is.
-    import_name_table: u32,
-    /// Where the addresses are if the DLL has the time stamp; 0 for none.
-    bound_import_address_table: u32,
-    /// Where a copy of the address table is, to unload the DLL; 0 for none.
-    unload_information_table: u32,
-    /// Of the DLL to which the image is bound; 0 where it is not bound.
-    time_date_stamp: u32,
-});
-record!(
-/// Where a walk over what is imported of a DLL that is loaded later stands.
-DelayedFunctions, 24 {
-    /// The table from its next number on: 8 bytes each in PE32+, else 4.
-    left: Range,
-    /// Those of the DLL's entry.
-    attributes: u32,
-    /// 0.
-    spare: u32,
-});
-record!(
-/// A walk over the DLLs that are loaded later, step by step.
-DelayImportWalk, 24 {
-    /// The entries that are left.
-    entries: Range,
-    /// The sections of its last RVAs.
-    kept: KeptSections,
-});
-record!(
-/// A walk over what is imported of a DLL that is loaded later, step by step.
-DelayedFunctionWalk, 32 {
-    /// Where it stands.
-    functions: DelayedFunctions,
-    /// The sections of its last RVAs.
-    kept: KeptSections,
-});
-record!(
-/// A DLL that is loaded later. See [`DelayImport`](crate::DelayImport).
-DelayImport, 72 {
-    /// UTF-8, without its final zero.
-    name: Range,
-    /// Where a walk over what is imported of the DLL starts.
-    functions: DelayedFunctions,
-    /// The entry.
-    descriptor: DelayDescriptor,
-});
-record!(
-/// What is imported of a DLL that is loaded later. See [`DelayedFunction`](crate::DelayedFunction).
-DelayedFunction, 24 {
-    /// UTF-8, without its final zero; empty unless `has_name`.
-    name: Range,
-    /// The ordinal; with a name its hint.
-    ordinal: u32,
-    /// 1 or 0.
-    has_name: u32,
-});
-record!(
-/// A walk over the functions of all DLLs that are loaded later.
-LibraryFunctions, 64 {
-    /// The entries of the directory after that of the DLL that is walked over.
-    libraries: Range,
-    /// The functions that this one has left.
-    functions: DelayedFunctions,
-    /// Of this one: UTF-8, without its final zero.
-    library_name: Range,
-    /// How many DLLs were begun; 0 before the first.
-    begun: u64,
-});
-record!(
-/// A function, and the DLL that it is of. See [`LibraryFunction`](crate::LibraryFunction).
-LibraryFunction, 48 {
-    /// What [`pe_c_next_delayed_function`] returns.
-    function: DelayedFunction,
-    /// Of the DLL: UTF-8, without its final zero.
-    library_name: Range,
-    /// Index of the DLL in the order of the delay import directory.
-    library: u64,
-});
+/// `IMAGE_FILE_HEADER`.
+#[repr(C)]
+#[derive(Clone, Copy, Debug, Default, PartialEq, Eq)]
+pub struct CoffHeader {
+    /// Seconds since 1970, or a hash in a reproducible build.
+    pub time_date_stamp: u32,
+    /// File offset of the COFF symbols, or 0.
+    pub pointer_to_symbol_table: u32,
+    /// Their entries of 18 bytes, auxiliary records included.
+    pub number_of_symbol_table: u32,
+    /// `IMAGE_FILE_MACHINE_`.
+    pub machine: u16,
+    /// The number of section headers.
+    pub number_of_sections: u16,
+    /// Bytes; 0 where there is no optional header.
+    pub size_of_optional_header: u16,
+    /// `IMAGE_FILE_` flags.
+    pub characteristics: u16,
+}
+const _: () = assert!(core::mem::size_of::<CoffHeader>() == 20);
 
-record!(
-/// What names a type of resources, a resource or a language. See [`ResourceName`](crate::ResourceName).
-ResourceName, 24 {
-    /// UTF-16 code units, little-endian, without a final zero; the empty range with an id.
-    name: Range,
-    /// Below 2^16; 0 with a name.
-    id: u32,
-    /// 1 with a name, 0 with an id.
-    has_name: u32,
-});
-record!(
-/// A resource that is written. Its ranges are those of an array of bytes that is passed beside it.
-Resource, 72 {
-    /// An id is `RT_` of winuser.h.
-    resource_type: ResourceName,
-    /// The resource among those of its type.
-    name: ResourceName,
-    /// Its bytes.
-    content: Range,
-    /// Below 2^16.
-    language: u32,
-    /// Of texts in the content; most linkers write 0.
-    code_page: u32,
-});
-record!(
-/// A string of version information that is written. Its ranges are those of an array of bytes that is passed beside it.
-VersionString, 32 {
-    /// UTF-16 code units, little-endian, without a final zero.
-    name: Range,
-    /// Likewise, with a final zero.
-    text: Range,
-});
-record!(
-/// A language and a code page.
-VersionLanguage, 4 {
-    /// As 0x409 for English (United States).
-    language: u16,
-    /// As 1200 for UTF-16.
-    code_page: u16,
-});
-record!(
-/// The strings of a language and a code page: so many of an array, one after the other.
-VersionTable, 12 {
-    /// The index of the first.
-    first: u32,
-    /// How many there are.
-    count: u32,
-    /// In which the key of the table is written.
-    language: VersionLanguage,
-});
-record!(
-/// A leaf of a resource tree. See [`ResourceLeaf`](crate::ResourceLeaf).
-ResourceLeaf, 104 {
-    /// An id is `RT_` of winuser.h.
-    resource_type: ResourceName,
-    /// The resource among those of its type.
-    name: ResourceName,
-    /// An id is a language identifier; 0 for any language.
-    language: ResourceName,
-    /// The empty range where `content_result` is not [`DONE`].
-    content: Range,
-    /// [`DONE`], or why the content is not in the file.
-    content_result: u32,
-    /// RVA of the content.
-    rva: u32,
-    /// Bytes of the content.
-    size: u32,
-    /// Of texts in the content, mostly 0.
-    code_page: u32,
-});
-record!(
-/// `IMAGE_RESOURCE_DIRECTORY_ENTRY`.
-ResourceEntry, 8 {
-    /// With bit 31 the offset of a name, else an id.
-    name_or_id: u32,
-    /// With bit 31 the offset of a directory, else that of a data entry.
-    offset_to_data_or_directory: u32,
-});
-record!(
-/// A directory of the tree, `IMAGE_RESOURCE_DIRECTORY`.
-ResourceDirectory, 32 {
+/// `IMAGE_OPTIONAL_HEADER32` or `IMAGE_OPTIONAL_HEADER64`.
+#[repr(C)]
+#[derive(Clone, Copy, Debug, Default, PartialEq, Eq)]
+pub struct OptionalHeader {
+    /// Preferred virtual address of the image.
+    pub image_base: u64,
+    /// Bytes of the stack to reserve.
+    pub size_of_stack_reserve: u64,
+    /// Bytes of the stack to commit.
+    pub size_of_stack_commit: u64,
+    /// Bytes of the heap to reserve.
+    pub size_of_heap_reserve: u64,
+    /// Bytes of the heap to commit.
+    pub size_of_heap_commit: u64,
+    /// Bytes of all sections of code.
+    pub size_of_code: u32,
+    /// Bytes of all sections of initialized data.
+    pub size_of_initialized_data: u32,
+    /// Bytes of all sections of uninitialized data.
+    pub size_of_uninitialized_data: u32,
+    /// RVA, or 0.
+    pub address_of_entry_point: u32,
+    /// RVA.
+    pub base_of_code: u32,
+    /// RVA; 0 in PE32+, which has no such field.
+    pub base_of_data: u32,
+    /// Bytes.
+    pub section_alignment: u32,
+    /// Bytes.
+    pub file_alignment: u32,
     /// Reserved.
-    characteristics: u32,
-    /// Seconds since the start of 1970, mostly 0.
-    time_date_stamp: u32,
-    /// Of the resources.
-    major_version: u16,
-    /// Of the resources.
-    minor_version: u16,
-    /// Which come first.
-    number_of_named_entries: u16,
-    /// Which follow them.
-    number_of_id_entries: u16,
-    /// A walk for [`pe_c_next_resource_item`].
-    entries: Range,
-});
-record!(
-/// An entry of a directory, by its name.
-ResourceItem, 32 {
-    /// What names it.
-    name: ResourceName,
-    /// Of the directory to which it leads, or of the data entry, from the start of the tree.
-    offset: u32,
-    /// 1 where it leads to a directory, else 0.
-    is_directory: u32,
-});
-record!(
-/// Where a walk over leaves stands. The ranges of entries, 8 bytes each, count from the start of the tree.
-ResourceWalk, 80 {
-    /// The data of the resource directory.
-    tree: Range,
-    /// The types that are left.
-    types: Range,
-    /// The names that are left of a type.
-    names: Range,
-    /// The languages that are left of a name.
-    languages: Range,
-    /// The entry of this type.
-    resource_type: ResourceEntry,
-    /// The entry of this name.
-    name: ResourceEntry,
-});
-record!(
-/// A walk over leaves, step by step.
-LeafWalk, 88 {
-    /// Where it stands.
-    leaves: ResourceWalk,
-    /// The sections of its last RVAs.
-    kept: KeptSections,
-});
-record!(
-/// The Rich header. See [`RichHeader`](crate::RichHeader).
-RichHeader, 40 {
-    /// 8 bytes each, XORed with the key; a walk through them.
-    entries: Range,
-    /// How many entries there are.
-    count: u64,
-    /// What the header is XORed with.
-    key: u32,
-    /// Of the DOS header, the DOS stub and the entries: the linker takes it as the key.
-    checksum: u32,
-    /// 1 where they are equal, else 0.
-    key_is_checksum: u32,
-    /// 0.
-    spare: u32,
-});
-record!(
-/// An entry of a Rich header.
-RichEntry, 8 {
-    /// The build of the tool.
-    build: u16,
-    /// Which tool it is.
-    product: u16,
-    /// How many objects it made.
-    count: u32,
-});
-record!(
-/// A bound import, `IMAGE_BOUND_IMPORT_DESCRIPTOR`. See [`BoundImport`](crate::BoundImport).
-BoundImport, 40 {
-    /// UTF-8, not NUL-terminated.
-    name: Range,
-    /// 8 bytes each; a walk through the DLLs that this one forwards to.
-    forwarders: Range,
-    /// Of the DLL.
-    time_date_stamp: u32,
-    /// 0.
-    spare: u32,
-});
-record!(
-/// A DLL that another one forwards to, `IMAGE_BOUND_FORWARDER_REF`. See [`BoundForwarder`](crate::BoundForwarder).
-BoundForwarder, 24 {
-    /// UTF-8, not NUL-terminated.
-    name: Range,
-    /// Of the DLL.
-    time_date_stamp: u32,
-    /// 0.
-    spare: u32,
-});
-record!(
-/// Why an element of a signature is refused.
-SignatureFailure, 32 {
-    /// Of the element, or of the range that is not inside the bytes.
-    offset: u64,
-    /// The tag that is there, how many octets a length has after its first, the length of a content, or that of the range; else 0.
-    value: u64,
-    /// How many bytes the parent has left, or follow the last field; else 0.
-    left: u64,
-    /// The tag that the grammar has there; else 0.
-    expected: u32,
-    /// The number of the error.
-    result: u32,
-});
-record!(
-/// An object identifier.
-Oid, 24 {
-    /// Its content.
-    octets: Range,
-    /// Its number, of the group that the field has; 0 without one.
-    id: u32,
-    /// 0.
-    spare: u32,
-});
-record!(
-/// An algorithm, `AlgorithmIdentifier`.
-Algorithm, 40 {
-    /// Of algorithms.
-    oid: Oid,
-    /// All octets of the parameters; empty without them.
-    parameters: Range,
-});
-record!(
-/// An element of DER.
-DerElement, 40 {
-    /// All octets: tag, length and content.
-    whole: Range,
-    /// The content.
-    content: Range,
-    /// The identifier octet.
-    tag: u32,
-    /// 0.
-    spare: u32,
-});
-record!(
-/// A signature: `ContentInfo`, `SignedData`, `EncapsulatedContentInfo`. Ranges are of contents, but for `content`.
-SignedData, 144 {
-    /// The type of what is signed.
-    content_type: Oid,
-    /// An `INTEGER`.
-    version: Range,
-    /// A walk over the digest algorithms of all signers.
-    digest_algorithms: Range,
-    /// All octets of what is signed.
-    content: Range,
-    /// What `messageDigest` is the digest of.
-    digested: Range,
-    /// A walk over the certificates.
-    certificates: Range,
-    /// A walk over the certificate revocation lists.
-    crls: Range,
-    /// A walk over the signers.
-    signers: Range,
-    /// 1 where what is signed is there, 0 where it is detached.
-    has_content: u32,
-    /// 0.
-    spare: u32,
-});
-record!(
-/// What Authenticode signs, `SpcIndirectDataContent`.
-SpcIndirectData, 96 {
-    /// The type of what is signed.
-    value_type: Oid,
-    /// All octets of its value.
-    value: Range,
-    /// Of the digest.
-    digest_algorithm: Algorithm,
-    /// The digest.
-    digest: Range,
-});
-record!(
-/// What a signature says of an image as a file, `SpcPeImageData`.
-SpcPeImageData, 32 {
-    /// The content of a `BIT STRING`.
-    flags: Range,
-    /// All octets of the link.
-    file: Range,
-});
-record!(
-/// A signer, `SignerInfo`. Ranges are of contents, but for `issuer` and `signed_rest`.
-SignerInfo, 216 {
-    /// An `INTEGER`.
-    version: Range,
-    /// All octets of the name of the certificate's issuer.
-    issuer: Range,
-    /// The serial number of the certificate.
-    serial: Range,
-    /// The subject key identifier of the certificate, where there is no issuer.
-    key_identifier: Range,
-    /// Of `messageDigest`, and of what is signed.
-    digest_algorithm: Algorithm,
-    /// A walk over the signed attributes.
-    signed_attributes: Range,
-    /// The octets of the signed attributes after their tag.
-    signed_rest: Range,
-    /// Of the signature.
-    signature_algorithm: Algorithm,
-    /// The signature.
-    signature: Range,
-    /// A walk over the unsigned attributes.
-    unsigned_attributes: Range,
-    /// 1 where there are signed attributes, else 0.
-    has_signed_attributes: u32,
-    /// The octet that is signed before `signed_rest`; 0 without signed attributes.
-    signed_first: u32,
-});
-record!(
-/// An attribute of a signer.
-SignerAttribute, 40 {
-    /// Which it is.
-    kind: Oid,
-    /// A walk over its values.
-    values: Range,
-});
-record!(
-/// What a signer says of the program, `SpcSpOpusInfo`.
-SpcOpusInfo, 40 {
-    /// The name of the program.
-    program_name: Range,
-    /// Where more is said.
-    more_info: Range,
-    /// The tag of the name; 0 without one.
-    program_name_tag: u32,
-    /// The tag of what says more; 0 without it.
-    more_info_tag: u32,
-});
-record!(
-/// A certificate of X.509. Ranges are of whole elements, but for `serial`, `extensions` and `signature`.
-X509Certificate, 184 {
-    /// What the issuer's signature is over.
-    to_be_signed: Range,
-    /// The content of the serial number.
-    serial: Range,
-    /// The name of the issuer.
-    issuer: Range,
-    /// The name of the subject.
-    subject: Range,
-    /// The first time when it is valid.
-    not_before: Range,
-    /// The last one.
-    not_after: Range,
-    /// The key with its algorithm.
-    public_key: Range,
-    /// A walk over the extensions.
-    extensions: Range,
-    /// Of the signature.
-    signature_algorithm: Algorithm,
-    /// The signature, without the octet before its bits.
-    signature: Range,
-});
-record!(
-/// An extension of a certificate.
-X509Extension, 48 {
-    /// Which it is.
-    kind: Oid,
-    /// The content of its `OCTET STRING`.
-    value: Range,
-    /// 1 where it is critical, else 0.
-    critical: u32,
-    /// 0.
-    spare: u32,
-});
-record!(
-/// A walk over the attributes of a name.
-NameWalk, 24 {
-    /// The bytes of the name that are left.
-    left: Range,
-    /// Where the relative distinguished name ends that is read.
-    rdn_end: u64,
-});
-record!(
-/// An attribute of a name.
-NameAttribute, 48 {
-    /// Which it is.
-    kind: Oid,
-    /// The content of the value.
-    value: Range,
-    /// The tag of the value.
-    tag: u32,
-    /// 1 where it is the first of its relative distinguished name, else 0.
-    starts_rdn: u32,
-});
-record!(
-/// A time in UTC.
-UtcTime, 24 {
-    /// 0 to 9999.
-    year: u32,
-    /// 1 to 12.
-    month: u32,
-    /// 1 to 31; that a month has fewer days is not tested.
-    day: u32,
-    /// 0 to 23.
-    hour: u32,
-    /// 0 to 59.
-    minute: u32,
-    /// 0 to 59.
-    second: u32,
-});
-record!(
-/// What a time-stamp token says, `TSTInfo`. Ranges are of contents, but for `time` and `accuracy`.
-TstInfo, 168 {
-    /// An `INTEGER`.
-    version: Range,
-    /// The object identifier of the policy.
-    policy: Range,
-    /// Of the digest.
-    digest_algorithm: Algorithm,
-    /// The digest of what is stamped.
-    digest: Range,
-    /// The serial number of the token.
-    serial: Range,
-    /// All octets of the time.
-    time: Range,
-    /// All octets of how exact it is.
-    accuracy: Range,
-    /// The number of who asked.
-    nonce: Range,
-    /// The name of who stamps.
-    authority: Range,
-});
+    pub win32_version_value: u32,
+    /// Bytes in memory.
+    pub size_of_image: u32,
+    /// Bytes in the file, rounded up to the file alignment.
+    pub size_of_headers: u32,
+    /// `CheckSum`, as the file has it.
+    pub check_sum: u32,
+    /// Reserved.
+    pub loader_flags: u32,
+    /// Directories, as the header says.
+    pub number_of_rva_and_sizes: u32,
+    /// Those of them that are kept, at most 16.
+    pub number_of_directories: u32,
+    /// 0x10B in PE32, 0x20B in PE32+.
+    pub magic: u16,
+    /// The major version of the operating system that is required.
+    pub major_operating_system_version: u16,
+    /// The minor version of the operating system that is required.
+    pub minor_operating_system_version: u16,
+    /// The major version of the image.
+    pub major_image_version: u16,
+    /// The minor version of the image.
+    pub minor_image_version: u16,
+    /// The major version of the subsystem.
+    pub major_subsystem_version: u16,
+    /// The minor version of the subsystem.
+    pub minor_subsystem_version: u16,
+    /// `IMAGE_SUBSYSTEM_`.
+    pub subsystem: u16,
+    /// `IMAGE_DLLCHARACTERISTICS_` flags.
+    pub dll_characteristics: u16,
+    /// The major version of the linker.
+    pub major_linker_version: u8,
+    /// The minor version of the linker.
+    pub minor_linker_version: u8,
+}
+const _: () = assert!(core::mem::size_of::<OptionalHeader>() == 120);
+
+/// All numbers of the headers of an image.
+///
+/// Without an optional header its numbers and both offsets are 0, and all directories are absent.
+#[repr(C)]
+#[derive(Clone, Copy, Debug, Default, PartialEq, Eq)]
+pub struct Headers {
+    /// The optional header.
+    pub optional: OptionalHeader,
+    /// Between the DOS header and the PE signature; no bytes where these overlap.
+    pub dos_stub: Range,
+    /// Offset of the optional header.
+    pub optional_offset: u64,
+    /// Offset of the data directories, 8 bytes each.
+    pub directories_offset: u64,
+    /// The DOS header.
+    pub dos: DosHeader,
+    /// The COFF header.
+    pub coff: CoffHeader,
+    /// 0x4550, "PE".
+    pub signature: u32,
+    /// By their indices; absent from `number_of_directories` on.
+    pub directories: [Directory; 16],
+}
+const _: () = assert!(core::mem::size_of::<Headers>() == 368);
+
 /// A COFF symbol, `IMAGE_SYMBOL`, with what its entry says of others.
 #[repr(C)]
 #[derive(Clone, Copy, Default, PartialEq, Eq)]
 pub struct SymbolEntry {
     /// Its auxiliary records, 18 bytes each, up to the end of the table.
     pub auxiliary: Range,
-    /// The index of its entry in the table; auxiliary records count.
+    /// Index of its entry in the table; auxiliary records count.
     pub index: u64,
-    /// Padded with zeros; or four zeros, and the offset of a longer name in the string table.
+    /// Padded with zeros; or 4 zeros, and the offset of a longer name in the string table.
     pub name: [u8; 8],
     /// By the storage class, for instance an offset in the section.
     pub value: u32,
-    /// The offset of the name in the string table, from its size field; 0 where `name` has the name.
+    /// Offset of the name in the string table, from its size field; 0 where `name` has it.
     pub string_offset: u32,
-    /// From 1. 0 is `IMAGE_SYM_UNDEFINED`, -1 `IMAGE_SYM_ABSOLUTE`, -2 `IMAGE_SYM_DEBUG`.
+    /// From 1; 0 `IMAGE_SYM_UNDEFINED`, -1 `_ABSOLUTE`, -2 `_DEBUG`.
     pub section_number: i16,
     /// `IMAGE_SYM_TYPE_` and `IMAGE_SYM_DTYPE_`.
     pub kind: u16,
     /// `IMAGE_SYM_CLASS_`.
     pub storage_class: u8,
-    /// How many auxiliary records follow.
+    /// Auxiliary records that follow.
     pub number_of_aux_symbols: u8,
-    /// 0.
+    /// 0
     pub spare: u16,
 }
 const _: () = assert!(core::mem::size_of::<SymbolEntry>() == 48);
-shown! {
-    SymbolEntry<> {
-        auxiliary, index, name: shown::Padded, value, string_offset, section_number, kind, storage_class,
-        number_of_aux_symbols
-    }
-}
 
-record!(
-/// A walk over symbols.
-SymbolWalk, 24 {
+/// A walk over symbols, which skips auxiliary records.
+#[repr(C)]
+#[derive(Clone, Copy, Debug, Default, PartialEq, Eq)]
+pub struct SymbolWalk {
     /// The symbol table.
-    table: Range,
+    pub table: Range,
     /// The index of the next symbol's entry.
-    next: u64,
-});
-record!(
-/// A COFF symbol with its name.
-NamedSymbol, 72 {
-    /// The symbol.
-    symbol: SymbolEntry,
-    /// UTF-8, without its final zero; empty after an error.
-    name: Range,
-    /// What [`pe_c_symbol_name`] returns of it.
-    name_result: u32,
-    /// 0.
-    spare: u32,
-});
-record!(
-/// A walk over COFF symbols with their names.
-NamedSymbolWalk, 40 {
-    /// What [`pe_c_coff_symbols`] returns.
-    symbols: SymbolWalk,
-    /// What [`pe_c_coff_strings`] returns.
-    strings: Range,
-});
-record!(
-/// The header of a TE image. Its RVAs are reduced by `rva_offset`.
-TeHeader, 48 {
-    /// The preferred virtual address of the image.
-    image_base: u64,
+    pub next: u64,
+}
+const _: () = assert!(core::mem::size_of::<SymbolWalk>() == 24);
+
+/// The Rich header.
+#[repr(C)]
+#[derive(Clone, Copy, Debug, Default, PartialEq, Eq)]
+pub struct RichHeader {
+    /// 8 bytes each, XORed with the key; a walk through them.
+    pub entries: Range,
+    /// How many entries there are.
+    pub count: u64,
+    /// What the header is XORed with.
+    pub key: u32,
+    /// Of the DOS header, the DOS stub and the entries: the linker takes it as the key.
+    pub checksum: u32,
+    /// 1 where they are equal, so that nobody changed what the checksum covers; else 0.
+    pub key_is_checksum: u32,
+    /// 0
+    pub spare: u32,
+}
+const _: () = assert!(core::mem::size_of::<RichHeader>() == 40);
+
+/// An entry of a Rich header.
+#[repr(C)]
+#[derive(Clone, Copy, Debug, Default, PartialEq, Eq)]
+pub struct RichEntry {
+    /// The build of the tool.
+    pub build: u16,
+    /// Which tool it is.
+    pub product: u16,
+    /// How many objects it made.
+    pub count: u32,
+}
+const _: () = assert!(core::mem::size_of::<RichEntry>() == 8);
+
+/// An entry of the debug directory, `IMAGE_DEBUG_DIRECTORY`.
+#[repr(C)]
+#[derive(Clone, Copy, Debug, Default, PartialEq, Eq)]
+pub struct DebugEntry {
+    /// Reserved.
+    pub characteristics: u32,
+    /// Seconds since 1970, or a hash in a reproducible build.
+    pub time_date_stamp: u32,
+    /// Of the record's format.
+    pub major_version: u16,
+    /// Of the record's format.
+    pub minor_version: u16,
+    /// `IMAGE_DEBUG_TYPE_CODEVIEW` 2, `_VC_FEATURE` 12, `_POGO` 13, `_REPRO` 16, `_EMBEDDEDPORTABLEPDB` 17,
+    /// `_PDBCHECKSUM` 19, `_EX_DLLCHARACTERISTICS` 20, or another.
+    pub data_type: u32,
+    /// Bytes of the record.
+    pub size_of_data: u32,
+    /// RVA of the record, or 0; in an image as loaded the library reads it there.
+    pub address_of_raw_data: u32,
+    /// File offset of the record; in a file the library reads it there.
+    pub pointer_to_raw_data: u32,
+}
+const _: () = assert!(core::mem::size_of::<DebugEntry>() == 28);
+
+/// A CodeView record of PDB 7.0 ("RSDS"): a symbol server files the PDB under its name, GUID and age.
+#[repr(C)]
+#[derive(Clone, Copy, Debug, Default, PartialEq, Eq)]
+pub struct Key {
+    /// As in the file: little-endian u32, u16, u16, then 8 bytes.
+    pub guid: [u8; 16],
+    /// Grows by one each time the PDB is written.
+    pub age: u32,
+    /// 0
+    pub spare: u32,
+    /// The rest of the record: the PDB file's name, as a rule with a zero after it.
+    pub name: Range,
+}
+const _: () = assert!(core::mem::size_of::<Key>() == 40);
+
+/// A CodeView record of PDB 2.0 ("NB10").
+#[repr(C)]
+#[derive(Clone, Copy, Debug, Default, PartialEq, Eq)]
+pub struct Pdb20 {
+    /// The rest of the record: the PDB file's name, as a rule with a zero after it.
+    pub name: Range,
+    /// 0 where the symbols are in a file of their own.
+    pub offset: u32,
+    /// Time stamp of the PDB, seconds since 1970.
+    pub signature: u32,
+    /// Grows by one each time the PDB is written.
+    pub age: u32,
+    /// 0
+    pub spare: u32,
+}
+const _: () = assert!(core::mem::size_of::<Pdb20>() == 32);
+
+/// VC features: the counts that dumpbin /headers shows.
+#[repr(C)]
+#[derive(Clone, Copy, Debug, Default, PartialEq, Eq)]
+pub struct VcFeatures {
+    /// "Pre-VC++ 11.00".
+    pub pre_vc_plusplus_count: u32,
+    /// "C/C++".
+    pub c_and_cplusplus_count: u32,
+    /// "/GS".
+    pub guard_stack_count: u32,
+    /// "/sdl".
+    pub sdl_count: u32,
+    /// "guardN".
+    pub guard_count: u32,
+}
+const _: () = assert!(core::mem::size_of::<VcFeatures>() == 20);
+
+/// Repro: the same sources build the same image.
+#[repr(C)]
+#[derive(Clone, Copy, Debug, Default, PartialEq, Eq)]
+pub struct Repro {
+    /// Empty unless `has_hash`.
+    pub hash: Range,
+    /// 1; or 0, and the image's time stamps are a hash.
+    pub has_hash: u32,
+    /// 0
+    pub spare: u32,
+}
+const _: () = assert!(core::mem::size_of::<Repro>() == 24);
+
+/// POGO: the parts of the image's sections, such as ".text$mn".
+#[repr(C)]
+#[derive(Clone, Copy, Debug, Default, PartialEq, Eq)]
+pub struct Pogo {
+    /// A walk for [`pe_c_next_pogo_entry`], at its start.
+    pub entries: Range,
+    /// 0x4C544347 (LTCG) or 0x50475500 (PGU).
+    pub signature: u32,
+    /// 0
+    pub spare: u32,
+}
+const _: () = assert!(core::mem::size_of::<Pogo>() == 24);
+
+/// An entry of a POGO record.
+#[repr(C)]
+#[derive(Clone, Copy, Debug, Default, PartialEq, Eq)]
+pub struct PogoEntry {
+    /// With its final zero.
+    pub name: Range,
+    /// RVA of the part.
+    pub rva: u32,
+    /// Bytes of the part.
+    pub size: u32,
+}
+const _: () = assert!(core::mem::size_of::<PogoEntry>() == 24);
+
+/// A portable PDB in the image itself, of .NET.
+#[repr(C)]
+#[derive(Clone, Copy, Debug, Default, PartialEq, Eq)]
+pub struct EmbeddedPdb {
+    /// Raw Deflate data.
+    pub compressed: Range,
+    /// Bytes of the PDB, as the record states it.
+    pub uncompressed_size: u32,
+    /// 0
+    pub spare: u32,
+}
+const _: () = assert!(core::mem::size_of::<EmbeddedPdb>() == 24);
+
+/// A checksum of the PDB file, of .NET: of its bytes with zeros in place of the PDB's id.
+#[repr(C)]
+#[derive(Clone, Copy, Debug, Default, PartialEq, Eq)]
+pub struct PdbChecksum {
+    /// The name of the algorithm, as "SHA256", not NUL-terminated.
+    pub algorithm: Range,
+    /// The rest of the record.
+    pub checksum: Range,
+}
+const _: () = assert!(core::mem::size_of::<PdbChecksum>() == 32);
+
+/// What is read of the first entry of each type, each with its own result: [`DONE`], and then the record is here;
+/// [`NOTHING`] or an error, and then it is as it was.
+#[repr(C)]
+#[derive(Clone, Copy, Debug, Default, PartialEq, Eq)]
+pub struct DebugRecords {
+    /// Of [`pe_c_symbol_key`].
+    pub key: Key,
+    /// Of [`pe_c_debug_pdb20`].
+    pub pdb20: Pdb20,
+    /// Of [`pe_c_debug_repro`].
+    pub repro: Repro,
+    /// Of [`pe_c_debug_pogo`].
+    pub pogo: Pogo,
+    /// Of [`pe_c_debug_vc_features`].
+    pub features: VcFeatures,
+    /// Of [`pe_c_debug_characteristics`].
+    pub characteristics: u32,
+    /// Of each of these fields the result of its call.
+    pub key_result: u32,
+    /// Of each of these fields the result of its call.
+    pub pdb20_result: u32,
+    /// Of each of these fields the result of its call.
+    pub repro_result: u32,
+    /// Of these too.
+    pub pogo_result: u32,
+    /// Of these too.
+    pub features_result: u32,
+    /// Of these too.
+    pub characteristics_result: u32,
+}
+const _: () = assert!(core::mem::size_of::<DebugRecords>() == 168);
+
+/// The header of a TE image, `EFI_TE_IMAGE_HEADER`.
+///
+/// Its RVAs are reduced by `rva_offset`.
+#[repr(C)]
+#[derive(Clone, Copy, Debug, Default, PartialEq, Eq)]
+pub struct TeHeader {
+    /// Preferred virtual address of the image.
+    pub image_base: u64,
     /// RVA of the entry point.
-    entry_point: u32,
+    pub entry_point: u32,
     /// RVA of the code.
-    base_of_code: u32,
-    /// The base relocations.
-    reloc_dir: Directory,
-    /// The debug directory. Both fields are 0 where it is absent.
-    debug_dir: Directory,
+    pub base_of_code: u32,
+    /// The base relocations; the RVA is reduced where it is absent too.
+    pub reloc_dir: Directory,
+    /// The debug directory; both fields are 0 where it is absent.
+    pub debug_dir: Directory,
     /// How many bytes the file is shorter: `stripped_size` less 40.
-    rva_offset: u32,
+    pub rva_offset: u32,
     /// 0x5A56, "VZ".
-    signature: u16,
+    pub signature: u16,
     /// `IMAGE_FILE_MACHINE_`.
-    machine: u16,
+    pub machine: u16,
     /// Bytes of headers that were stripped.
-    stripped_size: u16,
+    pub stripped_size: u16,
     /// The number of section headers.
-    number_of_sections: u8,
+    pub number_of_sections: u8,
     /// `IMAGE_SUBSYSTEM_`.
-    subsystem: u8,
-    /// 0.
-    spare: u32,
-});
-record!(
-/// What is wrong with headers or with a directory. A number that the error does not have here is 0.
-Failure, 32 {
-    /// Offset, from the start of the bytes, of what is truncated or refused, or where it ends after the bytes that hold it.
-    offset: u64,
+    pub subsystem: u8,
+    /// 0
+    pub spare: u32,
+}
+const _: () = assert!(core::mem::size_of::<TeHeader>() == 48);
+
+/// What is wrong with headers, with a directory or with an item of a walk.
+///
+/// A number that the error does not have here is 0.
+#[repr(C)]
+#[derive(Clone, Copy, Debug, Default, PartialEq, Eq)]
+pub struct Failure {
+    /// Offset, from the start of the bytes unless the call says otherwise, of what is truncated or refused, or where it
+    /// ends after the bytes that hold it.
+    pub offset: u64,
     /// Bytes that are needed.
-    needed: u64,
-    /// The number that is refused.
-    value: u64,
-    /// The number of the error.
-    result: u32,
-    /// 0.
-    spare: u32,
-});
-record!(
-/// The header, MINIDUMP_HEADER.
-DumpInfo, 40 {
-    /// Entries of 12 bytes.
-    directory: Range,
-    /// What the writer was asked for, MINIDUMP_TYPE.
-    flags: u64,
-    /// A793h in the low 16 bits; the others are the writer's own.
-    version: u32,
-    /// The number of entries of the directory.
-    number_of_streams: u32,
-    /// Mostly 0.
-    check_sum: u32,
-    /// When the dump was written, in seconds since 1970.
-    time_date_stamp: u32,
-});
-record!(
-/// Where bytes are, MINIDUMP_LOCATION_DESCRIPTOR. One of no bytes says that there are none.
-DumpLocation, 8 {
-    /// In bytes.
-    size: u32,
-    /// Offset in the dump.
-    rva: u32,
-});
-record!(
-/// An entry of the directory, MINIDUMP_DIRECTORY.
-DumpEntry, 12 {
-    /// A `*_STREAM`; 0 is none.
-    stream_type: u32,
-    /// Where the stream is.
-    location: DumpLocation,
-});
-record!(
-/// The memory of a stack, MINIDUMP_MEMORY_DESCRIPTOR. It may be empty: the pieces of memory have what there is of it.
-DumpThreadStack, 16 {
+    pub needed: u64,
+    /// The number that is refused: a magic number, an RVA, a size.
+    pub value: u64,
+    /// The error.
+    pub result: u32,
+    /// 0
+    pub spare: u32,
+}
+const _: () = assert!(core::mem::size_of::<Failure>() == 32);
+
+/// An attribute certificate, `WIN_CERTIFICATE`.
+#[repr(C)]
+#[derive(Clone, Copy, Debug, Default, PartialEq, Eq)]
+pub struct Certificate {
+    /// What follows the header of 8 bytes.
+    pub body: Range,
+    /// dwLength: bytes of header and body.
+    pub length: u32,
+    /// `WIN_CERT_REVISION_1_0` 0x100 or `_2_0` 0x200.
+    pub revision: u16,
+    /// `WIN_CERT_TYPE_X509` 1, `_PKCS_SIGNED_DATA` 2, `_RESERVED_1` 3, `_TS_STACK_SIGNED` 4.
+    pub kind: u16,
+}
+const _: () = assert!(core::mem::size_of::<Certificate>() == 24);
+
+/// Why an element is refused.
+#[repr(C)]
+#[derive(Clone, Copy, Debug, Default, PartialEq, Eq)]
+pub struct SignatureFailure {
+    /// Of the element, or of the range that is not inside the bytes.
+    pub offset: u64,
+    /// `_TAG`: the tag that is there; `_LENGTH_OCTETS`: octets of the length after its first; `_PAST_PARENT`: bytes of
+    /// the content; [`Error::SHORT`]: bytes of the range; else 0.
+    pub value: u64,
+    /// `_TRUNCATED`, `_PAST_PARENT`: bytes that the parent has left; `_TRAILING`: bytes that follow; else 0.
+    pub left: u64,
+    /// `_TAG`: the tag that the grammar has there; else 0.
+    pub expected: u32,
+    /// What the call returned.
+    pub result: u32,
+}
+const _: () = assert!(core::mem::size_of::<SignatureFailure>() == 32);
+
+/// An object identifier.
+#[repr(C)]
+#[derive(Clone, Copy, Debug, Default, PartialEq, Eq)]
+pub struct Oid {
+    /// Its content.
+    pub octets: Range,
+    /// `PE_C_OID_`, of the group that the field has.
+    pub id: u32,
+    /// 0
+    pub spare: u32,
+}
+const _: () = assert!(core::mem::size_of::<Oid>() == 24);
+
+/// An algorithm, AlgorithmIdentifier.
+#[repr(C)]
+#[derive(Clone, Copy, Debug, Default, PartialEq, Eq)]
+pub struct Algorithm {
+    /// Of algorithms.
+    pub oid: Oid,
+    /// Whole.
+    pub parameters: Range,
+}
+const _: () = assert!(core::mem::size_of::<Algorithm>() == 40);
+
+/// An element of DER.
+#[repr(C)]
+#[derive(Clone, Copy, Debug, Default, PartialEq, Eq)]
+pub struct DerElement {
+    /// All octets: tag, length and content.
+    pub whole: Range,
+    /// The content.
+    pub content: Range,
+    /// The identifier octet, such as 0x30 for a SEQUENCE, 4 for an OCTET STRING.
+    pub tag: u32,
+    /// 0
+    pub spare: u32,
+}
+const _: () = assert!(core::mem::size_of::<DerElement>() == 40);
+
+/// A signature: ContentInfo, SignedData, EncapsulatedContentInfo.
+#[repr(C)]
+#[derive(Clone, Copy, Debug, Default, PartialEq, Eq)]
+pub struct SignedData {
+    /// Of what is signed, by content types.
+    pub content_type: Oid,
+    /// An INTEGER, which is 1 in Authenticode.
+    pub version: Range,
+    /// A walk for [`pe_c_next_element`], each for [`pe_c_algorithm_identifier`].
+    pub digest_algorithms: Range,
+    /// What is signed, whole: for [`pe_c_indirect_data`], or in a time stamp for [`pe_c_time_stamp`].
+    pub content: Range,
+    /// What messageDigest is the digest of: the content of `content`.
+    pub digested: Range,
+    /// A walk, each for [`pe_c_x509`].
+    pub certificates: Range,
+    /// A walk over certificate revocation lists.
+    pub crls: Range,
+    /// A walk, each for [`pe_c_signer`].
+    pub signers: Range,
+    /// 1 where what is signed is there, 0 where it is detached.
+    pub has_content: u32,
+    /// 0
+    pub spare: u32,
+}
+const _: () = assert!(core::mem::size_of::<SignedData>() == 144);
+
+/// What Authenticode signs, SpcIndirectDataContent.
+#[repr(C)]
+#[derive(Clone, Copy, Debug, Default, PartialEq, Eq)]
+pub struct SpcIndirectData {
+    /// By content types; of an image `PE_C_OID_SPC_PE_IMAGE_DATA`.
+    pub value_type: Oid,
+    /// Whole; of an image for [`pe_c_image_data`].
+    pub value: Range,
+    /// Of the digest.
+    pub digest_algorithm: Algorithm,
+    /// Of what [`pe_c_digest_ranges`] says.
+    pub digest: Range,
+}
+const _: () = assert!(core::mem::size_of::<SpcIndirectData>() == 96);
+
+/// What a signature says of an image as a file, SpcPeImageData.
+#[repr(C)]
+#[derive(Clone, Copy, Debug, Default, PartialEq, Eq)]
+pub struct SpcPeImageData {
+    /// A BIT STRING, not used.
+    pub flags: Range,
+    /// Whole: \[2\] with the text \<\<\<Obsolete>>>, or \[1\] with page hashes.
+    pub file: Range,
+}
+const _: () = assert!(core::mem::size_of::<SpcPeImageData>() == 32);
+
+/// A signer, SignerInfo.
+///
+/// Its certificate is the one with this issuer and serial number. Its signature is over the octet `signed_first` and
+/// the bytes of `signed_rest`; without signed attributes over what is signed, the field `digested`.
+#[repr(C)]
+#[derive(Clone, Copy, Debug, Default, PartialEq, Eq)]
+pub struct SignerInfo {
+    /// An INTEGER, which is 1 with an issuer and a serial number.
+    pub version: Range,
+    /// Whole, for [`pe_c_name`].
+    pub issuer: Range,
+    /// Serial number, an INTEGER: two's complement, the high byte first.
+    pub serial: Range,
+    /// Of the certificate, where there is no issuer.
+    pub key_identifier: Range,
+    /// Of `messageDigest`, and of what is signed.
+    pub digest_algorithm: Algorithm,
+    /// A walk for [`pe_c_next_element`], each for [`pe_c_attribute`].
+    pub signed_attributes: Range,
+    /// The octets of the signed attributes after their tag.
+    pub signed_rest: Range,
+    /// Of the signature.
+    pub signature_algorithm: Algorithm,
+    /// The signature.
+    pub signature: Range,
+    /// A walk, each for [`pe_c_attribute`].
+    pub unsigned_attributes: Range,
+    /// 1 where there are signed attributes, else 0.
+    pub has_signed_attributes: u32,
+    /// 0x31, the tag of a SET, in place of their own tag; 0 without them.
+    pub signed_first: u32,
+}
+const _: () = assert!(core::mem::size_of::<SignerInfo>() == 216);
+
+/// An attribute of a signer.
+///
+/// Its values are a walk for [`pe_c_next_element`], mostly of one:
+///
+/// ```text
+/// PE_C_OID_MESSAGE_DIGEST      an OCTET STRING, whose content is the digest
+/// PE_C_OID_SIGNING_TIME        for pe_c_time
+/// PE_C_OID_SPC_SP_OPUS_INFO    for pe_c_opus_info
+/// PE_C_OID_COUNTER_SIGNATURE   for pe_c_signer: its messageDigest is the digest of the signature of this signer
+/// PE_C_OID_TIME_STAMP_TOKEN    for pe_c_signature, whose content is for pe_c_time_stamp
+/// PE_C_OID_NESTED_SIGNATURE    each for pe_c_signature
+/// ```
+#[repr(C)]
+#[derive(Clone, Copy, Debug, Default, PartialEq, Eq)]
+pub struct SignerAttribute {
+    /// By attributes.
+    pub kind: Oid,
+    /// A walk over its values.
+    pub values: Range,
+}
+const _: () = assert!(core::mem::size_of::<SignerAttribute>() == 40);
+
+/// What a signer says of the program, SpcSpOpusInfo.
+#[repr(C)]
+#[derive(Clone, Copy, Debug, Default, PartialEq, Eq)]
+pub struct SpcOpusInfo {
+    /// The name of the program.
+    pub program_name: Range,
+    /// Where more is said.
+    pub more_info: Range,
+    /// 0x80 for UTF-16, the high byte first; 0x81 for ASCII; 0 without a name.
+    pub program_name_tag: u32,
+    /// 0x80 for a URL in ASCII; 0xA1 for an object, 0xA2 for a file; 0 without one.
+    pub more_info_tag: u32,
+}
+const _: () = assert!(core::mem::size_of::<SpcOpusInfo>() == 40);
+
+/// A certificate of X.509, of those in a signature.
+///
+/// The issuer's signature is over the bytes of `to_be_signed`.
+#[repr(C)]
+#[derive(Clone, Copy, Debug, Default, PartialEq, Eq)]
+pub struct X509Certificate {
+    /// Whole.
+    pub to_be_signed: Range,
+    /// Serial number, an INTEGER: two's complement, the high byte first.
+    pub serial: Range,
+    /// Whole, for [`pe_c_name`].
+    pub issuer: Range,
+    /// Whole, for [`pe_c_name`].
+    pub subject: Range,
+    /// The first time when it is valid: whole, for [`pe_c_time`].
+    pub not_before: Range,
+    /// The last one: whole, for [`pe_c_time`].
+    pub not_after: Range,
+    /// Whole: SubjectPublicKeyInfo.
+    pub public_key: Range,
+    /// A walk for [`pe_c_next_element`], each for [`pe_c_extension`].
+    pub extensions: Range,
+    /// Of the signature.
+    pub signature_algorithm: Algorithm,
+    /// The bits of the BIT STRING, without the octet before them.
+    pub signature: Range,
+}
+const _: () = assert!(core::mem::size_of::<X509Certificate>() == 184);
+
+/// An extension of a certificate.
+#[repr(C)]
+#[derive(Clone, Copy, Debug, Default, PartialEq, Eq)]
+pub struct X509Extension {
+    /// By extensions.
+    pub kind: Oid,
+    /// The content of its OCTET STRING: an element.
+    pub value: Range,
+    /// 1 where it is critical, else 0.
+    pub critical: u32,
+    /// 0
+    pub spare: u32,
+}
+const _: () = assert!(core::mem::size_of::<X509Extension>() == 48);
+
+/// A walk over the attributes of a name.
+#[repr(C)]
+#[derive(Clone, Copy, Debug, Default, PartialEq, Eq)]
+pub struct NameWalk {
+    /// The bytes of the name that are left.
+    pub left: Range,
+    /// Where the relative distinguished name ends that is read.
+    pub rdn_end: u64,
+}
+const _: () = assert!(core::mem::size_of::<NameWalk>() == 24);
+
+/// An attribute of a name.
+#[repr(C)]
+#[derive(Clone, Copy, Debug, Default, PartialEq, Eq)]
+pub struct NameAttribute {
+    /// By attributes of names.
+    pub kind: Oid,
+    /// The content of the value.
+    pub value: Range,
+    /// Of the value: PrintableString 0x13, UTF8String 0x0C, IA5String 0x16, BMPString 0x1E, ..
+    pub tag: u32,
+    /// 1 where it is the first of its relative distinguished name, else 0.
+    pub starts_rdn: u32,
+}
+const _: () = assert!(core::mem::size_of::<NameAttribute>() == 48);
+
+/// A time in UTC.
+#[repr(C)]
+#[derive(Clone, Copy, Debug, Default, PartialEq, Eq)]
+pub struct UtcTime {
+    /// 0 to 9999.
+    pub year: u32,
+    /// 1 to 12.
+    pub month: u32,
+    /// 1 to 31; that a month has fewer days is not tested.
+    pub day: u32,
+    /// 0 to 23.
+    pub hour: u32,
+    /// 0 to 59.
+    pub minute: u32,
+    /// 0 to 59; a fraction is left out. A time stamp may have one; that a certificate and a signing time have none (RFC
+    /// 5280, RFC 5652) is not tested.
+    pub second: u32,
+}
+const _: () = assert!(core::mem::size_of::<UtcTime>() == 24);
+
+/// What a time-stamp token says, TSTInfo.
+#[repr(C)]
+#[derive(Clone, Copy, Debug, Default, PartialEq, Eq)]
+pub struct TstInfo {
+    /// An INTEGER, which is 1.
+    pub version: Range,
+    /// The policy, an object identifier.
+    pub policy: Range,
+    /// Of the digest.
+    pub digest_algorithm: Algorithm,
+    /// Of the signature that is stamped, the field `signature` of its signer.
+    pub digest: Range,
+    /// Serial number of the token, an INTEGER.
+    pub serial: Range,
+    /// Whole, for [`pe_c_time`].
+    pub time: Range,
+    /// How exact the time is: whole.
+    pub accuracy: Range,
+    /// The number of who asked, an INTEGER.
+    pub nonce: Range,
+    /// Who stamps, a GeneralName.
+    pub authority: Range,
+}
+const _: () = assert!(core::mem::size_of::<TstInfo>() == 168);
+
+/// What an Authenticode digest covers: hash the ranges in their order, and then so many zeros.
+#[repr(C)]
+#[derive(Clone, Copy, Debug, Default, PartialEq, Eq)]
+pub struct Digest {
+    /// In the order of the file; those that are not needed are at the end, and empty.
+    pub ranges: [Range; 4],
+    /// 0 to 7.
+    pub zeros: u64,
+}
+const _: () = assert!(core::mem::size_of::<Digest>() == 72);
+
+/// The checksum that an image should have.
+///
+/// Windows tests it for drivers and boot files.
+#[repr(C)]
+#[derive(Clone, Copy, Debug, Default, PartialEq, Eq)]
+pub struct ChecksumField {
+    /// File offset of the field that holds it, 4 bytes, little-endian.
+    pub offset: u64,
+    /// What the field has to hold; what it holds makes no difference.
+    pub value: u32,
+    /// 0
+    pub spare: u32,
+}
+const _: () = assert!(core::mem::size_of::<ChecksumField>() == 16);
+
+/// An entry of the x64 function table, `RUNTIME_FUNCTION`.
+#[repr(C)]
+#[derive(Clone, Copy, Debug, Default, PartialEq, Eq)]
+pub struct Function {
+    /// RVA of its first byte.
+    pub begin: u32,
+    /// RVA after its last byte.
+    pub end: u32,
+    /// RVA of its unwind record; an odd one is a link: the RVA of another entry, plus 1.
+    pub unwind: u32,
+}
+const _: () = assert!(core::mem::size_of::<Function>() == 12);
+
+/// A walk over x64 unwind codes.
+#[repr(C)]
+#[derive(Clone, Copy, Debug, Default, PartialEq, Eq)]
+pub struct Walk {
+    /// The code bytes that are left, 2 for each slot.
+    pub left: Range,
+    /// Of the unwind record, 1 or 2.
+    pub version: u8,
+    /// Its number, as in [`Code::operand`]; 0 without one.
+    pub frame_register: u8,
+    /// 0
+    pub spare: [u8; 6],
+}
+const _: () = assert!(core::mem::size_of::<Walk>() == 24);
+
+/// An x64 unwind record, `UNWIND_INFO`.
+#[repr(C)]
+#[derive(Clone, Copy, Debug, Default, PartialEq, Eq)]
+pub struct Record {
+    /// A walk for [`pe_c_next_code`], at its start.
+    pub codes: Walk,
+    /// What follows the handler's RVA, up to the end of the file; empty without a handler.
+    pub handler_data: Range,
+    /// RVA of the handler, or 0.
+    pub handler: u32,
+    /// The function whose record continues this one; 0 unless `is_chained`.
+    pub chained: Function,
+    /// 1 or 0.
+    pub is_chained: u32,
+    /// Bytes: subtract them from the frame register to get the base of saves.
+    pub frame_register_offset: u32,
+    /// Bytes.
+    pub size_of_prolog: u8,
+    /// 0 none, 1 exception handler (also with both flags), 2 termination handler.
+    pub handler_kind: u8,
+    /// 0
+    pub spare: [u8; 6],
+}
+const _: () = assert!(core::mem::size_of::<Record>() == 72);
+
+/// An x64 unwind code, `UNWIND_CODE`.
+#[repr(C)]
+#[derive(Clone, Copy, Debug, Default, PartialEq, Eq)]
+pub struct Code {
+    /// Bytes from the start of the prolog to the end of the instruction; undo the code at this offset and after it.
+    pub code_offset: u8,
+    /// `PE_C_PUSH` .. `PE_C_NOOP`.
+    pub operation: u8,
+    /// A register: 0 to 15 rax, rcx, rdx, rbx, rsp, rbp, rsi, rdi, r8 .. r15; 17 to 32 xmm0 .. xmm15; or as the
+    /// operation says; else 0.
+    pub operand: u8,
+    /// 1: once `PE_C_SET_FRAME` has run, `value` counts from the frame register minus `frame_register_offset`. Before
+    /// that, and if this is 0, it counts from rsp.
+    pub from_frame: u8,
+    /// Bytes, or as the operation says; else 0.
+    pub value: u32,
+}
+const _: () = assert!(core::mem::size_of::<Code>() == 8);
+
+/// How codes are read: two fields of their unwind record, for [`pe_c_all_codes`].
+#[repr(C)]
+#[derive(Clone, Copy, Debug, Default, PartialEq, Eq)]
+pub struct CodeForm {
+    /// Of the record, 1 or 2.
+    pub version: u8,
+    /// Number of the frame register; 0 without one.
+    pub frame_register: u8,
+}
+const _: () = assert!(core::mem::size_of::<CodeForm>() == 2);
+
+/// An entry of the scope table of a C handler: a `__try` block.
+#[repr(C)]
+#[derive(Clone, Copy, Debug, Default, PartialEq, Eq)]
+pub struct Scope {
+    /// RVAs of the first guarded byte and after the last one.
+    pub begin: u32,
+    /// RVAs of the first guarded byte and after the last one.
+    pub end: u32,
+    /// RVA of the filter or of the `__finally` block; 1 means `EXCEPTION_EXECUTE_HANDLER`.
+    pub handler: u32,
+    /// RVA of the `__except` block; 0 for `__finally`.
+    pub target: u32,
+}
+const _: () = assert!(core::mem::size_of::<Scope>() == 16);
+
+/// Where a plan stands: a walk over the records of a function, up to the root of its chain. [`pe_c_plan_from`] starts
+/// it.
+#[repr(C)]
+#[derive(Clone, Copy, Debug, Default, PartialEq, Eq)]
+pub struct Plan {
+    /// Unwind RVA of the next record.
+    pub unwind: u32,
+    /// 1 after the root or an error, else 0.
+    pub is_over: u32,
+    /// An unwind RVA on the way: if it comes again, the chain never ends.
+    pub saved: u32,
+    /// 0
+    pub spare: u32,
+    /// Records returned since that RVA was saved.
+    pub steps: u64,
+    /// Records after which another RVA is saved.
+    pub limit: u64,
+}
+const _: () = assert!(core::mem::size_of::<Plan>() == 32);
+
+/// A plan, step by step.
+///
+/// It starts as `PE_C_EMPTY` with what [`pe_c_plan_from`] returns. The plan of another function of the same image may
+/// start in the same walk, at `&walk.plan`, with `kept` as the last steps left it: that spares its first search.
+#[repr(C)]
+#[derive(Clone, Copy, Debug, Default, PartialEq, Eq)]
+pub struct PlanWalk {
+    /// Where it stands.
+    pub plan: Plan,
+    /// The sections of its last RVAs.
+    pub kept: KeptSections,
+}
+const _: () = assert!(core::mem::size_of::<PlanWalk>() == 40);
+
+/// The registers of a thread that unwinding restores.
+#[repr(C)]
+#[derive(Clone, Copy, Debug, Default, PartialEq, Eq)]
+pub struct Registers {
+    /// By their numbers: rax, rcx, rdx, rbx, rsp, rbp, rsi, rdi, r8 .. r15; rsp is `general[4]`.
+    pub general: [u64; 16],
+    /// Of xmm0 .. xmm15 the low half and then the high half, as CONTEXT has them.
+    pub xmm: [u64; 32],
+    /// The instruction pointer.
+    pub rip: u64,
+}
+const _: () = assert!(core::mem::size_of::<Registers>() == 392);
+
+/// A frame of a stack walk.
+///
+/// A caller sets all fields but `address` and `interrupted`. A step changes `registers` and `interrupted`, or after an
+/// error `address`.
+#[repr(C)]
+#[derive(Clone, Copy, Debug, Default, PartialEq, Eq)]
+pub struct Frame {
+    /// Inside the function; after a step those of its caller.
+    pub registers: Registers,
+    /// The one that [`Error::MISSING`], `_BAD_ADDRESS` or `_NOT_RISING` speaks of.
+    pub address: u64,
+    /// The one that [`pe_c_find_function`] returned.
+    pub function: Function,
+    /// `rip` less the address where the image is loaded.
+    pub rva: u32,
+    /// 0, or where [`pe_c_find_function`] returned [`NOTHING`] 1: a leaf function, of which neither `function` nor
+    /// `rva` is read.
+    pub leaf: u32,
+    /// After a step 1 where an interrupt stopped the caller: its rip is the instruction that is about to run. Else 0:
+    /// it is a return address.
+    pub interrupted: u32,
+}
+const _: () = assert!(core::mem::size_of::<Frame>() == 424);
+
+/// A piece of memory, as `MINIDUMP_MEMORY_DESCRIPTOR` and `_DESCRIPTOR64` say it.
+#[repr(C)]
+#[derive(Clone, Copy, Debug, Default, PartialEq, Eq)]
+pub struct MemoryPiece {
     /// Address of the first byte.
-    start_of_memory_range: u64,
-    /// Where its bytes are.
-    memory: DumpLocation,
-});
-record!(
-/// A thread, MINIDUMP_THREAD.
-DumpThread, 48 {
-    /// The ID of the thread.
-    thread_id: u32,
-    /// 0 if it runs.
-    suspend_count: u32,
-    /// The priority class of the process.
-    priority_class: u32,
-    /// The priority of the thread.
-    priority: u32,
-    /// Address of its environment block.
-    teb: u64,
-    /// The memory of its stack.
-    stack: DumpThreadStack,
-    /// No bytes where it has none.
-    thread_context: DumpLocation,
-});
-record!(
-/// The version of a module, VS_FIXEDFILEINFO. A signature of 0 says that there is none.
-DumpVersion, 52 {
-    /// FEEF04BDh.
-    signature: u32,
-    /// The version of this structure.
-    struc_version: u32,
-    /// Major part in the upper 16 bits, minor part in the lower.
-    file_version_ms: u32,
-    /// Build and revision.
-    file_version_ls: u32,
-    /// Of the product: major and minor part.
-    product_version_ms: u32,
-    /// Build and revision.
-    product_version_ls: u32,
-    /// Which bits of the flags are valid.
-    file_flags_mask: u32,
-    /// `VS_FF_*`.
-    file_flags: u32,
-    /// `VOS_*`.
-    file_os: u32,
-    /// `VFT_*`.
-    file_type: u32,
-    /// `VFT2_*`.
-    file_subtype: u32,
-    /// The date of the file, upper half.
-    file_date_ms: u32,
-    /// Lower half.
-    file_date_ls: u32,
-});
-record!(
-/// A module, MINIDUMP_MODULE.
-DumpModule, 96 {
+    pub start: u64,
+    /// Of the first byte in the memory that is passed, as a minidump file.
+    pub offset: u64,
+    /// Bytes; those past the last address have none.
+    pub length: u64,
+}
+const _: () = assert!(core::mem::size_of::<MemoryPiece>() == 24);
+
+/// A module of a process: its image, which has `size_of_image` bytes where it is loaded.
+///
+/// What the view leads to stays readable as long as the record is passed.
+#[repr(C)]
+#[derive(Clone, Copy, Debug)]
+pub struct Module {
+    /// The image.
+    pub image: View,
+    /// Of [`pe_c_function_table`], on ARM64 [`pe_c_arm64_table`]; all 0 where that returned [`NOTHING`]: no records
+    /// describe its functions.
+    pub table: Range,
     /// Address where it is loaded.
-    base_of_image: u64,
-    /// SizeOfImage of its image.
-    size_of_image: u32,
-    /// CheckSum of its image.
-    check_sum: u32,
-    /// TimeDateStamp of its image.
-    time_date_stamp: u32,
-    /// Its path, for [`Dump::text`](crate::Dump::text).
-    module_name_rva: u32,
-    /// Its version.
-    version_info: DumpVersion,
-    /// Its CodeView record: pe_c_dump_range, then pe_c_codeview. No bytes where there is none.
-    cv_record: DumpLocation,
-    /// Its IMAGE_DEBUG_MISC.
-    misc_record: DumpLocation,
-    /// 0.
-    spare: u32,
-});
-record!(
-/// The name of a thread, MINIDUMP_THREAD_NAME.
-DumpThreadName, 16 {
-    /// For [`Dump::text`](crate::Dump::text).
-    rva_of_thread_name: u64,
-    /// The ID of the thread.
-    thread_id: u32,
-    /// 0.
-    spare: u32,
-});
-record!(
-/// A module that was unloaded, MINIDUMP_UNLOADED_MODULE.
-DumpUnloaded, 24 {
-    /// Address where it was loaded.
-    base_of_image: u64,
+    pub base: u64,
+}
+const _: () = assert!(core::mem::size_of::<Module>() == 80);
+
+/// A walk of a stack on x64, and the frame that was returned last.
+///
+/// For a walk from the start set the registers to those of the thread, `remaining` to how many frames are wanted at
+/// most, and all else to 0.
+#[repr(C)]
+#[derive(Clone, Copy, Debug, Default, PartialEq, Eq)]
+pub struct StackWalk {
+    /// Inside the function of the frame.
+    pub registers: Registers,
+    /// How many frames follow at most; 0 once the walk is over.
+    pub remaining: u64,
+    /// Of a walk that is over, as `address` of a frame; else 0.
+    pub address: u64,
+    /// 0 before the first call, else 1.
+    pub has_returned: u32,
+    /// `PE_C_WAY_*`.
+    pub way: u32,
+    /// 1 where the function of the frame has called: rip is the return address. 0 where rip is the instruction that is
+    /// about to run.
+    pub has_called: u32,
+    /// `PE_C_END_*` of a walk that is over.
+    pub end: u32,
+    /// A result, for `PE_C_END_RECORDS`, `_LONG_CHAIN` and `_STEP`; else 0.
+    pub error: u32,
+    /// 1 where a call found that the pieces of memory lie in it, ascend and do not overlap: later calls test only those
+    /// that they read. 0 before the first call, and where the caller wants them tested again.
+    pub is_searched: u32,
+    /// 1 where the frame may be wrong: nothing proves that it is the caller, or it follows a frame of which this holds.
+    pub is_guess: u32,
+    /// 0
+    pub spare: u32,
+}
+const _: () = assert!(core::mem::size_of::<StackWalk>() == 440);
+
+/// An entry of the ARM64 function table.
+#[repr(C)]
+#[derive(Clone, Copy, Debug, Default, PartialEq, Eq)]
+pub struct Arm64Function {
+    /// RVA of its first byte.
+    pub begin: u32,
+    /// Packed unwind data, or the RVA of its unwind record: its two lowest bits say which.
+    pub unwind: u32,
+}
+const _: () = assert!(core::mem::size_of::<Arm64Function>() == 8);
+
+/// Packed unwind data of an ARM64 function.
+///
+/// The fields mean nothing unless `is_packed`.
+#[repr(C)]
+#[derive(Clone, Copy, Debug, Default, PartialEq, Eq)]
+pub struct Arm64Packed {
+    /// 0: `unwind` is the RVA of a record; 1 a function; 2 a fragment; 3 reserved.
+    pub flag: u32,
+    /// Bytes.
+    pub function_length: u32,
+    /// Bytes of stack that the function allocates.
+    pub frame_size: u32,
+    /// RegF: 0, or the number of saved registers from d8 on, less 1.
+    pub reg_f: u32,
+    /// RegI: the number of saved registers from x19 on.
+    pub reg_i: u32,
+    /// H: 1 where x0 .. x7 are stored at the start of the function.
+    pub h: u32,
+    /// CR: 0 x29 and lr are not saved, 1 lr is, 2 and 3 both are, with 2 signed.
+    pub cr: u32,
+    /// 1 unless `flag` is 0.
+    pub is_packed: u32,
+}
+const _: () = assert!(core::mem::size_of::<Arm64Packed>() == 32);
+
+/// An ARM64 unwind record (.xdata).
+#[repr(C)]
+#[derive(Clone, Copy, Debug, Default, PartialEq, Eq)]
+pub struct Arm64Record {
+    /// A walk for [`pe_c_next_arm64_scope`], at its start.
+    pub scopes: Range,
+    /// The code bytes, for [`pe_c_arm64_codes`].
+    pub codes: Range,
+    /// What follows the handler's RVA, up to the end of the file; empty without a handler.
+    pub handler_data: Range,
+    /// RVA of the handler, or 0.
+    pub handler: u32,
+    /// 1 or 0.
+    pub has_handler: u32,
+    /// Bytes.
+    pub function_length: u32,
+    /// 1 where the one epilog has no scope: its codes start at `epilog_start`.
+    pub epilog_in_header: u32,
+    /// Index of that epilog's first code byte; else 0.
+    pub epilog_start: u32,
+    /// 0
+    pub version: u32,
+}
+const _: () = assert!(core::mem::size_of::<Arm64Record>() == 72);
+
+/// An epilog scope: where an epilog of an ARM64 function is, and where its codes are.
+#[repr(C)]
+#[derive(Clone, Copy, Debug, Default, PartialEq, Eq)]
+pub struct Arm64Scope {
+    /// Bytes, from the start of the function to that of the epilog.
+    pub start_offset: u32,
+    /// Index of the epilog's first code byte, for [`pe_c_arm64_codes`].
+    pub start_index: u32,
+    /// Bits 18 to 21.
+    pub reserved: u32,
+    /// The whole entry.
+    pub word: u32,
+}
+const _: () = assert!(core::mem::size_of::<Arm64Scope>() == 16);
+
+/// A walk over ARM64 unwind codes.
+#[repr(C)]
+#[derive(Clone, Copy, Debug, Default, PartialEq, Eq)]
+pub struct Arm64Walk {
+    /// The code bytes that are left.
+    pub left: Range,
+    /// Bytes, from the start of the record's codes to these.
+    pub offset: u64,
+}
+const _: () = assert!(core::mem::size_of::<Arm64Walk>() == 24);
+
+/// An ARM64 unwind code.
+#[repr(C)]
+#[derive(Clone, Copy, Debug, Default, PartialEq, Eq)]
+pub struct Arm64Code {
+    /// Bytes, from the start of the record's codes to this one.
+    pub offset: u32,
+    /// Bytes of the code, 1 to 5.
+    pub length: u32,
+    /// `PE_C_ARM64_ALLOC_SMALL` .. `PE_C_ARM64_RESERVED`.
+    pub kind: u32,
+    /// A register, or as the kind says; else 0.
+    pub operand: u32,
+    /// Bytes, or as the kind says; else 0.
+    pub value: u32,
+    /// Of `PE_C_ARM64_SAVE_ANY_REG`; else 0.
+    pub flags: u32,
+}
+const _: () = assert!(core::mem::size_of::<Arm64Code>() == 24);
+
+/// The registers of a thread on ARM64 that unwinding restores.
+#[repr(C)]
+#[derive(Clone, Copy, Debug, Default, PartialEq, Eq)]
+pub struct Arm64Registers {
+    /// x0 .. x30: the frame pointer is `general[29]`, the link register `general[30]`.
+    pub general: [u64; 31],
+    /// d8 .. d15, the low halves of v8 .. v15.
+    pub floats: [u64; 8],
+    /// The stack pointer.
+    pub sp: u64,
+    /// The instruction pointer.
+    pub pc: u64,
+}
+const _: () = assert!(core::mem::size_of::<Arm64Registers>() == 328);
+
+/// A frame of a stack walk on ARM64.
+///
+/// A caller sets all fields but `address` and `interrupted`. A step changes `registers` and `interrupted`, or after an
+/// error `address`.
+#[repr(C)]
+#[derive(Clone, Copy, Debug, Default, PartialEq, Eq)]
+pub struct Arm64Frame {
+    /// Inside the function; after a step those of its caller.
+    pub registers: Arm64Registers,
+    /// The one that [`Error::MISSING`], `_BAD_ADDRESS` or `_NOT_RISING` speaks of.
+    pub address: u64,
+    /// The one that [`pe_c_find_arm64_function`] returned.
+    pub function: Arm64Function,
+    /// `pc` less the address where the image is loaded.
+    pub rva: u32,
+    /// 0, or where [`pe_c_find_arm64_function`] returned [`NOTHING`] 1: a leaf function, of which neither `function`
+    /// nor `rva` is read.
+    pub leaf: u32,
+    /// After a step 1 where no call left the caller: its pc is the instruction that is about to run. Else 0.
+    pub interrupted: u32,
+    /// 0
+    pub spare: u32,
+}
+const _: () = assert!(core::mem::size_of::<Arm64Frame>() == 360);
+
+/// A walk of a stack on ARM64, and the frame that was returned last, as [`StackWalk`].
+#[repr(C)]
+#[derive(Clone, Copy, Debug, Default, PartialEq, Eq)]
+pub struct Arm64StackWalk {
+    /// Inside the function of the frame.
+    pub registers: Arm64Registers,
+    /// How many frames follow at most; 0 once the walk is over.
+    pub remaining: u64,
+    /// Of a walk that is over, as `address` of a frame; else 0.
+    pub address: u64,
+    /// 0 before the first call, else 1.
+    pub has_returned: u32,
+    /// `PE_C_WAY_*`.
+    pub way: u32,
+    /// 1 where the function of the frame has called: pc is the return address. 0 where pc is the instruction that is
+    /// about to run.
+    pub has_called: u32,
+    /// `PE_C_END_*` of a walk that is over.
+    pub end: u32,
+    /// A result, for `PE_C_END_RECORDS` and `_STEP`; else 0.
+    pub error: u32,
+    /// As in [`StackWalk`].
+    pub is_searched: u32,
+    /// As in [`StackWalk`].
+    pub is_guess: u32,
+    /// 0
+    pub spare: u32,
+}
+const _: () = assert!(core::mem::size_of::<Arm64StackWalk>() == 376);
+
+/// Where a walk over exports stands.
+#[repr(C)]
+#[derive(Clone, Copy, Debug, Default, PartialEq, Eq)]
+pub struct Exports {
+    /// RVAs of names, 4 bytes each.
+    pub names: Range,
+    /// For each name the index of its RVA in `addresses`, 2 bytes each.
+    pub ordinals: Range,
+    /// RVAs of what is exported, 4 bytes each.
+    pub addresses: Range,
+    /// Index of the next name.
+    pub next: u64,
+    /// The export directory: an RVA inside it is that of a forwarder's text.
+    pub directory: Directory,
+}
+const _: () = assert!(core::mem::size_of::<Exports>() == 64);
+
+/// A walk over exports, step by step.
+///
+/// It starts as `PE_C_EMPTY` with what [`pe_c_export_tables`] returns.
+#[repr(C)]
+#[derive(Clone, Copy, Debug, Default, PartialEq, Eq)]
+pub struct ExportWalk {
+    /// Where it stands.
+    pub exports: Exports,
+    /// The sections of its last RVAs.
+    pub kept: KeptSections,
+}
+const _: () = assert!(core::mem::size_of::<ExportWalk>() == 72);
+
+/// An export.
+#[repr(C)]
+#[derive(Clone, Copy, Debug, Default, PartialEq, Eq)]
+pub struct Export {
+    /// UTF-8, without its final zero.
+    pub name: Range,
+    /// The forwarder's text, "DLL.NAME" or "DLL.#ORDINAL": UTF-8, without its final zero; empty unless `is_forwarder`,
+    /// and where no text is there.
+    pub forwarder: Range,
+    /// File offset of the RVA; 0 unless `has_offset`.
+    pub offset: u64,
+    /// RVA of what is exported, or of the forwarder's text.
+    pub rva: u32,
+    /// 1 where the RVA is mapped, else 0.
+    pub has_offset: u32,
+    /// Index in the table of RVAs, as of [`pe_c_export_at`].
+    pub index: u32,
+    /// 1 where the RVA lies in the export directory, else 0.
+    pub is_forwarder: u32,
+}
+const _: () = assert!(core::mem::size_of::<Export>() == 56);
+
+/// The export directory's table of RVAs, which has all exports by their index, also those without a name.
+#[repr(C)]
+#[derive(Clone, Copy, Debug, Default, PartialEq, Eq)]
+pub struct AddressTable {
+    /// Of the DLL: UTF-8, without its final zero; empty unless `has_name`.
+    pub name: Range,
+    /// RVAs of what is exported, 4 bytes each.
+    pub addresses: Range,
+    /// The export directory: an RVA inside it is that of a forwarder's text.
+    pub directory: Directory,
+    /// Ordinal of the export with the index 0.
+    pub ordinal_base: u32,
+    /// 1 where the directory has a name that is mapped and is UTF-8 text, else 0.
+    pub has_name: u32,
+}
+const _: () = assert!(core::mem::size_of::<AddressTable>() == 48);
+
+/// An export by its index.
+#[repr(C)]
+#[derive(Clone, Copy, Debug, Default, PartialEq, Eq)]
+pub struct Exported {
+    /// The forwarder's text, "DLL.NAME" or "DLL.#ORDINAL": UTF-8, without its final zero; empty unless `is_forwarder`,
+    /// and where no text is there.
+    pub forwarder: Range,
+    /// Its index plus `ordinal_base`.
+    pub ordinal: u64,
+    /// RVA of what is exported, or of the forwarder's text; 0 for an unused ordinal.
+    pub rva: u32,
+    /// 1 or 0.
+    pub is_forwarder: u32,
+}
+const _: () = assert!(core::mem::size_of::<Exported>() == 32);
+
+/// The export directory itself, `IMAGE_EXPORT_DIRECTORY`.
+#[repr(C)]
+#[derive(Clone, Copy, Debug, Default, PartialEq, Eq)]
+pub struct ExportFields {
+    /// Reserved.
+    pub characteristics: u32,
+    /// Seconds since the start of 1970, or a hash.
+    pub time_date_stamp: u32,
+    /// Of the directory.
+    pub major_version: u16,
+    /// Of the directory.
+    pub minor_version: u16,
+    /// RVA of the DLL's name, or 0.
+    pub name: u32,
+    /// Ordinal of the export with the index 0.
+    pub base: u32,
+    /// Entries of the table of RVAs.
+    pub number_of_functions: u32,
+    /// Entries of the table of names, and of that of indices.
+    pub number_of_names: u32,
+    /// RVA of the table of RVAs.
+    pub address_of_functions: u32,
+    /// RVA of the table of names.
+    pub address_of_names: u32,
+    /// RVA of the table of indices.
+    pub address_of_name_ordinals: u32,
+}
+const _: () = assert!(core::mem::size_of::<ExportFields>() == 40);
+
+/// Where a walk over libraries stands.
+#[repr(C)]
+#[derive(Clone, Copy, Debug, Default, PartialEq, Eq)]
+pub struct Libraries {
+    /// File offset of the next record of the import directory.
+    pub next: u64,
+    /// 1 after the last library or an error, else 0.
+    pub is_over: u32,
+    /// 0
+    pub spare: u32,
+}
+const _: () = assert!(core::mem::size_of::<Libraries>() == 16);
+
+/// Where a walk over the imports of a library stands.
+#[repr(C)]
+#[derive(Clone, Copy, Debug, Default, PartialEq, Eq)]
+pub struct Imports {
+    /// The entries of the list that are left: 8 bytes each in PE32+, else 4.
+    pub left: Range,
+    /// RVA of the next import's slot in the address table.
+    pub rva: u64,
+}
+const _: () = assert!(core::mem::size_of::<Imports>() == 24);
+
+/// A walk over libraries, step by step.
+#[repr(C)]
+#[derive(Clone, Copy, Debug, Default, PartialEq, Eq)]
+pub struct LibraryWalk {
+    /// Where it stands.
+    pub libraries: Libraries,
+    /// The sections of its last RVAs.
+    pub kept: KeptSections,
+}
+const _: () = assert!(core::mem::size_of::<LibraryWalk>() == 24);
+
+/// A walk over the imports of a library, step by step.
+#[repr(C)]
+#[derive(Clone, Copy, Debug, Default, PartialEq, Eq)]
+pub struct ImportWalk {
+    /// Where it stands.
+    pub imports: Imports,
+    /// The sections of its last RVAs.
+    pub kept: KeptSections,
+}
+const _: () = assert!(core::mem::size_of::<ImportWalk>() == 32);
+
+/// A DLL that an image imports from, `IMAGE_IMPORT_DESCRIPTOR`.
+#[repr(C)]
+#[derive(Clone, Copy, Debug, Default, PartialEq, Eq)]
+pub struct Library {
+    /// Of the DLL: UTF-8, without its final zero.
+    pub name: Range,
+    /// Where a walk over its imports starts; imports.left is {0, 0} where the RVA of the list is unmapped, and nowhere
+    /// else: the signature of the DOS header is at the offset 0.
+    pub imports: Imports,
+    /// RVA of the list; where it is 0, the list is the address table.
+    pub lookup_table_rva: u32,
+    /// 0, or not 0 where the imports are bound.
+    pub time_date_stamp: u32,
+    /// Index of the first forwarder, or -1.
+    pub forwarder_chain: u32,
+    /// RVA of the DLL's name.
+    pub name_rva: u32,
+    /// RVA of the slots that the loader fills.
+    pub address_table_rva: u32,
+    /// 0
+    pub spare: u32,
+}
+const _: () = assert!(core::mem::size_of::<Library>() == 64);
+
+/// An import.
+#[repr(C)]
+#[derive(Clone, Copy, Debug, Default, PartialEq, Eq)]
+pub struct Import {
+    /// UTF-8, without its final zero; empty unless `has_name`.
+    pub name: Range,
+    /// RVA of the slot that the loader fills.
+    pub rva: u64,
+    /// The ordinal; with a name its hint, an index into the DLL's table of names.
+    pub ordinal: u32,
+    /// 1 or 0.
+    pub has_name: u32,
+}
+const _: () = assert!(core::mem::size_of::<Import>() == 32);
+
+/// A walk over the imports of all libraries.
+#[repr(C)]
+#[derive(Clone, Copy, Debug, Default, PartialEq, Eq)]
+pub struct LibraryImports {
+    /// The libraries after the one that is walked over.
+    pub libraries: Libraries,
+    /// The imports that this one has left.
+    pub imports: Imports,
+    /// Of this one: UTF-8, without its final zero.
+    pub library_name: Range,
+    /// How many libraries were begun; 0 before the first.
+    pub begun: u64,
+}
+const _: () = assert!(core::mem::size_of::<LibraryImports>() == 64);
+
+/// An import, and the library that it is from.
+#[repr(C)]
+#[derive(Clone, Copy, Debug, Default, PartialEq, Eq)]
+pub struct LibraryImport {
+    /// What [`pe_c_next_import`] returns.
+    pub import: Import,
+    /// Of the DLL: UTF-8, without its final zero.
+    pub library_name: Range,
+    /// Index of the library in the order of the import directory.
+    pub library: u64,
+    /// RVA of the hint, which the name follows; 0 unless `import.has_name`.
+    pub hint_rva: u32,
+    /// 0
+    pub spare: u32,
+}
+const _: () = assert!(core::mem::size_of::<LibraryImport>() == 64);
+
+/// An entry of the delay import directory, `IMAGE_DELAYLOAD_DESCRIPTOR`.
+///
+/// Addresses are RVAs where bit 0 of the attributes is set, else virtual addresses, as linkers before Visual C++ 7
+/// wrote them.
+#[repr(C)]
+#[derive(Clone, Copy, Debug, Default, PartialEq, Eq)]
+pub struct DelayDescriptor {
+    /// Flags, of which bit 0 is defined.
+    pub attributes: u32,
+    /// Where the DLL's name is.
+    pub name: u32,
+    /// Where the DLL's handle is written when it is loaded.
+    pub module_handle: u32,
+    /// Where the functions' addresses are written.
+    pub import_address_table: u32,
+    /// Where the table of what is imported is.
+    pub import_name_table: u32,
+    /// Where the addresses are if the DLL has the time stamp; 0 for none.
+    pub bound_import_address_table: u32,
+    /// Where a copy of the address table is, to unload the DLL; 0 for none.
+    pub unload_information_table: u32,
+    /// Of the DLL to which the image is bound; 0 where it is not bound.
+    pub time_date_stamp: u32,
+}
+const _: () = assert!(core::mem::size_of::<DelayDescriptor>() == 32);
+
+/// Where a walk over what is imported of a DLL stands.
+#[repr(C)]
+#[derive(Clone, Copy, Debug, Default, PartialEq, Eq)]
+pub struct DelayedFunctions {
+    /// Its table from the next number on: 8 bytes each in PE32+, else 4.
+    pub left: Range,
+    /// Those of the DLL's entry.
+    pub attributes: u32,
+    /// 0
+    pub spare: u32,
+}
+const _: () = assert!(core::mem::size_of::<DelayedFunctions>() == 24);
+
+/// A walk over the DLLs, step by step.
+#[repr(C)]
+#[derive(Clone, Copy, Debug, Default, PartialEq, Eq)]
+pub struct DelayImportWalk {
+    /// Those of the directory that are left.
+    pub entries: Range,
+    /// The sections of its last RVAs.
+    pub kept: KeptSections,
+}
+const _: () = assert!(core::mem::size_of::<DelayImportWalk>() == 24);
+
+/// A walk over what is imported of a DLL, step by step.
+#[repr(C)]
+#[derive(Clone, Copy, Debug, Default, PartialEq, Eq)]
+pub struct DelayedFunctionWalk {
+    /// Where it stands.
+    pub functions: DelayedFunctions,
+    /// The sections of its last RVAs.
+    pub kept: KeptSections,
+}
+const _: () = assert!(core::mem::size_of::<DelayedFunctionWalk>() == 32);
+
+/// A DLL that is loaded later.
+#[repr(C)]
+#[derive(Clone, Copy, Debug, Default, PartialEq, Eq)]
+pub struct DelayImport {
+    /// Of the DLL: UTF-8, without its final zero.
+    pub name: Range,
+    /// Where a walk over its functions starts.
+    pub functions: DelayedFunctions,
+    /// The entry.
+    pub descriptor: DelayDescriptor,
+}
+const _: () = assert!(core::mem::size_of::<DelayImport>() == 72);
+
+/// What is imported of a DLL that is loaded later.
+#[repr(C)]
+#[derive(Clone, Copy, Debug, Default, PartialEq, Eq)]
+pub struct DelayedFunction {
+    /// UTF-8, without its final zero; empty unless `has_name`.
+    pub name: Range,
+    /// The ordinal; with a name its hint, an index into the DLL's table of names.
+    pub ordinal: u32,
+    /// 1 or 0.
+    pub has_name: u32,
+}
+const _: () = assert!(core::mem::size_of::<DelayedFunction>() == 24);
+
+/// A walk over the functions of all DLLs that are loaded later.
+#[repr(C)]
+#[derive(Clone, Copy, Debug, Default, PartialEq, Eq)]
+pub struct LibraryFunctions {
+    /// The entries of the directory after that of the DLL that is walked over.
+    pub libraries: Range,
+    /// The functions that this one has left.
+    pub functions: DelayedFunctions,
+    /// Of this one: UTF-8, without its final zero.
+    pub library_name: Range,
+    /// How many DLLs were begun; 0 before the first.
+    pub begun: u64,
+}
+const _: () = assert!(core::mem::size_of::<LibraryFunctions>() == 64);
+
+/// A function, and the DLL that it is of.
+#[repr(C)]
+#[derive(Clone, Copy, Debug, Default, PartialEq, Eq)]
+pub struct LibraryFunction {
+    /// What [`pe_c_next_delayed_function`] returns.
+    pub function: DelayedFunction,
+    /// Of the DLL: UTF-8, without its final zero.
+    pub library_name: Range,
+    /// Index of the DLL in the order of the delay import directory.
+    pub library: u64,
+}
+const _: () = assert!(core::mem::size_of::<LibraryFunction>() == 48);
+
+/// A bound import, `IMAGE_BOUND_IMPORT_DESCRIPTOR`.
+#[repr(C)]
+#[derive(Clone, Copy, Debug, Default, PartialEq, Eq)]
+pub struct BoundImport {
+    /// UTF-8, not NUL-terminated.
+    pub name: Range,
+    /// 8 bytes each; a walk through the DLLs that this one forwards to.
+    pub forwarders: Range,
+    /// Of the DLL.
+    pub time_date_stamp: u32,
+    /// 0
+    pub spare: u32,
+}
+const _: () = assert!(core::mem::size_of::<BoundImport>() == 40);
+
+/// A DLL that another one forwards to, `IMAGE_BOUND_FORWARDER_REF`.
+#[repr(C)]
+#[derive(Clone, Copy, Debug, Default, PartialEq, Eq)]
+pub struct BoundForwarder {
+    /// UTF-8, not NUL-terminated.
+    pub name: Range,
+    /// Of the DLL.
+    pub time_date_stamp: u32,
+    /// 0
+    pub spare: u32,
+}
+const _: () = assert!(core::mem::size_of::<BoundForwarder>() == 24);
+
+/// The fixed file information, `VS_FIXEDFILEINFO`.
+#[repr(C)]
+#[derive(Clone, Copy, Debug, Default, PartialEq, Eq)]
+pub struct Version {
+    /// 0xFEEF04BD.
+    pub signature: u32,
+    /// Of this record: major in the high 16 bits, minor in the low.
+    pub struct_version: u32,
+    /// 1.2.3.4 is 0x00010002 and 0x00030004.
+    pub file_version_ms: u32,
+    /// 1.2.3.4 is 0x00010002 and 0x00030004.
+    pub file_version_ls: u32,
+    /// Likewise.
+    pub product_version_ms: u32,
+    /// Likewise.
+    pub product_version_ls: u32,
+    /// Which bits of `file_flags` are valid.
+    pub file_flags_mask: u32,
+    /// `VS_FF_` flags.
+    pub file_flags: u32,
+    /// `VOS_`.
+    pub file_os: u32,
+    /// `VFT_`: 1 application, 2 DLL, 3 driver.
+    pub file_type: u32,
+    /// `VFT2_`.
+    pub file_subtype: u32,
+    /// A FILETIME, mostly 0.
+    pub file_date_ms: u32,
+    /// A FILETIME, mostly 0.
+    pub file_date_ls: u32,
+}
+const _: () = assert!(core::mem::size_of::<Version>() == 52);
+
+/// A block of version information, which is a tree of them.
+///
+/// The first block, `VS_VERSION_INFO`, is all of it; its value is the fixed file information. It contains
+/// StringFileInfo, with a string table for each language, whose blocks are strings with any key; and VarFileInfo, with
+/// Translation, whose value is a language and a code page, `uint16_t` each, for each language of the file.
+#[repr(C)]
+#[derive(Clone, Copy, Debug, Default, PartialEq, Eq)]
+pub struct VersionBlock {
+    /// UTF-16 code units, little-endian, without the zero that ends them.
+    pub key: Range,
+    /// A text in UTF-16, which ends at the first zero, or binary data.
+    pub value: Range,
+    /// A walk over the blocks that it contains.
+    pub children: Range,
+    /// 1 where the value is a text, 0 where it is binary data.
+    pub value_type: u32,
+    /// 1 where the key is eight hexadecimal digits, as that of a string table; else 0.
+    pub has_language: u32,
+    /// The language identifier that the first four digits are; else 0.
+    pub language: u32,
+    /// The code page that the last four digits are; else 0.
+    pub code_page: u32,
+}
+const _: () = assert!(core::mem::size_of::<VersionBlock>() == 64);
+
+/// What names a type, a resource or a language: an id, or a name.
+#[repr(C)]
+#[derive(Clone, Copy, Debug, Default, PartialEq, Eq)]
+pub struct ResourceName {
+    /// UTF-16 code units, little-endian, without a final zero; the empty range with an id.
+    pub name: Range,
+    /// Below 2^16; 0 with a name.
+    pub id: u32,
+    /// 1 with a name, 0 with an id.
+    pub has_name: u32,
+}
+const _: () = assert!(core::mem::size_of::<ResourceName>() == 24);
+
+/// A leaf of a resource tree.
+#[repr(C)]
+#[derive(Clone, Copy, Debug, Default, PartialEq, Eq)]
+pub struct ResourceLeaf {
+    /// An id is `RT_` of winuser.h.
+    pub resource_type: ResourceName,
+    /// The resource among those of its type.
+    pub name: ResourceName,
+    /// An id is a language identifier; 0 for any language.
+    pub language: ResourceName,
+    /// The empty range where `content_result` is not [`DONE`].
+    pub content: Range,
+    /// [`DONE`], or why the content is not in the file: [`Error::UNMAPPED`], [`Error::RESOURCE_BOUNDS`].
+    pub content_result: u32,
+    /// RVA of the content.
+    pub rva: u32,
+    /// Bytes of the content.
+    pub size: u32,
+    /// Of texts in the content, mostly 0.
+    pub code_page: u32,
+}
+const _: () = assert!(core::mem::size_of::<ResourceLeaf>() == 104);
+
+/// `IMAGE_RESOURCE_DIRECTORY_ENTRY`.
+#[repr(C)]
+#[derive(Clone, Copy, Debug, Default, PartialEq, Eq)]
+pub struct ResourceEntry {
+    /// With bit 31 the offset of a name, else an id.
+    pub name_or_id: u32,
+    /// With bit 31 the offset of a directory, else that of a data entry.
+    pub offset_to_data_or_directory: u32,
+}
+const _: () = assert!(core::mem::size_of::<ResourceEntry>() == 8);
+
+/// Where a walk over leaves stands.
+///
+/// The ranges of entries, 8 bytes each, count from the start of the tree.
+#[repr(C)]
+#[derive(Clone, Copy, Debug, Default, PartialEq, Eq)]
+pub struct ResourceWalk {
+    /// The data of the resource directory.
+    pub tree: Range,
+    /// The types that are left.
+    pub types: Range,
+    /// The names that are left of a type.
+    pub names: Range,
+    /// The languages that are left of a name.
+    pub languages: Range,
+    /// The entry of this type.
+    pub resource_type: ResourceEntry,
+    /// The entry of this name.
+    pub name: ResourceEntry,
+}
+const _: () = assert!(core::mem::size_of::<ResourceWalk>() == 80);
+
+/// A walk over leaves, step by step.
+#[repr(C)]
+#[derive(Clone, Copy, Debug, Default, PartialEq, Eq)]
+pub struct LeafWalk {
+    /// Where it stands.
+    pub leaves: ResourceWalk,
+    /// The sections of its last RVAs.
+    pub kept: KeptSections,
+}
+const _: () = assert!(core::mem::size_of::<LeafWalk>() == 88);
+
+/// A directory of the tree, `IMAGE_RESOURCE_DIRECTORY`.
+#[repr(C)]
+#[derive(Clone, Copy, Debug, Default, PartialEq, Eq)]
+pub struct ResourceDirectory {
+    /// Reserved.
+    pub characteristics: u32,
+    /// Seconds since the start of 1970, mostly 0.
+    pub time_date_stamp: u32,
+    /// Of the resources.
+    pub major_version: u16,
+    /// Of the resources.
+    pub minor_version: u16,
+    /// Which come first.
+    pub number_of_named_entries: u16,
+    /// Which follow them.
+    pub number_of_id_entries: u16,
+    /// A walk for [`pe_c_next_resource_item`]: of 65,535 entries at most.
+    pub entries: Range,
+}
+const _: () = assert!(core::mem::size_of::<ResourceDirectory>() == 32);
+
+/// An entry of a directory, by its name.
+#[repr(C)]
+#[derive(Clone, Copy, Debug, Default, PartialEq, Eq)]
+pub struct ResourceItem {
+    /// What names it.
+    pub name: ResourceName,
+    /// Of the directory to which it leads, or of the data entry, from the start of the tree.
+    pub offset: u32,
+    /// 1 where it leads to a directory, else 0.
+    pub is_directory: u32,
+}
+const _: () = assert!(core::mem::size_of::<ResourceItem>() == 32);
+
+/// A resource in one language.
+///
+/// Its ranges are those of an array of bytes that is passed beside it.
+#[repr(C)]
+#[derive(Clone, Copy, Debug, Default, PartialEq, Eq)]
+pub struct Resource {
+    /// An id is `RT_` of winuser.h.
+    pub resource_type: ResourceName,
+    /// The resource among those of its type; Windows looks names up in upper case.
+    pub name: ResourceName,
+    /// Its bytes.
+    pub content: Range,
+    /// Below 2^16.
+    pub language: u32,
+    /// Of texts in the content; most linkers write 0.
+    pub code_page: u32,
+}
+const _: () = assert!(core::mem::size_of::<Resource>() == 72);
+
+/// A string of version information.
+///
+/// Its ranges are those of an array of bytes that is passed beside it.
+#[repr(C)]
+#[derive(Clone, Copy, Debug, Default, PartialEq, Eq)]
+pub struct VersionString {
+    /// UTF-16 code units, little-endian, without a final zero.
+    pub name: Range,
+    /// Likewise, with a final zero.
+    pub text: Range,
+}
+const _: () = assert!(core::mem::size_of::<VersionString>() == 32);
+
+/// A language and a code page.
+#[repr(C)]
+#[derive(Clone, Copy, Debug, Default, PartialEq, Eq)]
+pub struct VersionLanguage {
+    /// As 0x409 for English (United States).
+    pub language: u16,
+    /// As 1200 for UTF-16.
+    pub code_page: u16,
+}
+const _: () = assert!(core::mem::size_of::<VersionLanguage>() == 4);
+
+/// The strings of a language and a code page: so many of an array, one after the other.
+#[repr(C)]
+#[derive(Clone, Copy, Debug, Default, PartialEq, Eq)]
+pub struct VersionTable {
+    /// The index of the first.
+    pub first: u32,
+    /// How many there are.
+    pub count: u32,
+    /// In which the key of the table is written.
+    pub language: VersionLanguage,
+}
+const _: () = assert!(core::mem::size_of::<VersionTable>() == 12);
+
+/// The TLS directory, `IMAGE_TLS_DIRECTORY`.
+#[repr(C)]
+#[derive(Clone, Copy, Debug, Default, PartialEq, Eq)]
+pub struct TlsDirectory {
+    /// Where the data starts of which each thread gets a copy.
+    pub start_address_of_raw_data: u64,
+    /// Where this data ends.
+    pub end_address_of_raw_data: u64,
+    /// Where the loader writes the number of the slot that leads to a copy.
+    pub address_of_index: u64,
+    /// Where the table of callbacks is; 0 where there are none.
+    pub address_of_callbacks: u64,
+    /// How many zeros follow the data in a copy, in bytes.
+    pub size_of_zero_fill: u32,
+    /// Bits 20 to 23: the alignment, 1 to 14 for 1 to 8192 bytes.
+    pub characteristics: u32,
+}
+const _: () = assert!(core::mem::size_of::<TlsDirectory>() == 40);
+
+/// `IMAGE_LOAD_CONFIG_DIRECTORY32` or `IMAGE_LOAD_CONFIG_DIRECTORY64`, up to the guard flags.
+///
+/// A field that the structure is too short for, or the image, is 0, and so is the field of its name with `has_`, which
+/// else is 1. The addresses are virtual addresses, mostly 0 where there is nothing: less `image->base` one is an RVA,
+/// for [`pe_c_offset`].
+#[repr(C)]
+#[derive(Clone, Copy, Debug, Default, PartialEq, Eq)]
+pub struct LoadConfig {
+    /// Where the security cookie is.
+    pub security_cookie: u64,
+    /// x86: where the table of exception handlers is, their RVAs, sorted, 4 bytes each.
+    pub se_handler_table: u64,
+    /// How many entries it has.
+    pub se_handler_count: u64,
+    /// Where the pointer is to what checks the target of an indirect call.
+    pub guard_cf_check_function_pointer: u64,
+    /// Where the pointer is to what checks the target and calls it.
+    pub guard_cf_dispatch_function_pointer: u64,
+    /// Where the table is of the functions that may be called indirectly, sorted: an RVA each, 4 bytes, then
+    /// `guard_flags` >> 28 bytes more.
+    pub guard_cf_function_table: u64,
+    /// How many entries it has.
+    pub guard_cf_function_count: u64,
+    /// Bytes of the structure, as it says itself.
+    pub size: u32,
+    /// Seconds since 1970.
+    pub time_date_stamp: u32,
+    /// `IMAGE_GUARD_` flags.
+    pub guard_flags: u32,
+    /// Major part of a version.
+    pub major_version: u16,
+    /// Minor part of a version.
+    pub minor_version: u16,
+    /// Where DLLs that the image imports are looked for, flags of LoadLibraryEx.
+    pub dependent_load_flags: u16,
+    /// 0
+    pub spare: u16,
+    /// 1 or 0, and so all that follow.
+    pub has_time_date_stamp: u8,
+    /// 1 or 0.
+    pub has_major_version: u8,
+    /// 1 or 0.
+    pub has_minor_version: u8,
+    /// 1 or 0.
+    pub has_dependent_load_flags: u8,
+    /// 1 or 0.
+    pub has_security_cookie: u8,
+    /// 1 or 0.
+    pub has_se_handler_table: u8,
+    /// 1 or 0.
+    pub has_se_handler_count: u8,
+    /// 1 or 0.
+    pub has_guard_cf_check_function_pointer: u8,
+    /// 1 or 0.
+    pub has_guard_cf_dispatch_function_pointer: u8,
+    /// 1 or 0.
+    pub has_guard_cf_function_table: u8,
+    /// 1 or 0.
+    pub has_guard_cf_function_count: u8,
+    /// 1 or 0.
+    pub has_guard_flags: u8,
+}
+const _: () = assert!(core::mem::size_of::<LoadConfig>() == 88);
+
+/// A walk over the entries of a table.
+#[repr(C)]
+#[derive(Clone, Copy, Debug, Default, PartialEq, Eq)]
+pub struct GuardEntries {
+    /// From the next entry to the end of the bytes; of no bytes where the table starts past it.
+    pub entries: Range,
+    /// How many entries are left.
+    pub count: u64,
+    /// Bytes of flags that an entry has after its RVA; of handlers 0.
+    pub flag_size: u32,
+    /// 0
+    pub spare: u32,
+}
+const _: () = assert!(core::mem::size_of::<GuardEntries>() == 32);
+
+/// An entry of a table of a load configuration.
+#[repr(C)]
+#[derive(Clone, Copy, Debug, Default, PartialEq, Eq)]
+pub struct GuardEntry {
+    /// The flags that follow the RVA.
+    pub flag_bytes: Range,
+    /// An RVA.
+    pub rva: u32,
+    /// Their first byte, `IMAGE_GUARD_FLAG_` flags; 0 where there is none.
+    pub flags: u32,
+}
+const _: () = assert!(core::mem::size_of::<GuardEntry>() == 24);
+
+/// A block of base relocations, `IMAGE_BASE_RELOCATION`.
+#[repr(C)]
+#[derive(Clone, Copy, Debug, Default, PartialEq, Eq)]
+pub struct RelocationBlock {
+    /// 2 bytes each; a walk through the relocations of the block.
+    pub entries: Range,
+    /// RVA of the page that they count from.
+    pub page_rva: u32,
+    /// 0
+    pub spare: u32,
+}
+const _: () = assert!(core::mem::size_of::<RelocationBlock>() == 24);
+
+/// A base relocation.
+#[repr(C)]
+#[derive(Clone, Copy, Debug, Default, PartialEq, Eq)]
+pub struct Relocation {
+    /// RVA of what to change; in a hostile block it may pass 32 bits.
+    pub rva: u64,
+    /// `IMAGE_REL_BASED_` of winnt.h, below 16.
+    pub kind: u32,
+    /// Low 16 bits of the number that `IMAGE_REL_BASED_HIGHADJ` (4) changes; else 0.
+    pub argument: u32,
+}
+const _: () = assert!(core::mem::size_of::<Relocation>() == 16);
+
+/// The CLR header, `IMAGE_COR20_HEADER`.
+#[repr(C)]
+#[derive(Clone, Copy, Debug, Default, PartialEq, Eq)]
+pub struct ClrHeader {
+    /// Bytes of the header, as it says itself: 72 or more.
+    pub cb: u32,
+    /// The version of the runtime that is needed.
+    pub major_runtime_version: u16,
+    /// The version of the runtime that is needed, minor part.
+    pub minor_runtime_version: u16,
+    /// The metadata.
+    pub metadata: Directory,
+    /// `COMIMAGE_FLAGS_`.
+    pub flags: u32,
+    /// A metadata token; an RVA with `COMIMAGE_FLAGS_NATIVE_ENTRYPOINT` (0x10).
+    pub entry_point_token: u32,
+    /// Managed resources.
+    pub resources: Directory,
+    /// The strong name signature.
+    pub strong_name_signature: Directory,
+    /// 0
+    pub code_manager_table: Directory,
+    /// Fixups of tables of virtual functions.
+    pub vtable_fixups: Directory,
+    /// 0
+    pub export_address_table_jumps: Directory,
+    /// Of code that was compiled ahead of time (ReadyToRun), else 0.
+    pub managed_native_header: Directory,
+}
+const _: () = assert!(core::mem::size_of::<ClrHeader>() == 72);
+
+/// A walk over the streams of metadata.
+#[repr(C)]
+#[derive(Clone, Copy, Debug, Default, PartialEq, Eq)]
+pub struct MetadataStreams {
+    /// The metadata, from which the offsets of streams count.
+    pub metadata: Range,
+    /// The stream headers that are left, and the rest of the metadata.
+    pub headers: Range,
+    /// How many streams are left.
+    pub count: u16,
+    /// 0
+    pub spare: u16,
+    /// 0
+    pub spare_too: u32,
+}
+const _: () = assert!(core::mem::size_of::<MetadataStreams>() == 40);
+
+/// The root of the metadata.
+#[repr(C)]
+#[derive(Clone, Copy, Debug, Default, PartialEq, Eq)]
+pub struct Metadata {
+    /// Such as "v4.0.30319": UTF-8 up to the first zero, and the zeros after it.
+    pub version: Range,
+    /// A walk for [`pe_c_next_metadata_stream`], at its start.
+    pub streams: MetadataStreams,
+    /// Of the format of metadata.
+    pub major_version: u16,
+    /// Of the format of metadata.
+    pub minor_version: u16,
+    /// Reserved.
+    pub flags: u16,
+    /// 0
+    pub spare: u16,
+}
+const _: () = assert!(core::mem::size_of::<Metadata>() == 64);
+
+/// A stream of CLR metadata.
+#[repr(C)]
+#[derive(Clone, Copy, Debug, Default, PartialEq, Eq)]
+pub struct MetadataStream {
+    /// Without its final zero; at most 31 bytes.
+    pub name: Range,
+    /// The stream's bytes; empty unless `has_content`.
+    pub content: Range,
+    /// Of the stream, from the start of the metadata.
+    pub offset: u32,
+    /// Of the stream in bytes.
+    pub size: u32,
+    /// 1 where the stream lies in the metadata, else 0.
+    pub has_content: u32,
+    /// 0
+    pub spare: u32,
+}
+const _: () = assert!(core::mem::size_of::<MetadataStream>() == 48);
+
+/// A text in the bytes.
+#[repr(C)]
+#[derive(Clone, Copy, Debug, Default, PartialEq, Eq)]
+pub struct TextInBytes {
+    /// What stands before the first zero.
+    pub text: Range,
+    /// 1 where a zero follows: then bytes + text.offset is a string of C; else 0.
+    pub is_terminated: u32,
+    /// 0
+    pub spare: u32,
+}
+const _: () = assert!(core::mem::size_of::<TextInBytes>() == 24);
+
+/// Room for what the calls that take runs find out of names and lists; what is in it has no meaning to callers.
+#[repr(C)]
+#[derive(Clone, Copy, Debug, Default, PartialEq, Eq)]
+pub struct Run {
+    /// The offset of a name.
+    pub start: u64,
+    /// The offset of the zero after it.
+    pub end: u64,
+    /// Where the longest text starts that ends there.
+    pub text: u64,
+}
+const _: () = assert!(core::mem::size_of::<Run>() == 24);
+
+/// A COFF symbol with its name.
+#[repr(C)]
+#[derive(Clone, Copy, Debug, Default, PartialEq, Eq)]
+pub struct NamedSymbol {
+    /// The symbol.
+    pub symbol: SymbolEntry,
+    /// UTF-8, not NUL-terminated; empty after an error.
+    pub name: Range,
+    /// What [`pe_c_symbol_name`] returns: [`DONE`], or the error of this name alone.
+    pub name_result: u32,
+    /// 0
+    pub spare: u32,
+}
+const _: () = assert!(core::mem::size_of::<NamedSymbol>() == 72);
+
+/// A walk over COFF symbols with their names: of an object what [`pe_c_coff_symbols`] and [`pe_c_coff_strings`] return.
+///
+/// Without a string table the range is empty.
+#[repr(C)]
+#[derive(Clone, Copy, Debug, Default, PartialEq, Eq)]
+pub struct NamedSymbolWalk {
+    /// What [`pe_c_coff_symbols`] returns.
+    pub symbols: SymbolWalk,
+    /// What [`pe_c_coff_strings`] returns.
+    pub strings: Range,
+}
+const _: () = assert!(core::mem::size_of::<NamedSymbolWalk>() == 40);
+
+/// The header, `MINIDUMP_HEADER`.
+#[repr(C)]
+#[derive(Clone, Copy, Debug, Default, PartialEq, Eq)]
+pub struct DumpInfo {
+    /// Entries of 12 bytes.
+    pub directory: Range,
+    /// What the writer was asked for, `MINIDUMP_TYPE`.
+    pub flags: u64,
+    /// A793h in the low 16 bits; the others are the writer's own.
+    pub version: u32,
+    /// The number of entries of the directory.
+    pub number_of_streams: u32,
+    /// Mostly 0.
+    pub check_sum: u32,
+    /// When the dump was written, in seconds since 1970.
+    pub time_date_stamp: u32,
+}
+const _: () = assert!(core::mem::size_of::<DumpInfo>() == 40);
+
+/// Where bytes are, `MINIDUMP_LOCATION_DESCRIPTOR`.
+///
+/// One of no bytes says that there are none.
+#[repr(C)]
+#[derive(Clone, Copy, Debug, Default, PartialEq, Eq)]
+pub struct DumpLocation {
     /// In bytes.
-    size_of_image: u32,
-    /// `CheckSum` of its image.
-    check_sum: u32,
-    /// `TimeDateStamp` of its image.
-    time_date_stamp: u32,
-    /// For [`Dump::text`](crate::Dump::text).
-    module_name_rva: u32,
-});
-record!(
-/// More on a thread, MINIDUMP_THREAD_INFO.
-DumpThreadInfo, 64 {
-    /// The ID of the thread.
-    thread_id: u32,
-    /// MINIDUMP_THREAD_INFO_*: 2 is the thread that wrote the dump.
-    dump_flags: u32,
-    /// An HRESULT of the writer.
-    dump_error: u32,
-    /// 259 while it runs.
-    exit_status: u32,
-    /// In 100 ns since 1601.
-    create_time: u64,
-    /// When it ended, likewise.
-    exit_time: u64,
-    /// In 100 ns.
-    kernel_time: u64,
-    /// Likewise.
-    user_time: u64,
-    /// Of its function.
-    start_address: u64,
-    /// The processors on which it may run.
-    affinity: u64,
-});
-record!(
-/// A handle, MINIDUMP_HANDLE_DESCRIPTOR.
-DumpHandle, 32 {
-    /// The value of the handle.
-    handle: u64,
-    /// For [`Dump::text`](crate::Dump::text); 0 if there is none.
-    type_name_rva: u32,
-    /// Likewise.
-    object_name_rva: u32,
-    /// Its attributes.
-    attributes: u32,
-    /// What its holder may do.
-    granted_access: u32,
-    /// How many handles its object has.
-    handle_count: u32,
-    /// How many references its object has.
-    pointer_count: u32,
-});
-record!(
-/// A region of memory, MINIDUMP_MEMORY_INFO.
-DumpRegion, 40 {
+    pub size: u32,
+    /// Offset in the dump.
+    pub rva: u32,
+}
+const _: () = assert!(core::mem::size_of::<DumpLocation>() == 8);
+
+/// An entry of the directory, `MINIDUMP_DIRECTORY`.
+#[repr(C)]
+#[derive(Clone, Copy, Debug, Default, PartialEq, Eq)]
+pub struct DumpEntry {
+    /// `PE_C_*_STREAM`; 0 is none.
+    pub stream_type: u32,
+    /// Where the stream is.
+    pub location: DumpLocation,
+}
+const _: () = assert!(core::mem::size_of::<DumpEntry>() == 12);
+
+/// The memory of a stack, `MINIDUMP_MEMORY_DESCRIPTOR`.
+///
+/// It may be empty: the pieces of memory have what there is of it.
+#[repr(C)]
+#[derive(Clone, Copy, Debug, Default, PartialEq, Eq)]
+pub struct DumpThreadStack {
     /// Address of the first byte.
-    base_address: u64,
-    /// Address of the allocation that it is part of.
-    allocation_base: u64,
-    /// In bytes.
-    region_size: u64,
-    /// PAGE_*.
-    allocation_protect: u32,
-    /// MEM_COMMIT, MEM_RESERVE or MEM_FREE.
-    state: u32,
-    /// PAGE_*.
-    protect: u32,
-    /// MEM_IMAGE, MEM_MAPPED or MEM_PRIVATE.
-    memory_type: u32,
-});
-record!(
-/// The exception that a dump was written for, MINIDUMP_EXCEPTION_STREAM.
-DumpException, 160 {
-    /// The ID of the thread.
-    thread_id: u32,
-    /// The code, as C0000005h.
-    exception_code: u32,
-    /// 1 if the thread cannot go on, or 0.
-    exception_flags: u32,
-    /// As the file says, so it may be above 15.
-    number_parameters: u32,
-    /// Address, in the process, of another exception that it belongs to, or 0.
-    exception_record: u64,
-    /// Of the instruction.
-    exception_address: u64,
-    /// Parameters: of an access violation 0 for a read, 1 for a write, 8 for execution, and the address.
-    exception_information: [u64; 15],
-    /// Of the thread as it crashed.
-    thread_context: DumpLocation,
-});
-record!(
-/// The system, MINIDUMP_SYSTEM_INFO.
-DumpSystem, 32 {
-    /// 9 x64, 12 ARM64, 0 x86: of which machine the contexts are.
-    processor_architecture: u16,
-    /// The family of the processor.
-    processor_level: u16,
-    /// Its model and stepping.
-    processor_revision: u16,
-    /// The number of processors.
-    number_of_processors: u8,
-    /// VER_NT_*.
-    product_type: u8,
-    /// The version of the system, major part.
-    major_version: u32,
-    /// Minor part.
-    minor_version: u32,
-    /// The build of the system.
-    build_number: u32,
-    /// VER_PLATFORM_*.
-    platform_id: u32,
-    /// The name of the service pack, for [`Dump::text`](crate::Dump::text).
-    csd_version_rva: u32,
-    /// VER_SUITE_*.
-    suite_mask: u16,
-    /// 0.
-    spare: u16,
-});
-record!(
-/// How long a process ran.
-DumpTimes, 12 {
-    /// In seconds since 1970.
-    process_create_time: u32,
-    /// In seconds.
-    process_user_time: u32,
-    /// In seconds, in the kernel.
-    process_kernel_time: u32,
-});
-record!(
-/// The speed of the processor.
-DumpPower, 20 {
-    /// The most that it may have, in MHz.
-    processor_max_mhz: u32,
-    /// What it had, in MHz.
-    processor_current_mhz: u32,
-    /// The limit that was set, in MHz.
-    processor_mhz_limit: u32,
-    /// The deepest idle state that it may have.
-    processor_max_idle_state: u32,
-    /// The idle state that it had.
-    processor_current_idle_state: u32,
-});
-record!(
-/// What is known of a process, MINIDUMP_MISC_INFO and _2. What is not there is 0.
-DumpProcess, 48 {
-    /// As the writer says it.
-    size_of_info: u32,
-    /// MINIDUMP_MISC1_*.
-    flags1: u32,
-    /// With bit 0 of the flags.
-    process_id: u32,
-    /// With bit 1.
-    process_times: DumpTimes,
-    /// 1 with bit 2 in a stream of 44 bytes or more, else 0.
-    has_processor_power: u32,
-    /// The speed of the processor.
-    processor_power: DumpPower,
-});
-record!(
-/// A piece of memory, as pe_c_next_frame takes it with the bytes of the dump as its memory.
-DumpPiece, 32 {
+    pub start_of_memory_range: u64,
     /// Where its bytes are.
-    memory: MemoryPiece,
+    pub memory: DumpLocation,
+}
+const _: () = assert!(core::mem::size_of::<DumpThreadStack>() == 16);
+
+/// A thread, `MINIDUMP_THREAD`.
+#[repr(C)]
+#[derive(Clone, Copy, Debug, Default, PartialEq, Eq)]
+pub struct DumpThread {
+    /// The ID of the thread.
+    pub thread_id: u32,
+    /// 0 if it runs.
+    pub suspend_count: u32,
+    /// The priority class of the process.
+    pub priority_class: u32,
+    /// The priority of the thread.
+    pub priority: u32,
+    /// Address of its environment block.
+    pub teb: u64,
+    /// The memory of its stack.
+    pub stack: DumpThreadStack,
+    /// No bytes where it has none.
+    pub thread_context: DumpLocation,
+}
+const _: () = assert!(core::mem::size_of::<DumpThread>() == 48);
+
+/// The version of a module, `VS_FIXEDFILEINFO`.
+///
+/// A signature of 0 says that there is none.
+#[repr(C)]
+#[derive(Clone, Copy, Debug, Default, PartialEq, Eq)]
+pub struct DumpVersion {
+    /// FEEF04BDh.
+    pub signature: u32,
+    /// The version of this structure.
+    pub struc_version: u32,
+    /// Major part in the upper 16 bits, minor part in the lower.
+    pub file_version_ms: u32,
+    /// Build and revision.
+    pub file_version_ls: u32,
+    /// Of the product: major and minor part.
+    pub product_version_ms: u32,
+    /// Build and revision.
+    pub product_version_ls: u32,
+    /// Which bits of the flags are valid.
+    pub file_flags_mask: u32,
+    /// `VS_FF_*`.
+    pub file_flags: u32,
+    /// `VOS_*`.
+    pub file_os: u32,
+    /// `VFT_*`.
+    pub file_type: u32,
+    /// `VFT2_*`.
+    pub file_subtype: u32,
+    /// The date of the file, upper half.
+    pub file_date_ms: u32,
+    /// Lower half.
+    pub file_date_ls: u32,
+}
+const _: () = assert!(core::mem::size_of::<DumpVersion>() == 52);
+
+/// A module, `MINIDUMP_MODULE`.
+#[repr(C)]
+#[derive(Clone, Copy, Debug, Default, PartialEq, Eq)]
+pub struct DumpModule {
+    /// Address where it is loaded.
+    pub base_of_image: u64,
+    /// SizeOfImage of its image.
+    pub size_of_image: u32,
+    /// CheckSum of its image.
+    pub check_sum: u32,
+    /// TimeDateStamp of its image.
+    pub time_date_stamp: u32,
+    /// Its path, for [`pe_c_dump_text`].
+    pub module_name_rva: u32,
+    /// Its version.
+    pub version_info: DumpVersion,
+    /// Its CodeView record: [`pe_c_dump_range`], then [`pe_c_codeview`]. No bytes where there is none.
+    pub cv_record: DumpLocation,
+    /// Its `IMAGE_DEBUG_MISC`.
+    pub misc_record: DumpLocation,
+    /// 0
+    pub spare: u32,
+}
+const _: () = assert!(core::mem::size_of::<DumpModule>() == 96);
+
+/// The name of a thread, `MINIDUMP_THREAD_NAME`.
+#[repr(C)]
+#[derive(Clone, Copy, Debug, Default, PartialEq, Eq)]
+pub struct DumpThreadName {
+    /// For [`pe_c_dump_text`].
+    pub rva_of_thread_name: u64,
+    /// The ID of the thread.
+    pub thread_id: u32,
+    /// 0
+    pub spare: u32,
+}
+const _: () = assert!(core::mem::size_of::<DumpThreadName>() == 16);
+
+/// A module that was unloaded, `MINIDUMP_UNLOADED_MODULE`.
+#[repr(C)]
+#[derive(Clone, Copy, Debug, Default, PartialEq, Eq)]
+pub struct DumpUnloaded {
+    /// Address where it was loaded.
+    pub base_of_image: u64,
+    /// In bytes.
+    pub size_of_image: u32,
+    /// `CheckSum` of its image.
+    pub check_sum: u32,
+    /// `TimeDateStamp` of its image.
+    pub time_date_stamp: u32,
+    /// For [`pe_c_dump_text`].
+    pub module_name_rva: u32,
+}
+const _: () = assert!(core::mem::size_of::<DumpUnloaded>() == 24);
+
+/// More on a thread, `MINIDUMP_THREAD_INFO`.
+#[repr(C)]
+#[derive(Clone, Copy, Debug, Default, PartialEq, Eq)]
+pub struct DumpThreadInfo {
+    /// The ID of the thread.
+    pub thread_id: u32,
+    /// `MINIDUMP_THREAD_INFO_*`: 2 is the thread that wrote the dump.
+    pub dump_flags: u32,
+    /// An HRESULT of the writer.
+    pub dump_error: u32,
+    /// 259 while it runs.
+    pub exit_status: u32,
+    /// In 100 ns since 1601.
+    pub create_time: u64,
+    /// When it ended, likewise.
+    pub exit_time: u64,
+    /// In 100 ns.
+    pub kernel_time: u64,
+    /// Likewise.
+    pub user_time: u64,
+    /// Of its function.
+    pub start_address: u64,
+    /// The processors on which it may run.
+    pub affinity: u64,
+}
+const _: () = assert!(core::mem::size_of::<DumpThreadInfo>() == 64);
+
+/// A handle, `MINIDUMP_HANDLE_DESCRIPTOR`.
+#[repr(C)]
+#[derive(Clone, Copy, Debug, Default, PartialEq, Eq)]
+pub struct DumpHandle {
+    /// The value of the handle.
+    pub handle: u64,
+    /// For [`pe_c_dump_text`]; 0 if there is none.
+    pub type_name_rva: u32,
+    /// Likewise.
+    pub object_name_rva: u32,
+    /// Its attributes.
+    pub attributes: u32,
+    /// What its holder may do.
+    pub granted_access: u32,
+    /// How many handles its object has.
+    pub handle_count: u32,
+    /// How many references its object has.
+    pub pointer_count: u32,
+}
+const _: () = assert!(core::mem::size_of::<DumpHandle>() == 32);
+
+/// A region of memory, `MINIDUMP_MEMORY_INFO`.
+#[repr(C)]
+#[derive(Clone, Copy, Debug, Default, PartialEq, Eq)]
+pub struct DumpRegion {
+    /// Address of the first byte.
+    pub base_address: u64,
+    /// Address of the allocation that it is part of.
+    pub allocation_base: u64,
+    /// In bytes.
+    pub region_size: u64,
+    /// `PAGE_*`.
+    pub allocation_protect: u32,
+    /// `MEM_COMMIT`, `MEM_RESERVE` or `MEM_FREE`.
+    pub state: u32,
+    /// `PAGE_*`.
+    pub protect: u32,
+    /// `MEM_IMAGE`, `MEM_MAPPED` or `MEM_PRIVATE`.
+    pub memory_type: u32,
+}
+const _: () = assert!(core::mem::size_of::<DumpRegion>() == 40);
+
+/// The exception that a dump was written for, `MINIDUMP_EXCEPTION_STREAM`.
+#[repr(C)]
+#[derive(Clone, Copy, Debug, Default, PartialEq, Eq)]
+pub struct DumpException {
+    /// The ID of the thread.
+    pub thread_id: u32,
+    /// The code, as C0000005h.
+    pub exception_code: u32,
+    /// 1 if the thread cannot go on, or 0.
+    pub exception_flags: u32,
+    /// As the file says, so it may be above 15.
+    pub number_parameters: u32,
+    /// Address, in the process, of another exception that it belongs to, or 0.
+    pub exception_record: u64,
+    /// Of the instruction.
+    pub exception_address: u64,
+    /// Parameters: of an access violation 0 for a read, 1 for a write, 8 for execution, and the address.
+    pub exception_information: [u64; 15],
+    /// Of the thread as it crashed.
+    pub thread_context: DumpLocation,
+}
+const _: () = assert!(core::mem::size_of::<DumpException>() == 160);
+
+/// The system, `MINIDUMP_SYSTEM_INFO`.
+#[repr(C)]
+#[derive(Clone, Copy, Debug, Default, PartialEq, Eq)]
+pub struct DumpSystem {
+    /// 9 x64, 12 ARM64, 0 x86: of which machine the contexts are.
+    pub processor_architecture: u16,
+    /// The family of the processor.
+    pub processor_level: u16,
+    /// Its model and stepping.
+    pub processor_revision: u16,
+    /// The number of processors.
+    pub number_of_processors: u8,
+    /// `VER_NT_*`.
+    pub product_type: u8,
+    /// The version of the system, major part.
+    pub major_version: u32,
+    /// Minor part.
+    pub minor_version: u32,
+    /// The build of the system.
+    pub build_number: u32,
+    /// `VER_PLATFORM_*`.
+    pub platform_id: u32,
+    /// The name of the service pack, for [`pe_c_dump_text`].
+    pub csd_version_rva: u32,
+    /// `VER_SUITE_*`.
+    pub suite_mask: u16,
+    /// 0
+    pub spare: u16,
+}
+const _: () = assert!(core::mem::size_of::<DumpSystem>() == 32);
+
+/// How long a process ran.
+#[repr(C)]
+#[derive(Clone, Copy, Debug, Default, PartialEq, Eq)]
+pub struct DumpTimes {
+    /// In seconds since 1970.
+    pub process_create_time: u32,
+    /// In seconds.
+    pub process_user_time: u32,
+    /// In seconds, in the kernel.
+    pub process_kernel_time: u32,
+}
+const _: () = assert!(core::mem::size_of::<DumpTimes>() == 12);
+
+/// The speed of the processor.
+#[repr(C)]
+#[derive(Clone, Copy, Debug, Default, PartialEq, Eq)]
+pub struct DumpPower {
+    /// The most that it may have, in MHz.
+    pub processor_max_mhz: u32,
+    /// What it had, in MHz.
+    pub processor_current_mhz: u32,
+    /// The limit that was set, in MHz.
+    pub processor_mhz_limit: u32,
+    /// The deepest idle state that it may have.
+    pub processor_max_idle_state: u32,
+    /// The idle state that it had.
+    pub processor_current_idle_state: u32,
+}
+const _: () = assert!(core::mem::size_of::<DumpPower>() == 20);
+
+/// What is known of a process, `MINIDUMP_MISC_INFO` and `_2`.
+///
+/// What is not there is 0.
+#[repr(C)]
+#[derive(Clone, Copy, Debug, Default, PartialEq, Eq)]
+pub struct DumpProcess {
+    /// As the writer says it.
+    pub size_of_info: u32,
+    /// `MINIDUMP_MISC1_*`.
+    pub flags1: u32,
+    /// With bit 0 of the flags.
+    pub process_id: u32,
+    /// With bit 1.
+    pub process_times: DumpTimes,
+    /// 1 with bit 2 in a stream of 44 bytes or more, else 0.
+    pub has_processor_power: u32,
+    /// The speed of the processor.
+    pub processor_power: DumpPower,
+}
+const _: () = assert!(core::mem::size_of::<DumpProcess>() == 48);
+
+/// A piece of memory, as [`pe_c_next_frame`] takes it with the bytes of the dump as its memory.
+#[repr(C)]
+#[derive(Clone, Copy, Debug, Default, PartialEq, Eq)]
+pub struct DumpPiece {
+    /// Where its bytes are.
+    pub memory: MemoryPiece,
     /// How many more bytes the dump says it has, which a truncated file does not have.
-    lost: u64,
-});
-record!(
+    pub lost: u64,
+}
+const _: () = assert!(core::mem::size_of::<DumpPiece>() == 32);
+
 /// A walk over the pieces of a full dump.
-Memory64Walk, 24 {
+#[repr(C)]
+#[derive(Clone, Copy, Debug, Default, PartialEq, Eq)]
+pub struct Memory64Walk {
     /// Those that are left, 16 bytes each.
-    entries: Range,
+    pub entries: Range,
     /// Offset of the bytes of the next piece.
-    next: u64,
-});
-record!(
-/// An entry of an index of pieces of memory, which pe_c_memory_runs makes on the way: the addresses from `start` up to the start of
-/// the next entry.
-RangeEntry, 16 {
+    pub next: u64,
+}
+const _: () = assert!(core::mem::size_of::<Memory64Walk>() == 24);
+
+/// An entry of an index of pieces of memory, which [`pe_c_memory_runs`] makes on the way: the addresses from `start` up
+/// to the start of the next entry.
+#[repr(C)]
+#[derive(Clone, Copy, Debug, Default, PartialEq, Eq)]
+pub struct RangeEntry {
     /// The first address.
-    start: u64,
+    pub start: u64,
     /// Index of the piece that has them, plus 1; 0 where none does.
-    number: u64,
-});
-record!(
+    pub number: u64,
+}
+const _: () = assert!(core::mem::size_of::<RangeEntry>() == 16);
+
 /// The registers of a thread on x64, CONTEXT.
-Context, 400 {
-    /// Xmm is 0 where it was not saved.
-    registers: Registers,
-    /// CONTEXT_*: bit 3 says that xmm was saved.
-    context_flags: u32,
+#[repr(C)]
+#[derive(Clone, Copy, Debug, Default, PartialEq, Eq)]
+pub struct Context {
+    /// `xmm` is 0 where it was not saved.
+    pub registers: Registers,
+    /// `CONTEXT_*`: bit 3 says that xmm was saved.
+    pub context_flags: u32,
     /// The flags of the processor.
-    eflags: u32,
-});
-record!(
-/// The registers of a thread on ARM64, ARM64_NT_CONTEXT.
-Arm64Context, 336 {
-    /// D8 to d15 are 0 where they were not saved.
-    registers: Arm64Registers,
-    /// CONTEXT_ARM64_*: bit 2 says that they were.
-    context_flags: u32,
+    pub eflags: u32,
+}
+const _: () = assert!(core::mem::size_of::<Context>() == 400);
+
+/// The registers of a thread on ARM64, `ARM64_NT_CONTEXT`.
+#[repr(C)]
+#[derive(Clone, Copy, Debug, Default, PartialEq, Eq)]
+pub struct Arm64Context {
+    /// d8 to d15 are 0 where they were not saved.
+    pub registers: Arm64Registers,
+    /// `CONTEXT_ARM64_*`: bit 2 says that they were.
+    pub context_flags: u32,
     /// The flags of the processor.
-    cpsr: u32,
-});
-
-/// Declares calls that take a view of an image first, after their names more parameters, and then `out`.
-macro_rules! calls_of_an_image {
-    ($($(#[$doc:meta])* $name:ident($($more:ident: $type:ty),*) -> $out:ty;)*) => {
-        extern "C" {
-            $($(#[$doc])* pub fn $name(view: *const View, $($more: $type,)* out: *mut $out) -> u32;)*
-        }
-    };
+    pub cpsr: u32,
 }
+const _: () = assert!(core::mem::size_of::<Arm64Context>() == 336);
 
-/// Declares calls that take the bytes first, then more parameters, and then `out`.
-macro_rules! calls_of_bytes {
-    ($($(#[$doc:meta])* $name:ident($($more:ident: $type:ty),*) -> $out:ty;)*) => {
-        extern "C" {
-            $($(#[$doc])* pub fn $name(bytes: *const u8, length: usize, $($more: $type,)* out: *mut $out) -> u32;)*
-        }
-    };
-}
-
+#[rustfmt::skip]
 extern "C" {
-    /// Returns the number of the archive's ABI, which its name has too: a program does not link with an archive of another.
+    /// The number of the ABI is in the name of this call, and grows with each change that breaks callers.
+    ///
+    /// A program refers to the name from each file that includes pe.h, so it does not link with an archive of another
+    /// ABI. Returns the number.
     pub fn pe_c_abi_4() -> u32;
-    /// Writes the text of a result to the start of the array, truncated to it, with a zero after it. Returns the length of the
-    /// whole text.
+    /// Writes the text of a result to the start of the array, in UTF-8, with a zero after it; where the array is too
+    /// small as much of it as has room before the zero.
+    ///
+    /// Returns the length of the whole text in bytes, which is below 128.
+    ///
+    /// ```c
+    /// char text[128];
+    /// pe_c_text(result, text, sizeof text);
+    /// printf("%s\n", text);
+    /// ```
     pub fn pe_c_text(number: u32, room: *mut u8, length: usize) -> usize;
-    /// Writes the text of a GUID, with a zero after it.
-    pub fn pe_c_guid_text(
-        guid: *const u8,
-        guid_length: usize,
-        form: u32,
-        room: *mut u8,
-        room_length: usize,
-        written: *mut u64,
-    ) -> u32;
-    /// Writes a text in UTF-16 as UTF-8, with a zero after it.
-    pub fn pe_c_utf16_text(
-        bytes: *const u8,
-        length: usize,
-        range: *const Range,
-        room: *mut u8,
-        room_length: usize,
-        written: *mut u64,
-    ) -> u32;
-    /// Writes the section headers of a COFF object to the start of an array.
-    pub fn pe_c_coff_sections(
-        bytes: *const u8,
-        length: usize,
-        coff: *const CoffHeader,
-        room: *mut Section,
-        entries: usize,
-    ) -> u32;
-    /// Writes the section headers of a TE image to the start of an array.
-    pub fn pe_c_te_sections(
-        bytes: *const u8,
-        length: usize,
-        te: *const TeHeader,
-        room: *mut Section,
-        entries: usize,
-    ) -> u32;
-    /// Writes the section headers to the start of an array.
+    /// Reads the headers of an image, which are at the same offsets in a file and in memory.
+    ///
+    /// Errors: [`Error::SHORT`], [`Error::BAD_MAGIC`] of the DOS header; [`Error::HEADER_POINTER`] in strict mode;
+    /// [`Error::SHORT`], [`Error::BAD_MAGIC`] of the PE signature; [`Error::SHORT`] of the COFF header;
+    /// [`Error::SHORT`], [`Error::BAD_MAGIC`] of the optional header; [`Error::SHORT`] of its fields and directories.
+    pub fn pe_c_image(bytes: *const u8, length: usize, mode: u32, out: *mut ImageInfo) -> u32;
+    /// Writes the section headers to the start of the array, `image->number_of_sections` of them.
+    ///
+    /// The rest of the array is unchanged, and all of it after an error.
+    ///
+    /// Errors: `PE_C_ROOM` where the array has fewer entries; [`Error::SHORT`] where the section headers are truncated.
     pub fn pe_c_sections(
         bytes: *const u8,
         length: usize,
@@ -2306,317 +2713,770 @@ extern "C" {
         room: *mut Section,
         entries: usize,
     ) -> u32;
-    /// Writes the image as a loader lays it out to the start of an array.
-    pub fn pe_c_map(view: *const View, room: *mut u8, room_length: usize, written: *mut u64) -> u32;
-    /// Relocates an image as loaded by the base relocations of a view.
-    pub fn pe_c_relocate(view: *const View, difference: u64, room: *mut u8, room_length: usize) -> u32;
-    /// Writes the memory of pieces in any order as pieces that ascend and do not overlap.
-    pub fn pe_c_memory_runs(
-        pieces: *const MemoryPiece,
-        piece_count: usize,
-        entries: *mut RangeEntry,
-        number_of_entries: usize,
-        runs: *mut MemoryPiece,
-        number_of_runs: usize,
-        written: *mut u64,
-    ) -> u32;
-    /// Returns where the bytes of ranges of addresses are.
-    pub fn pe_c_memory_ranges(
-        memory: *const u8,
-        memory_length: usize,
-        pieces: *const MemoryPiece,
-        piece_count: usize,
-        asked: *const Range,
-        asked_count: usize,
-        found: *mut Range,
-        found_count: usize,
-        written: *mut u64,
-    ) -> u32;
-    /// Returns whether an image is that of a module.
-    pub fn pe_c_is_image_of(image: *const ImageInfo, module: *const DumpModule) -> u32;
-    /// Makes an index of the sections of a view.
+    /// Returns the file offset of an RVA, by the first section that covers it; in an image as loaded the RVA itself.
+    ///
+    /// The bytes are not read, and the offset may be past their end. [`NOTHING`] where no section covers the RVA, or
+    /// the file alignment is not a power of two. A section's data start at its raw pointer rounded down to a multiple
+    /// of 512. Of a file whose alignment is below 512, as iPXE's, every call that maps RVAs so finds other offsets than
+    /// a reader that does not round.
+    pub fn pe_c_offset(view: *const View, rva: u32, out: *mut u64) -> u32;
+    /// Reads all numbers of the headers of an image, which are at the same offsets in a file and in memory.
+    ///
+    /// Errors are those of [`pe_c_image`].
+    pub fn pe_c_headers(bytes: *const u8, length: usize, mode: u32, out: *mut Headers) -> u32;
+    /// Makes an index of the sections at the start of the array, and writes how many entries it has: two for each
+    /// section.
+    ///
+    /// The array has to have four for each, of which the second half is left open; what follows is unchanged. Calls
+    /// that take a view with these entries return what they return without them, and map each RVA by it: in steps that
+    /// grow with the logarithm of the number of sections, not with that number itself: 65,535 in a hostile file. So do
+    /// steps and walks of stacks, with scans. What maps no RVA still looks at all of them: [`pe_c_rva`], which maps an
+    /// offset, [`pe_c_overlay`] and the lists of their names. Few calls, and images with few sections, as most, gain
+    /// nothing by it. No entries, and [`DONE`], where no section is searched: in an image as loaded, and where the file
+    /// alignment is not a power of two. An index in the view that is passed makes no difference. An index of other
+    /// sections gives wrong offsets, and no other harm. With an index a walk keeps no sections, and needs none; nor
+    /// does it under 32 sections or fewer, which are searched for less. Else a step over exports, imports, delay
+    /// imports, resources or the records of a plan tests the section or two that its walk keeps, and searches all of
+    /// them only for an RVA elsewhere; all other steps search all for each RVA. A section that may share an RVA with an
+    /// earlier one, whose size is rounded up to a page, is not kept.
+    ///
+    /// Errors: `PE_C_ROOM` where the array has too few entries; then `written` is how many it has to have.
     pub fn pe_c_index(view: *const View, room: *mut IndexEntry, entries: usize, written: *mut u64) -> u32;
-    /// Lists the next functions of a table, from an index on.
-    pub fn pe_c_list_functions(
-        view: *const View,
-        table: *const Range,
-        next: *mut u64,
-        entries: *mut Function,
-        number_of_entries: usize,
-        written: *mut u64,
-    ) -> u32;
-    /// Lists the next unwind codes of a walk.
-    pub fn pe_c_list_codes(
-        view: *const View,
-        walk: *mut Walk,
-        entries: *mut Code,
-        number_of_entries: usize,
-        written: *mut u64,
-    ) -> u32;
-    /// Returns the unwind record of an unwind RVA, and lists its codes.
-    pub fn pe_c_record_codes(
-        view: *const View,
-        table: *const Range,
-        unwind: u32,
-        out: *mut Record,
-        codes: *mut Code,
-        number_of_codes: usize,
-        written: *mut u64,
-    ) -> u32;
-    /// Lists all codes of a record by their bytes alone.
-    pub fn pe_c_all_codes(
-        bytes: *const u8,
-        length: usize,
-        form: *const CodeForm,
-        entries: *mut Code,
-        number_of_entries: usize,
-        written: *mut u64,
-    ) -> u32;
-    /// Lists the next functions of an ARM64 table, from an index on.
-    pub fn pe_c_list_arm64_functions(
-        view: *const View,
-        table: *const Range,
-        next: *mut u64,
-        entries: *mut Arm64Function,
-        number_of_entries: usize,
-        written: *mut u64,
-    ) -> u32;
-    /// Lists the next ARM64 unwind codes of a walk.
-    pub fn pe_c_list_arm64_codes(
-        view: *const View,
-        walk: *mut Arm64Walk,
-        entries: *mut Arm64Code,
-        number_of_entries: usize,
-        written: *mut u64,
-    ) -> u32;
-    /// Lists the next exports that have a name.
-    pub fn pe_c_list_exports(
-        view: *const View,
-        walk: *mut Exports,
-        entries: *mut Export,
-        number_of_entries: usize,
-        written: *mut u64,
-    ) -> u32;
-    /// Lists the next exports of an address table, from an index on.
-    pub fn pe_c_list_export_addresses(
-        view: *const View,
-        table: *const AddressTable,
-        next: *mut u64,
-        entries: *mut Exported,
-        number_of_entries: usize,
-        written: *mut u64,
-    ) -> u32;
-    /// Lists the next libraries of an import directory.
-    pub fn pe_c_list_libraries(
-        view: *const View,
-        walk: *mut Libraries,
-        entries: *mut Library,
-        number_of_entries: usize,
-        written: *mut u64,
-    ) -> u32;
-    /// Lists the next imports of a library.
-    pub fn pe_c_list_imports(
-        view: *const View,
-        walk: *mut Imports,
-        entries: *mut Import,
-        number_of_entries: usize,
-        written: *mut u64,
-    ) -> u32;
-    /// Lists the next exports that have a name, and reads names and forwarders' texts together where they share much.
-    pub fn pe_c_list_exports_together(
-        view: *const View,
-        walk: *mut Exports,
-        runs: *mut Run,
-        number_of_runs: usize,
-        entries: *mut Export,
-        number_of_entries: usize,
-        written: *mut u64,
-    ) -> u32;
-    /// Lists the next libraries, and reads the names together, and the ends of their lists.
-    pub fn pe_c_list_libraries_together(
-        view: *const View,
-        walk: *mut Libraries,
-        runs: *mut Run,
-        number_of_runs: usize,
-        entries: *mut Library,
-        number_of_entries: usize,
-        written: *mut u64,
-    ) -> u32;
-    /// Lists the next imports of a library, and reads the names together.
-    pub fn pe_c_list_imports_together(
-        view: *const View,
-        walk: *mut Imports,
-        runs: *mut Run,
-        number_of_runs: usize,
-        entries: *mut Import,
-        number_of_entries: usize,
-        written: *mut u64,
-    ) -> u32;
-    /// Lists the next imports of all libraries, and reads the names together.
-    pub fn pe_c_list_all_imports_together(
-        view: *const View,
-        walk: *mut LibraryImports,
-        runs: *mut Run,
-        number_of_runs: usize,
-        entries: *mut LibraryImport,
-        number_of_entries: usize,
-        written: *mut u64,
-    ) -> u32;
-    /// Lists the next exports of an address table, from an index on, and reads the texts of forwarders together.
-    pub fn pe_c_list_export_addresses_together(
-        view: *const View,
-        table: *const AddressTable,
-        next: *mut u64,
-        runs: *mut Run,
-        number_of_runs: usize,
-        entries: *mut Exported,
-        number_of_entries: usize,
-        written: *mut u64,
-    ) -> u32;
-    /// Lists the long names of the next sections, from an index on, and reads them together.
-    pub fn pe_c_list_long_section_names(
-        view: *const View,
-        table: *const Range,
-        next: *mut u64,
-        runs: *mut Run,
-        number_of_runs: usize,
-        entries: *mut Range,
-        number_of_entries: usize,
-        written: *mut u64,
-    ) -> u32;
-    /// Lists the next COFF symbols with their names, which are read together where they share much.
-    pub fn pe_c_list_symbols(
-        bytes: *const u8,
-        length: usize,
-        walk: *mut NamedSymbolWalk,
-        runs: *mut Run,
-        number_of_runs: usize,
-        entries: *mut NamedSymbol,
-        number_of_entries: usize,
-        written: *mut u64,
-    ) -> u32;
-    /// Lists the next leaves of a resource tree.
-    pub fn pe_c_list_resource_leaves(
-        view: *const View,
-        walk: *mut ResourceWalk,
-        entries: *mut ResourceLeaf,
-        number_of_entries: usize,
-        written: *mut u64,
-    ) -> u32;
-    /// Lists the next blocks of version information.
-    pub fn pe_c_list_version_blocks(
-        view: *const View,
-        walk: *mut Range,
-        entries: *mut VersionBlock,
-        number_of_entries: usize,
-        written: *mut u64,
-    ) -> u32;
-    /// Lists the next DLLs of a delay import directory.
-    pub fn pe_c_list_delay_imports(
-        view: *const View,
-        walk: *mut Range,
-        entries: *mut DelayImport,
-        number_of_entries: usize,
-        written: *mut u64,
-    ) -> u32;
-    /// Lists the next functions of a DLL that is loaded later.
-    pub fn pe_c_list_delayed_functions(
-        view: *const View,
-        walk: *mut DelayedFunctions,
-        entries: *mut DelayedFunction,
-        number_of_entries: usize,
-        written: *mut u64,
-    ) -> u32;
-    /// Lists the next DLLs of a delay import directory, and reads the names together.
-    pub fn pe_c_list_delay_imports_together(
-        view: *const View,
-        walk: *mut Range,
-        runs: *mut Run,
-        number_of_runs: usize,
-        entries: *mut DelayImport,
-        number_of_entries: usize,
-        written: *mut u64,
-    ) -> u32;
-    /// Lists the next functions of a DLL that is loaded later, and reads the names together.
-    pub fn pe_c_list_delayed_functions_together(
-        view: *const View,
-        walk: *mut DelayedFunctions,
-        runs: *mut Run,
-        number_of_runs: usize,
-        entries: *mut DelayedFunction,
-        number_of_entries: usize,
-        written: *mut u64,
-    ) -> u32;
-    /// Lists the next functions of all DLLs that are loaded later, and reads the names together.
-    pub fn pe_c_list_all_delayed_functions_together(
-        view: *const View,
-        walk: *mut LibraryFunctions,
-        runs: *mut Run,
-        number_of_runs: usize,
-        entries: *mut LibraryFunction,
-        number_of_entries: usize,
-        written: *mut u64,
-    ) -> u32;
-    /// Lists the next bound imports, and reads the names together.
-    pub fn pe_c_list_bound_imports(
+    /// Returns the index of the section that maps an RVA: the first that covers it, by which [`pe_c_offset`] maps it.
+    ///
+    /// [`NOTHING`] where none does, and in an image as loaded, where no section maps RVAs. It never returns an error.
+    pub fn pe_c_section_at(view: *const View, rva: u32, out: *mut u64) -> u32;
+    /// Returns the bytes that the RVAs of a section are mapped to, one after the other, up to the end of the bytes.
+    ///
+    /// In an image as loaded they stand at the section's RVA, as many as its virtual size says, or its raw size where
+    /// that is 0. [`NOTHING`] without any. It never returns an error.
+    pub fn pe_c_section_range(view: *const View, section: *const Section, out: *mut Range) -> u32;
+    /// Returns the bytes from an RVA to the end of what its section has in the file: the first section that covers the
+    /// RVA, by which [`pe_c_offset`] maps it.
+    ///
+    /// In an image as loaded they go from the RVA to the end of the bytes. [`NOTHING`] where no section covers the RVA,
+    /// and where the file has no byte there. It never returns an error.
+    pub fn pe_c_range_at(view: *const View, rva: u32, out: *mut Range) -> u32;
+    /// Returns the RVA that leads to a file offset, by the first section whose RVAs are mapped to it.
+    ///
+    /// Where sections share RVAs, [`pe_c_offset`] may map that RVA by another. In an image as loaded an offset is its
+    /// own RVA. [`NOTHING`] where no section is mapped to the offset, and where the RVA has more than 32 bits. It never
+    /// returns an error.
+    pub fn pe_c_rva(view: *const View, offset: u64, out: *mut u32) -> u32;
+    /// Writes the image as a loader lays it out to the start of the array, as many bytes as `size_of_image` says, and
+    /// that size to `written`: at each RVA the byte of the file at the offset to which [`pe_c_offset`] maps it; where
+    /// it maps it to none that of the headers, which are `size_of_headers` bytes at the start of the file; zeros
+    /// elsewhere.
+    ///
+    /// What follows in the array is unchanged. The array does not overlap the file; it may be NULL if `room_length` is
+    /// 0. The bytes at RVAs that the file maps are read of it with [`MAPPED`] as they are of the file; where no section
+    /// covers an RVA, which of the file is [`Error::UNMAPPED`], so are those of the headers or zeros. `size_of_image`
+    /// is what the headers say: up to 4 GB of a short file. Under many sections make an index first: without one each
+    /// of them is searched for among all.
+    ///
+    /// Errors: `PE_C_ROOM` where the array is smaller; then it is unchanged, and `written` is how many bytes it has to
+    /// have.
+    pub fn pe_c_map(view: *const View, room: *mut u8, room_length: usize, written: *mut u64) -> u32;
+    /// Relocates an image as loaded, which [`pe_c_map`] wrote to the array, by the base relocations of the view: adds
+    /// `difference`, the new base less the one that the image has, modulo 2^64, to the field of its header that has the
+    /// base, and to each number that they name.
+    ///
+    /// No other byte changes. They are read from the bytes of the view, which the array does not overlap. [`NOTHING`]
+    /// where the image has none; then it is unchanged.
+    ///
+    /// Errors, after which it is unchanged: [`Error::UNMAPPED`], [`Error::SHORT`] of the directory;
+    /// [`Error::DIRECTORY_RELOCATION_OUTSIDE`] where the array does not have that field, or a number, in turn with
+    /// [`Error::DIRECTORY_BLOCK_SIZE`], [`Error::DIRECTORY_BLOCK_TRUNCATED`], [`Error::SHORT`] and
+    /// [`Error::DIRECTORY_NO_ARGUMENT`] of blocks and entries, and [`Error::DIRECTORY_RELOCATION_KIND`] of a type other
+    /// than `IMAGE_REL_BASED_ABSOLUTE`, `_HIGH`, `_LOW`, `_HIGHLOW` and `_DIR64`.
+    pub fn pe_c_relocate(view: *const View, difference: u64, room: *mut u8, room_length: usize) -> u32;
+    /// Returns the range of the bytes after the headers and the raw data of all sections, which no loader reads: where
+    /// installers keep their archives, and signed images their certificates.
+    ///
+    /// It may hold what headers lead to: the certificate table, COFF symbols. [`NOTHING`] where no byte follows, and in
+    /// an image as loaded. It never returns an error.
+    pub fn pe_c_overlay(view: *const View, out: *mut Range) -> u32;
+    /// Returns the COFF string table, from its size field on.
+    ///
+    /// [`NOTHING`] where the image has no COFF symbols, where the bytes end after them, and in an image as loaded.
+    ///
+    /// Errors: [`Error::SHORT`] of the headers and of the symbols; [`Error::STRING_TABLE`] where the table is
+    /// truncated.
+    pub fn pe_c_string_table(view: *const View, out: *mut Range) -> u32;
+    /// Returns the name of a section in the string table: UTF-8, not NUL-terminated.
+    ///
+    /// [`NOTHING`] where its header has the name itself, and where no string is at the offset, NUL-terminated and
+    /// UTF-8.
+    ///
+    /// Error: [`Error::SHORT`] where the table is not inside the bytes.
+    pub fn pe_c_long_section_name(
         bytes: *const u8,
         length: usize,
         table: *const Range,
-        walk: *mut Range,
-        runs: *mut Run,
-        number_of_runs: usize,
-        entries: *mut BoundImport,
-        number_of_entries: usize,
-        written: *mut u64,
+        section: *const Section,
+        out: *mut Range,
     ) -> u32;
-    /// Lists the next DLLs that a DLL forwards to, and reads the names together.
-    pub fn pe_c_list_bound_forwarders(
+    /// Reads the header of an object, the 20 bytes at its start.
+    ///
+    /// Any bytes are such a header: look at `machine`.
+    ///
+    /// Error: [`Error::SHORT`].
+    pub fn pe_c_coff(bytes: *const u8, length: usize, out: *mut CoffHeader) -> u32;
+    /// Writes the section headers of an object to the start of the array, `coff->number_of_sections` of them.
+    ///
+    /// They follow the optional header, which objects usually do not have. The rest of the array is unchanged, and all
+    /// of it after an error.
+    ///
+    /// Errors: `PE_C_ROOM` where the array is smaller; [`Error::SHORT`] where the section headers are truncated.
+    pub fn pe_c_coff_sections(
+        bytes: *const u8,
+        length: usize,
+        coff: *const CoffHeader,
+        room: *mut Section,
+        entries: usize,
+    ) -> u32;
+    /// Returns a walk over the symbols of an object or of an image, with the range of their table.
+    ///
+    /// [`NOTHING`] where the header's pointer to them is 0.
+    ///
+    /// Error: [`Error::SHORT`] where the table is truncated; a pointer past the end of the bytes is that even with 0
+    /// entries.
+    pub fn pe_c_coff_symbols(bytes: *const u8, length: usize, coff: *const CoffHeader, out: *mut SymbolWalk) -> u32;
+    /// Returns the string table of an object or of an image, from its size field on.
+    ///
+    /// [`NOTHING`] where the header's pointer to the symbols is 0, and where the bytes end after these.
+    ///
+    /// Errors: [`Error::SHORT`] where the symbols are truncated; [`Error::STRING_TABLE`] where the string table is.
+    pub fn pe_c_coff_strings(bytes: *const u8, length: usize, coff: *const CoffHeader, out: *mut Range) -> u32;
+    /// Reads the symbol in an entry of a symbol table.
+    ///
+    /// [`NOTHING`] past the last entry. Auxiliary records have entries of their own, and nothing in these says that
+    /// they are no symbols.
+    ///
+    /// Error: [`Error::SHORT`] where the table is not inside the bytes.
+    pub fn pe_c_symbol(bytes: *const u8, length: usize, table: *const Range, index: u64, out: *mut SymbolEntry) -> u32;
+    /// Reads the next symbol of a walk.
+    ///
+    /// Error: [`Error::SHORT`] where the table is not inside the bytes.
+    pub fn pe_c_next_symbol(bytes: *const u8, length: usize, walk: *mut SymbolWalk, out: *mut SymbolEntry) -> u32;
+    /// Returns the name of the symbol in an entry of a symbol table: UTF-8, not NUL-terminated, in the entry or in the
+    /// string table.
+    ///
+    /// A name there is read to its end. [`NOTHING`] past the last entry. Without a string table pass an empty range.
+    ///
+    /// Errors: [`Error::SHORT`] where the symbol table, then where the string table is not inside the bytes;
+    /// [`Error::STRING_TABLE`] where no string is at the offset, NUL-terminated and UTF-8, or where the name in the
+    /// entry is not UTF-8.
+    pub fn pe_c_symbol_name(
         bytes: *const u8,
         length: usize,
         table: *const Range,
+        strings: *const Range,
+        index: u64,
+        out: *mut Range,
+    ) -> u32;
+    /// Returns the Rich header.
+    ///
+    /// [`NOTHING`] where the bytes before the PE header have none.
+    ///
+    /// Error: [`Error::SHORT`] of the DOS header.
+    pub fn pe_c_rich_header(bytes: *const u8, length: usize, out: *mut RichHeader) -> u32;
+    /// Returns the next entry.
+    ///
+    /// `key` is that of the header, and the walk starts as its entries.
+    ///
+    /// Error: [`Error::SHORT`] of the entry.
+    pub fn pe_c_next_rich_entry(
+        bytes: *const u8,
+        length: usize,
+        key: u32,
         walk: *mut Range,
-        runs: *mut Run,
-        number_of_runs: usize,
-        entries: *mut BoundForwarder,
-        number_of_entries: usize,
-        written: *mut u64,
+        out: *mut RichEntry,
     ) -> u32;
-    /// Lists the next entries of a table of a load configuration.
-    pub fn pe_c_list_guard_entries(
-        view: *const View,
-        walk: *mut GuardEntries,
-        entries: *mut GuardEntry,
-        number_of_entries: usize,
-        written: *mut u64,
+    /// Returns the entries of the debug directory as a walk for [`pe_c_next_debug_entry`].
+    ///
+    /// [`NOTHING`] without a directory.
+    ///
+    /// Errors: [`Error::UNMAPPED`]; [`Error::DEBUG_BOUNDS`] in strict mode.
+    pub fn pe_c_debug_entries(view: *const View, out: *mut Range) -> u32;
+    /// Returns the next entry of the debug directory.
+    ///
+    /// Errors: [`Error::SHORT`] where the walk is not inside the bytes, or its last entry is truncated.
+    pub fn pe_c_next_debug_entry(bytes: *const u8, length: usize, walk: *mut Range, out: *mut DebugEntry) -> u32;
+    /// Returns the first entry of a type.
+    ///
+    /// A truncated last entry is none. [`NOTHING`] without a directory or such an entry.
+    ///
+    /// Errors: [`Error::UNMAPPED`]; [`Error::DEBUG_BOUNDS`] in strict mode.
+    pub fn pe_c_first_debug_entry(view: *const View, data_type: u32, out: *mut DebugEntry) -> u32;
+    /// Returns the symbol key: the CodeView record, if it is one of PDB 7.0.
+    pub fn pe_c_symbol_key(view: *const View, out: *mut Key) -> u32;
+    /// Returns the symbol key of a CodeView record that stands alone, as a minidump has one of each module: no other
+    /// debug data is read, and no damage there is an error.
+    ///
+    /// [`NOTHING`] where it is not a record of PDB 7.0.
+    ///
+    /// Errors: [`Error::SHORT`] where the range is not inside the bytes; [`Error::DEBUG_SIZE`] where it has fewer than
+    /// 24 bytes.
+    pub fn pe_c_codeview(bytes: *const u8, length: usize, record: *const Range, out: *mut Key) -> u32;
+    /// Returns the CodeView record, if it is one of PDB 2.0.
+    pub fn pe_c_debug_pdb20(view: *const View, out: *mut Pdb20) -> u32;
+    /// Returns the record of VC features.
+    pub fn pe_c_debug_vc_features(view: *const View, out: *mut VcFeatures) -> u32;
+    /// Returns the extended DLL characteristics, `IMAGE_DLLCHARACTERISTICS_EX_` flags.
+    pub fn pe_c_debug_characteristics(view: *const View, out: *mut u32) -> u32;
+    /// Returns the Repro record.
+    pub fn pe_c_debug_repro(view: *const View, out: *mut Repro) -> u32;
+    /// Returns the POGO record.
+    ///
+    /// [`NOTHING`] also for another signature.
+    pub fn pe_c_debug_pogo(view: *const View, out: *mut Pogo) -> u32;
+    /// Reads the record of the first entry of each type at once, as these six do.
+    ///
+    /// It always returns [`DONE`]: each record has a result of its own.
+    pub fn pe_c_debug_data(view: *const View, out: *mut DebugRecords) -> u32;
+    /// Returns the symbol key.
+    ///
+    /// [`NOTHING`] where the record is not one of PDB 7.0.
+    ///
+    /// Errors: [`Error::DEBUG_SIZE`] where the entry's size is below 24, in strict mode, and [`NOTHING`] in permissive
+    /// mode; [`Error::SHORT`] of the first 24 bytes; [`Error::DEBUG_DATA`] of the name.
+    pub fn pe_c_symbol_key_of(
+        bytes: *const u8,
+        length: usize,
+        mode: u32,
+        entry: *const DebugEntry,
+        out: *mut Key,
     ) -> u32;
-    /// Lists the next entries of a POGO record.
-    pub fn pe_c_list_pogo_entries(
-        view: *const View,
+    /// Returns a CodeView record of PDB 2.0.
+    ///
+    /// [`NOTHING`] where it is none.
+    ///
+    /// Errors: [`Error::DEBUG_SIZE`] where the entry's size is below 16, in strict mode, and [`NOTHING`] in permissive
+    /// mode; [`Error::SHORT`] of the first 16 bytes; [`Error::DEBUG_DATA`] of the name.
+    pub fn pe_c_pdb20_of(bytes: *const u8, length: usize, mode: u32, entry: *const DebugEntry, out: *mut Pdb20) -> u32;
+    /// Returns the counts of VC features.
+    ///
+    /// Error: [`Error::SHORT`].
+    pub fn pe_c_vc_features_of(
+        bytes: *const u8,
+        length: usize,
+        mode: u32,
+        entry: *const DebugEntry,
+        out: *mut VcFeatures,
+    ) -> u32;
+    /// Returns the extended DLL characteristics.
+    ///
+    /// Error: [`Error::SHORT`].
+    pub fn pe_c_characteristics_of(
+        bytes: *const u8,
+        length: usize,
+        mode: u32,
+        entry: *const DebugEntry,
+        out: *mut u32,
+    ) -> u32;
+    /// Returns a Repro record.
+    ///
+    /// Errors: [`Error::SHORT`] of the hash's length; [`Error::DEBUG_DATA`] of the hash.
+    pub fn pe_c_repro_of(bytes: *const u8, length: usize, mode: u32, entry: *const DebugEntry, out: *mut Repro) -> u32;
+    /// Returns a POGO record.
+    ///
+    /// [`NOTHING`] for another signature.
+    ///
+    /// Errors: [`Error::SHORT`] of the signature; [`Error::POGO_SIZE`] where the entry's size is at most 4;
+    /// [`Error::DEBUG_DATA`] of the entries.
+    pub fn pe_c_pogo_of(bytes: *const u8, length: usize, mode: u32, entry: *const DebugEntry, out: *mut Pogo) -> u32;
+    /// Returns the portable PDB in an image.
+    ///
+    /// Errors: [`Error::DEBUG_SIZE`] where the entry's size is below 8; [`Error::SHORT`] of the first 8 bytes;
+    /// [`Error::BAD_MAGIC`]; [`Error::DEBUG_DATA`] of the compressed data.
+    pub fn pe_c_embedded_pdb_of(
+        bytes: *const u8,
+        length: usize,
+        mode: u32,
+        entry: *const DebugEntry,
+        out: *mut EmbeddedPdb,
+    ) -> u32;
+    /// Returns the checksum of the PDB file.
+    ///
+    /// Errors: [`Error::DEBUG_DATA`]; [`Error::DEBUG_SIZE`] where no zero ends the name of the algorithm.
+    pub fn pe_c_pdb_checksum_of(
+        bytes: *const u8,
+        length: usize,
+        mode: u32,
+        entry: *const DebugEntry,
+        out: *mut PdbChecksum,
+    ) -> u32;
+    /// Returns the next entry of a POGO record.
+    ///
+    /// Errors: [`Error::SHORT`] where the walk is not inside the bytes, or fewer than 8 bytes are left;
+    /// [`Error::POGO_NAME`] where the name is not NUL-terminated, or its padding to a multiple of 4 bytes is truncated.
+    pub fn pe_c_next_pogo_entry(bytes: *const u8, length: usize, walk: *mut Range, out: *mut PogoEntry) -> u32;
+    /// Reads the header of a TE image, the 40 bytes at its start.
+    ///
+    /// Errors: [`Error::SHORT`]; [`Error::BAD_MAGIC`]; [`Error::TE_SIZE`] where fewer than 40 bytes were stripped.
+    pub fn pe_c_te(bytes: *const u8, length: usize, out: *mut TeHeader) -> u32;
+    /// Writes the section headers of a TE image to the start of the array, `te->number_of_sections` of them, their RVAs
+    /// and raw pointers reduced by `te->rva_offset`.
+    ///
+    /// The rest of the array is unchanged, and all of it after an error.
+    ///
+    /// Errors: `PE_C_ROOM` where the array is smaller; [`Error::SHORT`] where the section headers are truncated.
+    pub fn pe_c_te_sections(
+        bytes: *const u8,
+        length: usize,
+        te: *const TeHeader,
+        room: *mut Section,
+        entries: usize,
+    ) -> u32;
+    /// Returns the entries of the debug directory as a walk for [`pe_c_next_te_debug_entry`].
+    ///
+    /// [`NOTHING`] where the directory is absent. Error: [`Error::DEBUG_BOUNDS`].
+    pub fn pe_c_te_debug_entries(bytes: *const u8, length: usize, te: *const TeHeader, out: *mut Range) -> u32;
+    /// Reads the next entry, the RVA and the file offset of its record reduced by `te->rva_offset`.
+    ///
+    /// The calls that take an entry read its record with [`MAPPED`].
+    ///
+    /// Error: [`Error::SHORT`] where an entry is truncated.
+    pub fn pe_c_next_te_debug_entry(
+        bytes: *const u8,
+        length: usize,
+        te: *const TeHeader,
         walk: *mut Range,
-        entries: *mut PogoEntry,
-        number_of_entries: usize,
-        written: *mut u64,
+        out: *mut DebugEntry,
     ) -> u32;
-    /// Lists the next blocks of base relocations.
-    pub fn pe_c_list_relocation_blocks(
-        view: *const View,
+    /// Returns the first entry of a type, as [`pe_c_next_te_debug_entry`] does.
+    ///
+    /// [`NOTHING`] where there is none, and where the directory is absent. A truncated last entry is none.
+    ///
+    /// Error: [`Error::DEBUG_BOUNDS`].
+    pub fn pe_c_te_first_debug_entry(
+        bytes: *const u8,
+        length: usize,
+        te: *const TeHeader,
+        data_type: u32,
+        out: *mut DebugEntry,
+    ) -> u32;
+    /// Returns why [`pe_c_image`] refuses the bytes in this mode.
+    ///
+    /// [`NOTHING`] where it does not. It never returns an error.
+    ///
+    /// A number that is refused has its offset, and `needed` is how many bytes it has. [`Error::SHORT`] has `offset`
+    /// and `needed`.
+    pub fn pe_c_image_failure(bytes: *const u8, length: usize, mode: u32, out: *mut Failure) -> u32;
+    /// Returns why [`pe_c_sections`] refuses the section headers of an image, whatever room it is given.
+    ///
+    /// [`NOTHING`] where it does not. It never returns an error. The failure is [`Error::SHORT`], with the offset of
+    /// the headers and the bytes that they need.
+    pub fn pe_c_sections_failure(bytes: *const u8, length: usize, image: *const ImageInfo, out: *mut Failure) -> u32;
+    /// Returns why [`pe_c_te`] refuses the bytes.
+    ///
+    /// [`NOTHING`] where it does not. It never returns an error.
+    pub fn pe_c_te_failure(bytes: *const u8, length: usize, out: *mut Failure) -> u32;
+    /// Return why [`pe_c_te_sections`] and [`pe_c_coff_sections`] refuse the section headers, as
+    /// [`pe_c_sections_failure`] does of an image.
+    pub fn pe_c_te_sections_failure(bytes: *const u8, length: usize, te: *const TeHeader, out: *mut Failure) -> u32;
+    /// Return why [`pe_c_te_sections`] and [`pe_c_coff_sections`] refuse the section headers, as
+    /// [`pe_c_sections_failure`] does of an image.
+    pub fn pe_c_coff_sections_failure(
+        bytes: *const u8,
+        length: usize,
+        coff: *const CoffHeader,
+        out: *mut Failure,
+    ) -> u32;
+    /// Returns what is wrong with a directory, `PE_C_DIRECTORY_EXPORT` and so on: the result of the call that reads it,
+    /// and the numbers of that error.
+    ///
+    /// [`NOTHING`] where that call returns no error, and of a directory that no call reads. It never returns an error.
+    ///
+    /// The calls: [`pe_c_export_tables`], [`pe_c_import_libraries`], [`pe_c_resource_leaves`]; [`pe_c_function_table`],
+    /// of ARM64 [`pe_c_arm64_table`]; [`pe_c_next_certificate`] of the first certificate, in an image as loaded of what
+    /// is at that offset; [`pe_c_relocation_blocks`], [`pe_c_debug_entries`], [`pe_c_tls`], [`pe_c_load_config`],
+    /// [`pe_c_bound_imports`], [`pe_c_delay_imports`], [`pe_c_clr_header`].
+    ///
+    /// The numbers: of [`Error::SHORT`] `offset` and `needed`; of [`Error::CERTIFICATE_SIZE`] `needed`; of
+    /// [`Error::UNMAPPED`] `value`, the RVA; of [`Error::EXCEPTION_SIZE`], [`Error::CERTIFICATE_REVISION`],
+    /// [`Error::CERTIFICATE_TYPE`] and [`Error::DIRECTORY_CLR_HEADER_SIZE`] `value`; of [`Error::EXCEPTION_OFFSET`]
+    /// `offset`; of [`Error::EXCEPTION_BOUNDS`], [`Error::DEBUG_BOUNDS`], [`Error::RESOURCE_BOUNDS`] and
+    /// [`Error::CERTIFICATE_TABLE`] `offset`, where the table ends.
+    pub fn pe_c_directory_failure(view: *const View, index: u32, out: *mut Failure) -> u32;
+    /// Returns what is wrong with the record of an entry of the debug directory that is read as one of these: the
+    /// result of the call that reads it, and the numbers of that error.
+    ///
+    /// [`NOTHING`] where that call returns no error, and of a kind that is none of these. It never returns an error.
+    ///
+    /// The numbers: of [`Error::SHORT`] `offset` and `needed`; of [`Error::DEBUG_DATA`] `needed`; of
+    /// [`Error::DEBUG_SIZE`] and [`Error::POGO_SIZE`] `value`, the size that the entry says; of [`Error::BAD_MAGIC`]
+    /// `value`.
+    pub fn pe_c_debug_failure(
+        bytes: *const u8,
+        length: usize,
+        mode: u32,
+        entry: *const DebugEntry,
+        kind: u32,
+        out: *mut Failure,
+    ) -> u32;
+    /// Returns the next attribute certificate.
+    ///
+    /// The walk starts as the range of the directory: `virtual_address` and size of
+    /// `image.directories[PE_C_DIRECTORY_SECURITY]`. The body of the last certificate may end past the table, not past
+    /// the file.
+    ///
+    /// Errors: [`Error::CERTIFICATE_TABLE`] where the walk is not inside the bytes; [`Error::SHORT`] of the header;
+    /// [`Error::CERTIFICATE_SIZE`], [`Error::CERTIFICATE_REVISION`], [`Error::CERTIFICATE_TYPE`].
+    pub fn pe_c_next_certificate(bytes: *const u8, length: usize, walk: *mut Range, out: *mut Certificate) -> u32;
+    /// Reads a signature: the body of a certificate, or the value of an attribute that is a nested signature or a time
+    /// stamp.
+    ///
+    /// Errors, then: [`Error::SIGNATURE_CONTENT_TYPE`] where the content is no signed data.
+    pub fn pe_c_signature(
+        bytes: *const u8,
+        length: usize,
+        range: *const Range,
+        failure: *mut SignatureFailure,
+        out: *mut SignedData,
+    ) -> u32;
+    /// Returns the next element of a list: certificates, signers, attributes, their values, extensions, algorithms.
+    ///
+    /// The walk starts as the range of the list. A member of the list that another call refuses does not end the walk.
+    pub fn pe_c_next_element(
+        bytes: *const u8,
+        length: usize,
         walk: *mut Range,
-        entries: *mut RelocationBlock,
-        number_of_entries: usize,
-        written: *mut u64,
+        failure: *mut SignatureFailure,
+        out: *mut DerElement,
     ) -> u32;
-    /// Lists the next relocations of a block.
-    pub fn pe_c_list_relocations(
-        view: *const View,
-        page_rva: u32,
+    /// Reads an algorithm.
+    pub fn pe_c_algorithm_identifier(
+        bytes: *const u8,
+        length: usize,
+        range: *const Range,
+        failure: *mut SignatureFailure,
+        out: *mut Algorithm,
+    ) -> u32;
+    /// Reads what Authenticode signs: the content of a signature with the type `PE_C_OID_SPC_INDIRECT_DATA`.
+    pub fn pe_c_indirect_data(
+        bytes: *const u8,
+        length: usize,
+        range: *const Range,
+        failure: *mut SignatureFailure,
+        out: *mut SpcIndirectData,
+    ) -> u32;
+    /// Reads what a signature says of an image as a file.
+    pub fn pe_c_image_data(
+        bytes: *const u8,
+        length: usize,
+        range: *const Range,
+        failure: *mut SignatureFailure,
+        out: *mut SpcPeImageData,
+    ) -> u32;
+    /// Reads a signer of a signature, or a counter-signature.
+    pub fn pe_c_signer(
+        bytes: *const u8,
+        length: usize,
+        range: *const Range,
+        failure: *mut SignatureFailure,
+        out: *mut SignerInfo,
+    ) -> u32;
+    /// Reads an attribute of a signer.
+    pub fn pe_c_attribute(
+        bytes: *const u8,
+        length: usize,
+        range: *const Range,
+        failure: *mut SignatureFailure,
+        out: *mut SignerAttribute,
+    ) -> u32;
+    /// Finds an attribute of a signer by the id of its type, such as `PE_C_OID_MESSAGE_DIGEST`: the first in a walk
+    /// over `signed_attributes` or `unsigned_attributes`.
+    ///
+    /// Moves `walk` past it, so that the next call finds the next one. [`NOTHING`] where there is none; then `walk` is
+    /// at its end. The id 0 is that of every type that has none here. An attribute before it that is refused is an
+    /// error, after which `walk` is past that one; after another error it is over.
+    pub fn pe_c_find_attribute(
+        bytes: *const u8,
+        length: usize,
         walk: *mut Range,
-        entries: *mut Relocation,
-        number_of_entries: usize,
-        written: *mut u64,
+        id: u32,
+        failure: *mut SignatureFailure,
+        out: *mut SignerAttribute,
     ) -> u32;
-    /// Starts the plan of a function, by its unwind RVA.
+    /// Reads what a signer says of the program.
+    pub fn pe_c_opus_info(
+        bytes: *const u8,
+        length: usize,
+        range: *const Range,
+        failure: *mut SignatureFailure,
+        out: *mut SpcOpusInfo,
+    ) -> u32;
+    /// Reads a certificate.
+    pub fn pe_c_x509(
+        bytes: *const u8,
+        length: usize,
+        range: *const Range,
+        failure: *mut SignatureFailure,
+        out: *mut X509Certificate,
+    ) -> u32;
+    /// Reads an extension of a certificate.
+    pub fn pe_c_extension(
+        bytes: *const u8,
+        length: usize,
+        range: *const Range,
+        failure: *mut SignatureFailure,
+        out: *mut X509Extension,
+    ) -> u32;
+    /// Returns what a key is for, of an extension with the type `PE_C_OID_KEY_USAGE`: 0x80 digitalSignature, 0x40
+    /// contentCommitment, 0x20 keyEncipherment, 0x10 dataEncipherment, 8 keyAgreement, 4 keyCertSign, 2 cRLSign, 1
+    /// encipherOnly, 0x8000 decipherOnly.
+    ///
+    /// [`NOTHING`] where the value has no bits, more than 16, or unused bits that are more than 7 or not 0. `range` is
+    /// that of the extension.
+    pub fn pe_c_key_usage(
+        bytes: *const u8,
+        length: usize,
+        range: *const Range,
+        failure: *mut SignatureFailure,
+        out: *mut u32,
+    ) -> u32;
+    /// Returns a walk over the attributes of a name: of an issuer or a subject.
+    pub fn pe_c_name(
+        bytes: *const u8,
+        length: usize,
+        range: *const Range,
+        failure: *mut SignatureFailure,
+        out: *mut NameWalk,
+    ) -> u32;
+    /// Returns the next attribute of a name, in the order of the name: the country mostly first.
+    pub fn pe_c_next_name_attribute(
+        bytes: *const u8,
+        length: usize,
+        walk: *mut NameWalk,
+        failure: *mut SignatureFailure,
+        out: *mut NameAttribute,
+    ) -> u32;
+    /// Reads a time: the end of a validity, the value of signingTime, the time of a time stamp.
+    ///
+    /// Errors, then: [`Error::SIGNATURE_BAD_TIME`] where it is no UTCTime or GeneralizedTime, not in the form of RFC
+    /// 5280 (seconds, and Z), or has a number that no time has.
+    pub fn pe_c_time(
+        bytes: *const u8,
+        length: usize,
+        range: *const Range,
+        failure: *mut SignatureFailure,
+        out: *mut UtcTime,
+    ) -> u32;
+    /// Reads what a time stamp says: the content of a signature with the type `PE_C_OID_TST_INFO`.
+    pub fn pe_c_time_stamp(
+        bytes: *const u8,
+        length: usize,
+        range: *const Range,
+        failure: *mut SignatureFailure,
+        out: *mut TstInfo,
+    ) -> u32;
+    /// Returns what the Authenticode digest of an image covers.
+    ///
+    /// Errors: those of [`pe_c_image`]; [`Error::NO_OPTIONAL_HEADER`].
+    pub fn pe_c_digest_ranges(view: *const View, out: *mut Digest) -> u32;
+    /// Returns the checksum that an image should have, and where its field is.
+    ///
+    /// Errors: those of [`pe_c_image`]; [`Error::NO_OPTIONAL_HEADER`].
+    pub fn pe_c_checksum(view: *const View, out: *mut ChecksumField) -> u32;
+    /// Returns the length of the file that [`pe_c_attach`] writes with these arguments.
+    ///
+    /// Errors: those of [`pe_c_attach`], but for [`Error::WRITE_FIT`].
+    pub fn pe_c_attached_length(
+        view: *const View,
+        certificate: *const u8,
+        certificate_length: usize,
+        placement: u32,
+        out: *mut u64,
+    ) -> u32;
+    /// Writes the file with a certificate to the start of the array, and its length to `out`: zeros up to a multiple of
+    /// eight bytes, the certificate, zeros again, the entry of the certificate directory and the checksum.
+    ///
+    /// What the digest covers stays as it was. The rest of the array is unchanged, and all of it after an error. The
+    /// array overlaps neither the file nor the certificate; it may be NULL if `room_length` is 0, and the certificate
+    /// if `certificate_length` is. `certificate` is one or more entries of a certificate table (`WIN_CERTIFICATE`),
+    /// each but the last with its padding to a multiple of eight bytes; `placement` is `PE_C_AFTER` or `PE_C_IN_PLACE`.
+    ///
+    /// Errors: those of [`pe_c_image`]; [`Error::NO_OPTIONAL_HEADER`]; [`Error::SIGN_NO_DIRECTORY`] where the image has
+    /// fewer than five directories; [`Error::CERTIFICATE_TABLE`] where the table passes the end of the file,
+    /// [`Error::SIGN_TABLE_NOT_LAST`] where it ends before that; [`Error::SIGN_HEADERS`], [`Error::SIGN_SECTION`] where
+    /// headers or the data of a section end after the start of the table, or after the end of the file without one;
+    /// [`Error::SIGN_TABLE_OFFSET`] where the certificate is to go after others whose table is not at a multiple of
+    /// eight; [`Error::SHORT`], [`Error::CERTIFICATE_SIZE`] of a certificate shorter than eight bytes, or than its
+    /// first entry says; [`Error::SIGN_TOO_LARGE`] where the file with it has 2^32 bytes or more; [`Error::WRITE_FIT`]
+    /// where that does not fit into the array.
+    pub fn pe_c_attach(
+        view: *const View,
+        certificate: *const u8,
+        certificate_length: usize,
+        placement: u32,
+        room: *mut u8,
+        room_length: usize,
+        out: *mut u64,
+    ) -> u32;
+    /// Returns the length of the file that [`pe_c_detach`] writes with these arguments.
+    ///
+    /// Errors: those of [`pe_c_detach`], but for [`Error::WRITE_FIT`].
+    pub fn pe_c_detached_length(view: *const View, out: *mut u64) -> u32;
+    /// Writes the file without certificates to the start of the array, and its length to `out`: all before the
+    /// certificate table, with zeros in the entry of the certificate directory, and the checksum.
+    ///
+    /// An image without certificates stays as it is, but for its checksum. The rest of the array is unchanged, and all
+    /// of it after an error. The array does not overlap the file; it may be NULL if `room_length` is 0.
+    ///
+    /// Errors: those of [`pe_c_attach`] up to [`Error::SIGN_SECTION`]; [`Error::WRITE_FIT`] where the file does not fit
+    /// into the array.
+    pub fn pe_c_detach(view: *const View, room: *mut u8, room_length: usize, out: *mut u64) -> u32;
+    /// Writes the sections of the view into the array: for each its data at `pointer_to_raw_data`, its header, and
+    /// zeros after the data up to a multiple of `unit` bytes, no zeros where that is 0.
+    ///
+    /// The headers are written one after the other, from `next` on, which moves past them.
+    ///
+    /// Errors: [`Error::WRITE_OVERLAP`] where two sections that are not equal share a byte of the file;
+    /// [`Error::WRITE_SECTION`] where the data of one are not in the file; [`Error::WRITE_FIT`] where a piece does not
+    /// fit into the array.
+    pub fn pe_c_write_sections(view: *const View, unit: u32, room: *mut u8, room_length: usize, next: *mut u64) -> u32;
+    /// Writes the certificates into the array, one after the other from the offset of their directory on.
+    ///
+    /// Puts the offset after the last one to `out`, 0 where none is written. The sections of the view make no
+    /// difference.
+    ///
+    /// Errors: those of [`pe_c_image`]; in strict mode those of [`pe_c_next_certificate`], of all certificates;
+    /// [`Error::NO_OPTIONAL_HEADER`]; [`Error::WRITE_FIT`] where a certificate does not fit into the array.
+    pub fn pe_c_write_certificates(view: *const View, room: *mut u8, room_length: usize, out: *mut u64) -> u32;
+    /// Returns how many bytes of an array [`pe_c_write_image`] needs with these arguments: the greatest end of what it
+    /// writes.
+    ///
+    /// Errors: those of [`pe_c_write_image`], but [`Error::WRITE_FIT`] only where no array is long enough.
+    pub fn pe_c_image_length(view: *const View, out: *mut u64) -> u32;
+    /// Writes the image into the array: the DOS header, the stub, the PE signature, the COFF header and the optional
+    /// header where the headers have them; the sections of the view as [`pe_c_write_sections`] does, up to multiples of
+    /// the file alignment, with their headers in the section table; the certificates.
+    ///
+    /// Puts to `out` the greatest of three offsets: the start of the section table, the end of the data of the last
+    /// section with the greatest raw pointer, the end of the certificates. Without a section the first may lie past the
+    /// end of the array; [`pe_c_image_length`] says how many bytes were needed.
+    ///
+    /// Errors: those of [`pe_c_image`]; in strict mode those of [`pe_c_next_certificate`], of all certificates;
+    /// [`Error::NO_OPTIONAL_HEADER`]; [`Error::WRITE_ALIGNMENT`] where the file alignment is no power of two;
+    /// [`Error::WRITE_SYMBOLS`] where the pointer to COFF symbols is not 0; [`Error::WRITE_OVERLAP`],
+    /// [`Error::WRITE_SECTION`] and [`Error::WRITE_FIT`] as of [`pe_c_write_sections`].
+    pub fn pe_c_write_image(view: *const View, room: *mut u8, room_length: usize, out: *mut u64) -> u32;
+    /// Returns how many bytes of an array [`pe_c_write_whole`] needs with these arguments: those of the file, or the
+    /// greatest end of what is written over it if that is greater.
+    ///
+    /// Errors: those of [`pe_c_write_whole`], but [`Error::WRITE_FIT`] only where no array is long enough.
+    pub fn pe_c_whole_length(view: *const View, out: *mut u64) -> u32;
+    /// Writes the whole file into the array, and over it what [`pe_c_write_image`] writes, but no zeros after sections.
+    ///
+    /// So COFF symbols and bytes between sections and after them stay as they are in the file. An image without
+    /// certificates whose sections are unchanged comes back byte for byte. Puts to `out` the greater of the file's
+    /// length and of what [`pe_c_write_image`] puts there, which may lie past the end of the array as there;
+    /// [`pe_c_whole_length`] says how many bytes were needed.
+    ///
+    /// Errors: those of [`pe_c_write_image`] but for [`Error::WRITE_ALIGNMENT`] and [`Error::WRITE_SYMBOLS`].
+    pub fn pe_c_write_whole(view: *const View, room: *mut u8, room_length: usize, out: *mut u64) -> u32;
+    /// Returns the range of the function table, entries of 12 bytes.
+    ///
+    /// [`NOTHING`] without one, or for a machine other than x64.
+    ///
+    /// Errors: [`Error::EXCEPTION_SIZE`], [`Error::UNMAPPED`], [`Error::EXCEPTION_OFFSET`],
+    /// [`Error::EXCEPTION_BOUNDS`].
+    pub fn pe_c_function_table(view: *const View, out: *mut Range) -> u32;
+    /// Returns the function that covers an RVA, by binary search, or [`NOTHING`].
+    ///
+    /// In a table sorted by start RVA that is the last function that starts at or before the RVA, if the RVA is before
+    /// its end; in any other table it is some function that covers the RVA, or [`NOTHING`].
+    ///
+    /// Errors: [`Error::SHORT`] where the table is not inside the bytes.
+    pub fn pe_c_find_function(
+        bytes: *const u8,
+        length: usize,
+        table: *const Range,
+        rva: u32,
+        out: *mut Function,
+    ) -> u32;
+    /// Returns the function with an index, from 0.
+    ///
+    /// Errors: [`Error::SHORT`] where the table is not inside the bytes; [`Error::FUNCTION_INDEX`] where it has no such
+    /// entry.
+    pub fn pe_c_function_at(
+        bytes: *const u8,
+        length: usize,
+        table: *const Range,
+        index: u64,
+        out: *mut Function,
+    ) -> u32;
+    /// Returns the unwind record of an unwind RVA, the field `unwind` of a function of this table, which
+    /// [`pe_c_function_table`] returned.
+    ///
+    /// An odd one is a link to another entry of the table; links are followed to their end.
+    ///
+    /// Errors: [`Error::SHORT`] where the table is not inside the bytes; [`Error::UNMAPPED`], [`Error::FUNCTION_LINK`],
+    /// [`Error::FUNCTION_CYCLE`] of the links; [`Error::UNMAPPED`], [`Error::SHORT`], [`Error::UNWIND_VERSION`] of the
+    /// record.
+    pub fn pe_c_unwind_record(view: *const View, table: *const Range, unwind: u32, out: *mut Record) -> u32;
+    /// Returns the next code of a record, in the order in which they are undone: the last instruction of the prolog
+    /// first.
+    ///
+    /// Errors: [`Error::SHORT`] where the walk is not inside the bytes, or a code is truncated; [`Error::UNWIND_CODE`]
+    /// for an invalid code.
+    pub fn pe_c_next_code(bytes: *const u8, length: usize, walk: *mut Walk, out: *mut Code) -> u32;
+    /// Returns the scope table in a record's `handler_data` as a walk for [`pe_c_next_scope`].
+    ///
+    /// [`NOTHING`] where it is truncated. Only a handler such as `__C_specific_handler` has one: the caller knows it by
+    /// the handler's RVA. Functions may share one table: n hostile bytes have n/12 functions of n/16 scopes. Bound what
+    /// you read for all of them.
+    ///
+    /// Errors: [`Error::SHORT`] where `handler_data` is not inside the bytes.
+    pub fn pe_c_scope_table(bytes: *const u8, length: usize, handler_data: *const Range, out: *mut Range) -> u32;
+    /// Returns the next entry of a scope table.
+    ///
+    /// Errors: [`Error::SHORT`] where the walk is not inside the bytes, or its last entry is truncated.
+    pub fn pe_c_next_scope(bytes: *const u8, length: usize, walk: *mut Range, out: *mut Scope) -> u32;
+    /// Starts the plan of a function, by its unwind RVA, the field `unwind` of the function.
+    ///
+    /// It always returns [`DONE`].
     pub fn pe_c_plan_from(unwind: u32, out: *mut Plan) -> u32;
-    /// Finds the registers of an x64 function's caller, and writes them over those of the frame.
+    /// Returns the next record of a plan: that of the function, then that of the function to which it is chained, and
+    /// so on.
+    ///
+    /// [`NOTHING`] after the root. The table is the one that the function is from: pass the same one at each step.
+    ///
+    /// Errors: those of [`pe_c_unwind_record`] for the next record; [`Error::FUNCTION_CYCLE`] if, and only if, the
+    /// chain of a plan that [`pe_c_plan_from`] started never ends. Records may be returned before that error. Such a
+    /// plan is over after at most 3 * 2^32 records; a plan with other fields may never be over.
+    pub fn pe_c_next_record(view: *const View, table: *const Range, walk: *mut PlanWalk, out: *mut Record) -> u32;
+    /// Finds the registers of a function's caller, from those inside the function, in its prolog and epilogs too, and
+    /// writes them over those of the frame.
+    ///
+    /// It undoes the records of `frame->function`, which is of the table, up to the root of their chain, or runs what
+    /// is left of an epilog. Where that ends with a jump to an RVA, it runs it up to the jump, and undoes the records
+    /// of the function that the table has there, if they can be read: the jump may go on in a part of the function. A
+    /// leaf function returns to the word at rsp; of it neither the view nor the table nor the code is read.
+    ///
+    /// `memory` has the bytes of all pieces of the stack, as a minidump file has, and `pieces` says where each is; a
+    /// stack in one piece is a list of one. The byte at an address is that of the first piece that has it, so eight
+    /// bytes may stand in pieces that touch. Pieces in ascending order that do not overlap are searched by halving, any
+    /// others in turn for each byte. Each call tests all pieces once. After [`Error::MISSING`] a caller reads a piece
+    /// that has the eight bytes at `frame->address`, and makes the same call again.
+    ///
+    /// In the top frame, and in one that an interrupt stopped, `frame->rva` is that of the instruction which is about
+    /// to run: look the function up by it, and pass in `code` the bytes of the function from it to
+    /// `frame->function`.end, as the image has them at [`pe_c_offset`]. In every other frame it is that of a return
+    /// address, which may lie at the end of the function: look the function up by `frame->rva` - 1, and pass no code.
+    /// Without code epilogs are not recognized.
+    ///
+    /// Errors: [`Error::SHORT`] where a piece is not inside the memory. Of a leaf function [`Error::MISSING`] of the
+    /// return address, and [`Error::BAD_ADDRESS`] where it is the last word below 2^64. Of any other [`Error::SHORT`]
+    /// where the table is not inside the bytes; for each record those of [`pe_c_unwind_record`], and
+    /// [`Error::LONG_CHAIN`] where more than 32 are chained, as in each loop. In an epilog for each instruction
+    /// [`Error::MISSING`], [`Error::BAD_ADDRESS`]. Else, and at the target of its jump, for each record
+    /// [`Error::SHORT`], [`Error::UNWIND_CODE`] of its codes, [`Error::BAD_OPERATION`], [`Error::BAD_ADDRESS`] of its
+    /// frame register; for each code [`Error::BAD_OPERATION`], [`Error::BAD_ADDRESS`], [`Error::MISSING`]; then
+    /// [`Error::MISSING`], [`Error::BAD_ADDRESS`] of the return address. Last [`Error::NOT_RISING`], but for
+    /// interrupts: so a walk ends.
     pub fn pe_c_step(
         view: *const View,
         table: *const Range,
@@ -2628,7 +3488,32 @@ extern "C" {
         piece_count: usize,
         frame: *mut Frame,
     ) -> u32;
-    /// Returns the next frame of a stack walk on x64, in the walk.
+    /// Returns the next frame of a stack walk on x64, in the walk: first the top frame, and then the caller of each,
+    /// through the modules of a process.
+    ///
+    /// [`NOTHING`] where the walk is over: `walk->end` says why. The caller keeps the walk between two calls, and may
+    /// copy it.
+    ///
+    /// An address is that of the first module that has it: by binary search in modules in ascending order that do not
+    /// overlap, in any others in turn. The modules are tested in each call, and may differ from call to call. `memory`
+    /// and `pieces` are as in [`pe_c_step`]. The first call of a walk tests all pieces. Where they ascend and do not
+    /// overlap it sets `walk->is_searched`, of a walk that is over too, and later calls find a piece by halving and
+    /// test only those that they read: pass the same pieces in all calls of a walk, or set `walk->is_searched` to 0 for
+    /// others. With others a word may be unknown, as [`Error::MISSING`], or be one of another piece that has the
+    /// address; no byte outside of the memory is ever read.
+    ///
+    /// In each frame the function is looked up by rip, or by the byte before it where the function has called. Its
+    /// epilogs are known by their code in the image, and a jump out of it is followed. Where no records describe the
+    /// code of the top frame, or of one that was interrupted, the caller is found by the return address at rsp, if a
+    /// call ends there, else by the first of 128 words from rsp on that is after a call in an executable section: the
+    /// last section of its module that starts at or before the call's last byte is asked, so sections have to be in
+    /// ascending order. In a frame that has called it is the first such word. What is found so may be wrong:
+    /// `walk->is_guess` says so of each frame, but not of the caller of code in a module with a table that has no
+    /// function there, if a call ends at the return address: that is a leaf function. Only past an interrupt may the
+    /// stack pointer not rise.
+    ///
+    /// Errors, which change nothing: [`Error::SHORT`] where the table of a module is not inside its bytes, or, where
+    /// `walk->is_searched` is 0, a piece not inside the memory.
     pub fn pe_c_next_frame(
         modules: *const Module,
         module_count: usize,
@@ -2638,7 +3523,13 @@ extern "C" {
         piece_count: usize,
         walk: *mut StackWalk,
     ) -> u32;
-    /// Fills `frames` with the next frames of a stack walk on x64, each the walk as it is after that frame.
+    /// The same for several frames in one call, which tests the modules once: each of `frames` is the walk as it is
+    /// after a frame, and `count` how many there are.
+    ///
+    /// [`NOTHING`] where the walk was over before all were filled: the others stay unchanged. An array of no entries is
+    /// always filled.
+    ///
+    /// Errors, which change nothing: those of [`pe_c_next_frame`].
     pub fn pe_c_next_frames(
         modules: *const Module,
         module_count: usize,
@@ -2651,7 +3542,113 @@ extern "C" {
         frame_count: usize,
         count: *mut u64,
     ) -> u32;
-    /// Returns the next frame of a stack walk on ARM64, in the walk.
+    /// Returns the range of the function table, entries of 8 bytes.
+    ///
+    /// [`NOTHING`] without one, or for a machine other than ARM64.
+    ///
+    /// Errors: [`Error::EXCEPTION_SIZE`], [`Error::UNMAPPED`], [`Error::EXCEPTION_OFFSET`],
+    /// [`Error::EXCEPTION_BOUNDS`].
+    pub fn pe_c_arm64_table(view: *const View, out: *mut Range) -> u32;
+    /// Returns the function that covers an RVA, by binary search, or [`NOTHING`].
+    ///
+    /// In a table sorted by start RVA that is the last function that starts at or before the RVA, if it is long enough;
+    /// in any other table it is some function that covers the RVA, or [`NOTHING`]. The length is packed into the entry,
+    /// or stands in the first word of its unwind record.
+    ///
+    /// Errors: [`Error::SHORT`] where the table is not inside the bytes; of that record [`Error::UNMAPPED`], and
+    /// [`Error::SHORT`] where its first word is truncated.
+    pub fn pe_c_find_arm64_function(view: *const View, table: *const Range, rva: u32, out: *mut Arm64Function) -> u32;
+    /// Returns the function with an index, from 0.
+    ///
+    /// Errors: [`Error::SHORT`] where the table is not inside the bytes; [`Error::FUNCTION_INDEX`] where it has no such
+    /// entry.
+    pub fn pe_c_arm64_function_at(
+        bytes: *const u8,
+        length: usize,
+        table: *const Range,
+        index: u64,
+        out: *mut Arm64Function,
+    ) -> u32;
+    /// Returns the fields of packed unwind data.
+    ///
+    /// It always returns [`DONE`].
+    pub fn pe_c_arm64_packed_fields(function: *const Arm64Function, out: *mut Arm64Packed) -> u32;
+    /// Returns the unwind record of a function.
+    ///
+    /// [`NOTHING`] where its unwind data is packed.
+    ///
+    /// Errors: those of [`pe_c_arm64_table`], also where the data is packed; [`Error::UNMAPPED`], [`Error::SHORT`],
+    /// [`Error::ARM64_VERSION`] of the record.
+    pub fn pe_c_arm64_unwind_record(view: *const View, function: *const Arm64Function, out: *mut Arm64Record) -> u32;
+    /// Returns the next epilog scope of a record.
+    ///
+    /// Functions may share one record: n hostile bytes have n/8 functions of 65,535 scopes, or of n/4 if that is less.
+    /// Bound what you read for all of them.
+    ///
+    /// Errors: [`Error::SHORT`] where the walk is not inside the bytes, or its last scope is truncated.
+    pub fn pe_c_next_arm64_scope(bytes: *const u8, length: usize, walk: *mut Range, out: *mut Arm64Scope) -> u32;
+    /// Returns a walk over a record's codes.
+    ///
+    /// `start` is the index of the first code byte: 0 for the prolog, `start_index` of a scope or `epilog_start` for an
+    /// epilog.
+    ///
+    /// Errors: [`Error::SHORT`] where the codes are not inside the bytes; [`Error::ARM64_STREAM`] where their length is
+    /// not a multiple of 4, is above 4,294,967,292, or is below the start.
+    pub fn pe_c_arm64_codes(
+        bytes: *const u8,
+        length: usize,
+        codes: *const Range,
+        start: u64,
+        out: *mut Arm64Walk,
+    ) -> u32;
+    /// Returns the next code.
+    ///
+    /// The walk does not stop at `PE_C_ARM64_END` and `PE_C_ARM64_END_C`, since the codes of epilogs follow; the caller
+    /// stops there.
+    ///
+    /// Errors: [`Error::SHORT`] where the walk is not inside the bytes; [`Error::ARM64_STREAM`] where its offset plus
+    /// the bytes left is not a multiple of 4 or is above 4,294,967,292, as in no walk of [`pe_c_arm64_codes`];
+    /// [`Error::ARM64_CUT`] for a truncated code.
+    pub fn pe_c_next_arm64_code(bytes: *const u8, length: usize, walk: *mut Arm64Walk, out: *mut Arm64Code) -> u32;
+    /// Finds the registers of a function's caller, from those inside the function, and writes them over those of the
+    /// frame.
+    ///
+    /// It undoes the codes of `frame->function`, which are those of its unwind record or what its packed unwind data
+    /// stand for: after the prolog all of them, inside of it and in an epilog those that are left. It takes a signature
+    /// off the link register. The caller of a leaf function goes on at the link register; of it neither the view nor
+    /// the memory is read.
+    ///
+    /// `memory` and `pieces` are as in [`pe_c_step`]. After [`Error::MISSING`] a caller reads a piece that has the
+    /// eight bytes at `frame->address`, and makes the same call again.
+    ///
+    /// In the top frame, and after a step that set `frame->interrupted` to 1, `frame->rva` is that of the instruction
+    /// which is about to run: look the function up by it. In every other frame it is that of a return address, which
+    /// may lie at the end of the function: look the function up by `frame->rva` - 4. Only the top frame can be one of a
+    /// leaf function. A step may leave the stack pointer where it is, before a prolog has moved it: end a walk where
+    /// one does so in any other frame.
+    ///
+    /// Errors: [`Error::SHORT`] where a piece is not inside the memory. Of a leaf function no other. Of the record
+    /// [`Error::UNMAPPED`], [`Error::SHORT`], [`Error::ARM64_VERSION`]; then [`Error::ARM64_CUT`] of a code up to the
+    /// first `PE_C_ARM64_END`, in an epilog of its codes too. Or [`Error::BAD_OPERATION`] where packed unwind data have
+    /// no canonical prolog. For each code [`Error::BAD_OPERATION`], [`Error::BAD_ADDRESS`], [`Error::MISSING`]. Last
+    /// [`Error::NOT_RISING`] where the caller's stack pointer is below that of the function.
+    pub fn pe_c_step_arm64(
+        view: *const View,
+        memory: *const u8,
+        memory_length: usize,
+        pieces: *const MemoryPiece,
+        piece_count: usize,
+        frame: *mut Arm64Frame,
+    ) -> u32;
+    /// As [`pe_c_next_frame`], on ARM64.
+    ///
+    /// In each frame the function is looked up by pc, or by the call, four bytes before it, where the function has
+    /// called. Where no unwind data describe the code of the top frame, or of one that was interrupted, the caller is
+    /// found by the link register, if a call ends there, else by the first of 128 words from the stack pointer on that
+    /// is, without its signature, after a call in an executable section; in a frame that has called by the first such
+    /// word. The stack pointer may stay where it is in the first two alone, and sink past an interrupt alone.
+    ///
+    /// Errors, which change nothing: those of [`pe_c_next_frame`].
     pub fn pe_c_next_arm64_frame(
         modules: *const Module,
         module_count: usize,
@@ -2661,7 +3658,9 @@ extern "C" {
         piece_count: usize,
         walk: *mut Arm64StackWalk,
     ) -> u32;
-    /// Fills `frames` with the next frames of a stack walk on ARM64, each the walk as it is after that frame.
+    /// The same for several frames in one call, as [`pe_c_next_frames`].
+    ///
+    /// Errors, which change nothing: those of [`pe_c_next_frame`].
     pub fn pe_c_next_arm64_frames(
         modules: *const Module,
         module_count: usize,
@@ -2674,16 +3673,224 @@ extern "C" {
         frame_count: usize,
         count: *mut u64,
     ) -> u32;
-    /// Finds the registers of an ARM64 function's caller, and writes them over those of the frame.
-    pub fn pe_c_step_arm64(
+    /// Returns the fields of the export directory, whatever its tables are.
+    ///
+    /// [`NOTHING`] without a directory.
+    ///
+    /// Errors: [`Error::UNMAPPED`], [`Error::SHORT`] of its 40 bytes.
+    pub fn pe_c_export_directory(view: *const View, out: *mut ExportFields) -> u32;
+    /// Returns the tables of the export directory, where a walk starts.
+    ///
+    /// [`NOTHING`] without a directory.
+    ///
+    /// Errors: [`Error::UNMAPPED`], [`Error::SHORT`] of the directory, then of the table of RVAs, of names and of
+    /// indices.
+    pub fn pe_c_export_tables(view: *const View, out: *mut Exports) -> u32;
+    /// Returns the next export.
+    ///
+    /// Entries are skipped whose name is unmapped, not NUL-terminated or not UTF-8, or whose index is past the table of
+    /// RVAs. Each name and each forwarder's text is read to its end, so texts that overlap are read once each.
+    ///
+    /// Errors: [`Error::SHORT`] where the tables are not inside the bytes.
+    pub fn pe_c_next_export(view: *const View, walk: *mut ExportWalk, out: *mut Export) -> u32;
+    /// Returns the table of RVAs of the export directory, the ordinal base and the DLL's name.
+    ///
+    /// [`NOTHING`] without a directory.
+    ///
+    /// Errors: those of [`pe_c_export_tables`].
+    pub fn pe_c_export_addresses(view: *const View, out: *mut AddressTable) -> u32;
+    /// Returns the export with an index, from 0.
+    ///
+    /// [`NOTHING`] where the table has no such entry.
+    ///
+    /// Errors: [`Error::SHORT`] where the table is not inside the bytes.
+    pub fn pe_c_export_at(view: *const View, table: *const AddressTable, index: u64, out: *mut Exported) -> u32;
+    /// Returns where a walk over libraries starts.
+    ///
+    /// [`NOTHING`] without a directory.
+    ///
+    /// Errors: [`Error::UNMAPPED`].
+    pub fn pe_c_import_libraries(view: *const View, out: *mut Libraries) -> u32;
+    /// Returns the next library.
+    ///
+    /// The directory ends at a record whose name or address table has the RVA 0. A list whose RVA is unmapped is empty.
+    /// Names and lists that overlap are read once each.
+    ///
+    /// Errors: [`Error::SHORT`] where the record is truncated; [`Error::UNMAPPED`], [`Error::IMPORT_NAME`] of the name;
+    /// [`Error::SHORT`] where no zero entry ends the list.
+    pub fn pe_c_next_library(view: *const View, walk: *mut LibraryWalk, out: *mut Library) -> u32;
+    /// Returns the next import of a library.
+    ///
+    /// Errors: [`Error::SHORT`] where the walk is not inside the bytes, or its last entry is truncated;
+    /// [`Error::UNMAPPED`] of the RVA in the entry; [`Error::SHORT`] of the hint there; [`Error::IMPORT_NAME`] of the
+    /// name.
+    pub fn pe_c_next_import(view: *const View, walk: *mut ImportWalk, out: *mut Import) -> u32;
+    /// Returns the import directory as a walk for [`pe_c_list_all_imports_together`].
+    ///
+    /// [`NOTHING`] without a directory.
+    ///
+    /// Errors: [`Error::UNMAPPED`].
+    pub fn pe_c_all_imports(view: *const View, out: *mut LibraryImports) -> u32;
+    /// Returns the entries of the delay import directory, where a walk starts.
+    ///
+    /// [`NOTHING`] where the directory is absent.
+    ///
+    /// Errors: [`Error::UNMAPPED`], [`Error::SHORT`].
+    pub fn pe_c_delay_imports(view: *const View, out: *mut Range) -> u32;
+    /// Returns the next DLL.
+    ///
+    /// The directory ends with its bytes, or at an entry without the address of a name.
+    ///
+    /// Errors: [`Error::SHORT`] of the entry; [`Error::DIRECTORY_VA_BELOW_BASE`], [`Error::UNMAPPED`],
+    /// [`Error::DIRECTORY_DELAY_IMPORT_NAME`] of the name; [`Error::DIRECTORY_VA_BELOW_BASE`], [`Error::UNMAPPED`] of
+    /// the table of functions.
+    pub fn pe_c_next_delay_import(view: *const View, walk: *mut DelayImportWalk, out: *mut DelayImport) -> u32;
+    /// Returns the next function of a DLL.
+    ///
+    /// Errors: [`Error::SHORT`] where the bytes end before the table does; of an import by name
+    /// [`Error::DIRECTORY_VA_BELOW_BASE`], [`Error::UNMAPPED`] of its address, [`Error::SHORT`] of the hint there,
+    /// [`Error::DIRECTORY_DELAY_IMPORT_NAME`].
+    pub fn pe_c_next_delayed_function(
         view: *const View,
-        memory: *const u8,
-        memory_length: usize,
-        pieces: *const MemoryPiece,
-        piece_count: usize,
-        frame: *mut Arm64Frame,
+        walk: *mut DelayedFunctionWalk,
+        out: *mut DelayedFunction,
     ) -> u32;
-    /// Returns the length of the file that [`pe_c_edit`] writes.
+    /// Returns the delay import directory as a walk for [`pe_c_list_all_delayed_functions_together`].
+    ///
+    /// [`NOTHING`] where the directory is absent. Errors: [`Error::UNMAPPED`], [`Error::SHORT`].
+    pub fn pe_c_all_delayed_functions(view: *const View, out: *mut LibraryFunctions) -> u32;
+    /// Returns the bytes of the directory: the table that the next two calls take.
+    ///
+    /// [`NOTHING`] where it is absent.
+    ///
+    /// Error: [`Error::SHORT`].
+    pub fn pe_c_bound_imports(view: *const View, out: *mut Range) -> u32;
+    /// Returns the next DLL.
+    ///
+    /// The walk starts as a copy of the table. The list ends with the table, or at an entry without a name.
+    ///
+    /// Errors: [`Error::SHORT`] of the entry and its forwarders; [`Error::SHORT`] where the table is not inside the
+    /// bytes; [`Error::DIRECTORY_BOUND_IMPORT_NAME`].
+    pub fn pe_c_next_bound_import(
+        bytes: *const u8,
+        length: usize,
+        table: *const Range,
+        walk: *mut Range,
+        out: *mut BoundImport,
+    ) -> u32;
+    /// Returns the next DLL that a DLL forwards to.
+    ///
+    /// The walk starts as the `forwarders` of that.
+    ///
+    /// Errors: [`Error::SHORT`] of the entry; [`Error::SHORT`] where the table is not inside the bytes;
+    /// [`Error::DIRECTORY_BOUND_IMPORT_NAME`].
+    pub fn pe_c_next_bound_forwarder(
+        bytes: *const u8,
+        length: usize,
+        table: *const Range,
+        walk: *mut Range,
+        out: *mut BoundForwarder,
+    ) -> u32;
+    /// Returns the fixed file information.
+    ///
+    /// [`NOTHING`] also where version information has none. A damaged string is an error too: without the strings the
+    /// same is read by [`pe_c_fixed_version_in`], of the first 92 bytes of what [`pe_c_version_blocks`] returns.
+    pub fn pe_c_fixed_version(view: *const View, out: *mut Version) -> u32;
+    /// Returns the value of a name, `PE_C_COMMENTS` .. `PE_C_SPECIAL_BUILD`: UTF-16 code units, little-endian, with the
+    /// zeros after the text, which ends at the first zero.
+    ///
+    /// [`NOTHING`] also without a string of that name, and for another number.
+    pub fn pe_c_version_text(view: *const View, name: u32, out: *mut Range) -> u32;
+    /// Returns version information as a walk over its blocks, of which the first is all of it.
+    ///
+    /// Its content is not read yet, so the errors of version strings and of fixed file information are not among its
+    /// errors.
+    pub fn pe_c_version_blocks(view: *const View, out: *mut Range) -> u32;
+    /// Returns the next block.
+    ///
+    /// A walk ends with its bytes, or at a block of length 0. Unlike other walks this one may go on after an error,
+    /// with the block after that which has the error; it is over where a call returns [`NOTHING`].
+    ///
+    /// Errors: [`Error::SHORT`] where the block is truncated, which ends the walk; [`Error::RESOURCE_STRING`] where its
+    /// length is below 6, which ends the walk, or its key has no zero code unit in it, after which the walk goes on.
+    pub fn pe_c_next_version_block(bytes: *const u8, length: usize, walk: *mut Range, out: *mut VersionBlock) -> u32;
+    /// Returns the range of the manifest, an XML text.
+    pub fn pe_c_manifest(view: *const View, out: *mut Range) -> u32;
+    /// Returns where a walk over leaves starts; they come in the order of the entries of directories.
+    ///
+    /// [`NOTHING`] where the directory is absent, and in permissive mode where its data is too short for a directory.
+    ///
+    /// Errors: [`Error::UNMAPPED`], [`Error::SHORT`] of the root directory; [`Error::RESOURCE_BOUNDS`] where the data
+    /// that the data directory names ends past the end of the file, and in strict mode where the root or its entries
+    /// are not all inside the data.
+    pub fn pe_c_resource_leaves(view: *const View, out: *mut ResourceWalk) -> u32;
+    /// Returns the next leaf.
+    ///
+    /// A content that is not in the file is no error of its leaf.
+    ///
+    /// Errors: [`Error::SHORT`] where the walk is not inside the bytes, or its entries are not inside its tree; of the
+    /// entry of a type or a name [`Error::TREE_NOT_DIRECTORY`], [`Error::SHORT`] of its directory and of the entries
+    /// there, [`Error::TREE_NO_ENTRIES`]; of the entry of a language [`Error::TREE_NOT_DATA`], [`Error::SHORT`] of its
+    /// data entry; [`Error::SHORT`] of a name.
+    pub fn pe_c_next_resource_leaf(view: *const View, walk: *mut LeafWalk, out: *mut ResourceLeaf) -> u32;
+    /// Returns the root of the resource tree, the directory whose entries are types; [`pe_c_resource_directory_at`]
+    /// returns the others.
+    ///
+    /// [`NOTHING`] where [`pe_c_resource_leaves`] returns it. In permissive mode the `entries` of a root are empty
+    /// where they are not all inside the data, and its two numbers of entries are as they stand. The tree, which
+    /// [`pe_c_next_resource_item`] takes, is that of [`pe_c_resource_leaves`]. Errors: those of
+    /// [`pe_c_resource_leaves`].
+    pub fn pe_c_resource_root(view: *const View, out: *mut ResourceDirectory) -> u32;
+    /// Returns the directory at an offset of a tree, which is that of a walk over leaves: at 0 the root, whose entries
+    /// are types, else one to which an entry leads.
+    ///
+    /// A hostile tree may lead to a directory again, or many times: bound what you follow.
+    ///
+    /// Errors: [`Error::SHORT`] where the tree is not inside the bytes, or the directory or its entries are not inside
+    /// the tree.
+    pub fn pe_c_resource_directory_at(
+        bytes: *const u8,
+        length: usize,
+        tree: *const Range,
+        offset: u32,
+        out: *mut ResourceDirectory,
+    ) -> u32;
+    /// Returns the next entry of a directory of a tree: those with a name first.
+    ///
+    /// Errors: [`Error::SHORT`] where the walk is not inside the bytes, or an entry is truncated, after which the walk
+    /// is over; [`Error::SHORT`] where the tree is not inside the bytes, or a name is not inside the tree, after which
+    /// the walk is past its entry.
+    pub fn pe_c_next_resource_item(
+        bytes: *const u8,
+        length: usize,
+        tree: *const Range,
+        walk: *mut Range,
+        out: *mut ResourceItem,
+    ) -> u32;
+    /// Returns the fixed file information in the content of a leaf of type 16 (`RT_VERSION`).
+    ///
+    /// [`NOTHING`] where it has none.
+    ///
+    /// Errors: [`Error::SHORT`] where the content is not inside the bytes; [`Error::SHORT`], [`Error::RESOURCE_STRING`]
+    /// of the version strings; [`Error::SHORT`] of the fixed file information.
+    pub fn pe_c_fixed_version_in(bytes: *const u8, length: usize, content: *const Range, out: *mut Version) -> u32;
+    /// Returns the value of a name in the content of such a leaf, as [`pe_c_version_text`] does.
+    ///
+    /// [`NOTHING`] without a string of that name, and for another number.
+    ///
+    /// Errors: [`Error::SHORT`] where the content is not inside the bytes; [`Error::SHORT`], [`Error::RESOURCE_STRING`]
+    /// of the version strings.
+    pub fn pe_c_version_text_in(
+        bytes: *const u8,
+        length: usize,
+        content: *const Range,
+        name: u32,
+        out: *mut Range,
+    ) -> u32;
+    /// Returns the length of the file that [`pe_c_edit`] writes with these arguments, which is that of the image or
+    /// more.
+    ///
+    /// Errors: those of [`pe_c_edit`], but for [`Error::WRITE_FIT`].
     pub fn pe_c_edited_length(
         view: *const View,
         resources: *const Resource,
@@ -2692,7 +3899,39 @@ extern "C" {
         data_length: usize,
         out: *mut u64,
     ) -> u32;
-    /// Writes the image with other resources to the start of an array, and returns its length.
+    /// Writes the image with these resources in place of those that it has to the start of the array, and its length to
+    /// `out`.
+    ///
+    /// The rest of the array is unchanged, and all of it after an error. `data` has the names and the contents, and may
+    /// be `bytes`. The array overlaps none of the others; it may be NULL if `room_length` is 0, the resources if
+    /// `resource_count` is, and the data if `data_length` is. The resources are sorted by type, name and language:
+    /// names before ids, names by their code units, ids and languages by their numbers. No two have the same type, name
+    /// and language. They go over the data of their section if they fit there, no other section follows it in memory
+    /// before their end, and no debug data and no base relocation lie in it; then no byte of the file moves. Otherwise
+    /// they go to the end of the image, into their own section if it is the last or into a new one, and what follows
+    /// the data of the sections in the file moves by the bytes that are added, a multiple of the file alignment; so do
+    /// the pointers to COFF symbols and to the data of debug entries there.
+    ///
+    /// Errors: those of [`pe_c_image`]; [`Error::EDIT_RECORD`] where a range is not inside the data, or an id or a
+    /// language is not below 2^16; [`Error::EDIT_NAMES`] where the names have more than 16 MiB, each counted as often
+    /// as a resource has it; [`Error::EDIT_CONTENTS`] where the contents, counted likewise, have more than 16 times the
+    /// bytes of the data and of 1 MiB, since each is written as often as a resource has it;
+    /// [`Error::NO_OPTIONAL_HEADER`]; [`Error::EDIT_NO_DIRECTORY`] where the image has fewer than three directories;
+    /// [`Error::EDIT_SIGNED`] where it has certificates; [`Error::EDIT_TOO_MANY`], [`Error::EDIT_NAME`],
+    /// [`Error::EDIT_ORDER`], [`Error::EDIT_TABLES_TOO_LARGE`], [`Error::EDIT_TOO_LARGE`] of the resources;
+    /// [`Error::EDIT_HEADERS`] where the directories end after the start of the section table; [`Error::SHORT`] where
+    /// that is truncated; [`Error::EDIT_ALIGNMENT`] where that of sections is below 4096, or that of their data below
+    /// 512 or no power of two; of a new section, [`Error::EDIT_IMAGE_TOO_LARGE`] where its RVA or the offset of its
+    /// data is not below 2^32, and [`Error::EDIT_TOO_LARGE`] of the resources at its RVA;
+    /// [`Error::EDIT_NO_HEADER_ROOM`] where no 40 zeros follow the section table in the headers, there are 65,535
+    /// sections, or the PE signature lies in the DOS header; [`Error::EDIT_IMAGE_TOO_LARGE`] where the image ends after
+    /// 4 GB; [`Error::EDIT_SECTION`] where the data of the sections do not end in the file, at a multiple of the file
+    /// alignment; [`Error::EDIT_SHARED_SECTION`] where the entry point or a directory leads after the image in memory;
+    /// [`Error::EDIT_SYMBOLS`] where COFF symbols start before the end of the data and end after it;
+    /// [`Error::EDIT_OVERLAP`] where a section ends after the image in memory, or shares bytes with the headers;
+    /// [`Error::EDIT_DEBUG_DATA`] where the debug entries do not lie between the section headers and the data of that
+    /// section, or the data of one neither end before these nor start after those of all sections; [`Error::WRITE_FIT`]
+    /// where the file does not fit into the array.
     pub fn pe_c_edit(
         view: *const View,
         resources: *const Resource,
@@ -2703,29 +3942,9 @@ extern "C" {
         room_length: usize,
         out: *mut u64,
     ) -> u32;
-    /// Writes the file with a certificate to the start of an array, and returns its length.
-    pub fn pe_c_attach(
-        view: *const View,
-        certificate: *const u8,
-        certificate_length: usize,
-        placement: u32,
-        room: *mut u8,
-        room_length: usize,
-        out: *mut u64,
-    ) -> u32;
-    /// Writes the sections of a view into an array, with their headers from an offset on, which moves.
-    pub fn pe_c_write_sections(view: *const View, unit: u32, room: *mut u8, room_length: usize, next: *mut u64) -> u32;
-    /// Writes the certificates of an image into an array.
-    pub fn pe_c_write_certificates(view: *const View, room: *mut u8, room_length: usize, out: *mut u64) -> u32;
-    /// Returns how many bytes [`pe_c_write_image`] needs.
-    pub fn pe_c_image_length(view: *const View, out: *mut u64) -> u32;
-    /// Writes the headers, sections and certificates of an image into an array.
-    pub fn pe_c_write_image(view: *const View, room: *mut u8, room_length: usize, out: *mut u64) -> u32;
-    /// Returns how many bytes [`pe_c_write_whole`] needs.
-    pub fn pe_c_whole_length(view: *const View, out: *mut u64) -> u32;
-    /// Writes the whole file into an array, and over it the headers, sections and certificates.
-    pub fn pe_c_write_whole(view: *const View, room: *mut u8, room_length: usize, out: *mut u64) -> u32;
-    /// Returns the length of the block that [`pe_c_write_block`] writes.
+    /// Returns the length of what [`pe_c_write_block`] writes with these arguments.
+    ///
+    /// Errors: those of [`pe_c_write_block`], but for [`Error::WRITE_FIT`].
     pub fn pe_c_block_length(
         key: *const u8,
         key_length: usize,
@@ -2736,7 +3955,17 @@ extern "C" {
         children_length: usize,
         out: *mut u64,
     ) -> u32;
-    /// Writes a block of version information to the start of an array, and returns its length.
+    /// Writes a block of version information to the start of the array, with zeros up to a multiple of four bytes,
+    /// where the next block starts, and its length with them to `out`.
+    ///
+    /// The rest of the array is unchanged, and all of it after an error. `key` is UTF-16 code units, little-endian,
+    /// without a final zero; `is_text` is 0, or another number where the value is a text, which has a final zero;
+    /// `children` are the blocks in it, as this call writes them, one after the other. The array overlaps none of the
+    /// others; each may be NULL if its length is 0. <https://learn.microsoft.com/windows/win32/menurc/vs-versioninfo>
+    ///
+    /// Errors: [`Error::BLOCK_KEY`] where the key has an odd number of bytes, or a code unit of zero;
+    /// [`Error::BLOCK_TEXT`] where the value is a text of an odd number of bytes; [`Error::BLOCK_TOO_LONG`] where the
+    /// block has more than 65,535 bytes; [`Error::WRITE_FIT`] where it does not fit into the array.
     pub fn pe_c_write_block(
         key: *const u8,
         key_length: usize,
@@ -2749,7 +3978,9 @@ extern "C" {
         room_length: usize,
         out: *mut u64,
     ) -> u32;
-    /// Returns the length of the version information that [`pe_c_write_version`] writes.
+    /// Returns the length of what [`pe_c_write_version`] writes with these arguments.
+    ///
+    /// Errors: those of [`pe_c_write_version`], but for [`Error::WRITE_FIT`].
     pub fn pe_c_version_length(
         fixed: *const Version,
         tables: *const VersionTable,
@@ -2762,7 +3993,19 @@ extern "C" {
         texts_length: usize,
         out: *mut u64,
     ) -> u32;
-    /// Writes version information to the start of an array, and returns its length.
+    /// Writes version information, the content of a resource of type 16 (`RT_VERSION`), to the start of the array, and
+    /// its length to `out`.
+    ///
+    /// The rest of the array is unchanged, and all of it after an error. `tables` are the tables of strings,
+    /// `translations` the languages and code pages that the file supports, each in its order; `texts` has the names and
+    /// the texts. The array overlaps none of the others; each may be NULL if its length is 0.
+    ///
+    /// Errors: [`Error::SHORT`] where a range of a string is not inside the texts, or the strings of a table are not
+    /// all there; [`Error::BLOCK_TOO_LONG`] where the tables have more than 65,535 bytes by the lengths of names and
+    /// texts; [`Error::BLOCK_KEY`] where a name has an odd number of bytes, or a code unit of zero;
+    /// [`Error::BLOCK_TEXT`] where a text has an odd number of bytes; [`Error::BLOCK_TOO_LONG`] where a string, a
+    /// table, or a block of these has more than 65,535 bytes: of the blocks the first refusal, each after those that
+    /// are in it; [`Error::WRITE_FIT`] where it does not fit into the array.
     pub fn pe_c_write_version(
         fixed: *const Version,
         tables: *const VersionTable,
@@ -2777,340 +4020,819 @@ extern "C" {
         room_length: usize,
         out: *mut u64,
     ) -> u32;
-    /// Returns the fields of packed unwind data.
-    pub fn pe_c_arm64_packed_fields(function: *const Arm64Function, out: *mut Arm64Packed) -> u32;
-}
-
-calls_of_bytes! {
-    /// Reads the headers of an image.
-    pe_c_image(mode: u32) -> ImageInfo;
-    /// Reads all numbers of the headers of an image.
-    pe_c_headers(mode: u32) -> Headers;
-    /// Returns the next entry of the debug directory.
-    pe_c_next_debug_entry(walk: *mut Range) -> DebugEntry;
-    /// Returns the symbol key of a CodeView record that stands alone.
-    pe_c_codeview(record: *const Range) -> Key;
-    /// Returns the symbol key of an entry.
-    pe_c_symbol_key_of(mode: u32, entry: *const DebugEntry) -> Key;
-    /// Returns the CodeView record of PDB 2.0 of an entry.
-    pe_c_pdb20_of(mode: u32, entry: *const DebugEntry) -> Pdb20;
-    /// Returns the counts of VC features of an entry.
-    pe_c_vc_features_of(mode: u32, entry: *const DebugEntry) -> VcFeatures;
-    /// Returns the extended DLL characteristics of an entry.
-    pe_c_characteristics_of(mode: u32, entry: *const DebugEntry) -> u32;
-    /// Returns the Repro record of an entry.
-    pe_c_repro_of(mode: u32, entry: *const DebugEntry) -> Repro;
-    /// Returns the POGO record of an entry.
-    pe_c_pogo_of(mode: u32, entry: *const DebugEntry) -> Pogo;
-    /// Returns the portable PDB of an entry.
-    pe_c_embedded_pdb_of(mode: u32, entry: *const DebugEntry) -> EmbeddedPdb;
-    /// Returns the checksum of the PDB of an entry.
-    pe_c_pdb_checksum_of(mode: u32, entry: *const DebugEntry) -> PdbChecksum;
-    /// Returns the next entry of a POGO record.
-    pe_c_next_pogo_entry(walk: *mut Range) -> PogoEntry;
-    /// Returns the next certificate of the certificate table.
-    pe_c_next_certificate(walk: *mut Range) -> Certificate;
-    /// Reads a signature.
-    pe_c_signature(range: *const Range, failure: *mut SignatureFailure) -> SignedData;
-    /// Returns the next element of a list in a signature.
-    pe_c_next_element(walk: *mut Range, failure: *mut SignatureFailure) -> DerElement;
-    /// Reads an algorithm.
-    pe_c_algorithm_identifier(range: *const Range, failure: *mut SignatureFailure) -> Algorithm;
-    /// Reads what Authenticode signs.
-    pe_c_indirect_data(range: *const Range, failure: *mut SignatureFailure) -> SpcIndirectData;
-    /// Reads what a signature says of an image as a file.
-    pe_c_image_data(range: *const Range, failure: *mut SignatureFailure) -> SpcPeImageData;
-    /// Reads a signer.
-    pe_c_signer(range: *const Range, failure: *mut SignatureFailure) -> SignerInfo;
-    /// Reads an attribute of a signer.
-    pe_c_attribute(range: *const Range, failure: *mut SignatureFailure) -> SignerAttribute;
-    /// Finds an attribute of a signer by the id of its type.
-    pe_c_find_attribute(walk: *mut Range, id: u32, failure: *mut SignatureFailure) -> SignerAttribute;
-    /// Reads what a signer says of the program.
-    pe_c_opus_info(range: *const Range, failure: *mut SignatureFailure) -> SpcOpusInfo;
-    /// Reads a certificate of X.509.
-    pe_c_x509(range: *const Range, failure: *mut SignatureFailure) -> X509Certificate;
-    /// Reads an extension of a certificate.
-    pe_c_extension(range: *const Range, failure: *mut SignatureFailure) -> X509Extension;
-    /// Returns what a key is for, of an extension.
-    pe_c_key_usage(range: *const Range, failure: *mut SignatureFailure) -> u32;
-    /// Returns a walk over the attributes of a name.
-    pe_c_name(range: *const Range, failure: *mut SignatureFailure) -> NameWalk;
-    /// Returns the next attribute of a name.
-    pe_c_next_name_attribute(walk: *mut NameWalk, failure: *mut SignatureFailure) -> NameAttribute;
-    /// Reads a time.
-    pe_c_time(range: *const Range, failure: *mut SignatureFailure) -> UtcTime;
-    /// Reads what a time stamp says.
-    pe_c_time_stamp(range: *const Range, failure: *mut SignatureFailure) -> TstInfo;
-    /// Returns the x64 function that covers an RVA.
-    pe_c_find_function(table: *const Range, rva: u32) -> Function;
-    /// Returns the x64 function with an index.
-    pe_c_function_at(table: *const Range, index: u64) -> Function;
-    /// Returns the next code of an x64 unwind record.
-    pe_c_next_code(walk: *mut Walk) -> Code;
-    /// Returns the scope table in the data of a C handler, as a walk.
-    pe_c_scope_table(handler_data: *const Range) -> Range;
-    /// Returns the next entry of a scope table.
-    pe_c_next_scope(walk: *mut Range) -> Scope;
-    /// Returns the ARM64 function with an index.
-    pe_c_arm64_function_at(table: *const Range, index: u64) -> Arm64Function;
-    /// Returns the next epilog scope of an ARM64 unwind record.
-    pe_c_next_arm64_scope(walk: *mut Range) -> Arm64Scope;
-    /// Returns a walk over ARM64 unwind codes, from the code byte with the index `start`.
-    pe_c_arm64_codes(codes: *const Range, start: u64) -> Arm64Walk;
-    /// Returns the next ARM64 unwind code.
-    pe_c_next_arm64_code(walk: *mut Arm64Walk) -> Arm64Code;
-    /// Returns the text in a range up to its first zero.
-    pe_c_text_in(range: *const Range) -> TextInBytes;
-    /// Returns the next entry of a table of a load configuration.
-    pe_c_next_guard_entry(walk: *mut GuardEntries) -> GuardEntry;
-    /// Returns the next stream of CLR metadata.
-    pe_c_next_metadata_stream(walk: *mut MetadataStreams) -> MetadataStream;
-    /// Returns the directory at an offset of a resource tree.
-    pe_c_resource_directory_at(tree: *const Range, offset: u32) -> ResourceDirectory;
-    /// Returns the next entry of a directory of a resource tree.
-    pe_c_next_resource_item(tree: *const Range, walk: *mut Range) -> ResourceItem;
-    /// Returns the fixed file information in the content of a leaf.
-    pe_c_fixed_version_in(content: *const Range) -> Version;
-    /// Returns the value of a version name in the content of a leaf.
-    pe_c_version_text_in(content: *const Range, name: u32) -> Range;
-    /// Returns the name of a section in the string table.
-    pe_c_long_section_name(table: *const Range, section: *const Section) -> Range;
-    /// Returns the Rich header.
-    pe_c_rich_header() -> RichHeader;
-    /// Returns the next entry of a Rich header.
-    pe_c_next_rich_entry(key: u32, walk: *mut Range) -> RichEntry;
-    /// Returns the next bound import.
-    pe_c_next_bound_import(table: *const Range, walk: *mut Range) -> BoundImport;
-    /// Returns the next DLL that a bound import forwards to.
-    pe_c_next_bound_forwarder(table: *const Range, walk: *mut Range) -> BoundForwarder;
-    /// Returns the next block of version information.
-    pe_c_next_version_block(walk: *mut Range) -> VersionBlock;
-    /// Reads the header of a COFF object.
-    pe_c_coff() -> CoffHeader;
-    /// Returns a walk over the symbols of an object or an image.
-    pe_c_coff_symbols(coff: *const CoffHeader) -> SymbolWalk;
-    /// Returns the string table of an object or an image.
-    pe_c_coff_strings(coff: *const CoffHeader) -> Range;
-    /// Returns the symbol in an entry of a symbol table.
-    pe_c_symbol(table: *const Range, index: u64) -> SymbolEntry;
-    /// Returns the next symbol.
-    pe_c_next_symbol(walk: *mut SymbolWalk) -> SymbolEntry;
-    /// Returns the name of the symbol in an entry.
-    pe_c_symbol_name(table: *const Range, strings: *const Range, index: u64) -> Range;
-    /// Reads the header of a TE image.
-    pe_c_te() -> TeHeader;
-    /// Returns the entries of the debug directory of a TE image, as a walk.
-    pe_c_te_debug_entries(te: *const TeHeader) -> Range;
-    /// Returns the next of these entries.
-    pe_c_next_te_debug_entry(te: *const TeHeader, walk: *mut Range) -> DebugEntry;
-    /// Returns the first of these entries that has a type.
-    pe_c_te_first_debug_entry(te: *const TeHeader, data_type: u32) -> DebugEntry;
-    /// Returns why `pe_c_image` refuses the bytes in a mode.
-    pe_c_image_failure(mode: u32) -> Failure;
-    /// Returns why `pe_c_sections` refuses the section headers of an image.
-    pe_c_sections_failure(image: *const ImageInfo) -> Failure;
-    /// Returns why the record of an entry is refused that is read as one of a kind.
-    pe_c_debug_failure(mode: u32, entry: *const DebugEntry, kind: u32) -> Failure;
-    /// Returns why `pe_c_te` refuses the bytes.
-    pe_c_te_failure() -> Failure;
-    /// Returns why `pe_c_te_sections` refuses the section headers of a TE image.
-    pe_c_te_sections_failure(te: *const TeHeader) -> Failure;
-    /// Returns why `pe_c_coff_sections` refuses the section headers of an object.
-    pe_c_coff_sections_failure(coff: *const CoffHeader) -> Failure;
-    /// Returns why [`pe_c_next_code`] refuses the code that a walk is at.
-    pe_c_code_failure(walk: *const Walk) -> Failure;
-    /// The same of [`pe_c_next_certificate`].
-    pe_c_certificate_failure(walk: *const Range) -> Failure;
-    /// The same of [`pe_c_next_relocation_block`].
-    pe_c_relocation_block_failure(walk: *const Range) -> Failure;
-    /// The same of [`pe_c_next_relocation`].
-    pe_c_relocation_failure(page_rva: u32, walk: *const Range) -> Failure;
-    /// The same of [`pe_c_next_arm64_code`].
-    pe_c_arm64_code_failure(walk: *const Arm64Walk) -> Failure;
-    /// The same of [`pe_c_next_bound_import`].
-    pe_c_bound_import_failure(table: *const Range, walk: *const Range) -> Failure;
-    /// The same of [`pe_c_symbol_name`].
-    pe_c_symbol_name_failure(table: *const Range, strings: *const Range, index: u64) -> Failure;
-    /// Returns the next block of base relocations.
-    pe_c_next_relocation_block(walk: *mut Range) -> RelocationBlock;
-    /// Returns the next relocation of a block.
-    pe_c_next_relocation(page_rva: u32, walk: *mut Range) -> Relocation;
-    /// Reads the header of a minidump, and tests that its directory is inside the bytes.
-    pe_c_dump() -> DumpInfo;
-    /// Returns the entry of the directory with an index, or [`NOTHING`].
-    pe_c_dump_entry_at(directory: *const Range, index: u64) -> DumpEntry;
-    /// Returns the range of the stream of a kind, that of the first entry of the kind, or [`NOTHING`].
-    pe_c_dump_stream(directory: *const Range, stream_type: u32) -> Range;
-    /// Returns the range of a location.
-    pe_c_dump_range(location: *const DumpLocation) -> Range;
-    /// Returns the range of a string, in UTF-16LE without its final zero. `rva` is what a record says.
-    pe_c_dump_text(rva: u64) -> Range;
-    /// Returns the thread with an index in the stream of threads, or [`NOTHING`].
-    pe_c_dump_thread_at(stream: *const Range, index: u64) -> DumpThread;
-    /// The same of modules, which stand in no order.
-    pe_c_dump_module_at(stream: *const Range, index: u64) -> DumpModule;
-    /// The same of names of threads.
-    pe_c_dump_thread_name_at(stream: *const Range, index: u64) -> DumpThreadName;
-    /// Returns the unloaded module with an index in their stream, or [`NOTHING`].
-    pe_c_dump_unloaded_at(stream: *const Range, index: u64) -> DumpUnloaded;
-    /// The same of thread information.
-    pe_c_dump_thread_info_at(stream: *const Range, index: u64) -> DumpThreadInfo;
-    /// The same of handles.
-    pe_c_dump_handle_at(stream: *const Range, index: u64) -> DumpHandle;
-    /// The same of regions of memory.
-    pe_c_dump_region_at(stream: *const Range, index: u64) -> DumpRegion;
-    /// Reads the exception, by its stream.
-    pe_c_dump_exception(stream: *const Range) -> DumpException;
-    /// Reads the system, by its stream.
-    pe_c_dump_system(stream: *const Range) -> DumpSystem;
-    /// Reads what is known of the process, by its stream.
-    pe_c_dump_process(stream: *const Range) -> DumpProcess;
-    /// Returns the piece of memory with an index in the list of pieces, or [`NOTHING`].
-    pe_c_dump_memory_at(stream: *const Range, index: u64) -> DumpPiece;
-    /// Returns a walk over the pieces of memory of a full dump, by their stream. It reads each size once.
-    pe_c_dump_memory64(stream: *const Range) -> Memory64Walk;
-    /// Returns the next piece of memory of a full dump.
-    pe_c_next_memory64(walk: *mut Memory64Walk) -> DumpPiece;
-    /// Reads a context of x64: that of the exception, or of a thread.
-    pe_c_dump_context(location: *const DumpLocation) -> Context;
-    /// The same of ARM64, whose contexts have 912 bytes.
-    pe_c_dump_context_arm64(location: *const DumpLocation) -> Arm64Context;
-    /// Reads the registers of a thread that count, on x64: those of the exception first.
-    pe_c_dump_thread_context(thread: *const DumpThread, raised: *const DumpException) -> Context;
-    /// The same of ARM64.
-    pe_c_dump_thread_context_arm64(thread: *const DumpThread, raised: *const DumpException) -> Arm64Context;
-}
-
-calls_of_an_image! {
-    /// Returns the file offset of an RVA; in an image as loaded the RVA itself.
-    pe_c_offset(rva: u32) -> u64;
-    /// Returns the index of the section that maps an RVA.
-    pe_c_section_at(rva: u32) -> u64;
-    /// Returns the bytes that the RVAs of a section are mapped to.
-    pe_c_section_range(section: *const Section) -> Range;
-    /// Returns the bytes from an RVA to the end of what its section has.
-    pe_c_range_at(rva: u32) -> Range;
-    /// Returns the RVA that leads to a file offset.
-    pe_c_rva(offset: u64) -> u32;
-    /// Returns why the directory with an index is refused.
-    pe_c_directory_failure(index: u32) -> Failure;
-    /// Returns why [`pe_c_next_library`] refuses the library that a walk is at.
-    pe_c_library_failure(walk: *const Libraries) -> Failure;
-    /// The same of [`pe_c_next_import`].
-    pe_c_import_failure(walk: *const Imports) -> Failure;
-    /// Returns why [`pe_c_unwind_record`] refuses the record of an unwind RVA.
-    pe_c_unwind_record_failure(table: *const Range, unwind: u32) -> Failure;
-    /// Returns why [`pe_c_arm64_unwind_record`] refuses the record of a function.
-    pe_c_arm64_record_failure(function: *const Arm64Function) -> Failure;
-    /// Returns why [`pe_c_next_resource_leaf`] refuses the leaf that a walk is at.
-    pe_c_resource_leaf_failure(walk: *const ResourceWalk) -> Failure;
-    /// The same of [`pe_c_next_delay_import`].
-    pe_c_delay_import_failure(walk: *const Range) -> Failure;
-    /// The same of [`pe_c_next_delayed_function`].
-    pe_c_delayed_function_failure(walk: *const DelayedFunctions) -> Failure;
-    /// Returns the entries of the debug directory, as a walk.
-    pe_c_debug_entries() -> Range;
-    /// Returns the first entry of a type in the debug directory.
-    pe_c_first_debug_entry(data_type: u32) -> DebugEntry;
-    /// Returns the CodeView record, if it is one of PDB 7.0.
-    pe_c_symbol_key() -> Key;
-    /// Returns the CodeView record, if it is one of PDB 2.0.
-    pe_c_debug_pdb20() -> Pdb20;
-    /// Returns the record of VC features.
-    pe_c_debug_vc_features() -> VcFeatures;
-    /// Returns the extended DLL characteristics.
-    pe_c_debug_characteristics() -> u32;
-    /// Returns the Repro record.
-    pe_c_debug_repro() -> Repro;
-    /// Returns the POGO record.
-    pe_c_debug_pogo() -> Pogo;
-    /// Reads the record of the first debug entry of each type, each with its own result.
-    pe_c_debug_data() -> DebugRecords;
-    /// Returns the range of the overlay.
-    pe_c_overlay() -> Range;
-    /// Returns the COFF string table.
-    pe_c_string_table() -> Range;
-    /// Returns what the Authenticode digest of an image covers.
-    pe_c_digest_ranges() -> Digest;
-    /// Returns the checksum that an image should have, and the file offset of its field.
-    pe_c_checksum() -> ChecksumField;
-    /// Returns the length of the file that [`pe_c_attach`] writes.
-    pe_c_attached_length(certificate: *const u8, certificate_length: usize, placement: u32) -> u64;
-    /// Returns the length of the file that [`pe_c_detach`] writes.
-    pe_c_detached_length() -> u64;
-    /// Writes the file without certificates to the start of an array, and returns its length.
-    pe_c_detach(room: *mut u8, room_length: usize) -> u64;
-    /// Returns the range of the x64 function table.
-    pe_c_function_table() -> Range;
-    /// Returns the x64 unwind record of an unwind RVA.
-    pe_c_unwind_record(table: *const Range, unwind: u32) -> Record;
-    /// Returns the next record of a plan.
-    pe_c_next_record(table: *const Range, walk: *mut PlanWalk) -> Record;
-    /// Returns the range of the ARM64 function table.
-    pe_c_arm64_table() -> Range;
-    /// Returns the ARM64 function that covers an RVA.
-    pe_c_find_arm64_function(table: *const Range, rva: u32) -> Arm64Function;
-    /// Returns the unwind record of an ARM64 function, unless its unwind data is packed.
-    pe_c_arm64_unwind_record(function: *const Arm64Function) -> Arm64Record;
-    /// Returns the tables of the export directory, where a walk starts.
-    pe_c_export_tables() -> Exports;
-    /// Returns the next export.
-    pe_c_next_export(walk: *mut ExportWalk) -> Export;
-    /// Returns the fields of the export directory.
-    pe_c_export_directory() -> ExportFields;
-    /// Returns the export directory's table of RVAs.
-    pe_c_export_addresses() -> AddressTable;
-    /// Returns the export with an index.
-    pe_c_export_at(table: *const AddressTable, index: u64) -> Exported;
-    /// Returns where a walk over libraries starts.
-    pe_c_import_libraries() -> Libraries;
-    /// Returns the next library.
-    pe_c_next_library(walk: *mut LibraryWalk) -> Library;
-    /// Returns the next import of a library.
-    pe_c_next_import(walk: *mut ImportWalk) -> Import;
-    /// Returns the import directory, as a walk over the imports of all libraries.
-    pe_c_all_imports() -> LibraryImports;
-    /// Returns the directory of bound imports.
-    pe_c_bound_imports() -> Range;
-    /// Returns the entries of the delay import directory, where a walk starts.
-    pe_c_delay_imports() -> Range;
-    /// Returns the next DLL of the delay import directory.
-    pe_c_next_delay_import(walk: *mut DelayImportWalk) -> DelayImport;
-    /// Returns the next function of a DLL of the delay import directory.
-    pe_c_next_delayed_function(walk: *mut DelayedFunctionWalk) -> DelayedFunction;
-    /// Returns the delay import directory, as a walk over the functions of all its DLLs.
-    pe_c_all_delayed_functions() -> LibraryFunctions;
-    /// Returns the fixed file information.
-    pe_c_fixed_version() -> Version;
-    /// Returns the value of a version name, by its number in the order of [`VersionName`](crate::VersionName).
-    pe_c_version_text(name: u32) -> Range;
-    /// Returns version information, as a walk over its blocks.
-    pe_c_version_blocks() -> Range;
-    /// Returns the range of the manifest.
-    pe_c_manifest() -> Range;
-    /// Returns where a walk over the leaves of the resource tree starts.
-    pe_c_resource_leaves() -> ResourceWalk;
-    /// Returns the next leaf.
-    pe_c_next_resource_leaf(walk: *mut LeafWalk) -> ResourceLeaf;
-    /// Returns the first directory of the resource tree.
-    pe_c_resource_root() -> ResourceDirectory;
     /// Returns the TLS directory.
-    pe_c_tls() -> TlsDirectory;
-    /// Returns the callbacks of a TLS directory, as a walk.
-    pe_c_tls_callbacks(tls: *const TlsDirectory) -> Range;
+    ///
+    /// [`NOTHING`] where the directory is absent.
+    ///
+    /// Errors: [`Error::UNMAPPED`], [`Error::SHORT`].
+    pub fn pe_c_tls(view: *const View, out: *mut TlsDirectory) -> u32;
+    /// Returns the callbacks of a TLS directory as a walk.
+    ///
+    /// [`NOTHING`] where it has no table of them.
+    ///
+    /// Errors: [`Error::DIRECTORY_VA_BELOW_BASE`], [`Error::UNMAPPED`].
+    pub fn pe_c_tls_callbacks(view: *const View, tls: *const TlsDirectory, out: *mut Range) -> u32;
     /// Returns the next callback, a virtual address.
-    pe_c_next_tls_callback(walk: *mut Range) -> u64;
+    ///
+    /// Error: [`Error::SHORT`] where the bytes end before the table does.
+    pub fn pe_c_next_tls_callback(view: *const View, walk: *mut Range, out: *mut u64) -> u32;
     /// Returns the load configuration.
-    pe_c_load_config() -> LoadConfig;
-    /// Returns another field of it, by its number in the order of [`LoadConfigField`](crate::LoadConfigField).
-    pe_c_load_config_field(field: u32) -> u64;
-    /// Returns a walk over a table of the load configuration, by its number.
-    pe_c_guard_table(table: u32) -> GuardEntries;
-    /// Returns the blocks of the base relocations, as a walk.
-    pe_c_relocation_blocks() -> Range;
+    ///
+    /// [`NOTHING`] where the directory is absent. The size in the data directory is not used.
+    ///
+    /// Errors: [`Error::UNMAPPED`]; [`Error::SHORT`] of the 4 bytes of its size.
+    pub fn pe_c_load_config(view: *const View, out: *mut LoadConfig) -> u32;
+    /// Returns the field with a number, `PE_C_CONFIG_`.
+    ///
+    /// [`NOTHING`] where the image has no load configuration or this is too short for the field, and for other numbers.
+    ///
+    /// Errors: those of [`pe_c_load_config`].
+    pub fn pe_c_load_config_field(view: *const View, field: u32, out: *mut u64) -> u32;
+    /// Returns a walk over the table with a number, `PE_C_GUARD_`.
+    ///
+    /// [`NOTHING`] where the image has no load configuration or this has no such table, and for other numbers.
+    ///
+    /// Errors: those of [`pe_c_load_config`]; [`Error::DIRECTORY_VA_BELOW_BASE`], [`Error::UNMAPPED`].
+    pub fn pe_c_guard_table(view: *const View, table: u32, out: *mut GuardEntries) -> u32;
+    /// Returns the next entry of a table.
+    ///
+    /// Error: [`Error::SHORT`] where the bytes end before the table does, or the walk is not inside them.
+    pub fn pe_c_next_guard_entry(bytes: *const u8, length: usize, walk: *mut GuardEntries, out: *mut GuardEntry) -> u32;
+    /// Returns the blocks of the base relocations as a walk.
+    ///
+    /// [`NOTHING`] where the directory is absent.
+    ///
+    /// Errors: [`Error::UNMAPPED`], [`Error::SHORT`].
+    pub fn pe_c_relocation_blocks(view: *const View, out: *mut Range) -> u32;
+    /// Returns the next block.
+    ///
+    /// [`NOTHING`] also where a block of zeros, page and size, ends the list.
+    ///
+    /// Errors: [`Error::SHORT`] of the header; [`Error::DIRECTORY_BLOCK_SIZE`]; [`Error::DIRECTORY_BLOCK_TRUNCATED`].
+    pub fn pe_c_next_relocation_block(
+        bytes: *const u8,
+        length: usize,
+        walk: *mut Range,
+        out: *mut RelocationBlock,
+    ) -> u32;
+    /// Returns the next relocation of a block.
+    ///
+    /// `page_rva` is that of the block, and the walk starts as its entries. Those of kind `IMAGE_REL_BASED_ABSOLUTE`
+    /// (0), which fill up a block, are returned too.
+    ///
+    /// Errors: [`Error::SHORT`] of the entry; [`Error::DIRECTORY_NO_ARGUMENT`].
+    pub fn pe_c_next_relocation(
+        bytes: *const u8,
+        length: usize,
+        page_rva: u32,
+        walk: *mut Range,
+        out: *mut Relocation,
+    ) -> u32;
     /// Returns the CLR header.
-    pe_c_clr_header() -> ClrHeader;
+    ///
+    /// [`NOTHING`] where the directory is absent. The size in the data directory is not used.
+    ///
+    /// Errors: [`Error::UNMAPPED`], [`Error::SHORT`] of its 72 bytes; [`Error::DIRECTORY_CLR_HEADER_SIZE`].
+    pub fn pe_c_clr_header(view: *const View, out: *mut ClrHeader) -> u32;
     /// Returns the root of the metadata of a CLR header.
-    pe_c_clr_metadata(header: *const ClrHeader) -> Metadata;
+    ///
+    /// Errors: [`Error::UNMAPPED`]; [`Error::SHORT`] of the metadata, then of the root's first 16 bytes;
+    /// [`Error::BAD_MAGIC`]; [`Error::SHORT`] of the rest of the root.
+    pub fn pe_c_clr_metadata(view: *const View, header: *const ClrHeader, out: *mut Metadata) -> u32;
+    /// Returns the next stream of the metadata.
+    ///
+    /// Errors: [`Error::SHORT`] of the stream header's first 8 bytes; [`Error::DIRECTORY_STREAM_NAME`] where its name
+    /// does not end in 32 bytes; [`Error::SHORT`] of the zeros after the name, up to a multiple of 4.
+    pub fn pe_c_next_metadata_stream(
+        bytes: *const u8,
+        length: usize,
+        walk: *mut MetadataStreams,
+        out: *mut MetadataStream,
+    ) -> u32;
+    /// Writes the text of a GUID, the first 16 of these bytes, as those of [`Key`].
+    ///
+    /// Errors: [`Error::SHORT`] where there are fewer; `PE_C_ROOM`.
+    pub fn pe_c_guid_text(
+        guid: *const u8,
+        guid_length: usize,
+        form: u32,
+        room: *mut u8,
+        room_length: usize,
+        written: *mut u64,
+    ) -> u32;
+    /// Writes the text of a range in UTF-16 as UTF-8.
+    ///
+    /// U+FFFD stands for a surrogate without a partner, zeros in the text are characters, and an odd byte at the end is
+    /// left out.
+    ///
+    /// Errors: [`Error::SHORT`] where the range is not inside the bytes; `PE_C_ROOM`.
+    pub fn pe_c_utf16_text(
+        bytes: *const u8,
+        length: usize,
+        range: *const Range,
+        room: *mut u8,
+        room_length: usize,
+        written: *mut u64,
+    ) -> u32;
+    /// Returns the text in a range up to its first zero, and whether a zero follows it, in the range or right after it.
+    ///
+    /// Error: [`Error::SHORT`] where the range is not inside the bytes.
+    pub fn pe_c_text_in(bytes: *const u8, length: usize, range: *const Range, out: *mut TextInBytes) -> u32;
+    /// Lists the functions of a table as [`pe_c_function_at`] reads them, from the index `next` on, which moves past
+    /// them.
+    ///
+    /// Errors: `PE_C_ROOM`; [`Error::SHORT`] where the table is not inside the bytes.
+    pub fn pe_c_list_functions(
+        view: *const View,
+        table: *const Range,
+        next: *mut u64,
+        entries: *mut Function,
+        number_of_entries: usize,
+        written: *mut u64,
+    ) -> u32;
+    /// Lists the unwind codes of a walk.
+    ///
+    /// Errors: `PE_C_ROOM`; those of [`pe_c_next_code`].
+    pub fn pe_c_list_codes(
+        view: *const View,
+        walk: *mut Walk,
+        entries: *mut Code,
+        number_of_entries: usize,
+        written: *mut u64,
+    ) -> u32;
+    /// Returns the unwind record of an unwind RVA as [`pe_c_unwind_record`] does, and lists its codes: `out->codes` is
+    /// the walk after them.
+    ///
+    /// A record has at most 255 codes.
+    ///
+    /// Errors, after which `out` is unchanged too: those of [`pe_c_unwind_record`]; `PE_C_ROOM`; of the first code
+    /// those of [`pe_c_next_code`].
+    pub fn pe_c_record_codes(
+        view: *const View,
+        table: *const Range,
+        unwind: u32,
+        out: *mut Record,
+        codes: *mut Code,
+        number_of_codes: usize,
+        written: *mut u64,
+    ) -> u32;
+    /// Lists all codes of a record, of which these are the bytes of its codes alone.
+    ///
+    /// It keeps no walk: `written` is set after an error and after `PE_C_ROOM` too, to the number of codes before it,
+    /// which are written. A record has at most 255 codes.
+    ///
+    /// Errors: `PE_C_ROOM` where bytes are left after `number_of_entries` codes, whatever they start with; those of
+    /// [`pe_c_next_code`].
+    pub fn pe_c_all_codes(
+        bytes: *const u8,
+        length: usize,
+        form: *const CodeForm,
+        entries: *mut Code,
+        number_of_entries: usize,
+        written: *mut u64,
+    ) -> u32;
+    /// Lists the functions of an ARM64 table as [`pe_c_arm64_function_at`] reads them, from the index `next` on, which
+    /// moves past them.
+    ///
+    /// Errors: `PE_C_ROOM`; [`Error::SHORT`] where the table is not inside the bytes.
+    pub fn pe_c_list_arm64_functions(
+        view: *const View,
+        table: *const Range,
+        next: *mut u64,
+        entries: *mut Arm64Function,
+        number_of_entries: usize,
+        written: *mut u64,
+    ) -> u32;
+    /// Lists the ARM64 unwind codes of a walk.
+    ///
+    /// Errors: `PE_C_ROOM`; those of [`pe_c_next_arm64_code`].
+    pub fn pe_c_list_arm64_codes(
+        view: *const View,
+        walk: *mut Arm64Walk,
+        entries: *mut Arm64Code,
+        number_of_entries: usize,
+        written: *mut u64,
+    ) -> u32;
+    /// Lists the exports that have a name.
+    ///
+    /// Errors: `PE_C_ROOM`; [`Error::SHORT`] where the tables are not inside the bytes.
+    pub fn pe_c_list_exports(
+        view: *const View,
+        walk: *mut Exports,
+        entries: *mut Export,
+        number_of_entries: usize,
+        written: *mut u64,
+    ) -> u32;
+    /// Lists all exports as [`pe_c_export_at`] reads them, from the index `next` on, which moves past them.
+    ///
+    /// Errors: `PE_C_ROOM`; [`Error::SHORT`] where the table is not inside the bytes.
+    pub fn pe_c_list_export_addresses(
+        view: *const View,
+        table: *const AddressTable,
+        next: *mut u64,
+        entries: *mut Exported,
+        number_of_entries: usize,
+        written: *mut u64,
+    ) -> u32;
+    /// Lists the libraries of an import directory.
+    ///
+    /// Errors: `PE_C_ROOM`; those of [`pe_c_next_library`].
+    pub fn pe_c_list_libraries(
+        view: *const View,
+        walk: *mut Libraries,
+        entries: *mut Library,
+        number_of_entries: usize,
+        written: *mut u64,
+    ) -> u32;
+    /// Lists the imports of a library.
+    ///
+    /// Errors: `PE_C_ROOM`; those of [`pe_c_next_import`].
+    pub fn pe_c_list_imports(
+        view: *const View,
+        walk: *mut Imports,
+        entries: *mut Import,
+        number_of_entries: usize,
+        written: *mut u64,
+    ) -> u32;
+    /// Lists what [`pe_c_list_exports`] does, and reads names and forwarders' texts together where they share much,
+    /// others each by itself.
+    ///
+    /// With two runs for each entry that the name table has left, or more, a call takes about as long as to sort these
+    /// and to read each byte a few times, however many of the texts overlap: a hostile file may let all of them start
+    /// in one long text. A call looks at no more entries for that than there are runs, and reads further texts to their
+    /// end each; no runs are needed. What is in `runs` after the call is left open. Errors: as [`pe_c_list_exports`].
+    pub fn pe_c_list_exports_together(
+        view: *const View,
+        walk: *mut Exports,
+        runs: *mut Run,
+        number_of_runs: usize,
+        entries: *mut Export,
+        number_of_entries: usize,
+        written: *mut u64,
+    ) -> u32;
+    /// Lists what [`pe_c_list_libraries`] does, and reads the names together, and looks for the ends of the lists of
+    /// imports together.
+    ///
+    /// With two runs for each library that is left, or more, this takes about as long as to sort these and to read each
+    /// byte a few times, at most ten, however many share a text or a list. What is in `runs` after the call is left
+    /// open. Errors: as [`pe_c_list_libraries`].
+    pub fn pe_c_list_libraries_together(
+        view: *const View,
+        walk: *mut Libraries,
+        runs: *mut Run,
+        number_of_runs: usize,
+        entries: *mut Library,
+        number_of_entries: usize,
+        written: *mut u64,
+    ) -> u32;
+    /// Lists what [`pe_c_list_imports`] does, and reads the names together, with a run for each import that is left, or
+    /// more.
+    ///
+    /// What is in `runs` after the call is left open. Errors: as [`pe_c_list_imports`].
+    pub fn pe_c_list_imports_together(
+        view: *const View,
+        walk: *mut Imports,
+        runs: *mut Run,
+        number_of_runs: usize,
+        entries: *mut Import,
+        number_of_entries: usize,
+        written: *mut u64,
+    ) -> u32;
+    /// Lists the imports of all libraries, one library after the other, and reads the names of the libraries and of the
+    /// imports together.
+    ///
+    /// With a run for each of the entries and one for each library that is left, or more, a call takes about as long as
+    /// to sort these and to read each byte a few times, however many names share a text. With fewer, as with none,
+    /// further names are read to their end each, also those of libraries without an import. Libraries may share a list,
+    /// whose imports are listed for each of them: `number_of_entries` bounds what a call takes. What is in `runs` after
+    /// the call is left open. Errors: `PE_C_ROOM`; those of [`pe_c_next_library`] and [`pe_c_next_import`], in the
+    /// order of the walk.
+    pub fn pe_c_list_all_imports_together(
+        view: *const View,
+        walk: *mut LibraryImports,
+        runs: *mut Run,
+        number_of_runs: usize,
+        entries: *mut LibraryImport,
+        number_of_entries: usize,
+        written: *mut u64,
+    ) -> u32;
+    /// Lists what [`pe_c_list_export_addresses`] does, and reads the texts of forwarders together, with a run for each
+    /// of the entries, or more.
+    ///
+    /// What is in `runs` after the call is left open. Errors: as [`pe_c_list_export_addresses`].
+    pub fn pe_c_list_export_addresses_together(
+        view: *const View,
+        table: *const AddressTable,
+        next: *mut u64,
+        runs: *mut Run,
+        number_of_runs: usize,
+        entries: *mut Exported,
+        number_of_entries: usize,
+        written: *mut u64,
+    ) -> u32;
+    /// Lists the long names of the sections of an image, from the index `next` on, which moves past them: what
+    /// [`pe_c_long_section_name`] returns of each, and an empty range where that returns [`NOTHING`].
+    ///
+    /// `table` is the string table. Names are read together, with a run for each of the entries, or more: an image may
+    /// have 65,535 sections, and one string for all of them. Of an image the call reads the bytes and the sections
+    /// alone, so with those of an object, and any record as `image`, it lists the names of that. What is in `runs`
+    /// after the call is left open.
+    ///
+    /// Errors: `PE_C_ROOM`; [`Error::SHORT`] where a section is left, and `table` is not inside the bytes.
+    pub fn pe_c_list_long_section_names(
+        view: *const View,
+        table: *const Range,
+        next: *mut u64,
+        runs: *mut Run,
+        number_of_runs: usize,
+        entries: *mut Range,
+        number_of_entries: usize,
+        written: *mut u64,
+    ) -> u32;
+    /// Lists the symbols of a walk as [`pe_c_next_symbol`] returns them, each with what [`pe_c_symbol_name`] returns of
+    /// it.
+    ///
+    /// Names are read together where they share much, as by [`pe_c_list_exports_together`], here with one run for each
+    /// entry that the symbol table has left, or more; the string table stays as it is. What is in `runs` after the call
+    /// is left open.
+    ///
+    /// Errors: `PE_C_ROOM`; [`Error::SHORT`] where the symbol table is not inside the bytes.
+    pub fn pe_c_list_symbols(
+        bytes: *const u8,
+        length: usize,
+        walk: *mut NamedSymbolWalk,
+        runs: *mut Run,
+        number_of_runs: usize,
+        entries: *mut NamedSymbol,
+        number_of_entries: usize,
+        written: *mut u64,
+    ) -> u32;
+    /// Lists the leaves of a resource tree.
+    ///
+    /// Errors: `PE_C_ROOM`; those of [`pe_c_next_resource_leaf`].
+    pub fn pe_c_list_resource_leaves(
+        view: *const View,
+        walk: *mut ResourceWalk,
+        entries: *mut ResourceLeaf,
+        number_of_entries: usize,
+        written: *mut u64,
+    ) -> u32;
+    /// Lists blocks of version information.
+    ///
+    /// Errors: `PE_C_ROOM`; those of [`pe_c_next_version_block`].
+    pub fn pe_c_list_version_blocks(
+        view: *const View,
+        walk: *mut Range,
+        entries: *mut VersionBlock,
+        number_of_entries: usize,
+        written: *mut u64,
+    ) -> u32;
+    /// Lists the blocks of base relocations.
+    ///
+    /// Errors: `PE_C_ROOM`; those of [`pe_c_next_relocation_block`].
+    pub fn pe_c_list_relocation_blocks(
+        view: *const View,
+        walk: *mut Range,
+        entries: *mut RelocationBlock,
+        number_of_entries: usize,
+        written: *mut u64,
+    ) -> u32;
+    /// Lists the relocations of a block, whose page RVA is `page_rva`.
+    ///
+    /// Errors: `PE_C_ROOM`; those of [`pe_c_next_relocation`].
+    pub fn pe_c_list_relocations(
+        view: *const View,
+        page_rva: u32,
+        walk: *mut Range,
+        entries: *mut Relocation,
+        number_of_entries: usize,
+        written: *mut u64,
+    ) -> u32;
+    /// Lists the DLLs of a delay import directory.
+    ///
+    /// Errors: `PE_C_ROOM`; those of [`pe_c_next_delay_import`].
+    pub fn pe_c_list_delay_imports(
+        view: *const View,
+        walk: *mut Range,
+        entries: *mut DelayImport,
+        number_of_entries: usize,
+        written: *mut u64,
+    ) -> u32;
+    /// Lists what is imported of a DLL that is loaded later.
+    ///
+    /// Errors: `PE_C_ROOM`; those of [`pe_c_next_delayed_function`].
+    pub fn pe_c_list_delayed_functions(
+        view: *const View,
+        walk: *mut DelayedFunctions,
+        entries: *mut DelayedFunction,
+        number_of_entries: usize,
+        written: *mut u64,
+    ) -> u32;
+    /// Lists what [`pe_c_list_delay_imports`] does, and reads the names together, with a run for each of the entries,
+    /// or more.
+    ///
+    /// What is in `runs` after the call is left open. Errors: as [`pe_c_list_delay_imports`].
+    pub fn pe_c_list_delay_imports_together(
+        view: *const View,
+        walk: *mut Range,
+        runs: *mut Run,
+        number_of_runs: usize,
+        entries: *mut DelayImport,
+        number_of_entries: usize,
+        written: *mut u64,
+    ) -> u32;
+    /// Lists what [`pe_c_list_delayed_functions`] does, and reads the names together, with a run for each of the
+    /// entries, or more.
+    ///
+    /// What is in `runs` after the call is left open. Errors: as [`pe_c_list_delayed_functions`].
+    pub fn pe_c_list_delayed_functions_together(
+        view: *const View,
+        walk: *mut DelayedFunctions,
+        runs: *mut Run,
+        number_of_runs: usize,
+        entries: *mut DelayedFunction,
+        number_of_entries: usize,
+        written: *mut u64,
+    ) -> u32;
+    /// Lists the functions of all delay-loaded DLLs, one DLL after the other, and reads the names of the DLLs and of
+    /// their functions together.
+    ///
+    /// With a run for each of the entries and one for each DLL that is left, or more, a call takes about as long as to
+    /// sort these and to read each byte a few times, however many names share a text; and without an index in the view
+    /// it tests the sections in turn for each address. With fewer runs, as with none, further names are read to their
+    /// end each, also those of DLLs without a function. DLLs may share a table, whose functions are listed for each of
+    /// them: `number_of_entries` bounds what a call takes. What is in `runs` after the call is left open. Errors:
+    /// `PE_C_ROOM`; those of [`pe_c_next_delay_import`] and [`pe_c_next_delayed_function`], in the order of the walk.
+    pub fn pe_c_list_all_delayed_functions_together(
+        view: *const View,
+        walk: *mut LibraryFunctions,
+        runs: *mut Run,
+        number_of_runs: usize,
+        entries: *mut LibraryFunction,
+        number_of_entries: usize,
+        written: *mut u64,
+    ) -> u32;
+    /// Lists bound imports as [`pe_c_next_bound_import`] returns them, and reads the names together, with a run for
+    /// each of the entries, or more.
+    ///
+    /// `table` is the range of the directory. What is in `runs` after the call is left open. Errors: `PE_C_ROOM`; those
+    /// of [`pe_c_next_bound_import`].
+    pub fn pe_c_list_bound_imports(
+        bytes: *const u8,
+        length: usize,
+        table: *const Range,
+        walk: *mut Range,
+        runs: *mut Run,
+        number_of_runs: usize,
+        entries: *mut BoundImport,
+        number_of_entries: usize,
+        written: *mut u64,
+    ) -> u32;
+    /// Lists the same of the DLLs that a DLL forwards to, as [`pe_c_next_bound_forwarder`] returns them.
+    ///
+    /// The 8 bytes of a DLL are read as those of a forwarder are: a walk through the whole directory, at first a copy
+    /// of `table`, lists the names and time stamps of all DLLs and their forwarders, in their order, where to list the
+    /// forwarders of each would cost a text that they share for each. What is in `runs` after the call is left open.
+    /// Errors: `PE_C_ROOM`; those of [`pe_c_next_bound_forwarder`].
+    pub fn pe_c_list_bound_forwarders(
+        bytes: *const u8,
+        length: usize,
+        table: *const Range,
+        walk: *mut Range,
+        runs: *mut Run,
+        number_of_runs: usize,
+        entries: *mut BoundForwarder,
+        number_of_entries: usize,
+        written: *mut u64,
+    ) -> u32;
+    /// Lists the entries of a POGO record.
+    ///
+    /// Errors: `PE_C_ROOM`; those of [`pe_c_next_pogo_entry`].
+    pub fn pe_c_list_pogo_entries(
+        view: *const View,
+        walk: *mut Range,
+        entries: *mut PogoEntry,
+        number_of_entries: usize,
+        written: *mut u64,
+    ) -> u32;
+    /// Lists the entries of a table of a load configuration.
+    ///
+    /// Errors: `PE_C_ROOM`; those of [`pe_c_next_guard_entry`].
+    pub fn pe_c_list_guard_entries(
+        view: *const View,
+        walk: *mut GuardEntries,
+        entries: *mut GuardEntry,
+        number_of_entries: usize,
+        written: *mut u64,
+    ) -> u32;
+    /// Of [`pe_c_next_library`].
+    ///
+    /// [`Error::UNMAPPED`], [`Error::IMPORT_NAME`]: `value`, the RVA of the library's name.
+    pub fn pe_c_library_failure(view: *const View, walk: *const Libraries, out: *mut Failure) -> u32;
+    /// Of [`pe_c_next_import`].
+    ///
+    /// [`Error::UNMAPPED`], [`Error::IMPORT_NAME`]: `value`, the RVA of the hint before the name.
+    pub fn pe_c_import_failure(view: *const View, walk: *const Imports, out: *mut Failure) -> u32;
+    /// Of [`pe_c_unwind_record`], which takes the same.
+    ///
+    /// [`Error::FUNCTION_LINK`]: `value`, the link, which is odd: the RVA of no entry, plus 1;
+    /// [`Error::FUNCTION_CYCLE`]: `value`, the unwind RVA from which links never end; [`Error::UNWIND_VERSION`]:
+    /// `value`.
+    pub fn pe_c_unwind_record_failure(view: *const View, table: *const Range, unwind: u32, out: *mut Failure) -> u32;
+    /// Of [`pe_c_next_code`].
+    ///
+    /// [`Error::UNWIND_CODE`]: `value`, the second byte of the code: its operation, and what that takes above.
+    pub fn pe_c_code_failure(bytes: *const u8, length: usize, walk: *const Walk, out: *mut Failure) -> u32;
+    /// Of [`pe_c_next_resource_leaf`].
+    ///
+    /// [`Error::TREE_NOT_DIRECTORY`], [`Error::TREE_NOT_DATA`], [`Error::TREE_NO_ENTRIES`]: `offset`, of what the entry
+    /// leads to, from the first directory.
+    pub fn pe_c_resource_leaf_failure(view: *const View, walk: *const ResourceWalk, out: *mut Failure) -> u32;
+    /// Of [`pe_c_next_certificate`].
+    ///
+    /// [`Error::CERTIFICATE_TABLE`]: `offset`, where the walk ends; [`Error::CERTIFICATE_SIZE`]: `needed`, the length
+    /// that the certificate states; [`Error::CERTIFICATE_REVISION`], [`Error::CERTIFICATE_TYPE`]: `value`.
+    pub fn pe_c_certificate_failure(bytes: *const u8, length: usize, walk: *const Range, out: *mut Failure) -> u32;
+    /// Of [`pe_c_next_relocation_block`].
+    ///
+    /// [`Error::DIRECTORY_BLOCK_SIZE`]: `value`, the size; [`Error::DIRECTORY_BLOCK_TRUNCATED`]: `needed`, the size,
+    /// and `value`, how many bytes are left.
+    pub fn pe_c_relocation_block_failure(bytes: *const u8, length: usize, walk: *const Range, out: *mut Failure) -> u32;
+    /// Of [`pe_c_next_relocation`], which takes the same `page_rva`.
+    ///
+    /// [`Error::DIRECTORY_NO_ARGUMENT`]: `value`, the RVA of the relocation.
+    pub fn pe_c_relocation_failure(
+        bytes: *const u8,
+        length: usize,
+        page_rva: u32,
+        walk: *const Range,
+        out: *mut Failure,
+    ) -> u32;
+    /// Of [`pe_c_arm64_unwind_record`].
+    ///
+    /// [`Error::ARM64_VERSION`]: `value`; those of the table as in [`pe_c_directory_failure`].
+    pub fn pe_c_arm64_record_failure(view: *const View, function: *const Arm64Function, out: *mut Failure) -> u32;
+    /// Of [`pe_c_next_arm64_code`].
+    ///
+    /// [`Error::ARM64_CUT`]: `offset`, of the code, from the start of the stream; [`Error::ARM64_STREAM`]: `value`, how
+    /// many bytes are left.
+    pub fn pe_c_arm64_code_failure(bytes: *const u8, length: usize, walk: *const Arm64Walk, out: *mut Failure) -> u32;
+    /// Of [`pe_c_next_delay_import`].
+    ///
+    /// [`Error::DIRECTORY_VA_BELOW_BASE`]: `value`, the address; [`Error::DIRECTORY_DELAY_IMPORT_NAME`]: `offset`.
+    pub fn pe_c_delay_import_failure(view: *const View, walk: *const Range, out: *mut Failure) -> u32;
+    /// Of [`pe_c_next_delayed_function`].
+    ///
+    /// The same numbers.
+    pub fn pe_c_delayed_function_failure(view: *const View, walk: *const DelayedFunctions, out: *mut Failure) -> u32;
+    /// Of [`pe_c_next_bound_import`], which takes the same `table`.
+    ///
+    /// [`Error::DIRECTORY_BOUND_IMPORT_NAME`]: `offset`, from the start of `table`.
+    pub fn pe_c_bound_import_failure(
+        bytes: *const u8,
+        length: usize,
+        table: *const Range,
+        walk: *const Range,
+        out: *mut Failure,
+    ) -> u32;
+    /// Of [`pe_c_symbol_name`], which takes the same.
+    ///
+    /// [`Error::STRING_TABLE`]: `offset`, from the start of `strings`, unless the name is in the entry itself.
+    pub fn pe_c_symbol_name_failure(
+        bytes: *const u8,
+        length: usize,
+        table: *const Range,
+        strings: *const Range,
+        index: u64,
+        out: *mut Failure,
+    ) -> u32;
+    /// Reads the header of a minidump, and tests that its directory is inside the bytes.
+    ///
+    /// Errors: [`Error::SHORT`] where there are fewer than 32 bytes; [`Error::DUMP_SIGNATURE`];
+    /// [`Error::DUMP_VERSION`]; [`Error::DUMP_DIRECTORY`].
+    pub fn pe_c_dump(bytes: *const u8, length: usize, out: *mut DumpInfo) -> u32;
+    /// Returns the entry of the directory with an index, or [`NOTHING`].
+    ///
+    /// Errors: [`Error::DUMP_LOCATION`] where the directory is not inside the bytes.
+    pub fn pe_c_dump_entry_at(
+        bytes: *const u8,
+        length: usize,
+        directory: *const Range,
+        index: u64,
+        out: *mut DumpEntry,
+    ) -> u32;
+    /// Returns the range of the stream of a kind, that of the first entry of the kind, or [`NOTHING`].
+    ///
+    /// Errors: [`Error::DUMP_LOCATION`] where the directory or the stream is not inside the bytes.
+    pub fn pe_c_dump_stream(
+        bytes: *const u8,
+        length: usize,
+        directory: *const Range,
+        stream_type: u32,
+        out: *mut Range,
+    ) -> u32;
+    /// Returns the range of a location.
+    ///
+    /// Errors: [`Error::DUMP_LOCATION`] where it is not inside the bytes.
+    pub fn pe_c_dump_range(bytes: *const u8, length: usize, location: *const DumpLocation, out: *mut Range) -> u32;
+    /// Returns the range of a string, in UTF-16LE without its final zero.
+    ///
+    /// `rva` is what a record says.
+    ///
+    /// Errors: [`Error::DUMP_LOCATION`] where its length is not inside the bytes; [`Error::DUMP_TEXT`] where that is
+    /// odd; [`Error::DUMP_LOCATION`] where the string is not inside the bytes.
+    pub fn pe_c_dump_text(bytes: *const u8, length: usize, rva: u64, out: *mut Range) -> u32;
+    /// Returns the thread with an index in the stream of threads, or [`NOTHING`].
+    ///
+    /// Errors: [`Error::DUMP_LOCATION`] where the stream is not inside the bytes; [`Error::SHORT`] where it has fewer
+    /// than 4 bytes; [`Error::DUMP_LIST_SIZE`] where it has another size than the number of threads and so many
+    /// threads.
+    pub fn pe_c_dump_thread_at(
+        bytes: *const u8,
+        length: usize,
+        stream: *const Range,
+        index: u64,
+        out: *mut DumpThread,
+    ) -> u32;
+    /// The same of modules, which stand in no order.
+    ///
+    /// Errors: those of [`pe_c_dump_thread_at`].
+    pub fn pe_c_dump_module_at(
+        bytes: *const u8,
+        length: usize,
+        stream: *const Range,
+        index: u64,
+        out: *mut DumpModule,
+    ) -> u32;
+    /// The same of names of threads.
+    ///
+    /// Errors: those of [`pe_c_dump_thread_at`].
+    pub fn pe_c_dump_thread_name_at(
+        bytes: *const u8,
+        length: usize,
+        stream: *const Range,
+        index: u64,
+        out: *mut DumpThreadName,
+    ) -> u32;
+    /// Returns the unloaded module with an index in their stream, or [`NOTHING`].
+    ///
+    /// Errors: [`Error::DUMP_LOCATION`] where the stream is not inside the bytes; [`Error::SHORT`] where its header is
+    /// truncated; [`Error::DUMP_ENTRY_SIZE`] where its records are smaller than their fields; [`Error::DUMP_LIST_SIZE`]
+    /// where they start in the header, or end past the stream.
+    pub fn pe_c_dump_unloaded_at(
+        bytes: *const u8,
+        length: usize,
+        stream: *const Range,
+        index: u64,
+        out: *mut DumpUnloaded,
+    ) -> u32;
+    /// The same of thread information.
+    ///
+    /// Errors: those of [`pe_c_dump_unloaded_at`].
+    pub fn pe_c_dump_thread_info_at(
+        bytes: *const u8,
+        length: usize,
+        stream: *const Range,
+        index: u64,
+        out: *mut DumpThreadInfo,
+    ) -> u32;
+    /// The same of handles.
+    ///
+    /// Errors: those of [`pe_c_dump_unloaded_at`].
+    pub fn pe_c_dump_handle_at(
+        bytes: *const u8,
+        length: usize,
+        stream: *const Range,
+        index: u64,
+        out: *mut DumpHandle,
+    ) -> u32;
+    /// The same of regions of memory.
+    ///
+    /// Errors: those of [`pe_c_dump_unloaded_at`].
+    pub fn pe_c_dump_region_at(
+        bytes: *const u8,
+        length: usize,
+        stream: *const Range,
+        index: u64,
+        out: *mut DumpRegion,
+    ) -> u32;
+    /// Reads the exception, by its stream.
+    ///
+    /// Errors: [`Error::DUMP_LOCATION`] where the stream is not inside the bytes; [`Error::SHORT`] where it has fewer
+    /// than 168 bytes.
+    pub fn pe_c_dump_exception(bytes: *const u8, length: usize, stream: *const Range, out: *mut DumpException) -> u32;
+    /// Reads the system, by its stream.
+    ///
+    /// Errors: [`Error::DUMP_LOCATION`] where the stream is not inside the bytes; [`Error::SHORT`] where it has fewer
+    /// than 56 bytes.
+    pub fn pe_c_dump_system(bytes: *const u8, length: usize, stream: *const Range, out: *mut DumpSystem) -> u32;
+    /// Reads what is known of the process, by its stream.
+    ///
+    /// Errors: [`Error::DUMP_LOCATION`] where the stream is not inside the bytes; [`Error::SHORT`] where it has fewer
+    /// than 24 bytes.
+    pub fn pe_c_dump_process(bytes: *const u8, length: usize, stream: *const Range, out: *mut DumpProcess) -> u32;
+    /// Returns the piece of memory with an index in [`MEMORY_LIST_STREAM`], or [`NOTHING`].
+    ///
+    /// Errors: those of [`pe_c_dump_thread_at`].
+    pub fn pe_c_dump_memory_at(
+        bytes: *const u8,
+        length: usize,
+        stream: *const Range,
+        index: u64,
+        out: *mut DumpPiece,
+    ) -> u32;
+    /// Returns a walk over the pieces of memory of a full dump, by [`MEMORY64_LIST_STREAM`].
+    ///
+    /// It reads each size once.
+    ///
+    /// Errors: [`Error::DUMP_LOCATION`] where the stream is not inside the bytes; [`Error::SHORT`] where it has fewer
+    /// than 16 bytes; [`Error::DUMP_LIST_SIZE`] where it has another size than so many entries;
+    /// [`Error::DUMP_LOCATION`] where the bytes of the pieces end past offset 2^64 - 1.
+    pub fn pe_c_dump_memory64(bytes: *const u8, length: usize, stream: *const Range, out: *mut Memory64Walk) -> u32;
+    /// Returns the next piece of memory of a full dump.
+    ///
+    /// Errors: [`Error::SHORT`] where the entries are not inside the bytes, or the last one is truncated.
+    pub fn pe_c_next_memory64(bytes: *const u8, length: usize, walk: *mut Memory64Walk, out: *mut DumpPiece) -> u32;
+    /// Reads a context of x64: that of the exception, or of a thread.
+    ///
+    /// Errors: [`Error::DUMP_LOCATION`] where it is not inside the bytes; [`Error::DUMP_CONTEXT_SIZE`] where it has
+    /// fewer than 1,232 bytes; [`Error::DUMP_MACHINE`] where its flags are not of x64; [`Error::DUMP_CONTEXT_FLAGS`]
+    /// where control or integer registers were not saved.
+    pub fn pe_c_dump_context(bytes: *const u8, length: usize, location: *const DumpLocation, out: *mut Context) -> u32;
+    /// The same of ARM64, whose contexts have 912 bytes.
+    ///
+    /// Errors: those of [`pe_c_dump_context`].
+    pub fn pe_c_dump_context_arm64(
+        bytes: *const u8,
+        length: usize,
+        location: *const DumpLocation,
+        out: *mut Arm64Context,
+    ) -> u32;
+    /// Reads the registers of a thread that count, on x64: those of the exception, if it names the thread and they can
+    /// be read, since the thread's own may be of the code that wrote the dump; else the thread's own.
+    ///
+    /// `raised` is what [`pe_c_dump_exception`] returned, or `PE_C_EMPTY` without an exception.
+    ///
+    /// Errors: those of the thread's own context, as of [`pe_c_dump_context`].
+    pub fn pe_c_dump_thread_context(
+        bytes: *const u8,
+        length: usize,
+        thread: *const DumpThread,
+        raised: *const DumpException,
+        out: *mut Context,
+    ) -> u32;
+    /// The same of ARM64.
+    ///
+    /// Errors: those of the thread's own context, as of [`pe_c_dump_context_arm64`].
+    pub fn pe_c_dump_thread_context_arm64(
+        bytes: *const u8,
+        length: usize,
+        thread: *const DumpThread,
+        raised: *const DumpException,
+        out: *mut Arm64Context,
+    ) -> u32;
+    /// Returns [`DONE`] where an image is that of a module: its time stamp and its size are the module's.
+    ///
+    /// [`NOTHING`] where it is another one, or has no optional header. The checksum is not asked.
+    pub fn pe_c_is_image_of(image: *const ImageInfo, module: *const DumpModule) -> u32;
+    /// Writes the memory of pieces in any order to `runs`, as pieces that ascend and do not overlap, and to `written`
+    /// how many there are: an address is that of the first of the pieces that has it.
+    ///
+    /// Two that follow one another in memory and in the file are one. In such pieces [`pe_c_next_frame`] looks an
+    /// address up by binary search. `entries` has to have four entries for each piece, and `runs` two; what is in these
+    /// entries then is left open, and so is what is in these runs after those that are written. The rest of both is
+    /// unchanged.
+    ///
+    /// Errors, which change nothing: [`Error::SHORT`] if a piece ends past offset 2^64 - 1; `PE_C_ROOM`.
+    pub fn pe_c_memory_runs(
+        pieces: *const MemoryPiece,
+        piece_count: usize,
+        entries: *mut RangeEntry,
+        number_of_entries: usize,
+        runs: *mut MemoryPiece,
+        number_of_runs: usize,
+        written: *mut u64,
+    ) -> u32;
+    /// Writes to `found`, for each of the ranges that are asked for, whose offset is an address and whose length how
+    /// many bytes from it on at most, the range of `memory` where these bytes are: those of the first piece that has
+    /// the address, up to its end.
+    ///
+    /// Where no piece has it the range has no bytes. `written` is how many ranges are asked for; the rest of `found` is
+    /// unchanged. In what [`pe_c_memory_runs`] writes a range ends at the first address that the dump has no byte of,
+    /// or has elsewhere: so the images of modules are found that the dump's own memory has, for [`pe_c_image`] with
+    /// [`MAPPED`]. The pieces are tested once a call.
+    ///
+    /// Errors, which change nothing: [`Error::SHORT`] if a piece is not inside `memory`; `PE_C_ROOM` where there is
+    /// room for fewer ranges than are asked for.
+    pub fn pe_c_memory_ranges(
+        memory: *const u8,
+        memory_length: usize,
+        pieces: *const MemoryPiece,
+        piece_count: usize,
+        asked: *const Range,
+        asked_count: usize,
+        found: *mut Range,
+        found_count: usize,
+        written: *mut u64,
+    ) -> u32;
 }

@@ -20,6 +20,18 @@ fn numbers_of(high: u32, low: u32) -> [u16; 4] {
 
 impl sys::Version {
     /// The file's version, its four numbers in their order.
+    ///
+    /// ```
+    /// # #[path = "../tests/made/mod.rs"] mod made;
+    /// # let bytes = made::with_resources();
+    /// use pe_c::{Image, Mode};
+    ///
+    /// let image = Image::parse(&bytes, Mode::Permissive)?;
+    /// let version = image.version()?.expect("the image has version information");
+    /// assert_eq!(version.file_version(), [3, 11, 3150, 1013]);
+    /// assert_eq!(version.product_version(), [1, 2, 3, 4]);
+    /// # Ok::<(), pe_c::Error>(())
+    /// ```
     pub fn file_version(&self) -> [u16; 4] {
         numbers_of(self.file_version_ms, self.file_version_ls)
     }

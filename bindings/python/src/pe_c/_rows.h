@@ -122,7 +122,7 @@ static PyObject *row_range(Image *self, Rows *rows, const pe_c_range *it)
 }
 
 static PyStructSequence_Field row_directory_fields[] = {
-    {"virtual_address", "RVA"},
+    {"virtual_address", "RVA; of the certificate table a file offset"},
     {"size", "bytes"},
     {NULL, NULL}};
 
@@ -140,11 +140,11 @@ static PyObject *row_directory(Image *self, Rows *rows, const pe_c_directory *it
 static PyStructSequence_Field row_image_info_fields[] = {
     {"base", "ImageBase, the preferred virtual address of the image; add RVAs to it"},
     {"sections_offset", "offset of the section headers"},
-    {"checksum_offset", "offset of the field CheckSum, 4 bytes"},
+    {"checksum_offset", "offset of the field CheckSum, 4 bytes; 0 without an optional header"},
     {"certificate_entry_offset", "offset of directory PE_C_DIRECTORY_SECURITY, 8 bytes; 0 without that entry"},
     {"entry", "RVA of the entry point"},
     {"file_alignment", "bytes; a power of two, or no RVA of a file is mapped"},
-    {"mode", "how the image is read: that of the call of pe_c_image. A caller may change it"},
+    {"mode", "how the image is read: PE_C_PERMISSIVE, PE_C_MAPPED, both or 0, that of the call of pe_c_image. A caller may change it"},
     {"section_alignment", "bytes: sections start at multiples of it in memory"},
     {"size_of_image", "bytes of the image in memory"},
     {"size_of_headers", "bytes of the headers in the file, rounded up to the file alignment"},
@@ -154,7 +154,7 @@ static PyStructSequence_Field row_image_info_fields[] = {
     {"directories", "by their indices, PE_C_DIRECTORY_EXPORT and so on"},
     {"machine", "IMAGE_FILE_MACHINE_AMD64 0x8664, _ARM64 0xAA64, _I386 0x14C, or another"},
     {"width", "64 for PE32+, 32 for PE32, 0 without an optional header"},
-    {"number_of_sections", NULL},
+    {"number_of_sections", "the number of section headers"},
     {"characteristics", "IMAGE_FILE_ flags; IMAGE_FILE_DLL 0x2000"},
     {"subsystem", "IMAGE_SUBSYSTEM_: 1 native, 2 Windows GUI, 3 Windows console, 10 EFI, or another"},
     {"dll_characteristics", "IMAGE_DLLCHARACTERISTICS_ flags"},
@@ -195,11 +195,11 @@ static PyStructSequence_Field row_section_fields[] = {
     {"virtual_size", "bytes in memory"},
     {"virtual_address", "RVA of its first byte"},
     {"size_of_raw_data", "bytes in the file"},
-    {"pointer_to_raw_data", "file offset"},
+    {"pointer_to_raw_data", "file offset of its first byte"},
     {"pointer_to_relocations", "file offset; 0 in images"},
     {"pointer_to_linenumbers", "file offset, or 0"},
-    {"number_of_relocations", NULL},
-    {"number_of_linenumbers", NULL},
+    {"number_of_relocations", "0 in images"},
+    {"number_of_linenumbers", "the number of COFF line numbers"},
     {"characteristics", "IMAGE_SCN_ flags"},
     {NULL, NULL}};
 
@@ -227,7 +227,7 @@ static PyStructSequence_Field row_dos_header_fields[] = {
     {"signature", "e_magic: 0x5A4D, \"MZ\""},
     {"bytes_on_last_page", "e_cblp"},
     {"pages_in_file", "e_cp: of 512 bytes"},
-    {"relocations", "e_crlc"},
+    {"relocations", "e_crlc: how many"},
     {"size_of_header_in_paragraphs", "e_cparhdr: of 16 bytes"},
     {"minimum_extra_paragraphs", "e_minalloc"},
     {"maximum_extra_paragraphs", "e_maxalloc"},
@@ -236,7 +236,7 @@ static PyStructSequence_Field row_dos_header_fields[] = {
     {"checksum", "e_csum"},
     {"initial_ip", "e_ip"},
     {"initial_relative_cs", "e_cs"},
-    {"relocations_offset", "e_lfarlc"},
+    {"relocations_offset", "e_lfarlc: file offset of the relocations"},
     {"overlay_number", "e_ovno"},
     {"reserved", "e_res"},
     {"oem_id", "e_oemid"},
@@ -278,7 +278,7 @@ static PyStructSequence_Field row_coff_header_fields[] = {
     {"pointer_to_symbol_table", "file offset of the COFF symbols, or 0"},
     {"number_of_symbol_table", "their entries of 18 bytes, auxiliary records included"},
     {"machine", "IMAGE_FILE_MACHINE_"},
-    {"number_of_sections", NULL},
+    {"number_of_sections", "the number of section headers"},
     {"size_of_optional_header", "bytes; 0 where there is no optional header"},
     {"characteristics", "IMAGE_FILE_ flags"},
     {NULL, NULL}};
@@ -301,13 +301,13 @@ static PyObject *row_coff_header(Image *self, Rows *rows, const pe_c_coff_header
 
 static PyStructSequence_Field row_optional_header_fields[] = {
     {"image_base", "preferred virtual address of the image"},
-    {"size_of_stack_reserve", "bytes"},
-    {"size_of_stack_commit", "bytes"},
-    {"size_of_heap_reserve", "bytes"},
-    {"size_of_heap_commit", "bytes"},
-    {"size_of_code", "bytes"},
-    {"size_of_initialized_data", "bytes"},
-    {"size_of_uninitialized_data", "bytes"},
+    {"size_of_stack_reserve", "bytes of the stack to reserve"},
+    {"size_of_stack_commit", "bytes of the stack to commit"},
+    {"size_of_heap_reserve", "bytes of the heap to reserve"},
+    {"size_of_heap_commit", "bytes of the heap to commit"},
+    {"size_of_code", "bytes of all sections of code"},
+    {"size_of_initialized_data", "bytes of all sections of initialized data"},
+    {"size_of_uninitialized_data", "bytes of all sections of uninitialized data"},
     {"address_of_entry_point", "RVA, or 0"},
     {"base_of_code", "RVA"},
     {"base_of_data", "RVA; 0 in PE32+, which has no such field"},
@@ -316,21 +316,21 @@ static PyStructSequence_Field row_optional_header_fields[] = {
     {"win32_version_value", "reserved"},
     {"size_of_image", "bytes in memory"},
     {"size_of_headers", "bytes in the file, rounded up to the file alignment"},
-    {"check_sum", NULL},
+    {"check_sum", "`CheckSum`, as the file has it"},
     {"loader_flags", "reserved"},
     {"number_of_rva_and_sizes", "directories, as the header says"},
     {"number_of_directories", "those of them that are kept, at most 16"},
     {"magic", "0x10B in PE32, 0x20B in PE32+"},
-    {"major_operating_system_version", NULL},
-    {"minor_operating_system_version", NULL},
-    {"major_image_version", NULL},
-    {"minor_image_version", NULL},
-    {"major_subsystem_version", NULL},
-    {"minor_subsystem_version", NULL},
+    {"major_operating_system_version", "the major version of the operating system that is required"},
+    {"minor_operating_system_version", "the minor version of the operating system that is required"},
+    {"major_image_version", "the major version of the image"},
+    {"minor_image_version", "the minor version of the image"},
+    {"major_subsystem_version", "the major version of the subsystem"},
+    {"minor_subsystem_version", "the minor version of the subsystem"},
     {"subsystem", "IMAGE_SUBSYSTEM_"},
     {"dll_characteristics", "IMAGE_DLLCHARACTERISTICS_ flags"},
-    {"major_linker_version", NULL},
-    {"minor_linker_version", NULL},
+    {"major_linker_version", "the major version of the linker"},
+    {"minor_linker_version", "the minor version of the linker"},
     {NULL, NULL}};
 
 static PyObject *row_optional_header(Image *self, Rows *rows, const pe_c_optional_header *it)
@@ -374,12 +374,12 @@ static PyObject *row_optional_header(Image *self, Rows *rows, const pe_c_optiona
 }
 
 static PyStructSequence_Field row_headers_info_fields[] = {
-    {"optional", NULL},
+    {"optional", "the optional header"},
     {"dos_stub", "between the DOS header and the PE signature; no bytes where these overlap"},
-    {"optional_offset", "of the optional header"},
-    {"directories_offset", "of the data directories, 8 bytes each"},
-    {"dos", NULL},
-    {"coff", NULL},
+    {"optional_offset", "offset of the optional header"},
+    {"directories_offset", "offset of the data directories, 8 bytes each"},
+    {"dos", "the DOS header"},
+    {"coff", "the COFF header"},
     {"signature", "0x4550, \"PE\""},
     {"directories", "by their indices; absent from number_of_directories on"},
     {NULL, NULL}};
@@ -404,10 +404,10 @@ static PyObject *row_headers_info(Image *self, Rows *rows, const pe_c_headers_in
 static PyStructSequence_Field row_symbol_entry_fields[] = {
     {"name", NULL},
     {"auxiliary", "its auxiliary records, 18 bytes each, up to the end of the table"},
-    {"at", "of its entry in the table; auxiliary records count"},
+    {"at", "index of its entry in the table; auxiliary records count"},
     {"raw_name", "padded with zeros; or 4 zeros, and the offset of a longer name in the string table"},
     {"value", "by the storage class, for instance an offset in the section"},
-    {"string_offset", "of the name in the string table, from its size field; 0 where `name` has the name"},
+    {"string_offset", "offset of the name in the string table, from its size field; 0 where `name` has it"},
     {"section_number", "from 1; 0 IMAGE_SYM_UNDEFINED, -1 _ABSOLUTE, -2 _DEBUG"},
     {"type", "IMAGE_SYM_TYPE_ and IMAGE_SYM_DTYPE_"},
     {"storage_class", "IMAGE_SYM_CLASS_"},
@@ -643,15 +643,15 @@ static PyObject *row_pdb_checksum(Image *self, Rows *rows, const pe_c_pdb_checks
 
 static PyStructSequence_Field row_te_image_fields[] = {
     {"image_base", "preferred virtual address of the image"},
-    {"entry_point", "RVA"},
-    {"base_of_code", "RVA"},
+    {"entry_point", "RVA of the entry point"},
+    {"base_of_code", "RVA of the code"},
     {"reloc_dir", "the base relocations; the RVA is reduced where it is absent too"},
     {"debug_dir", "the debug directory; both fields are 0 where it is absent"},
     {"rva_offset", "how many bytes the file is shorter: stripped_size less 40"},
     {"signature", "0x5A56, \"VZ\""},
     {"machine", "IMAGE_FILE_MACHINE_"},
     {"stripped_size", "bytes of headers that were stripped"},
-    {"number_of_sections", NULL},
+    {"number_of_sections", "the number of section headers"},
     {"subsystem", "IMAGE_SUBSYSTEM_"},
     {NULL, NULL}};
 
@@ -696,7 +696,7 @@ static PyObject *row_certificate(Image *self, Rows *rows, const pe_c_certificate
 }
 
 static PyStructSequence_Field row_oid_fields[] = {
-    {"octets", NULL},
+    {"octets", "its content"},
     {"id", "PE_C_OID_, of the group that the field has"},
     {NULL, NULL}};
 
@@ -728,8 +728,8 @@ static PyObject *row_algorithm(Image *self, Rows *rows, const pe_c_algorithm *it
 }
 
 static PyStructSequence_Field row_der_element_fields[] = {
-    {"whole", NULL},
-    {"content", NULL},
+    {"whole", "all octets: tag, length and content"},
+    {"content", "the content"},
     {"tag", "the identifier octet, such as 0x30 for a SEQUENCE, 4 for an OCTET STRING"},
     {NULL, NULL}};
 
@@ -776,7 +776,7 @@ static PyObject *row_signed_data(Image *self, Rows *rows, const pe_c_signed_data
 static PyStructSequence_Field row_spc_indirect_data_fields[] = {
     {"value_type", "by content types; of an image PE_C_OID_SPC_PE_IMAGE_DATA"},
     {"value", "whole; of an image for pe_c_image_data"},
-    {"digest_algorithm", NULL},
+    {"digest_algorithm", "of the digest"},
     {"digest", "of what pe_c_digest_ranges says"},
     {NULL, NULL}};
 
@@ -812,13 +812,13 @@ static PyObject *row_spc_pe_image_data(Image *self, Rows *rows, const pe_c_spc_p
 static PyStructSequence_Field row_signer_info_fields[] = {
     {"version", "an INTEGER, which is 1 with an issuer and a serial number"},
     {"issuer", "whole, for pe_c_name"},
-    {"serial", "an INTEGER: two's complement, the high byte first"},
+    {"serial", "serial number, an INTEGER: two's complement, the high byte first"},
     {"key_identifier", "of the certificate, where there is no issuer"},
-    {"digest_algorithm", NULL},
+    {"digest_algorithm", "of `messageDigest`, and of what is signed"},
     {"signed_attributes", "a walk for pe_c_next_element, each for pe_c_attribute"},
     {"signed_rest", "the octets of the signed attributes after their tag"},
-    {"signature_algorithm", NULL},
-    {"signature", NULL},
+    {"signature_algorithm", "of the signature"},
+    {"signature", "the signature"},
     {"unsigned_attributes", "a walk, each for pe_c_attribute"},
     {"signed_first", "0x31, the tag of a SET, in place of their own tag; 0 without them"},
     {NULL, NULL}};
@@ -845,7 +845,7 @@ static PyObject *row_signer_info(Image *self, Rows *rows, const pe_c_signer_info
 
 static PyStructSequence_Field row_signer_attribute_fields[] = {
     {"type", "by attributes"},
-    {"values", NULL},
+    {"values", "a walk over its values"},
     {NULL, NULL}};
 
 static PyObject *row_signer_attribute(Image *self, Rows *rows, const pe_c_signer_attribute *it)
@@ -860,8 +860,8 @@ static PyObject *row_signer_attribute(Image *self, Rows *rows, const pe_c_signer
 }
 
 static PyStructSequence_Field row_spc_opus_info_fields[] = {
-    {"program_name", NULL},
-    {"more_info", NULL},
+    {"program_name", "the name of the program"},
+    {"more_info", "where more is said"},
     {"program_name_tag", "0x80 for UTF-16, the high byte first; 0x81 for ASCII; 0 without a name"},
     {"more_info_tag", "0x80 for a URL in ASCII; 0xA1 for an object, 0xA2 for a file; 0 without one"},
     {NULL, NULL}};
@@ -881,14 +881,14 @@ static PyObject *row_spc_opus_info(Image *self, Rows *rows, const pe_c_spc_opus_
 
 static PyStructSequence_Field row_x509_certificate_fields[] = {
     {"to_be_signed", "whole"},
-    {"serial", "an INTEGER: two's complement, the high byte first"},
+    {"serial", "serial number, an INTEGER: two's complement, the high byte first"},
     {"issuer", "whole, for pe_c_name"},
     {"subject", "whole, for pe_c_name"},
-    {"not_before", "whole, for pe_c_time"},
-    {"not_after", "whole, for pe_c_time"},
+    {"not_before", "the first time when it is valid: whole, for pe_c_time"},
+    {"not_after", "the last one: whole, for pe_c_time"},
     {"public_key", "whole: SubjectPublicKeyInfo"},
     {"extensions", "a walk for pe_c_next_element, each for pe_c_extension"},
-    {"signature_algorithm", NULL},
+    {"signature_algorithm", "of the signature"},
     {"signature", "the bits of the BIT STRING, without the octet before them"},
     {NULL, NULL}};
 
@@ -931,7 +931,7 @@ static PyObject *row_x509_extension(Image *self, Rows *rows, const pe_c_x509_ext
 
 static PyStructSequence_Field row_name_attribute_fields[] = {
     {"type", "by attributes of names"},
-    {"value", NULL},
+    {"value", "the content of the value"},
     {"tag", "of the value: PrintableString 0x13, UTF8String 0x0C, IA5String 0x16, BMPString 0x1E, .."},
     {"starts_rdn", "1 where it is the first of its relative distinguished name, else 0"},
     {NULL, NULL}};
@@ -953,8 +953,8 @@ static PyStructSequence_Field row_utc_time_fields[] = {
     {"year", "0 to 9999"},
     {"month", "1 to 12"},
     {"day", "1 to 31; that a month has fewer days is not tested"},
-    {"hour", NULL},
-    {"minute", NULL},
+    {"hour", "0 to 23"},
+    {"minute", "0 to 59"},
     {"second", "0 to 59; a fraction is left out. A time stamp may have one; that a certificate and a signing time have none (RFC 5280, RFC 5652) is not tested"},
     {NULL, NULL}};
 
@@ -975,13 +975,13 @@ static PyObject *row_utc_time(Image *self, Rows *rows, const pe_c_utc_time *it)
 
 static PyStructSequence_Field row_tst_info_fields[] = {
     {"version", "an INTEGER, which is 1"},
-    {"policy", "an object identifier"},
-    {"digest_algorithm", NULL},
+    {"policy", "the policy, an object identifier"},
+    {"digest_algorithm", "of the digest"},
     {"digest", "of the signature that is stamped, the field `signature` of its signer"},
-    {"serial", "an INTEGER"},
+    {"serial", "serial number of the token, an INTEGER"},
     {"time", "whole, for pe_c_time"},
-    {"accuracy", "whole"},
-    {"nonce", "an INTEGER"},
+    {"accuracy", "how exact the time is: whole"},
+    {"nonce", "the number of who asked, an INTEGER"},
     {"authority", "who stamps, a GeneralName"},
     {NULL, NULL}};
 
@@ -1090,9 +1090,9 @@ static PyObject *row_code(Image *self, Rows *rows, const pe_c_code *it)
 }
 
 static PyStructSequence_Field row_registers_fields[] = {
-    {"general", "rax, rcx, rdx, rbx, rsp, rbp, rsi, rdi, r8 .. r15: rsp is general[4]"},
+    {"general", "by their numbers: rax, rcx, rdx, rbx, rsp, rbp, rsi, rdi, r8 .. r15; rsp is general[4]"},
     {"xmm", "of xmm0 .. xmm15 the low half and then the high half, as CONTEXT has them"},
-    {"rip", NULL},
+    {"rip", "the instruction pointer"},
     {NULL, NULL}};
 
 static PyObject *row_registers(Image *self, Rows *rows, const pe_c_registers *it)
@@ -1250,8 +1250,8 @@ static PyObject *row_arm64_code(Image *self, Rows *rows, const pe_c_arm64_code *
 static PyStructSequence_Field row_arm64_registers_fields[] = {
     {"general", "x0 .. x30: the frame pointer is general[29], the link register general[30]"},
     {"floats", "d8 .. d15, the low halves of v8 .. v15"},
-    {"sp", NULL},
-    {"pc", NULL},
+    {"sp", "the stack pointer"},
+    {"pc", "the instruction pointer"},
     {NULL, NULL}};
 
 static PyObject *row_arm64_registers(Image *self, Rows *rows, const pe_c_arm64_registers *it)
@@ -1338,8 +1338,8 @@ static PyObject *row_exported(Image *self, Rows *rows, const pe_c_exported *it, 
 static PyStructSequence_Field row_export_fields_fields[] = {
     {"characteristics", "reserved"},
     {"time_date_stamp", "seconds since the start of 1970, or a hash"},
-    {"major_version", NULL},
-    {"minor_version", NULL},
+    {"major_version", "of the directory"},
+    {"minor_version", "of the directory"},
     {"name", "RVA of the DLL's name, or 0"},
     {"base", "ordinal of the export with the index 0"},
     {"number_of_functions", "entries of the table of RVAs"},
@@ -1448,7 +1448,7 @@ static PyObject *row_delay_descriptor(Image *self, Rows *rows, const pe_c_delay_
 static PyStructSequence_Field row_delay_import_fields[] = {
     {"name", "of the DLL: UTF-8, without its final zero"},
     {"imports", "where a walk over its functions starts"},
-    {"descriptor", NULL},
+    {"descriptor", "the entry"},
     {NULL, NULL}};
 
 static PyObject *row_delay_import(Image *self, Rows *rows, const pe_c_delay_import *it)
@@ -1515,7 +1515,7 @@ static PyObject *row_bound_forwarder(Image *self, Rows *rows, const pe_c_bound_f
 
 static PyStructSequence_Field row_version_fields[] = {
     {"signature", "0xFEEF04BD"},
-    {"struct_version", "major in the high 16 bits, minor in the low"},
+    {"struct_version", "of this record: major in the high 16 bits, minor in the low"},
     {"file_version_ms", "1.2.3.4 is 0x00010002 and 0x00030004"},
     {"file_version_ls", "1.2.3.4 is 0x00010002 and 0x00030004"},
     {"product_version_ms", "likewise"},
@@ -1606,10 +1606,10 @@ static PyObject *row_resource_leaf(Image *self, Rows *rows, const pe_c_resource_
 static PyStructSequence_Field row_resource_directory_fields[] = {
     {"characteristics", "reserved"},
     {"time_date_stamp", "seconds since the start of 1970, mostly 0"},
-    {"major_version", NULL},
-    {"minor_version", NULL},
+    {"major_version", "of the resources"},
+    {"minor_version", "of the resources"},
     {"number_of_named_entries", "which come first"},
-    {"number_of_id_entries", NULL},
+    {"number_of_id_entries", "which follow them"},
     {NULL, NULL}};
 
 static PyObject *row_resource_directory(Image *self, Rows *rows, const pe_c_resource_directory *it)
@@ -1664,8 +1664,8 @@ static PyStructSequence_Field row_load_config_directory_fields[] = {
     {"size", "bytes of the structure, as it says itself"},
     {"time_date_stamp", "seconds since 1970"},
     {"guard_flags", "IMAGE_GUARD_ flags"},
-    {"major_version", NULL},
-    {"minor_version", NULL},
+    {"major_version", "major part of a version"},
+    {"minor_version", "minor part of a version"},
     {"dependent_load_flags", "where DLLs that the image imports are looked for, flags of LoadLibraryEx"},
     {NULL, NULL}};
 
@@ -1692,7 +1692,7 @@ static PyObject *row_load_config_directory(Image *self, Rows *rows, const pe_c_l
 }
 
 static PyStructSequence_Field row_guard_entry_fields[] = {
-    {"rva", NULL},
+    {"rva", "an RVA"},
     {"flags", "their first byte, IMAGE_GUARD_FLAG_ flags; 0 where there is none"},
     {NULL, NULL}};
 
@@ -1746,12 +1746,12 @@ static PyObject *row_relocation(Image *self, Rows *rows, const pe_c_relocation *
 static PyStructSequence_Field row_cor20_header_fields[] = {
     {"cb", "bytes of the header, as it says itself: 72 or more"},
     {"major_runtime_version", "the version of the runtime that is needed"},
-    {"minor_runtime_version", NULL},
-    {"metadata", NULL},
+    {"minor_runtime_version", "the version of the runtime that is needed, minor part"},
+    {"metadata", "the metadata"},
     {"flags", "COMIMAGE_FLAGS_"},
     {"entry_point_token", "a metadata token; an RVA with COMIMAGE_FLAGS_NATIVE_ENTRYPOINT (0x10)"},
     {"resources", "managed resources"},
-    {"strong_name_signature", NULL},
+    {"strong_name_signature", "the strong name signature"},
     {"code_manager_table", "0"},
     {"vtable_fixups", "fixups of tables of virtual functions"},
     {"export_address_table_jumps", "0"},
@@ -1783,7 +1783,7 @@ static PyStructSequence_Field row_metadata_fields[] = {
     {"version", "such as \"v4.0.30319\": UTF-8 up to the first zero, and the zeros after it"},
     {"streams", "a walk for pe_c_next_metadata_stream, at its start"},
     {"major_version", "of the format of metadata"},
-    {"minor_version", NULL},
+    {"minor_version", "of the format of metadata"},
     {"flags", "reserved"},
     {NULL, NULL}};
 
@@ -1825,7 +1825,7 @@ static PyStructSequence_Field row_dump_info_fields[] = {
     {"directory", "entries of 12 bytes"},
     {"flags", "what the writer was asked for, MINIDUMP_TYPE"},
     {"version", "A793h in the low 16 bits; the others are the writer's own"},
-    {"number_of_streams", NULL},
+    {"number_of_streams", "the number of entries of the directory"},
     {"check_sum", "mostly 0"},
     {"time_date_stamp", "when the dump was written, in seconds since 1970"},
     {NULL, NULL}};
@@ -1846,7 +1846,7 @@ static PyObject *row_dump_info(Image *self, Rows *rows, const pe_c_dump_info *it
 }
 
 static PyStructSequence_Field row_dump_location_fields[] = {
-    {"size", NULL},
+    {"size", "in bytes"},
     {"rva", "offset in the dump"},
     {NULL, NULL}};
 
@@ -1863,7 +1863,7 @@ static PyObject *row_dump_location(Image *self, Rows *rows, const pe_c_dump_loca
 
 static PyStructSequence_Field row_dump_entry_fields[] = {
     {"stream_type", "PE_C_*_STREAM; 0 is none"},
-    {"location", NULL},
+    {"location", "where the stream is"},
     {NULL, NULL}};
 
 static PyObject *row_dump_entry(Image *self, Rows *rows, const pe_c_dump_entry *it)
@@ -1878,8 +1878,8 @@ static PyObject *row_dump_entry(Image *self, Rows *rows, const pe_c_dump_entry *
 }
 
 static PyStructSequence_Field row_dump_stack_fields[] = {
-    {"start_of_memory_range", NULL},
-    {"memory", NULL},
+    {"start_of_memory_range", "address of the first byte"},
+    {"memory", "where its bytes are"},
     {NULL, NULL}};
 
 static PyObject *row_dump_stack(Image *self, Rows *rows, const pe_c_dump_stack *it)
@@ -1894,12 +1894,12 @@ static PyObject *row_dump_stack(Image *self, Rows *rows, const pe_c_dump_stack *
 }
 
 static PyStructSequence_Field row_dump_thread_fields[] = {
-    {"thread_id", NULL},
+    {"thread_id", "the ID of the thread"},
     {"suspend_count", "0 if it runs"},
-    {"priority_class", NULL},
-    {"priority", NULL},
+    {"priority_class", "the priority class of the process"},
+    {"priority", "the priority of the thread"},
     {"teb", "address of its environment block"},
-    {"stack", NULL},
+    {"stack", "the memory of its stack"},
     {"thread_context", "no bytes where it has none"},
     {NULL, NULL}};
 
@@ -1921,18 +1921,18 @@ static PyObject *row_dump_thread(Image *self, Rows *rows, const pe_c_dump_thread
 
 static PyStructSequence_Field row_dump_version_fields[] = {
     {"signature", "FEEF04BDh"},
-    {"struc_version", NULL},
+    {"struc_version", "the version of this structure"},
     {"file_version_ms", "major part in the upper 16 bits, minor part in the lower"},
     {"file_version_ls", "build and revision"},
-    {"product_version_ms", NULL},
-    {"product_version_ls", NULL},
-    {"file_flags_mask", NULL},
-    {"file_flags", NULL},
-    {"file_os", NULL},
-    {"file_type", NULL},
-    {"file_subtype", NULL},
-    {"file_date_ms", NULL},
-    {"file_date_ls", NULL},
+    {"product_version_ms", "of the product: major and minor part"},
+    {"product_version_ls", "build and revision"},
+    {"file_flags_mask", "which bits of the flags are valid"},
+    {"file_flags", "`VS_FF_*`"},
+    {"file_os", "`VOS_*`"},
+    {"file_type", "`VFT_*`"},
+    {"file_subtype", "`VFT2_*`"},
+    {"file_date_ms", "the date of the file, upper half"},
+    {"file_date_ls", "lower half"},
     {NULL, NULL}};
 
 static PyObject *row_dump_version(Image *self, Rows *rows, const pe_c_dump_version *it)
@@ -1964,7 +1964,7 @@ static PyStructSequence_Field row_dump_module_fields[] = {
     {"time_date_stamp", "TimeDateStamp of its image"},
     {"module_name", "its path, for pe_c_dump_text"},
     {"module_name_rva", "its path, for pe_c_dump_text"},
-    {"version_info", NULL},
+    {"version_info", "its version"},
     {"cv_record", "its CodeView record: pe_c_dump_range, then pe_c_codeview. No bytes where there is none"},
     {"misc_record", "its IMAGE_DEBUG_MISC"},
     {NULL, NULL}};
@@ -1990,7 +1990,7 @@ static PyObject *row_dump_module(Image *self, Rows *rows, const pe_c_dump_module
 static PyStructSequence_Field row_dump_thread_name_fields[] = {
     {"name", "for pe_c_dump_text"},
     {"rva_of_thread_name", "for pe_c_dump_text"},
-    {"thread_id", NULL},
+    {"thread_id", "the ID of the thread"},
     {NULL, NULL}};
 
 static PyObject *row_dump_thread_name(Image *self, Rows *rows, const pe_c_dump_thread_name *it)
@@ -2006,10 +2006,10 @@ static PyObject *row_dump_thread_name(Image *self, Rows *rows, const pe_c_dump_t
 }
 
 static PyStructSequence_Field row_dump_unloaded_fields[] = {
-    {"base_of_image", NULL},
-    {"size_of_image", NULL},
-    {"check_sum", NULL},
-    {"time_date_stamp", NULL},
+    {"base_of_image", "address where it was loaded"},
+    {"size_of_image", "in bytes"},
+    {"check_sum", "`CheckSum` of its image"},
+    {"time_date_stamp", "`TimeDateStamp` of its image"},
     {"module_name", "for pe_c_dump_text"},
     {"module_name_rva", "for pe_c_dump_text"},
     {NULL, NULL}};
@@ -2030,16 +2030,16 @@ static PyObject *row_dump_unloaded(Image *self, Rows *rows, const pe_c_dump_unlo
 }
 
 static PyStructSequence_Field row_dump_thread_info_fields[] = {
-    {"thread_id", NULL},
+    {"thread_id", "the ID of the thread"},
     {"dump_flags", "MINIDUMP_THREAD_INFO_*: 2 is the thread that wrote the dump"},
     {"dump_error", "an HRESULT of the writer"},
     {"exit_status", "259 while it runs"},
     {"create_time", "in 100 ns since 1601"},
-    {"exit_time", NULL},
+    {"exit_time", "when it ended, likewise"},
     {"kernel_time", "in 100 ns"},
-    {"user_time", NULL},
+    {"user_time", "likewise"},
     {"start_address", "of its function"},
-    {"affinity", NULL},
+    {"affinity", "the processors on which it may run"},
     {NULL, NULL}};
 
 static PyObject *row_dump_thread_info(Image *self, Rows *rows, const pe_c_dump_thread_info *it)
@@ -2062,15 +2062,15 @@ static PyObject *row_dump_thread_info(Image *self, Rows *rows, const pe_c_dump_t
 }
 
 static PyStructSequence_Field row_dump_handle_fields[] = {
-    {"handle", NULL},
+    {"handle", "the value of the handle"},
     {"type_name", "for pe_c_dump_text; 0 if there is none"},
     {"type_name_rva", "for pe_c_dump_text; 0 if there is none"},
     {"object_name", "likewise"},
     {"object_name_rva", "likewise"},
-    {"attributes", NULL},
-    {"granted_access", NULL},
-    {"handle_count", NULL},
-    {"pointer_count", NULL},
+    {"attributes", "its attributes"},
+    {"granted_access", "what its holder may do"},
+    {"handle_count", "how many handles its object has"},
+    {"pointer_count", "how many references its object has"},
     {NULL, NULL}};
 
 static PyObject *row_dump_handle(Image *self, Rows *rows, const pe_c_dump_handle *it)
@@ -2092,9 +2092,9 @@ static PyObject *row_dump_handle(Image *self, Rows *rows, const pe_c_dump_handle
 }
 
 static PyStructSequence_Field row_dump_region_fields[] = {
-    {"base_address", NULL},
-    {"allocation_base", NULL},
-    {"region_size", NULL},
+    {"base_address", "address of the first byte"},
+    {"allocation_base", "address of the allocation that it is part of"},
+    {"region_size", "in bytes"},
     {"allocation_protect", "PAGE_*"},
     {"state", "MEM_COMMIT, MEM_RESERVE or MEM_FREE"},
     {"protect", "PAGE_*"},
@@ -2118,13 +2118,13 @@ static PyObject *row_dump_region(Image *self, Rows *rows, const pe_c_dump_region
 }
 
 static PyStructSequence_Field row_dump_raised_fields[] = {
-    {"thread_id", NULL},
-    {"exception_code", NULL},
-    {"exception_flags", NULL},
+    {"thread_id", "the ID of the thread"},
+    {"exception_code", "the code, as C0000005h"},
+    {"exception_flags", "1 if the thread cannot go on, or 0"},
     {"number_parameters", "as the file says, so it may be above 15"},
     {"exception_record", "address, in the process, of another exception that it belongs to, or 0"},
     {"exception_address", "of the instruction"},
-    {"exception_information", NULL},
+    {"exception_information", "parameters: of an access violation 0 for a read, 1 for a write, 8 for execution, and the address"},
     {"thread_context", "of the thread as it crashed"},
     {NULL, NULL}};
 
@@ -2147,13 +2147,13 @@ static PyObject *row_dump_raised(Image *self, Rows *rows, const pe_c_dump_raised
 
 static PyStructSequence_Field row_dump_system_info_fields[] = {
     {"processor_architecture", "9 x64, 12 ARM64, 0 x86: of which machine the contexts are"},
-    {"processor_level", NULL},
-    {"processor_revision", NULL},
-    {"number_of_processors", NULL},
+    {"processor_level", "the family of the processor"},
+    {"processor_revision", "its model and stepping"},
+    {"number_of_processors", "the number of processors"},
     {"product_type", "VER_NT_*"},
-    {"major_version", NULL},
-    {"minor_version", NULL},
-    {"build_number", NULL},
+    {"major_version", "the version of the system, major part"},
+    {"minor_version", "minor part"},
+    {"build_number", "the build of the system"},
     {"platform_id", "VER_PLATFORM_*"},
     {"csd_version", "the name of the service pack, for pe_c_dump_text"},
     {"csd_version_rva", "the name of the service pack, for pe_c_dump_text"},
@@ -2184,7 +2184,7 @@ static PyObject *row_dump_system_info(Image *self, Rows *rows, const pe_c_dump_s
 static PyStructSequence_Field row_dump_times_fields[] = {
     {"process_create_time", "in seconds since 1970"},
     {"process_user_time", "in seconds"},
-    {"process_kernel_time", NULL},
+    {"process_kernel_time", "in seconds, in the kernel"},
     {NULL, NULL}};
 
 static PyObject *row_dump_times(Image *self, Rows *rows, const pe_c_dump_times *it)
@@ -2200,11 +2200,11 @@ static PyObject *row_dump_times(Image *self, Rows *rows, const pe_c_dump_times *
 }
 
 static PyStructSequence_Field row_dump_power_fields[] = {
-    {"processor_max_mhz", NULL},
-    {"processor_current_mhz", NULL},
-    {"processor_mhz_limit", NULL},
-    {"processor_max_idle_state", NULL},
-    {"processor_current_idle_state", NULL},
+    {"processor_max_mhz", "the most that it may have, in MHz"},
+    {"processor_current_mhz", "what it had, in MHz"},
+    {"processor_mhz_limit", "the limit that was set, in MHz"},
+    {"processor_max_idle_state", "the deepest idle state that it may have"},
+    {"processor_current_idle_state", "the idle state that it had"},
     {NULL, NULL}};
 
 static PyObject *row_dump_power(Image *self, Rows *rows, const pe_c_dump_power *it)
@@ -2226,7 +2226,7 @@ static PyStructSequence_Field row_dump_process_info_fields[] = {
     {"flags1", "MINIDUMP_MISC1_*"},
     {"process_id", "with bit 0 of the flags"},
     {"process_times", "with bit 1"},
-    {"processor_power", NULL},
+    {"processor_power", "the speed of the processor"},
     {NULL, NULL}};
 
 static PyObject *row_dump_process_info(Image *self, Rows *rows, const pe_c_dump_process_info *it)
@@ -2244,9 +2244,9 @@ static PyObject *row_dump_process_info(Image *self, Rows *rows, const pe_c_dump_
 }
 
 static PyStructSequence_Field row_dump_piece_fields[] = {
-    {"start", NULL},
-    {"offset", NULL},
-    {"length", NULL},
+    {"start", "where its bytes are"},
+    {"offset", "where its bytes are"},
+    {"length", "where its bytes are"},
     {"lost", "how many more bytes the dump says it has, which a truncated file does not have"},
     {NULL, NULL}};
 
@@ -2264,9 +2264,9 @@ static PyObject *row_dump_piece(Image *self, Rows *rows, const pe_c_dump_piece *
 }
 
 static PyStructSequence_Field row_context_fields[] = {
-    {"registers", "xmm is 0 where it was not saved"},
+    {"registers", "`xmm` is 0 where it was not saved"},
     {"context_flags", "CONTEXT_*: bit 3 says that xmm was saved"},
-    {"eflags", NULL},
+    {"eflags", "the flags of the processor"},
     {NULL, NULL}};
 
 static PyObject *row_context(Image *self, Rows *rows, const pe_c_context *it)
@@ -2284,7 +2284,7 @@ static PyObject *row_context(Image *self, Rows *rows, const pe_c_context *it)
 static PyStructSequence_Field row_arm64_context_fields[] = {
     {"registers", "d8 to d15 are 0 where they were not saved"},
     {"context_flags", "CONTEXT_ARM64_*: bit 2 says that they were"},
-    {"cpsr", NULL},
+    {"cpsr", "the flags of the processor"},
     {NULL, NULL}};
 
 static PyObject *row_arm64_context(Image *self, Rows *rows, const pe_c_arm64_context *it)
@@ -2303,31 +2303,31 @@ static const PyStructSequence_Desc row_kinds[] = {
     [ROW_RANGE] = {"pe_c._core.Range", "A range of the bytes of the image.", row_range_fields, 2},
     [ROW_DIRECTORY] = {"pe_c._core.Directory", "A data directory. Both fields are 0 where it is absent.", row_directory_fields, 2},
     [ROW_IMAGE_INFO] = {"pe_c._core.Headers", "The headers of an image. Without an optional header the numbers that it has are 0, and its directories are absent.", row_image_info_fields, 20},
-    [ROW_SECTION] = {"pe_c._core.Section", "IMAGE_SECTION_HEADER.", row_section_fields, 11},
+    [ROW_SECTION] = {"pe_c._core.Section", "A section header, IMAGE_SECTION_HEADER.", row_section_fields, 11},
     [ROW_DOS_HEADER] = {"pe_c._core.DosHeader", "IMAGE_DOS_HEADER, in its layout. Windows reads the first field and the last alone.", row_dos_header_fields, 19},
     [ROW_COFF_HEADER] = {"pe_c._core.CoffHeader", "IMAGE_FILE_HEADER.", row_coff_header_fields, 7},
     [ROW_OPTIONAL_HEADER] = {"pe_c._core.OptionalHeader", "IMAGE_OPTIONAL_HEADER32 or IMAGE_OPTIONAL_HEADER64.", row_optional_header_fields, 31},
-    [ROW_HEADERS_INFO] = {"pe_c._core.AllHeaders", "Without an optional header its numbers and both offsets are 0, and all directories are absent.", row_headers_info_fields, 8},
+    [ROW_HEADERS_INFO] = {"pe_c._core.AllHeaders", "All numbers of the headers of an image. Without an optional header its numbers and both offsets are 0, and all directories are absent.", row_headers_info_fields, 8},
     [ROW_SYMBOL_ENTRY] = {"pe_c._core.Symbol", "A COFF symbol, IMAGE_SYMBOL, with what its entry says of others.", row_symbol_entry_fields, 10},
-    [ROW_RICH_HEADER_INFO] = {"pe_c._core.RichHeader", NULL, row_rich_header_info_fields, 4},
-    [ROW_RICH_ENTRY] = {"pe_c._core.RichEntry", NULL, row_rich_entry_fields, 3},
-    [ROW_DEBUG_ENTRY] = {"pe_c._core.DebugEntry", "IMAGE_DEBUG_DIRECTORY.", row_debug_entry_fields, 8},
+    [ROW_RICH_HEADER_INFO] = {"pe_c._core.RichHeader", "The Rich header.", row_rich_header_info_fields, 4},
+    [ROW_RICH_ENTRY] = {"pe_c._core.RichEntry", "An entry of a Rich header.", row_rich_entry_fields, 3},
+    [ROW_DEBUG_ENTRY] = {"pe_c._core.DebugEntry", "An entry of the debug directory, IMAGE_DEBUG_DIRECTORY.", row_debug_entry_fields, 8},
     [ROW_KEY] = {"pe_c._core.SymbolKey", "A CodeView record of PDB 7.0 (\"RSDS\"): a symbol server files the PDB under its name, GUID and age.", row_key_fields, 4},
     [ROW_PDB20] = {"pe_c._core.Pdb20", "A CodeView record of PDB 2.0 (\"NB10\").", row_pdb20_fields, 4},
     [ROW_VC_FEATURES] = {"pe_c._core.VcFeatures", "VC features: the counts that dumpbin /headers shows.", row_vc_features_fields, 5},
     [ROW_REPRO] = {"pe_c._core.Repro", "Repro: the same sources build the same image.", row_repro_fields, 1},
     [ROW_POGO] = {"pe_c._core.Pogo", "POGO: the parts of the image's sections, such as \".text$mn\".", row_pogo_fields, 2},
-    [ROW_POGO_ENTRY] = {"pe_c._core.PogoEntry", NULL, row_pogo_entry_fields, 3},
+    [ROW_POGO_ENTRY] = {"pe_c._core.PogoEntry", "An entry of a POGO record.", row_pogo_entry_fields, 3},
     [ROW_EMBEDDED_PDB] = {"pe_c._core.EmbeddedPdb", "A portable PDB in the image itself, of .NET.", row_embedded_pdb_fields, 2},
     [ROW_PDB_CHECKSUM] = {"pe_c._core.PdbChecksum", "A checksum of the PDB file, of .NET: of its bytes with zeros in place of the PDB's id.", row_pdb_checksum_fields, 2},
     [ROW_TE_IMAGE] = {"pe_c._core.TeHeader", "The header of a TE image, EFI_TE_IMAGE_HEADER. Its RVAs are reduced by rva_offset.", row_te_image_fields, 11},
-    [ROW_CERTIFICATE] = {"pe_c._core.Certificate", "WIN_CERTIFICATE.", row_certificate_fields, 4},
+    [ROW_CERTIFICATE] = {"pe_c._core.Certificate", "An attribute certificate, WIN_CERTIFICATE.", row_certificate_fields, 4},
     [ROW_OID] = {"pe_c._core.ObjectIdentifier", "An object identifier.", row_oid_fields, 2},
     [ROW_ALGORITHM] = {"pe_c._core.Algorithm", "An algorithm, AlgorithmIdentifier.", row_algorithm_fields, 2},
     [ROW_DER_ELEMENT] = {"pe_c._core.DerElement", "An element of DER.", row_der_element_fields, 3},
     [ROW_SIGNED_DATA] = {"pe_c._core.SignedData", "A signature: ContentInfo, SignedData, EncapsulatedContentInfo.", row_signed_data_fields, 8},
     [ROW_SPC_INDIRECT_DATA] = {"pe_c._core.SpcIndirectData", "What Authenticode signs, SpcIndirectDataContent.", row_spc_indirect_data_fields, 4},
-    [ROW_SPC_PE_IMAGE_DATA] = {"pe_c._core.SpcPeImageData", "SpcPeImageData.", row_spc_pe_image_data_fields, 2},
+    [ROW_SPC_PE_IMAGE_DATA] = {"pe_c._core.SpcPeImageData", "What a signature says of an image as a file, SpcPeImageData.", row_spc_pe_image_data_fields, 2},
     [ROW_SIGNER_INFO] = {"pe_c._core.SignerInfo", "A signer, SignerInfo. Its certificate is the one with this issuer and serial number. Its signature is over the octet signed_first and the bytes of signed_rest; without signed attributes over what is signed, the field `digested`.", row_signer_info_fields, 11},
     [ROW_SIGNER_ATTRIBUTE] = {"pe_c._core.SignerAttribute", "An attribute of a signer. Its values are a walk for pe_c_next_element, mostly of one: PE_C_OID_MESSAGE_DIGEST an OCTET STRING, whose content is the digest PE_C_OID_SIGNING_TIME for pe_c_time PE_C_OID_SPC_SP_OPUS_INFO for pe_c_opus_info PE_C_OID_COUNTER_SIGNATURE for pe_c_signer: its messageDigest is the digest of the signature of this signer PE_C_OID_TIME_STAMP_TOKEN for pe_c_signature, whose content is for pe_c_time_stamp PE_C_OID_NESTED_SIGNATURE each for pe_c_signature", row_signer_attribute_fields, 2},
     [ROW_SPC_OPUS_INFO] = {"pe_c._core.SpcOpusInfo", "What a signer says of the program, SpcSpOpusInfo.", row_spc_opus_info_fields, 4},
@@ -2337,40 +2337,40 @@ static const PyStructSequence_Desc row_kinds[] = {
     [ROW_UTC_TIME] = {"pe_c._core.UtcTime", "A time in UTC.", row_utc_time_fields, 6},
     [ROW_TST_INFO] = {"pe_c._core.TstInfo", "What a time-stamp token says, TSTInfo.", row_tst_info_fields, 9},
     [ROW_CHECKSUM_FIELD] = {"pe_c._core.Checksum", "The checksum that an image should have. Windows tests it for drivers and boot files.", row_checksum_field_fields, 2},
-    [ROW_FUNCTION] = {"pe_c._core.Function", "RUNTIME_FUNCTION.", row_function_fields, 3},
-    [ROW_RECORD] = {"pe_c._core.UnwindRecord", "UNWIND_INFO.", row_record_fields, 9},
-    [ROW_CODE] = {"pe_c._core.UnwindCode", "UNWIND_CODE.", row_code_fields, 5},
+    [ROW_FUNCTION] = {"pe_c._core.Function", "An entry of the x64 function table, RUNTIME_FUNCTION.", row_function_fields, 3},
+    [ROW_RECORD] = {"pe_c._core.UnwindRecord", "An x64 unwind record, UNWIND_INFO.", row_record_fields, 9},
+    [ROW_CODE] = {"pe_c._core.UnwindCode", "An x64 unwind code, UNWIND_CODE.", row_code_fields, 5},
     [ROW_REGISTERS] = {"pe_c._core.Registers", "The registers of a thread that unwinding restores.", row_registers_fields, 3},
-    [ROW_STACK_WALK] = {"pe_c._core.StackFrame", "A walk of a stack, and the frame that was returned last. For a walk from the start set the registers to those of the thread, `remaining` to how many frames are wanted at most, and all else to 0.", row_stack_walk_fields, 7},
-    [ROW_ARM64_FUNCTION] = {"pe_c._core.Arm64Function", "An entry of the function table.", row_arm64_function_fields, 2},
-    [ROW_ARM64_PACKED] = {"pe_c._core.Arm64Packed", "Packed unwind data. The fields mean nothing unless is_packed.", row_arm64_packed_fields, 8},
-    [ROW_ARM64_RECORD] = {"pe_c._core.Arm64Record", "An unwind record (.xdata).", row_arm64_record_fields, 7},
-    [ROW_ARM64_SCOPE] = {"pe_c._core.Arm64Scope", "An epilog scope.", row_arm64_scope_fields, 4},
+    [ROW_STACK_WALK] = {"pe_c._core.StackFrame", "A walk of a stack on x64, and the frame that was returned last. For a walk from the start set the registers to those of the thread, `remaining` to how many frames are wanted at most, and all else to 0.", row_stack_walk_fields, 7},
+    [ROW_ARM64_FUNCTION] = {"pe_c._core.Arm64Function", "An entry of the ARM64 function table.", row_arm64_function_fields, 2},
+    [ROW_ARM64_PACKED] = {"pe_c._core.Arm64Packed", "Packed unwind data of an ARM64 function. The fields mean nothing unless is_packed.", row_arm64_packed_fields, 8},
+    [ROW_ARM64_RECORD] = {"pe_c._core.Arm64Record", "An ARM64 unwind record (.xdata).", row_arm64_record_fields, 7},
+    [ROW_ARM64_SCOPE] = {"pe_c._core.Arm64Scope", "An epilog scope: where an epilog of an ARM64 function is, and where its codes are.", row_arm64_scope_fields, 4},
     [ROW_ARM64_CODE] = {"pe_c._core.Arm64Code", "An ARM64 unwind code.", row_arm64_code_fields, 6},
-    [ROW_ARM64_REGISTERS] = {"pe_c._core.Arm64Registers", "The registers of a thread that unwinding restores.", row_arm64_registers_fields, 4},
+    [ROW_ARM64_REGISTERS] = {"pe_c._core.Arm64Registers", "The registers of a thread on ARM64 that unwinding restores.", row_arm64_registers_fields, 4},
     [ROW_ARM64_STACK_WALK] = {"pe_c._core.Arm64StackFrame", "A walk of a stack on ARM64, and the frame that was returned last, as pe_c_stack_walk.", row_arm64_stack_walk_fields, 7},
-    [ROW_ADDRESS_TABLE] = {"pe_c._core.ExportTable", "The table of RVAs, which has all exports by their index, also those without a name.", row_address_table_fields, 4},
+    [ROW_ADDRESS_TABLE] = {"pe_c._core.ExportTable", "The export directory's table of RVAs, which has all exports by their index, also those without a name.", row_address_table_fields, 4},
     [ROW_EXPORTED] = {"pe_c._core.Export", "An export by its index.", row_exported_fields, 5},
     [ROW_EXPORT_FIELDS] = {"pe_c._core.ExportDirectory", "The export directory itself, IMAGE_EXPORT_DIRECTORY.", row_export_fields_fields, 11},
-    [ROW_LIBRARY] = {"pe_c._core.Library", "IMAGE_IMPORT_DESCRIPTOR.", row_library_fields, 8},
-    [ROW_IMPORT] = {"pe_c._core.Import", NULL, row_import_fields, 4},
-    [ROW_DELAY_DESCRIPTOR] = {"pe_c._core.DelayDescriptor", "IMAGE_DELAYLOAD_DESCRIPTOR. Addresses are RVAs where bit 0 of the attributes is set, else virtual addresses, as linkers before Visual C++ 7 wrote them.", row_delay_descriptor_fields, 8},
-    [ROW_DELAY_IMPORT] = {"pe_c._core.DelayLibrary", NULL, row_delay_import_fields, 3},
-    [ROW_DELAYED_FUNCTION] = {"pe_c._core.DelayedFunction", NULL, row_delayed_function_fields, 2},
-    [ROW_BOUND_IMPORT] = {"pe_c._core.BoundLibrary", "IMAGE_BOUND_IMPORT_DESCRIPTOR.", row_bound_import_fields, 3},
-    [ROW_BOUND_FORWARDER] = {"pe_c._core.BoundForwarder", "IMAGE_BOUND_FORWARDER_REF.", row_bound_forwarder_fields, 2},
-    [ROW_VERSION] = {"pe_c._core.FixedVersion", "VS_FIXEDFILEINFO.", row_version_fields, 13},
+    [ROW_LIBRARY] = {"pe_c._core.Library", "A DLL that an image imports from, IMAGE_IMPORT_DESCRIPTOR.", row_library_fields, 8},
+    [ROW_IMPORT] = {"pe_c._core.Import", "An import.", row_import_fields, 4},
+    [ROW_DELAY_DESCRIPTOR] = {"pe_c._core.DelayDescriptor", "An entry of the delay import directory, IMAGE_DELAYLOAD_DESCRIPTOR. Addresses are RVAs where bit 0 of the attributes is set, else virtual addresses, as linkers before Visual C++ 7 wrote them.", row_delay_descriptor_fields, 8},
+    [ROW_DELAY_IMPORT] = {"pe_c._core.DelayLibrary", "A DLL that is loaded later.", row_delay_import_fields, 3},
+    [ROW_DELAYED_FUNCTION] = {"pe_c._core.DelayedFunction", "What is imported of a DLL that is loaded later.", row_delayed_function_fields, 2},
+    [ROW_BOUND_IMPORT] = {"pe_c._core.BoundLibrary", "A bound import, IMAGE_BOUND_IMPORT_DESCRIPTOR.", row_bound_import_fields, 3},
+    [ROW_BOUND_FORWARDER] = {"pe_c._core.BoundForwarder", "A DLL that another one forwards to, IMAGE_BOUND_FORWARDER_REF.", row_bound_forwarder_fields, 2},
+    [ROW_VERSION] = {"pe_c._core.FixedVersion", "The fixed file information, VS_FIXEDFILEINFO.", row_version_fields, 13},
     [ROW_VERSION_BLOCK] = {"pe_c._core.VersionBlock", "A block of version information, which is a tree of them. The first block, VS_VERSION_INFO, is all of it; its value is the fixed file information. It contains StringFileInfo, with a string table for each language, whose blocks are strings with any key; and VarFileInfo, with Translation, whose value is a language and a code page, uint16_t each, for each language of the file.", row_version_block_fields, 5},
-    [ROW_RESOURCE_LEAF] = {"pe_c._core.Resource", NULL, row_resource_leaf_fields, 9},
+    [ROW_RESOURCE_LEAF] = {"pe_c._core.Resource", "A leaf of a resource tree.", row_resource_leaf_fields, 9},
     [ROW_RESOURCE_DIRECTORY] = {"pe_c._core.ResourceDirectory", "A directory of the tree, IMAGE_RESOURCE_DIRECTORY.", row_resource_directory_fields, 6},
-    [ROW_TLS_DIRECTORY] = {"pe_c._core.Tls", "IMAGE_TLS_DIRECTORY.", row_tls_directory_fields, 7},
+    [ROW_TLS_DIRECTORY] = {"pe_c._core.Tls", "The TLS directory, IMAGE_TLS_DIRECTORY.", row_tls_directory_fields, 7},
     [ROW_LOAD_CONFIG_DIRECTORY] = {"pe_c._core.LoadConfig", "IMAGE_LOAD_CONFIG_DIRECTORY32 or IMAGE_LOAD_CONFIG_DIRECTORY64, up to the guard flags. A field that the structure is too short for, or the image, is 0, and so is the field of its name with has_, which else is 1. The addresses are virtual addresses, mostly 0 where there is nothing: less image->base one is an RVA, for pe_c_offset.", row_load_config_directory_fields, 13},
-    [ROW_GUARD_ENTRY] = {"pe_c._core.GuardEntry", NULL, row_guard_entry_fields, 2},
-    [ROW_RELOCATION_BLOCK] = {"pe_c._core.RelocationBlock", "IMAGE_BASE_RELOCATION.", row_relocation_block_fields, 3},
-    [ROW_RELOCATION] = {"pe_c._core.Relocation", NULL, row_relocation_fields, 3},
-    [ROW_COR20_HEADER] = {"pe_c._core.ClrHeader", "IMAGE_COR20_HEADER.", row_cor20_header_fields, 12},
+    [ROW_GUARD_ENTRY] = {"pe_c._core.GuardEntry", "An entry of a table of a load configuration.", row_guard_entry_fields, 2},
+    [ROW_RELOCATION_BLOCK] = {"pe_c._core.RelocationBlock", "A block of base relocations, IMAGE_BASE_RELOCATION.", row_relocation_block_fields, 3},
+    [ROW_RELOCATION] = {"pe_c._core.Relocation", "A base relocation.", row_relocation_fields, 3},
+    [ROW_COR20_HEADER] = {"pe_c._core.ClrHeader", "The CLR header, IMAGE_COR20_HEADER.", row_cor20_header_fields, 12},
     [ROW_METADATA] = {"pe_c._core.Metadata", "The root of the metadata.", row_metadata_fields, 5},
-    [ROW_METADATA_STREAM] = {"pe_c._core.MetadataStream", NULL, row_metadata_stream_fields, 4},
+    [ROW_METADATA_STREAM] = {"pe_c._core.MetadataStream", "A stream of CLR metadata.", row_metadata_stream_fields, 4},
     [ROW_DUMP_INFO] = {"pe_c._core.DumpHeader", "The header, MINIDUMP_HEADER.", row_dump_info_fields, 6},
     [ROW_DUMP_LOCATION] = {"pe_c._core.DumpLocation", "Where bytes are, MINIDUMP_LOCATION_DESCRIPTOR. One of no bytes says that there are none.", row_dump_location_fields, 2},
     [ROW_DUMP_ENTRY] = {"pe_c._core.DumpEntry", "An entry of the directory, MINIDUMP_DIRECTORY.", row_dump_entry_fields, 2},
