@@ -1726,7 +1726,8 @@ enum {
     PE_C_WAY_LEAF = 2,              /* it called a leaf function */
     PE_C_WAY_INTERRUPT = 3,         /* an interrupt stopped it: the records before it show what the processor pushed, on
                                        ARM64 what the operating system saved */
-    PE_C_WAY_SCANNED = 4            /* by a scan of the stack, where no records led on: it may be wrong, and those after
+    PE_C_WAY_SCANNED = 4            /* by a scan of the stack, where no records led on: at the first call of the code
+                                       without records, on x64, else at the first call. It may be wrong, and those after
                                        it */
 };
 

@@ -61,8 +61,9 @@ pub enum Way {
     /// An interrupt stopped it: in the frame below it the frame was undone that the processor pushed, or on ARM64 what the
     /// operating system saved.
     Interrupt,
-    /// By a scan of the stack, where no records led on: it is the first word that is after a call in executable code. It may
-    /// be a return address that was left there, so this frame and those after it may be wrong.
+    /// By a scan of the stack, where no records led on. It is the first word whose call leads to the code without records in
+    /// which the frame before it is, or if there is none, the first that is after a call in executable code. It may be a return
+    /// address that was left there, so this frame and those after it may be wrong.
     Scanned,
 }
 

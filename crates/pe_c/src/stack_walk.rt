@@ -9,7 +9,7 @@ ghost use Rattle.pe_core.specs.Refusals.{answer_by};
 ghost use Rattle.pe_frame.specs.AddressRanges.{AreAscending, has_address};
 ghost use Rattle.pe_frame.specs.Arm64Walks as arm64;
 ghost use Rattle.pe_frame.specs.FrameWalks.{frame_left};
-ghost use Rattle.pe_frame.specs.Modules.{is_after_call_arm64_of, is_after_call_of, is_code_of, is_code_return_arm64_of, is_code_return_of, module_at, module_base, module_size};
+ghost use Rattle.pe_frame.specs.Modules.{call_target_of, is_after_call_arm64_of, is_after_call_of, is_code_of, is_code_return_arm64_of, is_code_return_of, module_at, module_base, module_size};
 ghost use Rattle.pe_frame.specs.Walks.{Calls, CallsIn, lookup_address};
 ghost use Rattle.pe_c.specs.FrameCalls.{HandsOutFrame, HandsOutFrames};
 ghost use Rattle.pe_c.specs.StackWalks.{after_frame, stack_walks};
@@ -148,6 +148,16 @@ fn ends_code_call_in(view: &ModuleView<'_>, address: u64) -> bool
     module_with(view, exceptions.as_ref()).is_code_return(address)
 }
 
+/// Where the call of a module leads that ends at an address, which may be the end of the module.
+fn target_of_call_in(view: &ModuleView<'_>, address: u64) -> Option<u64>
+    requires table { IsTrue (has_table view.now) }
+    requires near { address ≤ view.now.base + view.now.image.image.now.size_of_image }
+    ensures { result ≡ call_target_of (Some (module_of view.now)) address }
+{
+    let exceptions = exceptions_of(view);
+    module_with(view, exceptions.as_ref()).call_target(address)
+}
+
 /// Whether an address, which may be the end of a module, is one after a call on ARM64 in it.
 fn ends_call_arm64_in(view: &ModuleView<'_>, address: u64) -> bool
     requires table { IsTrue (has_table view.now) }
@@ -280,6 +290,13 @@ impl<'a> CallSites for ViewedModules<'a> {
         match self.find(address.saturating_sub(1)) {
             Some(view) => ends_code_call_in(view, address),
             None => false,
+        }
+    }
+
+    fn target_of_call(&self, address: u64) -> Option<u64> {
+        match self.find(address.saturating_sub(1)) {
+            Some(view) => target_of_call_in(view, address),
+            None => None,
         }
     }
 

@@ -12,10 +12,11 @@ use Rattle.pe_frame.specs.Jumps.{StepsInImage}
 use Rattle.pe_frame.specs.Modules.{is_after_call, is_code, module_at, map_of_module}
 use Rattle.pe_frame.specs.Undoing.{popped}
 use Rattle.pe_frame.specs.FrameWalks.{IsWalk, Process, starting_walk}
-use Rattle.pe_frame.specs.Walks.{Calls, CallsBy, CallsByPlan, CallsFound, CallsIn, after_leaf, code_of_frame, end_at_0, frame_after, frame_of, has_called, is_bottom, caller_of_leaf, leaf_frame, lookup_address, caller_outside, returned_to, scanned, top_frame, without_records}
+use Rattle.pe_frame.specs.Walks.{Calls, CallsBy, CallsByPlan, CallsFound, CallsIn, after_leaf, code_of_frame, end_at_0, frame_after, frame_of, has_called, is_bottom, called_in_gap, caller_in_gap, caller_of_leaf, gap_return, leaf_frame, lookup_address, caller_outside, returned_to, scanned, scanned_by, top_frame, without_records}
 use Rattle.pe_frame.specs.declared.error.FrameError.{FrameError}
 use Rattle.pe_frame.specs.declared.modules.Module.{Module}
 use Rattle.pe_frame.specs.declared.registers.Registers.{Registers}
+use Rattle.pe_frame.specs.declared.walk.Gap.{Gap}
 use Rattle.pe_frame.specs.declared.walk.StackFrame.{StackFrame}
 use Rattle.pe_frame.specs.declared.walk.Way.{Way}
 use Rattle.pe_frame.specs.declared.walk.Way.TheVariants.{Records, Leaf, Interrupt, Scanned}
@@ -131,6 +132,19 @@ next_leaf memory modules guess s t given is =
     (λ at. made_found by_scan (Err ends.NoFunction) t (λ by. next_scanned modules s t (made_scan modules s.registers _ t by)) (λ none. absurd (cc none)) at)
     (λ waits at. next_led modules guess s t given waits (made_found found rest t (made_without memory modules guess s.registers t) (made_after modules guess (popped memory s.registers) t) at))
 
+made_if : {X : Type 0} (called : Bool) (leaf scan : Option StackFrame) (t : StackFrame) → option_or (cond called None leaf) scan ≡ Some t → (called ≡ false → leaf ≡ Some t → X) → (scan ≡ Some t → X) → X
+made_if true leaf scan t is first second = second is
+made_if false leaf scan t is first second = made_or leaf scan t (first refl) second is
+
+next_in_gap : (memory : ℕ → Option ℕ) (modules : List Module) (gap : Gap) (s t : StackFrame) → Ok t ≡ caller_in_gap memory modules gap s → IsNext modules s t
+next_in_gap memory modules gap s t is =
+    let leaf = leaf_frame modules s.is_guess (popped memory s.registers) in
+    let scan = scanned_by memory modules (gap_return modules gap) s.registers in
+    made_found (called_in_gap memory modules gap s) (caller_of_leaf memory modules s.is_guess s) t
+    (λ found. made_if s.has_called leaf scan t found (λ waits by. next_led modules s.is_guess s t (λ before. before) waits (made_leaf modules s.is_guess (popped memory s.registers) t by)) (λ by. next_scanned modules s t (made_scan modules s.registers _ t by)))
+    (λ other. next_leaf memory modules s.is_guess s t (λ before. before) other)
+    is
+
 next_outside : (memory : ℕ → Option ℕ) (modules : List Module) (s t : StackFrame) → Ok t ≡ caller_outside memory modules s → IsNext modules s t
 next_outside memory modules s t is =
     let found = without_records memory modules true s.registers in
@@ -159,7 +173,7 @@ next_by_plan memory modules m e f s t (Ok None) h = absurd (cc h)
 next_by_plan memory modules m e f s t (Ok (Some plan)) h = next_after memory modules s t h.0 h.2
 
 next_found : (memory : ℕ → Option ℕ) (modules : List Module) (m : Module) (e : ExceptionView) (s t : StackFrame) (found : Option RuntimeFunction) → CallsFound memory modules m e s found (Ok t) → IsNext modules s t
-next_found memory modules m e s t None h = next_leaf memory modules s.is_guess s t (λ before. before) h
+next_found memory modules m e s t None h = next_in_gap memory modules h.0 s t h.2
 next_found memory modules m e s t (Some f) h = next_by_plan memory modules m e f s t h.0 h.2
 
 next_by : (memory : ℕ → Option ℕ) (modules : List Module) (m : Module) (s t : StackFrame) (o : Option ExceptionView) → CallsBy memory modules m s o (Ok t) → IsNext modules s t
@@ -242,6 +256,10 @@ leaf_at_bottom memory modules guess s is =
     (λ at. no_bottom by_scan (Err ends.NoFunction) (λ e. cc e) at)
     (λ waits at. no_bottom found rest (no_end_of_leaf modules (popped memory s.registers)) at)
 
+pub gap_at_bottom : (memory : ℕ → Option ℕ) (modules : List Module) (gap : Gap) (s : StackFrame) → caller_in_gap memory modules gap s ≡ Err ends.Bottom → ⊥
+gap_at_bottom memory modules gap s is =
+    no_bottom (called_in_gap memory modules gap s) (caller_of_leaf memory modules s.is_guess s) (λ at. leaf_at_bottom memory modules s.is_guess s (sym at)) (sym is)
+
 pub outside_at_bottom : (memory : ℕ → Option ℕ) (modules : List Module) (s : StackFrame) → caller_outside memory modules s ≡ Err ends.Bottom → ⊥
 outside_at_bottom memory modules s is =
     let found = without_records memory modules true s.registers in
@@ -257,7 +275,7 @@ sure_by_plan memory modules m e f s (Ok None) h = absurd (cc h)
 sure_by_plan memory modules m e f s (Ok (Some plan)) h = (records_at_bottom memory modules m e f s plan h).4
 
 sure_found : (memory : ℕ → Option ℕ) (modules : List Module) (m : Module) (e : ExceptionView) (s : StackFrame) (found : Option RuntimeFunction) → CallsFound memory modules m e s found (Err ends.Bottom) → s.is_guess ≡ false
-sure_found memory modules m e s None h = absurd (leaf_at_bottom memory modules s.is_guess s (sym h))
+sure_found memory modules m e s None h = absurd (gap_at_bottom memory modules h.0 s (sym h.2))
 sure_found memory modules m e s (Some f) h = sure_by_plan memory modules m e f s h.0 h.2
 
 sure_by : (memory : ℕ → Option ℕ) (modules : List Module) (m : Module) (s : StackFrame) (o : Option ExceptionView) → CallsBy memory modules m s o (Err ends.Bottom) → s.is_guess ≡ false

@@ -8,7 +8,7 @@ use Rattle.pe_core.specs.declared.section_table.SectionTable.{SectionTable}
 use Rattle.pe_unwind.specs.ExceptionTable.{ExceptionView}
 use Rattle.pe_frame.specs.AddressRanges.{has_address}
 use Rattle.pe_frame.specs.Arm64CallForms.{is_call_arm64}
-use Rattle.pe_frame.specs.CallForms.{is_call, call_sizes}
+use Rattle.pe_frame.specs.CallForms.{is_call, call_sizes, near_target}
 use Rattle.pe_frame.specs.SectionIndexes.{sections_by}
 use Rattle.pe_frame.specs.SectionSearch.{memory_size, section_start, section_started}
 use Rattle.pe_frame.specs.declared.modules.Module.{Module}
@@ -87,6 +87,18 @@ is_code_return_of (Some m) a = is_executable m.sections.now (a - m.base - 1) && 
 -- an address is one after a call in an executable section
 abbrev pub is_code_return : List Module → ℕ → Bool
 is_code_return modules a = is_code_return_of (module_at modules (a - 1)) a
+
+-- the address to which the call E8 of an executable section leads that ends at an address of a module
+abbrev pub call_target_of : Option Module → ℕ → Option ℕ
+call_target_of None a = None
+call_target_of (Some m) a =
+    if nat_le 5 (a - m.base) && is_executable m.sections.now (a - m.base - 1)
+    then near_target (code_at m (code_alignment (option_map (λ e. e.now) m.exceptions)) (a - m.base - 5) (a - m.base)) a
+    else None
+
+-- the same in the module that has the last byte of the call
+abbrev pub call_target : List Module → ℕ → Option ℕ
+call_target modules a = call_target_of (module_at modules (a - 1)) a
 
 abbrev pub is_code_of : Option Module → ℕ → Bool
 is_code_of None a = false

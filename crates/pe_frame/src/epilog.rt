@@ -134,7 +134,7 @@ fn widened8(number: u8) -> u64
 }
 
 /// A number of four bytes in two's complement, widened.
-fn widened32(number: u32) -> u64
+pub(crate) fn widened32(number: u32) -> u64
     ensures { result ≡ widened 32 number }
 {
     if number < NEGATIVE32 {

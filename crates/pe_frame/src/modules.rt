@@ -6,11 +6,11 @@ ghost use Rattle.std.specs.Option.{option_map};
 ghost use Rattle.pe_core.specs.SectionMap.{offset_in};
 ghost use Rattle.pe_frame.specs.AddressRanges.{AreAscending, IsOverlap};
 ghost use Rattle.pe_frame.specs.SectionIndexes.{sections_by};
-ghost use Rattle.pe_frame.specs.Modules.{bytes_or_none, module_base, module_size, module_at, map_of_module, code_alignment, code_at, code_in, follows_call, is_after_call_in, is_after_call, is_after_call_arm64_in, is_after_call_arm64, executes, is_executable, is_code, is_code_of, is_code_return, is_code_return_of, is_code_return_arm64, is_code_return_arm64_of};
+ghost use Rattle.pe_frame.specs.Modules.{bytes_or_none, module_base, module_size, module_at, map_of_module, code_alignment, code_at, code_in, follows_call, is_after_call_in, is_after_call, is_after_call_arm64_in, is_after_call_arm64, executes, is_executable, is_code, is_code_of, call_target, call_target_of, is_code_return, is_code_return_of, is_code_return_arm64, is_code_return_arm64_of};
 
 use crate::address_ranges::{AddressRange, first_overlap, has_address, range_with};
 use crate::arm64::is_call_arm64;
-use crate::call::is_call;
+use crate::call::{SIZE_OF_CALL_REL32, is_call, near_target};
 use crate::section_index::{IndexEntry, sections_by};
 use crate::section_search::section_started;
 use pe_core::{ParseOptions, RvaMap, SectionMap, SectionTable, slice_at};
@@ -206,6 +206,20 @@ impl<'a> Module<'a> {
         self.is_executable(self.rva_of(last)) && self.is_after_call(address)
     }
 
+    /// The address to which the call of an executable section leads that ends at an address, which may be the end of the module.
+    /// None where the five bytes before it are no `call` by the distance of its target, E8.
+    pub fn call_target(&self, address: u64) -> Option<u64>
+        requires { address ≤ self.now.base + self.now.size }
+        ensures { result ≡ call_target_of (Some self.now) address }
+    {
+        let (size, rva) = (SIZE_OF_CALL_REL32, self.rva_of(address));
+        if size <= rva && self.is_executable(rva - 1) {
+            near_target(self.called_code(rva - size..rva), address)
+        } else {
+            None
+        }
+    }
+
     /// The same on ARM64.
     pub fn is_code_return_arm64(&self, address: u64) -> bool
         requires { address ≤ self.now.base + self.now.size }
@@ -283,6 +297,18 @@ impl<'a> Modules<'a> {
         match self.find(last) {
             Some(module) => module.is_code_return(address),
             None => false,
+        }
+    }
+
+    /// The address to which the call of an executable section leads that ends at an address, if it is E8 with the distance of its
+    /// target.
+    pub(crate) fn call_target(&self, address: u64) -> Option<u64>
+        ensures { result ≡ call_target self.now.modules.now address }
+    {
+        let last = address.saturating_sub(1);
+        match self.find(last) {
+            Some(module) => module.call_target(address),
+            None => None,
         }
     }
 

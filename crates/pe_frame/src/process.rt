@@ -3,7 +3,7 @@
 ghost use Rattle.std.specs.Prelude.{◌≡◌, List, OnErr};
 ghost use Rattle.pe_frame.specs.Arm64Walks as arm64;
 ghost use Rattle.pe_frame.specs.FrameWalks.{frame_left};
-ghost use Rattle.pe_frame.specs.Modules.{is_after_call, is_after_call_arm64, is_code, is_code_return, is_code_return_arm64};
+ghost use Rattle.pe_frame.specs.Modules.{call_target, is_after_call, is_after_call_arm64, is_code, is_code_return, is_code_return_arm64};
 ghost use Rattle.pe_frame.specs.Walks.{Calls};
 ghost use Rattle.pe_frame.specs.declared.modules.Module.{Module};
 
@@ -24,6 +24,10 @@ pub trait CallSites {
     /// Whether an address is one after a call in an executable section.
     fn ends_code_call(&self, address: u64) -> bool
         ensures { result ≡ is_code_return (list self.now) address };
+
+    /// Where the call of an executable section leads that ends at an address, if it is E8 with the distance of its target.
+    fn target_of_call(&self, address: u64) -> Option<u64>
+        ensures { result ≡ call_target (list self.now) address };
 
     /// Whether an address is one of an executable section, on each machine.
     fn has_code(&self, address: u64) -> bool
@@ -72,6 +76,10 @@ impl<'a> CallSites for Modules<'a> {
 
     fn ends_code_call(&self, address: u64) -> bool {
         self.is_code_return(address)
+    }
+
+    fn target_of_call(&self, address: u64) -> Option<u64> {
+        self.call_target(address)
     }
 
     fn has_code(&self, address: u64) -> bool {

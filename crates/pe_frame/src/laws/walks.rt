@@ -10,9 +10,10 @@ ghost use Rattle.pe_frame.specs.Epilogs.{epilog_at};
 ghost use Rattle.pe_frame.specs.Scans.{IsFirstReturn, first_return, most_words, return_at};
 ghost use Rattle.pe_frame.specs.Steps.{Steps};
 ghost use Rattle.pe_frame.specs.FrameWalks.{FrameWalk, IsWalk, Process, starting_walk};
-ghost use Rattle.pe_frame.specs.Walks.{AreSortedModules, Calls, CallsByPlan, end_kind, has_called, caller_of_leaf, caller_outside, top_frame, walk_of, without_records, StepsFromFrame};
+ghost use Rattle.pe_frame.specs.Walks.{AreSortedModules, Calls, CallsByPlan, end_kind, has_called, caller_in_gap, caller_of_leaf, caller_outside, top_frame, walk_of, without_records, StepsFromFrame};
 ghost use Rattle.pe_frame.specs.declared.modules.Module.{Module};
 ghost use Rattle.pe_frame.specs.declared.registers.Registers.{Registers};
+ghost use Rattle.pe_frame.specs.declared.walk.Gap.{Gap};
 ghost use Rattle.pe_frame.specs.declared.walk.StackFrame.{StackFrame};
 ghost use Rattle.pe_frame.specs.declared.walk.StackFrames.{StackFrames};
 ghost use Rattle.pe_frame.specs.declared.walk.Way.TheVariants.{Records, Interrupt, Scanned};
@@ -95,7 +96,7 @@ pub fn frames_say_whether_they_are_guesses()
 
 /// A walk of a thread ends at the bottom only if none of its frames is a guess (`whole`). There a caller's instruction pointer is 0,
 /// to which records led from a frame that is no guess, and no frame is found from that caller's registers (`records`). A frame that
-/// no records describe is never the bottom: in no function of a module (`leaf`), or in no module (`outside`).
+/// no records describe is never the bottom: in no function of a module (`leaf`, `gap`), or in no module (`outside`).
 pub fn bottoms_are_returns_to_0()
     ensures records { (memory : ℕ → Option ℕ) (modules : List Module) (m : Module) (e : ExceptionView)
         (f : RuntimeFunction) (s : StackFrame) (plan : List UnwindInfoView) →
@@ -104,6 +105,8 @@ pub fn bottoms_are_returns_to_0()
         × (u.rip ≡ 0) × (without_records memory modules true u ≡ None) × (s.is_guess ≡ false) }
     ensures leaf { (memory : ℕ → Option ℕ) (modules : List Module) (guess : Bool) (s : StackFrame) →
         caller_of_leaf memory modules guess s ≢ Err Bottom }
+    ensures gap { (memory : ℕ → Option ℕ) (modules : List Module) (gap : Gap) (s : StackFrame) →
+        caller_in_gap memory modules gap s ≢ Err Bottom }
     ensures outside { (memory : ℕ → Option ℕ) (modules : List Module) (s : StackFrame) →
         caller_outside memory modules s ≢ Err Bottom }
     ensures whole { (p : Process) (g : Registers) (most : ℕ) (frames : List StackFrame) →
