@@ -1,5 +1,5 @@
 -- Each frame has a caller, or a reason why it has none.
-use Rattle.std.proofs.Common.{◌≢◌, ℕ, ◌-◌, true, List, Option, Some, None, Result, Ok, Err, refl, ap}
+use Rattle.std.proofs.Common.{◌≢◌, ℕ, ◌-◌, List, Option, Some, None, Result, Ok, Err, refl, ap}
 use Rattle.std.specs.Option.{option_map}
 use Rattle.pe_core.specs.Refusals.{Refusal, Memory}
 use Rattle.pe_unwind.specs.ExceptionTable.{ExceptionView, table_of}
@@ -10,7 +10,7 @@ use Rattle.pe_plan.proofs.RecordLaw.{RecordLaw}
 use Rattle.pe_frame.specs.Epilogs.{epilog_at}
 use Rattle.pe_frame.specs.Modules.{module_at, map_of_module}
 use Rattle.pe_frame.specs.FrameWalks.{Process}
-use Rattle.pe_frame.specs.Walks.{Calls, CallsBy, CallsByPlan, CallsFound, CallsIn, code_of_frame, frame_after, caller_of_leaf, lookup_address, caller_outside}
+use Rattle.pe_frame.specs.Walks.{Calls, CallsBy, CallsByPlan, CallsFound, CallsIn, code_of_frame, frame_after, caller_of_leaf, caller_without_table, leaf_is_guess, lookup_address, caller_outside}
 use Rattle.pe_frame.specs.declared.modules.Module.{Module}
 use Rattle.pe_frame.specs.declared.walk.StackFrame.{StackFrame}
 use Rattle.pe_frame.specs.declared.walk.WalkEnd.{WalkEnd}
@@ -33,14 +33,14 @@ some_by_plan law memory modules m e f s (Ok (Some plan)) other =
     (frame_after memory modules s.is_guess left.0, (left.0, left.1, refl))
 
 some_found : (law : RecordLaw) (memory : ℕ → Option ℕ) (modules : List Module) (m : Module) (e : ExceptionView) (s : StackFrame) (found : Option RuntimeFunction) → Caller (CallsFound memory modules m e s found)
-some_found law memory modules m e s None = (caller_of_leaf memory modules s.is_guess s, refl)
+some_found law memory modules m e s None = (caller_of_leaf memory modules (leaf_is_guess m s) s, refl)
 some_found law memory modules m e s (Some f) =
     let plan = some_short_plan law (links_with e (map_of_module m e)) e.content f in
     let caller = some_by_plan law memory modules m e f s plan.0 plan.2 in
     (caller.0, (plan.0, plan.1, caller.1))
 
 some_by : (law : RecordLaw) (memory : ℕ → Option ℕ) (modules : List Module) (m : Module) (s : StackFrame) (o : Option ExceptionView) → Caller (CallsBy memory modules m s o)
-some_by law memory modules m s None = (caller_of_leaf memory modules true s, refl)
+some_by law memory modules m s None = (caller_without_table memory modules m s, refl)
 some_by law memory modules m s (Some e) =
     let found = some_function (table_of e) (lookup_address s - m.base) in
     let caller = some_found law memory modules m e s found.0 in
