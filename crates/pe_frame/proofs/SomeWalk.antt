@@ -1,5 +1,5 @@
 -- Each frame has a caller, or a reason why it has none.
-use Rattle.std.proofs.Common.{◌≢◌, ℕ, ◌-◌, true, List, Option, Some, None, Result, Ok, Err, refl, ap}
+use Rattle.std.proofs.Common.{◌≢◌, ℕ, ◌-◌, List, Option, Some, None, Result, Ok, Err, refl, ap}
 use Rattle.std.specs.Option.{option_map}
 use Rattle.pe_core.specs.Refusals.{Refusal, Memory}
 use Rattle.pe_unwind.specs.ExceptionTable.{ExceptionView, table_of}
@@ -11,7 +11,7 @@ use Rattle.pe_plan.proofs.RecordLaw.{RecordLaw}
 use Rattle.pe_frame.specs.Epilogs.{epilog_at}
 use Rattle.pe_frame.specs.Modules.{module_at, map_of_module}
 use Rattle.pe_frame.specs.FrameWalks.{Process}
-use Rattle.pe_frame.specs.Walks.{Calls, CallsBy, CallsByPlan, CallsFound, CallsIn, IsGap, code_of_frame, frame_after, caller_in_gap, caller_of_leaf, gap_of, lookup_address, caller_outside}
+use Rattle.pe_frame.specs.Walks.{Calls, CallsBy, CallsByPlan, CallsFound, CallsIn, code_of_frame, frame_after, caller_without_table, leaf_is_guess, lookup_address, caller_outside, IsGap, caller_in_gap, gap_of}
 use Rattle.pe_frame.specs.declared.modules.Module.{Module}
 use Rattle.pe_frame.specs.declared.walk.Gap.{Gap}
 use Rattle.pe_frame.specs.declared.walk.StackFrame.{StackFrame}
@@ -42,14 +42,14 @@ some_gap m e s =
 some_found : (law : RecordLaw) (memory : ℕ → Option ℕ) (modules : List Module) (m : Module) (e : ExceptionView) (s : StackFrame) (found : Option RuntimeFunction) → Caller (CallsFound memory modules m e s found)
 some_found law memory modules m e s None =
     let gap = some_gap m e s in
-    (caller_in_gap memory modules gap.0 s, (gap.0, gap.1, refl))
+    (caller_in_gap memory modules (leaf_is_guess m s) gap.0 s, (gap.0, gap.1, refl))
 some_found law memory modules m e s (Some f) =
     let plan = some_short_plan law (links_with e (map_of_module m e)) e.content f in
     let caller = some_by_plan law memory modules m e f s plan.0 plan.2 in
     (caller.0, (plan.0, plan.1, caller.1))
 
 some_by : (law : RecordLaw) (memory : ℕ → Option ℕ) (modules : List Module) (m : Module) (s : StackFrame) (o : Option ExceptionView) → Caller (CallsBy memory modules m s o)
-some_by law memory modules m s None = (caller_of_leaf memory modules true s, refl)
+some_by law memory modules m s None = (caller_without_table memory modules m s, refl)
 some_by law memory modules m s (Some e) =
     let found = some_function (table_of e) (lookup_address s - m.base) in
     let caller = some_found law memory modules m e s found.0 in

@@ -1,5 +1,5 @@
 -- The modules of a process: images, each with the addresses where it is loaded.
-use Rattle.std.specs.Prelude.{ℕ, ◌-◌, ◌/◌, ◌%◌, ◌^◌, ◌==◌, ◌&&◌, nat_le, Bool, false, List, [], Option, Some, None, if◌then◌else◌}
+use Rattle.std.specs.Prelude.{ℕ, ◌-◌, ◌/◌, ◌%◌, ◌^◌, ◌==◌, ◌&&◌, ◌||◌, nat_le, Bool, false, List, [], length, Option, Some, None, if◌then◌else◌}
 use Rattle.std.specs.List.{find, list_any}
 use Rattle.std.specs.Option.{option_map}
 use Rattle.pe_core.specs.Bytes.{holds, range}
@@ -104,9 +104,17 @@ abbrev pub is_code_of : Option Module → ℕ → Bool
 is_code_of None a = false
 is_code_of (Some m) a = is_executable m.sections.now (a - m.base)
 
--- an address is one of an executable section, on each machine
-abbrev pub is_code : List Module → ℕ → Bool
-is_code modules a = is_code_of (module_at modules a) a
+-- The image of a module is not at hand: no sections say where its code is.
+abbrev pub is_unknown : Module → Bool
+is_unknown m = length m.sections.now == 0
+
+abbrev pub may_be_code_of : Option Module → ℕ → Bool
+may_be_code_of None a = false
+may_be_code_of (Some m) a = is_unknown m || is_executable m.sections.now (a - m.base)
+
+-- An address may be one of code, on each machine: it is one of an executable section, or in a module whose image is not at hand.
+abbrev pub may_be_code : List Module → ℕ → Bool
+may_be_code modules a = may_be_code_of (module_at modules a) a
 
 -- ---- return addresses on ARM64, where a call has four bytes
 

@@ -20,7 +20,7 @@ ghost use Rattle.pe_frame.specs.AddressRanges.{has_address};
 ghost use Rattle.pe_frame.specs.InPlace.{changed_with};
 ghost use Rattle.pe_frame.specs.FrameWalks.{frame_left};
 ghost use Rattle.pe_frame.specs.Modules.{module_base, module_size};
-ghost use Rattle.pe_frame.specs.Walks.{has_called, frame_of, lookup_address, code_of_frame, code_return, scanned_by, scanned, IsGap, is_in_gap, gap_return, called_in_gap, caller_in_gap, leaf_frame, without_records, is_bottom, end_at_0, after_leaf, caller_of_leaf, caller_outside, frame_after, CallsFound, CallsIn};
+ghost use Rattle.pe_frame.specs.Walks.{has_called, frame_of, lookup_address, code_of_frame, code_return, scanned, leaf_frame, without_records, is_bottom, end_at_0, after_leaf, caller_of_leaf, caller_outside, caller_without_table, leaf_is_guess, frame_after, CallsFound, CallsIn, scanned_by, IsGap, is_in_gap, gap_return, called_in_gap, caller_in_gap};
 ghost use Rattle.pe_frame.specs.declared.modules.Module.{Module};
 
 use crate::error::FrameError;
@@ -65,7 +65,7 @@ pub struct StackFrame {
     pub has_called: bool,
     /// Whether it may be wrong: nothing proves that it is the caller, or it follows a frame of which this holds. What a scan finds
     /// is a guess, and so is the caller of code of which no function table says that it is a leaf function: in a module without
-    /// exception data, in no module, and where no call ends at the return address.
+    /// exception data, in no module, in data, and where no call in executable code ends at the return address.
     pub is_guess: bool,
 }
 
@@ -79,16 +79,18 @@ pub enum WalkEnd {
     /// there, and none of the frames is a guess.
     #[error("bottom of the stack")]
     Bottom,
-    /// The last frame returns to 0, but it is a guess, or no records describe its code: frames may be missing or wrong.
-    #[error("0 after a guess")]
+    /// The last frame returns to 0, but a frame is a guess, as after a call of a null pointer, or no records describe the code of the
+    /// last one: frames may be missing or wrong.
+    #[error("return to 0, by a guess or without records")]
     Zero,
-    /// No module has the instruction pointer of the last frame, and no return address is found.
-    #[error("no module has the instruction pointer")]
+    /// The instruction pointer of the last frame is in no module, or in one whose image is not at hand, and no return address is found.
+    #[error("no module with an image has the instruction pointer")]
     NoModule,
     /// No function covers the call in the last frame, and no return address is found. A leaf function calls nothing.
     #[error("no function covers the call")]
     NoFunction,
-    /// No records describe the code of the last frame, and where it would return to is no executable code.
+    /// No records describe the code of the last frame, and where it would return to is no executable code of a module, nor in a module
+    /// whose image is not at hand.
     #[error("no return address")]
     NoReturnAddress,
     /// An unwind record of the function in the last frame cannot be read.
@@ -235,6 +237,7 @@ fn leaf_frame<L: CallSites>(
 {
     match popped {
         Ok(registers) if modules.ends_call(registers.rip) => {
+            let is_guess = is_guess || !modules.ends_code_call(registers.rip);
             Some(frame_of(modules, Way::Leaf, is_guess, *registers))
         }
         _ => None,
@@ -285,7 +288,7 @@ pub(crate) fn end_at_0(is_guess: bool) -> WalkEnd
     }
 }
 
-/// The frame of the caller of a leaf function to which no call led, if it returns to executable code.
+/// The frame of the caller of a leaf function to which no call led, if it returns to what may be code.
 fn after_leaf<L: CallSites>(
     modules: &L,
     popped: Result<Registers, FrameError>,
@@ -294,7 +297,7 @@ fn after_leaf<L: CallSites>(
 {
     match popped {
         Ok(registers) if registers.rip == 0 => Err(WalkEnd::Zero),
-        Ok(registers) if modules.has_code(registers.rip) => {
+        Ok(registers) if modules.may_be_code(registers.rip) => {
             Ok(frame_of(modules, Way::Leaf, true, registers))
         }
         Ok(_) => Err(WalkEnd::NoReturnAddress),
@@ -343,15 +346,16 @@ fn gap_of(module: &Module<'_>, exceptions: &ExceptionData<'_>, frame: &StackFram
 /// scan for a call into that code.
 fn called_in_gap<L: CallSites, M: Memory>(
     modules: &L,
+    is_guess: bool,
     gap: Gap,
     frame: &StackFrame,
     memory: &M,
 ) -> Option<StackFrame>
-    ensures { result ≡ called_in_gap (M.word memory.now) (L.list modules.now) gap frame.now }
+    ensures { result ≡ called_in_gap (M.word memory.now) (L.list modules.now) is_guess gap frame.now }
 {
     if !frame.has_called {
         let popped = leaf(frame.registers, memory);
-        if let Some(caller) = leaf_frame(modules, frame.is_guess, &popped) {
+        if let Some(caller) = leaf_frame(modules, is_guess, &popped) {
             return Some(caller);
         }
     }
@@ -366,15 +370,16 @@ fn called_in_gap<L: CallSites, M: Memory>(
 /// The frame of the caller of a frame in code that no entry covers.
 fn caller_in_gap<L: CallSites, M: Memory>(
     modules: &L,
+    is_guess: bool,
     gap: Gap,
     frame: &StackFrame,
     memory: &M,
 ) -> Result<StackFrame, WalkEnd>
-    ensures { result ≡ caller_in_gap (M.word memory.now) (L.list modules.now) gap frame.now }
+    ensures { result ≡ caller_in_gap (M.word memory.now) (L.list modules.now) is_guess gap frame.now }
 {
-    match called_in_gap(modules, gap, frame, memory) {
+    match called_in_gap(modules, is_guess, gap, frame, memory) {
         Some(caller) => Ok(caller),
-        None => caller_of_leaf(modules, frame.is_guess, frame, memory),
+        None => caller_of_leaf(modules, is_guess, frame, memory),
     }
 }
 
@@ -423,8 +428,9 @@ fn become_caller_in_gap<L: CallSites, M: Memory>(
         frame.old None (frame_left result frame.new) }
     ensures kept { OnErr result (frame.new ≡ frame.old) }
 {
+    let is_guess = leaf_is_guess(found.module, frame);
     let gap = gap_of(found.module, found.exceptions, frame);
-    put(caller_in_gap(modules, gap, frame, memory), frame)
+    put(caller_in_gap(modules, is_guess, gap, frame, memory), frame)
 }
 
 /// Makes a frame in no module that of its caller, or says why there is none: then the frame stays. Out of line, as
@@ -439,16 +445,44 @@ pub fn caller_outside<L: CallSites, M: Memory>(
         ≡ caller_outside (M.word memory.now) (L.list modules.now) frame.old }
     ensures kept { OnErr result (frame.new ≡ frame.old) }
 {
-    if frame.has_called {
-        return Err(WalkEnd::NoModule);
-    }
-    match without_records(modules, memory, true, &frame.registers) {
+    let caller = if frame.has_called {
+        scanned(modules, memory, &frame.registers)
+    } else {
+        without_records(modules, memory, true, &frame.registers)
+    };
+    match caller {
         Some(caller) => {
             *frame = caller;
             Ok(())
         }
         None => Err(WalkEnd::NoModule),
     }
+}
+
+/// Makes a frame in a module without exception data that of its caller, or says why there is none: then the frame stays.
+fn become_caller_without_table<L: CallSites, M: Memory>(
+    modules: &L,
+    module: &Module<'_>,
+    frame: &mut StackFrame,
+    memory: &M,
+) -> Result<(), WalkEnd>
+    ensures caller { frame_left result frame.new
+        ≡ caller_without_table (M.word memory.now) (L.list modules.now) module.now frame.old }
+    ensures kept { OnErr result (frame.new ≡ frame.old) }
+{
+    if module.is_unknown() {
+        caller_outside(modules, frame, memory)
+    } else {
+        become_caller_of_leaf(modules, true, frame, memory)
+    }
+}
+
+/// Whether it is a guess that a frame of which the module's table has no function is one of a leaf function.
+fn leaf_is_guess(module: &Module<'_>, frame: &StackFrame) -> bool
+    requires { lookup_address frame.now ≤ module.now.base + module.now.size }
+    ensures { result ≡ leaf_is_guess module.now frame.now }
+{
+    frame.is_guess || !module.is_code(frame.lookup_address())
 }
 
 /// The function of a frame, as lookup found it.
@@ -571,7 +605,7 @@ pub fn caller_in_module<L: CallSites, M: Memory>(
     ensures kept { OnErr result (frame.new ≡ frame.old) }
 {
     let Some(exceptions) = module.exceptions else {
-        return become_caller_of_leaf(modules, true, frame, memory);
+        return become_caller_without_table(modules, module, frame, memory);
     };
     let mut table = exceptions.table();
     match search(&mut table, module.rva_of(frame.lookup_address())) {
@@ -610,8 +644,10 @@ impl WalkFrame for StackFrame {
 ///
 /// In the top frame, and in one that was interrupted, the return address of code that no records describe is the word at the stack
 /// pointer, if a call ends at it, else the first of 128 words from there on that is after a call in an executable section. In a
-/// frame that has called it is the first such word. In code between two entries of a function table it is in both the first whose
-/// call, E8, leads there, up to the frame, if there is one. Where none is found, a walk that comes to 0 says `Zero`.
+/// module, where neither is, it is the word at the stack pointer, if that may be an address of code: of an executable section, or in a
+/// module whose image is not at hand. In a frame that has called it is the first such word after a call. Between two entries of a
+/// function table the first word whose call, E8, leads there, up to the frame, comes before all others after a call but that at the
+/// stack pointer. Where none is found, a walk that comes to 0 says `Zero`.
 #[derive(Drop)]
 pub struct StackFrames<'a, M> {
     modules: Modules<'a>,

@@ -61,9 +61,9 @@ impl<'a, A: Allocator + Copy + Drop> CallSites for IndexedModules<'a, A> {
         }
     }
 
-    fn has_code(&self, address: u64) -> bool {
+    fn may_be_code(&self, address: u64) -> bool {
         match self.find(address) {
-            Some(module) => module.is_code(address),
+            Some(module) => module.may_be_code(address),
             None => false,
         }
     }
