@@ -1721,11 +1721,13 @@ typedef struct {
 } pe_c_memory_piece;
 
 /* A module of a process: its image, which has size_of_image bytes where it is loaded. What the view leads to stays readable
- * as long as the record is passed. */
+ * as long as the record is passed. One whose image is not at hand has no bytes and no sections, and an image of which
+ * size_of_image is set: a leaf function may have been called from it. */
 typedef struct {
     pe_c_view image;                /* the image */
     pe_c_range table;               /* of pe_c_function_table, on ARM64 pe_c_arm64_table; all 0 where that returned
-                                       PE_C_NOTHING: no records describe its functions */
+                                       PE_C_NOTHING: no records describe its functions. Walks take the whole entries of
+                                       any range that is inside the bytes, so of a damaged table those that are there */
     uint64_t base;                  /* address where it is loaded */
 } pe_c_module;
 
@@ -1736,7 +1738,8 @@ enum {
     PE_C_WAY_LEAF = 2,              /* it called a leaf function */
     PE_C_WAY_INTERRUPT = 3,         /* an interrupt stopped it: the records before it show what the processor pushed, on
                                        ARM64 what the operating system saved */
-    PE_C_WAY_SCANNED = 4            /* by a scan of the stack, where no records led on: it may be wrong, and those after
+    PE_C_WAY_SCANNED = 4            /* by a scan of the stack, where no records led on: at the first call of the code
+                                       without records, on x64, else at the first call. It may be wrong, and those after
                                        it */
 };
 
@@ -1745,15 +1748,16 @@ enum {
     PE_C_END_BOUND = 0,             /* as many frames were returned as the caller wants */
     PE_C_END_BOTTOM = 1,            /* the stack is whole: by records its last frame returns to 0, no frame is found there,
                                        and no frame is a guess */
-    PE_C_END_NO_MODULE = 2,         /* no module has the last instruction pointer, and no return address is found */
+    PE_C_END_NO_MODULE = 2,         /* the last instruction pointer is in no module, or in one without an image, and no
+                                       return address is found */
     PE_C_END_NO_FUNCTION = 3,       /* no function covers the call in the last frame, and no return address is found */
     PE_C_END_RECORDS = 4,           /* an unwind record of the last function cannot be read: `error` says why */
     PE_C_END_LONG_CHAIN = 5,        /* more than 32 of them are chained */
     PE_C_END_STEP = 6,              /* the step from the last frame is refused: `error` and `address` as in pe_c_step */
-    PE_C_END_ZERO = 7,              /* the last frame returns to 0, but it is a guess, or no records describe its code:
-                                       frames may be missing or wrong */
+    PE_C_END_ZERO = 7,              /* the last frame returns to 0, but a frame is a guess, as after a call of a null pointer,
+                                       or no records describe the code of the last one: frames may be missing or wrong */
     PE_C_END_NO_RETURN_ADDRESS = 8  /* no records describe the code of the last frame, and where it would return to is no
-                                       executable code */
+                                       executable code, nor in a module without an image */
 };
 
 /* A walk of a stack on x64, and the frame that was returned last. For a walk from the start set the registers to those of the
@@ -1886,8 +1890,9 @@ uint32_t pe_c_step(const pe_c_view *view, const pe_c_range *table, const uint8_t
  * 128 words from rsp on that is after a call in an executable section: the last section of its module that starts at or
  * before the call's last byte is asked, so sections have to be in ascending order. In a frame that has called it is the first
  * such word. What is found so may be wrong: walk->is_guess says so of each frame, but not of the caller of code in a module
- * with a table that has no function there, if a call ends at the return address: that is a leaf function. Only past an
- * interrupt may the stack pointer not rise.
+ * with a table that has no function there, if both are executable and a call ends at the return address: that is a leaf
+ * function. Without such a call a leaf function of a module, which was jumped to, returns to executable code, or into a module
+ * without an image. Only past an interrupt may the stack pointer not rise.
  * Errors, which change nothing: PE_C_SHORT where the table of a module is not inside its bytes, or, where walk->is_searched
  * is 0, a piece not inside the memory. */
 uint32_t pe_c_next_frame(const pe_c_module *modules, size_t module_count, const uint8_t *memory, size_t memory_length,

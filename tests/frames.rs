@@ -547,11 +547,16 @@ fn is_epilog(alloc: Global, offset: u32, code: &[u8]) -> Result<bool, Fail> {
 
 #[test]
 fn knows_the_forms_of_epilogs(rt: HostRuntime) -> Result<(), Fail> {
-    let rows: [(&[u8], bool); 38] = [
-        // ret; rep ret; the first byte of rep ret
+    let rows: [(&[u8], bool); 46] = [
+        // ret; rep ret; bnd ret; bnd ret 16; the first bytes of rep ret, bnd ret and bnd ret 16; bnd call rax
         (&[0xC3], true),
         (&[0xF3, 0xC3], true),
+        (&[0xF2, 0xC3], true),
+        (&[0xF2, 0xC2, 0x10, 0], true),
         (&[0xF3], false),
+        (&[0xF2], false),
+        (&[0xF2, 0xC2, 0x10], false),
+        (&[0xF2, 0xFF, 0xD0], false),
         // jmp [rip+0x1234]; rex.W jmp [rip+0x1234]; rex.W jmp [rax]; rex.W jmp rax; rex.W jmp [rax+0x18];
         // rex.WB jmp [r8+0x200]; rex.WXB jmp [r12+r13*8]; rex.WRXB jmp r15
         (&[0xFF, 0x25, 0x34, 0x12, 0, 0], true),
@@ -569,7 +574,8 @@ fn knows_the_forms_of_epilogs(rt: HostRuntime) -> Result<(), Fail> {
         (&[0xFF, 0x24, 0xC5, 0x40, 0, 0, 0], false),
         (&[0xFF, 0x60, 0x08], false),
         (&[0x47, 0xFF, 0xE7], false),
-        // add rsp,0 before jmp rax; jmp r11; jmp [rax]; jmp [rax*8+0x40]; jmp [rax+8]; rex.RXB jmp r15
+        // add rsp,0 before jmp rax; jmp r11; jmp [rax]; jmp [rax*8+0x40]; jmp [rax+8]; jmp [rax+0x200]; jmp [r11+8]; call [rax+8];
+        // rex.RXB jmp r15
         (&[0x48, 0x83, 0xC4, 0, 0xFF, 0xE0], true),
         (&[0x48, 0x83, 0xC4, 0, 0x41, 0xFF, 0xE3], true),
         (&[0x48, 0x83, 0xC4, 0, 0xFF, 0x20], true),
@@ -577,7 +583,10 @@ fn knows_the_forms_of_epilogs(rt: HostRuntime) -> Result<(), Fail> {
             &[0x48, 0x83, 0xC4, 0, 0xFF, 0x24, 0xC5, 0x40, 0, 0, 0],
             true,
         ),
-        (&[0x48, 0x83, 0xC4, 0, 0xFF, 0x60, 0x08], false),
+        (&[0x48, 0x83, 0xC4, 0, 0xFF, 0x60, 0x08], true),
+        (&[0x48, 0x83, 0xC4, 0, 0xFF, 0xA0, 0, 2, 0, 0], true),
+        (&[0x48, 0x83, 0xC4, 0, 0x41, 0xFF, 0x63, 0x08], true),
+        (&[0x48, 0x83, 0xC4, 0, 0xFF, 0x50, 0x08], false),
         (&[0x48, 0x83, 0xC4, 0, 0x47, 0xFF, 0xE7], false),
         // call [rax]; rex.W call rax; rex.W jmp far [rax]
         (&[0xFF, 0x10], false),

@@ -414,22 +414,39 @@ fn an_image_without_exception_data_has_calls(rt: HostRuntime) -> Result<(), Fail
 
 /// A program: a function that pushes rbx at 0x40, with a call that ends at 0x50; one at 0x60 that allocates 8 bytes, from where an
 /// interrupted thread goes on without a word of it in the record; a function without a record, with a call that ends at 0x98; one
-/// that pushes rbx at 0xA0; and at 0xD0 data that look like a call. Up to 0xC0 it is executable.
+/// that pushes rbx at 0xA0; and at 0xD0 data that look like a call. Up to 0xC0 it is executable. `CALLS_OUT` has more calls.
 fn program(alloc: Global) -> Result<Vec<u8>, AllocError> {
     let table = [
         0x40, 0, 0, 0, 0x60, 0, 0, 0, 0x24, 0, 0, 0, 0x60, 0, 0, 0, 0x80, 0, 0, 0, 0x2C, 0, 0, 0,
         0xA0, 0, 0, 0, 0xC0, 0, 0, 0, 0x24, 0, 0, 0,
     ];
-    let parts: [(usize, &[u8]); 6] = [
+    let parts: [(usize, &[u8]); 12] = [
         (0, &table),
         (0x24, &PUSHES_RBX),
         (0x2C, &ALLOCATES_8),
         (0x4B, &CALL),
         (0x93, &CALL),
         (0xD0, &CALL),
+        (CALLS_OUT[0].0, &CALLS_OUT[0].1),
+        (CALLS_OUT[1].0, &CALLS_OUT[1].1),
+        (CALLS_OUT[2].0, &CALLS_OUT[2].1),
+        (CALLS_OUT[3].0, &CALLS_OUT[3].1),
+        (CALLS_OUT[4].0, &CALLS_OUT[4].1),
+        (CALLS_OUT[5].0, &CALLS_OUT[5].1),
     ];
     image(alloc, 0x100, &parts)
 }
+
+/// Calls that end at 0x5A, 0xB0 and 0xB8, of the functions at 0x84, 0x80 and 0x90; at 0x72 and 0x78, of 0x91 and 0x7F; and data
+/// that end at 0xDA, and would call 0x88.
+const CALLS_OUT: [(usize, [u8; 5]); 6] = [
+    (0x55, [0xE8, 0x2A, 0, 0, 0]),
+    (0xAB, [0xE8, 0xD0, 0xFF, 0xFF, 0xFF]),
+    (0xB3, [0xE8, 0xD8, 0xFF, 0xFF, 0xFF]),
+    (0x6D, [0xE8, 0x1F, 0, 0, 0]),
+    (0x73, [0xE8, 0x07, 0, 0, 0]),
+    (0xD5, [0xE8, 0xAE, 0xFF, 0xFF, 0xFF]),
+];
 
 /// A section whose RVA is its file offset.
 fn section(start: u32, size: u32, characteristics: u32) -> SectionTable {
@@ -548,6 +565,43 @@ fn a_scan_finds_the_caller_of_a_function_without_records(rt: HostRuntime) -> Res
         at_the_call(0x1018, Way::Scanned),
     ];
     expect_frames(&rt, alloc, (APP + 0x90, 0x1001), &words, &frames, ZERO)
+}
+
+/// The function at 0x90 has no record, and those before it end at 0x80: it starts in between. The words of calls that lead
+/// elsewhere are not its return address, and neither are data.
+#[test]
+fn a_scan_finds_the_call_of_the_function_first(rt: HostRuntime) -> Result<(), Fail> {
+    let alloc = rt.alloc();
+    for call in [0x5A, 0xB0, 0xB8] {
+        let words = [
+            7,
+            APP + 0x50,
+            APP + 0x72,
+            APP + 0x78,
+            APP + 0xDA,
+            APP + call,
+            0,
+            0,
+            0,
+            0,
+            0xB0,
+            0,
+        ];
+        let frames = [
+            (APP + 0x90, 0x1000, Way::Top, false),
+            (APP + call, 0x1030, Way::Scanned, true),
+        ];
+        expect_frames(&rt, alloc, (APP + 0x90, 0x1000), &words, &frames, ZERO)?;
+    }
+    // From a frame that has called too. The word at the stack pointer is the return address of a leaf function, wherever its call
+    // leads.
+    let words = [APP + 0x98, 7, APP + 0x50, APP + 0x5A, 0, 0, 0, 0, 0xB0, 0];
+    let frames = [
+        (APP + 0x90, 0x1000, Way::Top, false),
+        (APP + 0x98, 0x1008, Way::Leaf, true),
+        (APP + 0x5A, 0x1020, Way::Scanned, true),
+    ];
+    expect_frames(&rt, alloc, (APP + 0x90, 0x1000), &words, &frames, ZERO)
 }
 
 /// Nor do the callers of a call in such a function have records: the stack is scanned from there too, up to a function that has some.

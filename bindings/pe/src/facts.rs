@@ -185,7 +185,7 @@ pub struct Refusal {
 
 impl Refusal {
     /// The error of a directory, with its numbers where the directory itself is refused, and not an entry in it.
-    fn of_directory(error: Error, image: &Image<'_>, index: DirectoryIndex) -> Refusal {
+    pub fn of_directory(error: Error, image: &Image<'_>, index: DirectoryIndex) -> Refusal {
         let failure = image.directory_failure(index).filter(|it| it.error == error);
         Refusal { said: failure.map(|it| it.to_string()), ..error.into() }
     }

@@ -55,8 +55,9 @@ fn program(size_of_table: u32) -> Vec<u8> {
     made.image()
 }
 
-/// What is said of a thread at this RVA of such an image, with these words on its stack, in JSON and in text, with this status.
-fn thread_of(test: &str, (size_of_table, rva): (u32, u64), stack: &[u64], wanted: i32) -> (Value, String) {
+/// What is said of a dump with a thread at this RVA of such an image, with these words on its stack, in JSON and in text, with this
+/// status. Its second module has no image.
+fn crash_of(test: &str, (size_of_table, rva): (u32, u64), stack: &[u64], wanted: i32) -> (Value, String) {
     let folder = Folder::new(test);
     folder.file("a.exe", &program(size_of_table));
     let words: Vec<u8> = stack.iter().flat_map(|it| it.to_le_bytes()).collect();
@@ -64,7 +65,7 @@ fn thread_of(test: &str, (size_of_table, rva): (u32, u64), stack: &[u64], wanted
     let streams = [
         made::x64_system(),
         made::threads(&[(0x24, made::DUMP_DATA)]),
-        made::modules(&[(0x1_8000_0000, 0x6000, 0, 0, [0, 0])]),
+        made::modules(&[(0x1_8000_0000, 0x6000, 0, 0, [0, 0]), (OTHER, 0x1000, 9, 0, [0, 0])]),
         made::pieces(&[(0x2_0000, 8 * stack.len() as u32, made::DUMP_DATA + 1232)]),
     ];
     let dump = folder.file("a.dmp", &made::dump_of(&streams, &data));
@@ -74,19 +75,23 @@ fn thread_of(test: &str, (size_of_table, rva): (u32, u64), stack: &[u64], wanted
         assert_eq!((complaints.as_str(), status), ("", wanted));
         out
     });
-    (serde_json::from_str::<Value>(&json).unwrap()["threads"][0].take(), text)
+    (serde_json::from_str(&json).unwrap(), text)
 }
+
+/// A module without an image.
+const OTHER: u64 = 0x2_0000_0000;
 
 /// A folder, the size of the function table, the top frame's RVA, the stack, the frames, the end, and words of the text.
 type Case<'a> = (&'a str, u32, u64, &'a [u64], Value, &'a str, &'a str);
 
-/// A stack is whole where records lead to 0 and no frame is a guess. A function table of another size than its entries have is none.
+/// A stack is whole where records lead to 0 and no frame is a guess. Of a function table of another size than its entries have, here a
+/// byte more, the whole entries serve.
 #[test]
 fn a_stack_is_whole_only_without_a_guess() {
     let call = 0x1_8000_1010;
     let outer = [0, 0, 0, 0, 0xB0, 0];
-    let scanned = [&[7, call], &outer[..]].concat();
-    let cases: [Case; 6] = [
+    let (scanned, called) = ([&[7, call], &outer[..]].concat(), [&[call], &outer[..]].concat());
+    let cases: [Case; 7] = [
         ("stack-whole", 12, 0x1010, &outer, json!([["top", false]]), "bottom", "the stack is whole"),
         ("stack-zero", 12, 0x1050, &[0], json!([["top", false]]), "zero", "frames may be missing or wrong"),
         ("stack-data", 12, 0x1050, &[0x30], json!([["top", false]]), "no-return-address", "no executable code"),
@@ -104,15 +109,26 @@ fn a_stack_is_whole_only_without_a_guess() {
             "stack-bad-table",
             13,
             0x1050,
-            &[call, 7, call],
-            json!([["top", false], ["leaf", true], ["scanned", true]]),
-            "no-function",
-            "leaf, a guess",
+            &called,
+            json!([["top", false], ["leaf", false]]),
+            "bottom",
+            "its whole entries serve",
+        ),
+        (
+            "stack-other-module",
+            12,
+            0x1050,
+            &[OTHER + 0x44, 7],
+            json!([["top", false], ["leaf", true]]),
+            "no-module",
+            "no module with an image has the address of the last frame",
         ),
     ];
     for (test, size_of_table, rva, stack, frames, end, words) in cases {
         let wanted = if end == "bottom" { 0 } else { LOST };
-        let (thread, text) = thread_of(test, (size_of_table, rva), stack, wanted);
+        let (said, text) = crash_of(test, (size_of_table, rva), stack, wanted);
+        let (thread, error) = (&said["threads"][0], &said["modules"][0]["function_table_error"]["name"]);
+        assert_eq!(*error, if size_of_table == 13 { json!("EXCEPTION_SIZE") } else { json!(null) }, "{test}");
         let found: Vec<_> =
             thread["frames"].as_array().unwrap().iter().map(|it| json!([it["way"], it["is_guess"]])).collect();
         assert_eq!((json!(found), &thread["end"]), (frames, &json!(end)), "{test}");

@@ -3,16 +3,20 @@
 //! A walk is `pe_c_next_frames` or `pe_c_next_arm64_frames`, the walks of the library, which are proved.
 
 use crate::frames::{stepped, MemoryList, StepError};
-use crate::image::{Error, Image};
+use crate::image::{DirectoryIndex, Error, Image};
 use crate::shown::{self, shown};
-use crate::sys::{self, Arm64Registers, Registers};
+use crate::sys::{self, Arm64Registers, ImageInfo, Registers};
 use alloc::vec::Vec;
 use core::fmt;
+
+/// `IMAGE_FILE_MACHINE_ARM64`.
+const MACHINE_ARM64: u16 = 0xAA64;
 
 /// A module of a process: its image, and the addresses where it is loaded.
 #[derive(Clone, Copy)]
 pub struct Module<'m> {
-    image: &'m Image<'m>,
+    /// Without one what is known of it: the size of its image.
+    image: Result<&'m Image<'m>, &'m ImageInfo>,
     base: u64,
     /// Its function table, if it is an image of a machine whose stacks are walked, and whether that is ARM64.
     table: sys::Range,
@@ -33,18 +37,32 @@ impl<'m> Module<'m> {
             Some(table) => (table, true),
             None => (image.ask(sys::pe_c_function_table)?.unwrap_or_default(), false),
         };
-        Ok(Module { image, base, table, is_arm64 })
+        Ok(Module { image: Ok(image), base, table, is_arm64 })
     }
 
-    /// The same without its function table, for one whose table is damaged: what calls its code is found by scans.
-    pub(crate) fn without_functions(image: &'m Image<'m>, base: u64) -> Self {
-        Module { image, base, table: sys::Range::default(), is_arm64: false }
+    /// The same with the whole entries of a function table that is damaged, as Windows divides its size: those that the bytes have. Of
+    /// a table that is not mapped there are none, and what calls the module's code is found by scans.
+    pub(crate) fn with_whole_functions(image: &'m Image<'m>, base: u64) -> Self {
+        let is_arm64 = image.info().machine == MACHINE_ARM64;
+        let entry = if is_arm64 { 8 } else { 12 };
+        let table = image.info().directory(DirectoryIndex::Exception).and_then(|it| {
+            let offset = image.offset(it.virtual_address)?;
+            let length = u64::from(it.size).min((image.bytes().len() as u64).checked_sub(offset)?);
+            Some(sys::Range { offset, length: length / entry * entry })
+        });
+        Module { image: Ok(image), base, table: table.unwrap_or_default(), is_arm64 }
+    }
+
+    /// A module whose image is not at hand: a leaf function may have been called from it.
+    pub(crate) fn without_image(info: &'m ImageInfo, base: u64) -> Self {
+        Module { image: Err(info), base, table: sys::Range::default(), is_arm64: false }
     }
 
     /// The module as the library takes it. An image of another machine has no functions.
     fn view(&self, is_arm64: bool) -> sys::Module {
         let table = if self.is_arm64 == is_arm64 { self.table } else { sys::Range::default() };
-        sys::Module { image: self.image.view(), table, base: self.base }
+        let image = self.image.map_or_else(|info| sys::View::of(&[], info, &[], &[]), Image::view);
+        sys::Module { image, table, base: self.base }
     }
 }
 
@@ -61,8 +79,9 @@ pub enum Way {
     /// An interrupt stopped it: in the frame below it the frame was undone that the processor pushed, or on ARM64 what the
     /// operating system saved.
     Interrupt,
-    /// By a scan of the stack, where no records led on: it is the first word that is after a call in executable code. It may
-    /// be a return address that was left there, so this frame and those after it may be wrong.
+    /// By a scan of the stack, where no records led on. It is the first word whose call leads to the code without records in
+    /// which the frame before it is, or if there is none, the first that is after a call in executable code. It may be a return
+    /// address that was left there, so this frame and those after it may be wrong.
     Scanned,
 }
 
@@ -78,7 +97,7 @@ pub struct Frame<R = Registers> {
     pub has_called: bool,
     /// Whether it may be wrong: nothing proves that it is the caller, or it follows a frame of which this holds. What a scan finds
     /// is a guess, and so is the caller of code of which no function table says that it is a leaf function: in a module without
-    /// one, in no module, and where no call ends at the return address.
+    /// one, in no module, in data, and where no call in executable code ends at the return address.
     pub is_guess: bool,
 }
 
@@ -91,7 +110,7 @@ pub enum End {
     /// The stack is whole: by its records the last frame returns to 0, as that does with which a thread starts, no frame is found
     /// there, and none of the frames is a guess.
     Bottom,
-    /// No module has the instruction pointer of the last frame, and no return address is found.
+    /// The instruction pointer of the last frame is in no module, or in one without an image, and no return address is found.
     NoModule,
     /// No function covers the call in the last frame, and no return address is found. A leaf function calls nothing.
     NoFunction,
@@ -101,9 +120,11 @@ pub enum End {
     LongChain,
     /// The step from the last frame is refused.
     Step(StepError),
-    /// The last frame returns to 0, but it is a guess, or no records describe its code: frames may be missing or wrong.
+    /// The last frame returns to 0, but a frame is a guess, as after a call of a null pointer, or no records describe the code of the
+    /// last one: frames may be missing or wrong.
     Zero,
-    /// No records describe the code of the last frame, and where it would return to is no executable code.
+    /// No records describe the code of the last frame, and where it would return to is no executable code, nor in a module without an
+    /// image.
     NoReturnAddress,
 }
 

@@ -85,6 +85,11 @@ fn owner_of(piece: &MemoryPiece) -> usize {
     (piece.offset >> BITS_OF_SIZE) as usize
 }
 
+/// What is known of the image of a module that is not found: its size.
+fn info_of(piece: &MemoryPiece) -> ImageInfo {
+    ImageInfo { size_of_image: piece.length as u32, ..ImageInfo::default() }
+}
+
 /// The memory of a minidump: its pieces in ascending order, apart. The byte at an address is that of the first piece that has it,
 /// those of the memory list before those of a full dump's, and the stacks of threads last.
 #[derive(Clone)]
@@ -209,6 +214,8 @@ pub struct DumpImages<'a> {
     modules: Vec<DumpModule>,
     images: Vec<Option<DumpImage<'a>>>,
     owned: Vec<MemoryPiece>,
+    /// What is known of the images that are not found, of the modules that no other one overlaps, in the order of `owned`.
+    missing: Vec<ImageInfo>,
 }
 
 impl fmt::Debug for DumpImages<'_> {
@@ -277,7 +284,9 @@ impl<'a> DumpImages<'a> {
         let image_of = |(module, loaded)| search.image_of(module, loaded, &mut look_up);
         let images = modules.iter().zip(loaded).map(image_of).collect();
         let owned = owned_by(&modules);
-        Ok(DumpImages { memory, modules, images, owned })
+        let mut found = DumpImages { memory, modules, images, owned, missing: Vec::new() };
+        found.missing = found.whole().filter(|it| found.image_of(it).is_none()).map(info_of).collect();
+        Ok(found)
     }
 
     /// The memory.
@@ -300,18 +309,30 @@ impl<'a> DumpImages<'a> {
         run_at(&self.owned, address).map(owner_of)
     }
 
-    /// The modules with an image, as walks take them: in ascending order, apart. One that another one overlaps which stands before
-    /// it in the list is left out. One whose function table is damaged is taken without it.
-    fn loaded(&self) -> Vec<Module<'_>> {
-        let whole = self.owned.iter().filter(|it| {
+    /// The modules that no other one overlaps which stands before it in the list, by their addresses.
+    fn whole(&self) -> impl Iterator<Item = &MemoryPiece> {
+        self.owned.iter().filter(|it| {
             let module = &self.modules[owner_of(it)];
             it.start == module.base_of_image && it.length == u64::from(module.size_of_image)
-        });
-        let module_of = |it: &MemoryPiece| {
-            let image = &self.images[owner_of(it)].as_ref()?.image;
-            Some(Module::new(image, it.start).unwrap_or_else(|_| Module::without_functions(image, it.start)))
+        })
+    }
+
+    /// The image of a module.
+    fn image_of(&self, piece: &MemoryPiece) -> Option<&Image<'a>> {
+        self.images[owner_of(piece)].as_ref().map(|it| &it.image)
+    }
+
+    /// The modules as walks take them: in ascending order, apart. One that another one overlaps which stands before it in the list is
+    /// left out. Of a function table that is damaged the whole entries serve.
+    fn loaded(&self) -> Vec<Module<'_>> {
+        let mut missing = self.missing.iter();
+        let module_of = |it: &MemoryPiece| match self.image_of(it) {
+            Some(image) => {
+                Some(Module::new(image, it.start).unwrap_or_else(|_| Module::with_whole_functions(image, it.start)))
+            }
+            None => missing.next().map(|info| Module::without_image(info, it.start)),
         };
-        whole.filter_map(module_of).collect()
+        self.whole().filter_map(module_of).collect()
     }
 }
 

@@ -228,7 +228,7 @@ fn stacks_are_walks() -> Result<(), Error> {
     let found: Vec<_> =
         stack.frames.iter().map(|it| (it.registers.ip() - BASE, it.registers.sp(), it.way, it.has_called)).collect();
     assert_eq!(found[..2], [(0x5000, STACK, Way::Top, false), (0x5020, STACK + 8, Way::Records, true)]);
-    // Without images there is the top frame alone, which is in no module.
+    // Without images there is the top frame alone, which is in no module with one.
     let none = DumpImages::new(&dump, |_| None)?;
     let stack = Stacks::new(&none).walk(&dump, &list.get(0).unwrap(), 100)?;
     assert_eq!((stack.frames.len(), stack.end), (1, End::NoModule));

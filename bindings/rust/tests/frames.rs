@@ -340,9 +340,15 @@ fn arm64_registers() -> Arm64Registers {
     registers
 }
 
+/// The image with its section marked as executable: only then its functions without records are leaf functions.
+fn executable(mut file: Vec<u8>) -> Vec<u8> {
+    file[0x16C..0x170].copy_from_slice(&0x6000_0020u32.to_le_bytes());
+    file
+}
+
 /// All frames of a walk on ARM64 over the words from `SP` on, and why it ended.
 fn arm64_walk(registers: Arm64Registers, most: usize, words: &[u64]) -> (Vec<Frame<Arm64Registers>>, Option<End>) {
-    let (calls, others, bytes) = (made::with_arm64_calls(), arm64_bytes(), bytes_of(words));
+    let (calls, others, bytes) = (executable(made::with_arm64_calls()), executable(arm64_bytes()), bytes_of(words));
     let images = [(CALLS, image_of(&calls)), (MORE_CALLS, image_of(&calls)), (OTHERS, image_of(&others))];
     let modules = images.each_ref().map(|(base, image)| module(image, *base));
     let pieces = [piece(SP, 0, bytes.len())];
@@ -399,10 +405,11 @@ fn an_arm64_walk_comes_through_three_modules_to_its_end() {
 
 #[test]
 fn an_arm64_leaf_function_is_the_top_frame_alone() {
-    let words = arm64_stack();
+    // No word is a return address.
+    let words = [7];
     let mut registers = arm64_registers();
-    // The leaf function returns to another one, after no call and in no section of code.
-    registers.set_lr(OTHERS + 0x1104);
+    // The leaf function returns to no section of code.
+    registers.set_lr(OTHERS + 0x104);
     let top = vec![(OTHERS + 0x1100, SP, Way::Top)];
     let (frames, end) = arm64_walk(registers, 100, &words);
     assert_eq!((arm64_pointers(&frames), end), (top, Some(End::NoReturnAddress)));
@@ -697,7 +704,7 @@ fn a_step_over_a_piece_is_one_over_pieces() {
 /// An ARM64 walk over the words from `SP` on, in pieces.
 #[test]
 fn an_arm64_walk_reads_memory_in_pieces() {
-    let (calls, others) = (made::with_arm64_calls(), arm64_bytes());
+    let (calls, others) = (executable(made::with_arm64_calls()), executable(arm64_bytes()));
     let images = [(CALLS, image_of(&calls)), (MORE_CALLS, image_of(&calls)), (OTHERS, image_of(&others))];
     let modules = images.each_ref().map(|(base, image)| module(image, *base));
     let words = arm64_stack();

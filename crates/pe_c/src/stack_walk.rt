@@ -9,7 +9,7 @@ ghost use Rattle.pe_core.specs.Refusals.{answer_by};
 ghost use Rattle.pe_frame.specs.AddressRanges.{AreAscending, has_address};
 ghost use Rattle.pe_frame.specs.Arm64Walks as arm64;
 ghost use Rattle.pe_frame.specs.FrameWalks.{frame_left};
-ghost use Rattle.pe_frame.specs.Modules.{is_after_call_arm64_of, is_after_call_of, is_code_of, is_code_return_arm64_of, is_code_return_of, module_at, module_base, module_size};
+ghost use Rattle.pe_frame.specs.Modules.{is_after_call_arm64_of, is_after_call_of, is_code_return_arm64_of, is_code_return_of, may_be_code_of, module_at, module_base, module_size, call_target_of};
 ghost use Rattle.pe_frame.specs.Walks.{Calls, CallsIn, lookup_address};
 ghost use Rattle.pe_c.specs.FrameCalls.{HandsOutFrame, HandsOutFrames};
 ghost use Rattle.pe_c.specs.StackWalks.{after_frame, stack_walks};
@@ -31,13 +31,14 @@ use pe_frame::{
 };
 use pe_unwind::ExceptionData;
 
-/// A module of a process on x64: an image, and the addresses where it is loaded.
+/// A module of a process on x64: an image, and the addresses where it is loaded. One whose image is not at hand has no bytes and no
+/// sections, and the size of its image.
 #[repr(C)]
 #[derive(Clone, Copy)]
 pub struct ModuleView<'a> {
     /// The image, which has `size_of_image` bytes where it is loaded.
     pub image: View<'a>,
-    /// The range of its function table, as `pe_c_function_table` returns it. One of no bytes: it has leaf functions alone.
+    /// The range of its function table, as `pe_c_function_table` returns it. One of no bytes: no records describe its functions.
     pub table: Range,
     /// The address where it is loaded.
     pub base: u64,
@@ -130,12 +131,12 @@ fn ends_call_in(view: &ModuleView<'_>, address: u64) -> bool
     module_with(view, exceptions.as_ref()).is_after_call(address)
 }
 
-/// Whether an address of a module is one of an executable section.
-fn has_code_in(view: &ModuleView<'_>, address: u64) -> bool
+/// Whether an address of a module may be one of code.
+fn may_be_code_in(view: &ModuleView<'_>, address: u64) -> bool
     requires { address ≤ view.now.base + view.now.image.image.now.size_of_image }
-    ensures { result ≡ is_code_of (Some (module_of view.now)) address }
+    ensures { result ≡ may_be_code_of (Some (module_of view.now)) address }
 {
-    module_with(view, None).is_code(address)
+    module_with(view, None).may_be_code(address)
 }
 
 /// Whether an address, which may be the end of a module, is one after a call in an executable section of it.
@@ -146,6 +147,16 @@ fn ends_code_call_in(view: &ModuleView<'_>, address: u64) -> bool
 {
     let exceptions = exceptions_of(view);
     module_with(view, exceptions.as_ref()).is_code_return(address)
+}
+
+/// Where the call of a module leads that ends at an address, which may be the end of the module.
+fn target_of_call_in(view: &ModuleView<'_>, address: u64) -> Option<u64>
+    requires table { IsTrue (has_table view.now) }
+    requires near { address ≤ view.now.base + view.now.image.image.now.size_of_image }
+    ensures { result ≡ call_target_of (Some (module_of view.now)) address }
+{
+    let exceptions = exceptions_of(view);
+    module_with(view, exceptions.as_ref()).call_target(address)
 }
 
 /// Whether an address, which may be the end of a module, is one after a call on ARM64 in it.
@@ -283,9 +294,16 @@ impl<'a> CallSites for ViewedModules<'a> {
         }
     }
 
-    fn has_code(&self, address: u64) -> bool {
+    fn target_of_call(&self, address: u64) -> Option<u64> {
+        match self.find(address.saturating_sub(1)) {
+            Some(view) => target_of_call_in(view, address),
+            None => None,
+        }
+    }
+
+    fn may_be_code(&self, address: u64) -> bool {
         match self.find(address) {
-            Some(view) => has_code_in(view, address),
+            Some(view) => may_be_code_in(view, address),
             None => false,
         }
     }

@@ -1,10 +1,11 @@
 -- The frames that a step of a walk on ARM64 finds, and where it comes to the bottom.
 use Rattle.pe_core.specs.Refusals.{Refusal, ◌>>=◌}
-use Rattle.std.proofs.Common.{◌≡◌, ◌≢◌, ◌⊎◌, inl, inr, ℕ, ◌<◌, ◌≤◌, ◌==◌, leb, Bool, true, false, ◌&&◌, cond, List, Option, Some, None, Result, Ok, Err, refl, ap, sym, ◌∙◌, subst, arith}
+use Rattle.std.proofs.Common.{◌≡◌, ◌≢◌, ◌-◌, ◌++◌, ◌||◌, not, ◌⊎◌, inl, inr, ℕ, ◌<◌, ◌≤◌, ◌==◌, leb, Bool, true, false, ◌&&◌, cond, List, Option, Some, None, Result, Ok, Err, refl, ap, sym, ◌∙◌, subst, arith}
 use Rattle.std.proofs.lemmas.Bool.{eqb-true}
 use Rattle.std.proofs.lemmas.Bool.Decides.{nat_tests}
 use Rattle.std.specs.List.{AllByRecursion}
-use Rattle.std.specs.Option.{option_map, option_map_or, option_or}
+use Rattle.std.specs.Option.{is_none, option_map, option_map_or, option_or}
+use Rattle.pe_core.proofs.Equality.{both}
 use Rattle.pe_unwind.specs.Arm64Record.{Arm64InfoView}
 use Rattle.pe_unwind.specs.Arm64Unwinding.{info_by}
 use Rattle.pe_unwind.specs.ExceptionTable.{ExceptionView}
@@ -13,10 +14,10 @@ use Rattle.pe_unwind.specs.declared.arm64.function.Arm64RuntimeFunction.{Arm64Ru
 use Rattle.pe_frame.specs.Arm64Packed.{is_canonical, packed_left, stepped_arm64_packed}
 use Rattle.pe_frame.specs.Arm64Steps.{StepsOutArm64}
 use Rattle.pe_frame.specs.Arm64Undoing.{caller_by_codes, entry_of, left_arm64, link_register, put_pc, returned_arm64, undone_codes}
-use Rattle.pe_frame.specs.Arm64Walks.{Calls, CallsBy, CallsByInfo, CallsFound, CallsIn, after_leaf, called_frame, frame_after, frame_of, has_called, jumped_frame, caller_of_leaf, lookup_address, caller_outside, place_of, returned_to, scanned, stepped_out_packed, top_frame, without_records}
+use Rattle.pe_frame.specs.Arm64Walks.{Calls, CallsBy, CallsByInfo, CallsFound, CallsIn, after_leaf, called_frame, frame_after, frame_of, has_called, is_bottom, jumped_frame, caller_of_leaf, leaf_is_guess, lookup_address, caller_outside, place_of, returned_to, scanned, stepped_out_packed, top_frame, without_records}
 use Rattle.pe_frame.specs.FrameWalks.{IsWalk, Process, starting_walk}
-use Rattle.pe_frame.specs.Modules.{is_after_call_arm64, is_code, map_of_module, module_at}
-use Rattle.pe_frame.specs.Walks.{end_at_0}
+use Rattle.pe_frame.specs.Modules.{is_after_call_arm64, is_after_call_arm64_in, is_after_call_arm64_of, is_code_of, is_code_return_arm64, is_code_return_arm64_of, is_executable, is_unknown, map_of_module, may_be_code, module_at}
+use Rattle.pe_frame.specs.Walks.{by_records, end_at_0}
 use Rattle.pe_frame.specs.declared.arm64.entry.Arm64Entry.{Arm64Entry}
 use Rattle.pe_frame.specs.declared.arm64.registers.Arm64Registers.{Arm64Registers}
 use Rattle.pe_frame.specs.declared.arm64.walk.Arm64StackFrame.{Arm64StackFrame}
@@ -27,7 +28,7 @@ use Rattle.pe_frame.specs.declared.walk.Way.{Way}
 use Rattle.pe_frame.specs.declared.walk.Way.TheVariants.{Records, Leaf, Interrupt, Scanned}
 use Rattle.pe_frame.specs.declared.walk.WalkEnd.{WalkEnd}
 use Rattle.pe_frame.specs.declared.walk.WalkEnd.TheVariants as ends
-use Rattle.pe_frame.proofs.FrameWalks.{sure_frames}
+use Rattle.pe_frame.proofs.FrameWalks.{frames_keep, sure_frames}
 
 -- ---- a frame, and that before it
 
@@ -42,16 +43,18 @@ says modules t made =
 abbrev Rises : Arm64StackFrame → Arm64StackFrame → Type 0
 Rises s t = t.way ≡ Records → s.has_called ≡ true → (s.registers).sp < (t.registers).sp
 
--- Records led on, or a scan, or the frame before it has not called. What a scan found is a guess, and what follows a guess.
+-- Records led on, or a scan, or the frame before it has not called. What a scan found is a guess, and what follows a guess; what
+-- records lead to follows one.
 pub record IsNext (modules : List Module) (s t : Arm64StackFrame) : Type 0 where
   pub made : IsMade modules t
   pub led : ((t.way ≡ Records) ⊎ ((t.way ≡ Interrupt) ⊎ (t.way ≡ Scanned))) ⊎ (s.has_called ≡ false)
   pub rises : Rises s t
   pub scans : t.way ≡ Scanned → t.is_guess ≡ true
   pub follows : s.is_guess ≡ true → t.is_guess ≡ true
+  pub keeps : by_records t.way ≡ true → t.is_guess ≡ s.is_guess
 
-next_of : (modules : List Module) (s t : Arm64StackFrame) (way : Way) (guess : Bool) (u : Arm64Registers) → t ≡ frame_of modules way guess u → ((way ≡ Records) ⊎ ((way ≡ Interrupt) ⊎ (way ≡ Scanned))) ⊎ (s.has_called ≡ false) → (way ≡ Records → s.has_called ≡ true → (s.registers).sp < u.sp) → (way ≡ Scanned → guess ≡ true) → (s.is_guess ≡ true → guess ≡ true) → IsNext modules s t
-next_of modules s t way guess u same led rises scans follows =
+next_of : (modules : List Module) (s t : Arm64StackFrame) (way : Way) (guess : Bool) (u : Arm64Registers) → t ≡ frame_of modules way guess u → ((way ≡ Records) ⊎ ((way ≡ Interrupt) ⊎ (way ≡ Scanned))) ⊎ (s.has_called ≡ false) → (way ≡ Records → s.has_called ≡ true → (s.registers).sp < u.sp) → (way ≡ Scanned → guess ≡ true) → (s.is_guess ≡ true → guess ≡ true) → (by_records way ≡ true → guess ≡ s.is_guess) → IsNext modules s t
+next_of modules s t way guess u same led rises scans follows keeps =
     let at : t.way ≡ way = ap (λ (f : Arm64StackFrame). f.way) same in
     let is : t.is_guess ≡ guess = ap (λ (f : Arm64StackFrame). f.is_guess) same in
     let by_sp : (t.registers).sp ≡ u.sp = ap (λ (f : Arm64StackFrame). (f.registers).sp) same in
@@ -61,6 +64,7 @@ next_of modules s t way guess u same led rises scans follows =
       rises = λ by called. subst (λ (p : ℕ). (s.registers).sp < p) (sym by_sp) (rises (sym at ∙ by) called);
       scans = λ by. is ∙ scans (sym at ∙ by);
       follows = λ before. is ∙ follows before;
+      keeps = λ by. is ∙ keeps (sym (ap by_records at) ∙ by);
     }
 
 -- ---- without records
@@ -79,12 +83,12 @@ IsLed modules guess t = IsScanned modules t ⊎ IsFound modules guess t
 
 next_scanned : (modules : List Module) (s t : Arm64StackFrame) → IsScanned modules t → IsNext modules s t
 next_scanned modules s t found =
-    next_of modules s t Scanned true found.0 found.1 (inl (inr (inr refl))) (λ by called. absurd (cc by)) (λ by. refl) (λ before. refl)
+    next_of modules s t Scanned true found.0 found.1 (inl (inr (inr refl))) (λ by called. absurd (cc by)) (λ by. refl) (λ before. refl) (λ by. absurd (cc by))
 
 next_led : (modules : List Module) (guess : Bool) (s t : Arm64StackFrame) → (s.is_guess ≡ true → guess ≡ true) → s.has_called ≡ false → IsLed modules guess t → IsNext modules s t
 next_led modules guess s t given waits (inl found) = next_scanned modules s t found
 next_led modules guess s t given waits (inr found) =
-    next_of modules s t Leaf found.0 found.1 found.3 (inr waits) (λ by called. absurd (cc by)) (λ by. absurd (cc by)) (λ before. found.2 (given before))
+    next_of modules s t Leaf found.0 found.1 found.3 (inr waits) (λ by called. absurd (cc by)) (λ by. absurd (cc by)) (λ before. found.2 (given before)) (λ by. absurd (cc by))
 
 made_scan : (modules : List Module) (g : Arm64Registers) (o : Option (ℕ × ℕ)) (t : Arm64StackFrame) → option_map (λ found. frame_of modules Scanned true (returned_to g found)) o ≡ Some t → IsScanned modules t
 made_scan modules g None t is = absurd (cc is)
@@ -92,28 +96,33 @@ made_scan modules g (Some found) t is =
     let same : t ≡ frame_of modules Scanned true (returned_to g found) = cc is in
     (returned_to g found, same)
 
-found_if : (memory : ℕ → Option ℕ) (modules : List Module) (guess : Bool) (g : Arm64Registers) (b : Bool) (t : Arm64StackFrame) → option_or (cond b (Some (frame_of modules Leaf guess (after_leaf g))) None) (scanned memory modules g) ≡ Some t → IsLed modules guess t
-found_if memory modules guess g true t is =
-    let same : t ≡ frame_of modules Leaf guess (after_leaf g) = cc is in
-    inr (guess, after_leaf g, (λ given. given), same)
-found_if memory modules guess g false t is = inl (made_scan modules g _ t is)
+or_true : (a b : Bool) → a ≡ true → (a || b) ≡ true
+or_true true b is = refl
+or_true false b is = absurd (cc is)
+
+found_if : (memory : ℕ → Option ℕ) (modules : List Module) (guess other : Bool) (g : Arm64Registers) (b : Bool) (t : Arm64StackFrame) → option_or (cond b (Some (frame_of modules Leaf (guess || other) (after_leaf g))) None) (scanned memory modules g) ≡ Some t → IsLed modules guess t
+found_if memory modules guess other g true t is =
+    let same : t ≡ frame_of modules Leaf (guess || other) (after_leaf g) = cc is in
+    inr (guess || other, after_leaf g, or_true guess other, same)
+found_if memory modules guess other g false t is = inl (made_scan modules g _ t is)
 
 made_without : (memory : ℕ → Option ℕ) (modules : List Module) (guess : Bool) (g : Arm64Registers) (t : Arm64StackFrame) → without_records memory modules guess g ≡ Some t → IsLed modules guess t
-made_without memory modules guess g t is = found_if memory modules guess g (is_after_call_arm64 modules (link_register g)) t is
+made_without memory modules guess g t is =
+    found_if memory modules guess (not (is_code_return_arm64 modules (link_register g))) g (is_after_call_arm64 modules (link_register g)) t is
 
 made_found : {X : Type 0} (o : Option Arm64StackFrame) (rest : Result Arm64StackFrame WalkEnd) (t : Arm64StackFrame) → (o ≡ Some t → X) → (Ok t ≡ rest → X) → Ok t ≡ option_map_or Ok o rest → X
 made_found (Some f) rest t found other is = let same : Some f ≡ Some t = cc is in found same
 made_found None rest t found other is = other is
 
-jumped_if : (modules : List Module) (guess : Bool) (u : Arm64Registers) (t : Arm64StackFrame) (zero code : Bool) → Ok t ≡ cond zero (Err ends.Zero) (cond code (Ok (frame_of modules Leaf true u)) (Err ends.NoReturnAddress)) → IsLed modules guess t
-jumped_if modules guess u t true code is = absurd (cc is)
-jumped_if modules guess u t false true is =
-    let same : t ≡ frame_of modules Leaf true u = cc is in inr (true, u, (λ given. refl), same)
-jumped_if modules guess u t false false is = absurd (cc is)
+jumped_if : (modules : List Module) (u : Arm64Registers) (t : Arm64StackFrame) (zero code : Bool) → Ok t ≡ cond zero (Err ends.Zero) (cond code (Ok (frame_of modules Leaf true u)) (Err ends.NoReturnAddress)) → t ≡ frame_of modules Leaf true u
+jumped_if modules u t true code is = absurd (cc is)
+jumped_if modules u t false true is = cc is
+jumped_if modules u t false false is = absurd (cc is)
 
 made_jumped : (modules : List Module) (guess : Bool) (g : Arm64Registers) (t : Arm64StackFrame) → Ok t ≡ jumped_frame modules g → IsLed modules guess t
 made_jumped modules guess g t is =
-    jumped_if modules guess (after_leaf g) t (link_register g == 0) (is_code modules (link_register g)) is
+    let same = jumped_if modules (after_leaf g) t (link_register g == 0) (may_be_code modules (link_register g)) is in
+    inr (true, after_leaf g, (λ given. refl), same)
 
 by_called : {X : Type 0} (b : Bool) (called waits answer : Result Arm64StackFrame WalkEnd) → answer ≡ cond b called waits → (answer ≡ called → X) → (b ≡ false → answer ≡ waits → X) → X
 by_called true called waits answer is first second = first is
@@ -128,12 +137,19 @@ next_leaf memory modules guess s t given is =
     (λ at. made_found by_scan (Err ends.NoFunction) t (λ by. next_scanned modules s t (made_scan modules s.registers _ t by)) (λ none. absurd (cc none)) at)
     (λ waits at. next_led modules guess s t given waits (made_found found rest t (made_without memory modules guess s.registers t) (made_jumped modules guess s.registers t) at))
 
+outside_if : (memory : ℕ → Option ℕ) (modules : List Module) (s t : Arm64StackFrame) (b : Bool) → s.has_called ≡ b → cond b (scanned memory modules s.registers) (without_records memory modules true s.registers) ≡ Some t → IsNext modules s t
+outside_if memory modules s t true called is = next_scanned modules s t (made_scan modules s.registers _ t is)
+outside_if memory modules s t false waits is =
+    next_led modules true s t (λ before. refl) waits (made_without memory modules true s.registers t is)
+
 next_outside : (memory : ℕ → Option ℕ) (modules : List Module) (s t : Arm64StackFrame) → Ok t ≡ caller_outside memory modules s → IsNext modules s t
 next_outside memory modules s t is =
-    let found = without_records memory modules true s.registers in
-    by_called s.has_called (Err ends.NoModule) (option_map_or Ok found (Err ends.NoModule)) (Ok t) is
-    (λ at. absurd (cc at))
-    (λ waits at. next_led modules true s t (λ before. refl) waits (made_found found (Err ends.NoModule) t (made_without memory modules true s.registers t) (λ none. absurd (cc none)) at))
+    let found = cond s.has_called (scanned memory modules s.registers) (without_records memory modules true s.registers) in
+    made_found found (Err ends.NoModule) t (outside_if memory modules s t s.has_called refl) (λ none. absurd (cc none)) is
+
+next_without_table : (memory : ℕ → Option ℕ) (modules : List Module) (s t : Arm64StackFrame) (b : Bool) → Ok t ≡ cond b (caller_outside memory modules s) (caller_of_leaf memory modules true s) → IsNext modules s t
+next_without_table memory modules s t true is = next_outside memory modules s t is
+next_without_table memory modules s t false is = next_leaf memory modules true s t (λ before. refl) is
 
 -- a step that no interrupt left does not sink
 abbrev StaysAbove : ℕ → Result (Arm64Registers × Bool) FrameError → Type 0
@@ -209,38 +225,38 @@ stands_if true true end rest t is = absurd (cc is)
 stands_if true false end rest t is = (λ c. refl, is)
 stands_if false e end rest t is = (λ c. absurd (cc c), is)
 
-next_called : (modules : List Module) (s t : Arm64StackFrame) (u : Arm64Registers) → (s.registers).sp ≤ u.sp → Ok t ≡ called_frame modules s u → IsNext modules s t
-next_called modules s t u above is =
+next_called : (memory : ℕ → Option ℕ) (modules : List Module) (s t : Arm64StackFrame) (u : Arm64Registers) → (s.registers).sp ≤ u.sp → Ok t ≡ called_frame memory modules s u → IsNext modules s t
+next_called memory modules s t u above is =
     let e = u.sp == (s.registers).sp in
-    let rest = cond (u.pc == 0) (Err (end_at_0 s.is_guess)) (Ok (frame_of modules Records s.is_guess u)) in
+    let rest = cond (is_bottom memory modules u) (Err (end_at_0 s.is_guess)) (Ok (frame_of modules Records s.is_guess u)) in
     let moves = stands_if s.has_called e (ends.Step (NotRising u.sp)) rest t is in
-    let same = records_if modules s t u (u.pc == 0) moves.1 in
+    let same = records_if modules s t u (is_bottom memory modules u) moves.1 in
     next_of modules s t Records s.is_guess u same (inl (inl refl))
     (λ by called. (let test : (u.sp == (s.registers).sp) ≡ false = moves.0 called in
     let other : u.sp ≢ (s.registers).sp = grind (arith, nat_tests) in
     omega (arith, above, other)))
-    (λ by. absurd (cc by)) (λ before. before)
+    (λ by. absurd (cc by)) (λ before. before) (λ by. refl)
 
-next_after : (modules : List Module) (s t : Arm64StackFrame) (left : Result (Arm64Registers × Bool) FrameError) → StaysAbove (s.registers).sp left → Ok t ≡ frame_after modules s left → IsNext modules s t
-next_after modules s t (Ok (u, true)) above is =
+next_after : (memory : ℕ → Option ℕ) (modules : List Module) (s t : Arm64StackFrame) (left : Result (Arm64Registers × Bool) FrameError) → StaysAbove (s.registers).sp left → Ok t ≡ frame_after memory modules s left → IsNext modules s t
+next_after memory modules s t (Ok (u, true)) above is =
     let same : t ≡ frame_of modules Interrupt s.is_guess u = cc is in
-    next_of modules s t Interrupt s.is_guess u same (inl (inr (inl refl))) (λ by called. absurd (cc by)) (λ by. absurd (cc by)) (λ before. before)
-next_after modules s t (Ok (u, false)) above is = next_called modules s t u (above u refl) is
-next_after modules s t (Err e) above is = absurd (cc is)
+    next_of modules s t Interrupt s.is_guess u same (inl (inr (inl refl))) (λ by called. absurd (cc by)) (λ by. absurd (cc by)) (λ before. before) (λ by. refl)
+next_after memory modules s t (Ok (u, false)) above is = next_called memory modules s t u (above u refl) is
+next_after memory modules s t (Err e) above is = absurd (cc is)
 
 next_by_info : (p : Process) (m : Module) (f : Arm64RuntimeFunction) (s t : Arm64StackFrame) (info : Option (Result Arm64InfoView Refusal)) → CallsByInfo p m f s info (Ok t) → IsNext p.modules s t
 next_by_info p m f s t None h =
-    next_after p.modules s t (stepped_out_packed p.memory f.unwind_data (place_of m f s) s.registers) (packed_above p.memory f.unwind_data (place_of m f s) s.registers) h
+    next_after p.memory p.modules s t (stepped_out_packed p.memory f.unwind_data (place_of m f s) s.registers) (packed_above p.memory f.unwind_data (place_of m f s) s.registers) h
 next_by_info p m f s t (Some (Err r)) h = absurd h
-next_by_info p m f s t (Some (Ok i)) h = next_after p.modules s t h.0 (step_above p.memory i (place_of m f s) s.registers h.0 h.1) h.2
+next_by_info p m f s t (Some (Ok i)) h = next_after p.memory p.modules s t h.0 (step_above p.memory i (place_of m f s) s.registers h.0 h.1) h.2
 
 next_found : (p : Process) (m : Module) (e : ExceptionView) (s t : Arm64StackFrame) (found : Result (Option Arm64RuntimeFunction) Refusal) → CallsFound p m e s found (Ok t) → IsNext p.modules s t
 next_found p m e s t (Err r) h = absurd h
-next_found p m e s t (Ok None) h = next_leaf p.memory p.modules s.is_guess s t (λ before. before) h
+next_found p m e s t (Ok None) h = next_leaf p.memory p.modules (leaf_is_guess m s) s t (or_true s.is_guess _) h
 next_found p m e s t (Ok (Some f)) h = next_by_info p m f s t (info_by (map_of_module m e) e.content f) h
 
 next_by : (p : Process) (m : Module) (s t : Arm64StackFrame) (o : Option ExceptionView) → CallsBy p m s o (Ok t) → IsNext p.modules s t
-next_by p m s t None h = next_leaf p.memory p.modules true s t (λ before. refl) h
+next_by p m s t None h = next_without_table p.memory p.modules s t (is_unknown m) h
 next_by p m s t (Some e) h = next_found p m e s t h.0 h.2
 
 next_in : (p : Process) (s t : Arm64StackFrame) (o : Option Module) → CallsIn p s o (Ok t) → IsNext p.modules s t
@@ -266,27 +282,76 @@ scans_are_guesses p s t h by = (next p s t h).scans by
 pub guesses_stay : (p : Process) (s t : Arm64StackFrame) → Calls p s (Ok t) → s.is_guess ≡ true → t.is_guess ≡ true
 guesses_stay p s t h before = (next p s t h).follows before
 
+pub records_keep : (p : Process) (s t : Arm64StackFrame) → Calls p s (Ok t) → by_records t.way ≡ true → t.is_guess ≡ s.is_guess
+records_keep p s t h by = (next p s t h).keeps by
+
+pub records_are_sure : (p : Process) (g : Arm64Registers) (most : ℕ) (first rest : List Arm64StackFrame) (end : WalkEnd) → IsWalk Calls (starting_walk p (top_frame g) most) (first ++ rest) end → AllByRecursion (λ s. by_records s.way ≡ true) first → AllByRecursion (λ s. s.is_guess ≡ false) first
+records_are_sure p g most first rest end h all =
+    frames_keep Calls (λ s. s.is_guess) (λ s. by_records s.way ≡ true) records_keep most (starting_walk p (top_frame g) most) first rest end h refl all
+
 pub rises_after_calls : (p : Process) (s t : Arm64StackFrame) → Calls p s (Ok t) → s.has_called ≡ true → t.way ≡ Records → (s.registers).sp < (t.registers).sp
 rises_after_calls p s t h called by = (next p s t h).rises by called
 
+-- ---- the caller of a leaf function whose call is in code
+
+or_false : (a b : Bool) → b ≡ true → (a || not b) ≡ a
+or_false true true is = refl
+or_false false true is = refl
+or_false a false is = absurd (cc is)
+
+call_of_code : (o : Option Module) (a : ℕ) → is_code_return_arm64_of o a ≡ true → is_after_call_arm64_of o a ≡ true
+call_of_code None a is = is
+call_of_code (Some m) a is = (both (is_executable m.sections.now (a - m.base - 1)) (is_after_call_arm64_in m a) is).1
+
+no_leaf : (modules : List Module) (g : Arm64Registers) (o : Option (ℕ × ℕ)) (t : Arm64StackFrame) → t.way ≡ Leaf → option_map (λ found. frame_of modules Scanned true (returned_to g found)) o ≡ Some t → ⊥
+no_leaf modules g o t leaf is =
+    let found = made_scan modules g o t is in
+    let both_ways : Leaf ≡ Scanned = sym leaf ∙ ap (λ (f : Arm64StackFrame). f.way) found.1 in
+    cc both_ways
+
+sure_leaf : (modules : List Module) (guess : Bool) (g : Arm64Registers) (t : Arm64StackFrame) (b : Bool) (scan : Option Arm64StackFrame) → is_after_call_arm64 modules (link_register g) ≡ b → (scan ≡ Some t → ⊥) → is_code_return_arm64 modules (t.registers).pc ≡ true → Ok t ≡ option_map_or Ok (option_or (cond b (Some (frame_of modules Leaf (guess || not (is_code_return_arm64 modules (link_register g))) (after_leaf g))) None) scan) (jumped_frame modules g) → t.is_guess ≡ guess
+sure_leaf modules guess g t true scan test none code is =
+    let same : t ≡ frame_of modules Leaf (guess || not (is_code_return_arm64 modules (link_register g))) (after_leaf g) = cc is in
+    let here : is_code_return_arm64 modules (link_register g) ≡ true = subst (λ (u : Arm64Registers). is_code_return_arm64 modules u.pc ≡ true) (ap (λ (f : Arm64StackFrame). f.registers) same) code in
+    ap (λ (f : Arm64StackFrame). f.is_guess) same ∙ or_false guess (is_code_return_arm64 modules (link_register g)) here
+sure_leaf modules guess g t false (Some f) test none code is =
+    let same : Some f ≡ Some t = cc is in absurd (none same)
+sure_leaf modules guess g t false None test none code is =
+    let same = jumped_if modules (after_leaf g) t (link_register g == 0) (may_be_code modules (link_register g)) is in
+    let here : is_code_return_arm64 modules (link_register g) ≡ true = subst (λ (u : Arm64Registers). is_code_return_arm64 modules u.pc ≡ true) (ap (λ (f : Arm64StackFrame). f.registers) same) code in
+    let call : is_after_call_arm64 modules (link_register g) ≡ true = call_of_code (module_at modules (link_register g - 1)) (link_register g) here in
+    absurd (cc (sym call ∙ test))
+
+pub leaf_keeps : (p : Process) (m : Module) (e : ExceptionView) (s t : Arm64StackFrame) → CallsFound p m e s (Ok None) (Ok t) → t.way ≡ Leaf → is_code_of (Some m) (lookup_address s) ≡ true → is_code_return_arm64 p.modules (t.registers).pc ≡ true → t.is_guess ≡ s.is_guess
+leaf_keeps p m e s t h leaf code returns =
+    let guess = leaf_is_guess m s in
+    let by_scan = scanned p.memory p.modules s.registers in
+    let found = without_records p.memory p.modules guess s.registers in
+    let rest = jumped_frame p.modules s.registers in
+    let none : by_scan ≡ Some t → ⊥ = no_leaf p.modules s.registers _ t leaf in
+    let as_leaf : t.is_guess ≡ guess = by_called s.has_called (option_map_or Ok by_scan (Err ends.NoFunction)) (option_map_or Ok found rest) (Ok t) h
+    (λ at. made_found by_scan (Err ends.NoFunction) t (λ by. absurd (none by)) (λ other. absurd (cc other)) at)
+    (λ waits at. sure_leaf p.modules guess s.registers t (is_after_call_arm64 p.modules (link_register s.registers)) by_scan refl none returns at) in
+    as_leaf ∙ or_false s.is_guess (is_code_of (Some m) (lookup_address s)) code
+
 -- ---- a frame is a step
 
-kept : (modules : List Module) (s t : Arm64StackFrame) (u : Arm64Registers) → Ok t ≡ called_frame modules s u → u ≡ t.registers
-kept modules s t u is =
-    let rest = cond (u.pc == 0) (Err (end_at_0 s.is_guess)) (Ok (frame_of modules Records s.is_guess u)) in
+kept : (memory : ℕ → Option ℕ) (modules : List Module) (s t : Arm64StackFrame) (u : Arm64Registers) → Ok t ≡ called_frame memory modules s u → u ≡ t.registers
+kept memory modules s t u is =
+    let rest = cond (is_bottom memory modules u) (Err (end_at_0 s.is_guess)) (Ok (frame_of modules Records s.is_guess u)) in
     let moves = stands_if s.has_called (u.sp == (s.registers).sp) (ends.Step (NotRising u.sp)) rest t is in
-    ap (λ (f : Arm64StackFrame). f.registers) (sym (records_if modules s t u (u.pc == 0) moves.1))
+    ap (λ (f : Arm64StackFrame). f.registers) (sym (records_if modules s t u (is_bottom memory modules u) moves.1))
 
-out_of : (modules : List Module) (s t : Arm64StackFrame) (left : Result (Arm64Registers × Bool) FrameError) → Ok t ≡ frame_after modules s left → (b : Bool) × (left ≡ Ok (t.registers, b))
-out_of modules s t (Ok (u, true)) is =
+out_of : (memory : ℕ → Option ℕ) (modules : List Module) (s t : Arm64StackFrame) (left : Result (Arm64Registers × Bool) FrameError) → Ok t ≡ frame_after memory modules s left → (b : Bool) × (left ≡ Ok (t.registers, b))
+out_of memory modules s t (Ok (u, true)) is =
     let same : t ≡ frame_of modules Interrupt s.is_guess u = cc is in
     (true, ap (λ (f : Arm64StackFrame). Ok (f.registers, true)) (sym same))
-out_of modules s t (Ok (u, false)) is = (false, ap (λ (g : Arm64Registers). Ok (g, false)) (kept modules s t u is))
-out_of modules s t (Err e) is = absurd (cc is)
+out_of memory modules s t (Ok (u, false)) is = (false, ap (λ (g : Arm64Registers). Ok (g, false)) (kept memory modules s t u is))
+out_of memory modules s t (Err e) is = absurd (cc is)
 
 pub frame_is_step : (p : Process) (m : Module) (f : Arm64RuntimeFunction) (s t : Arm64StackFrame) (i : Arm64InfoView) → CallsByInfo p m f s (Some (Ok i)) (Ok t) → (interrupted : Bool) × StepsOutArm64 p.memory i (place_of m f s) s.registers (Ok (t.registers, interrupted))
 frame_is_step p m f s t i h =
-    let out = out_of p.modules s t h.0 h.2 in
+    let out = out_of p.memory p.modules s t h.0 h.2 in
     (out.0, subst (λ (x : Result (Arm64Registers × Bool) FrameError). StepsOutArm64 p.memory i (place_of m f s) s.registers x) out.1 h.1)
 
 packed_of : (x : Result Arm64Registers FrameError) (u : Arm64Registers) (b : Bool) → told false x ≡ Ok (u, b) → x ≡ Ok u
@@ -295,38 +360,47 @@ packed_of (Err e) u b is = absurd (cc is)
 
 pub frame_is_packed_step : (p : Process) (m : Module) (f : Arm64RuntimeFunction) (s t : Arm64StackFrame) → CallsByInfo p m f s None (Ok t) → stepped_arm64_packed p.memory f.unwind_data (place_of m f s) s.registers ≡ Ok t.registers
 frame_is_packed_step p m f s t h =
-    let out = out_of p.modules s t (stepped_out_packed p.memory f.unwind_data (place_of m f s) s.registers) h in
+    let out = out_of p.memory p.modules s t (stepped_out_packed p.memory f.unwind_data (place_of m f s) s.registers) h in
     packed_of (stepped_arm64_packed p.memory f.unwind_data (place_of m f s) s.registers) t.registers out.0 out.1
 
 -- ---- the bottom
 
-bottom_if : (modules : List Module) (guess : Bool) (u : Arm64Registers) (b : Bool) → (u.pc == 0) ≡ b → Err ends.Bottom ≡ cond b (Err (end_at_0 guess)) (Ok (frame_of modules Records guess u)) → (u.pc ≡ 0) × (guess ≡ false)
-bottom_if modules true u true at is = absurd (cc is)
-bottom_if modules false u true at is = (eqb-true u.pc 0 at, refl)
-bottom_if modules guess u false at is = absurd (cc is)
+none_of : {X : Type 0} (o : Option X) → is_none o ≡ true → o ≡ None
+none_of None is = refl
+none_of (Some x) is = absurd (cc is)
+
+sure_if : (guess : Bool) → ◌≡◌ {A = Result Arm64StackFrame WalkEnd} (Err ends.Bottom) (Err (end_at_0 guess)) → guess ≡ false
+sure_if true is = absurd (cc is)
+sure_if false is = refl
+
+bottom_if : (memory : ℕ → Option ℕ) (modules : List Module) (guess : Bool) (u : Arm64Registers) (b : Bool) → is_bottom memory modules u ≡ b → Err ends.Bottom ≡ cond b (Err (end_at_0 guess)) (Ok (frame_of modules Records guess u)) → (u.pc ≡ 0) × (without_records memory modules true u ≡ None) × (guess ≡ false)
+bottom_if memory modules guess u true at is =
+    let parts = both (u.pc == 0) (is_none (without_records memory modules true u)) at in
+    (eqb-true u.pc 0 parts.0, none_of (without_records memory modules true u) parts.1, sure_if guess is)
+bottom_if memory modules guess u false at is = absurd (cc is)
 
 not_standing : (b : Bool) (x : FrameError) (rest : Result Arm64StackFrame WalkEnd) → Err ends.Bottom ≡ cond b (Err (ends.Step x)) rest → Err ends.Bottom ≡ rest
 not_standing true x rest is = absurd (cc is)
 not_standing false x rest is = is
 
-left_for_0 : (modules : List Module) (s : Arm64StackFrame) (left : Result (Arm64Registers × Bool) FrameError) → Err ends.Bottom ≡ frame_after modules s left → (u : Arm64Registers) × (left ≡ Ok (u, false)) × (u.pc ≡ 0) × (s.is_guess ≡ false)
-left_for_0 modules s (Ok (u, true)) is = absurd (cc is)
-left_for_0 modules s (Ok (u, false)) is =
-    let rest = cond (u.pc == 0) (Err (end_at_0 s.is_guess)) (Ok (frame_of modules Records s.is_guess u)) in
+left_for_0 : (memory : ℕ → Option ℕ) (modules : List Module) (s : Arm64StackFrame) (left : Result (Arm64Registers × Bool) FrameError) → Err ends.Bottom ≡ frame_after memory modules s left → (u : Arm64Registers) × (left ≡ Ok (u, false)) × (u.pc ≡ 0) × (without_records memory modules true u ≡ None) × (s.is_guess ≡ false)
+left_for_0 memory modules s (Ok (u, true)) is = absurd (cc is)
+left_for_0 memory modules s (Ok (u, false)) is =
+    let rest = cond (is_bottom memory modules u) (Err (end_at_0 s.is_guess)) (Ok (frame_of modules Records s.is_guess u)) in
     let moves = not_standing (s.has_called && u.sp == (s.registers).sp) (NotRising u.sp) rest is in
-    let zero = bottom_if modules s.is_guess u (u.pc == 0) refl moves in
-    (u, refl, zero.0, zero.1)
-left_for_0 modules s (Err e) is = absurd (cc is)
+    let zero = bottom_if memory modules s.is_guess u (is_bottom memory modules u) refl moves in
+    (u, refl, zero.0, zero.1, zero.2)
+left_for_0 memory modules s (Err e) is = absurd (cc is)
 
-pub records_at_bottom : (p : Process) (m : Module) (f : Arm64RuntimeFunction) (s : Arm64StackFrame) (i : Arm64InfoView) → CallsByInfo p m f s (Some (Ok i)) (Err ends.Bottom) → (u : Arm64Registers) × StepsOutArm64 p.memory i (place_of m f s) s.registers (Ok (u, false)) × (u.pc ≡ 0) × (s.is_guess ≡ false)
+pub records_at_bottom : (p : Process) (m : Module) (f : Arm64RuntimeFunction) (s : Arm64StackFrame) (i : Arm64InfoView) → CallsByInfo p m f s (Some (Ok i)) (Err ends.Bottom) → (u : Arm64Registers) × StepsOutArm64 p.memory i (place_of m f s) s.registers (Ok (u, false)) × (u.pc ≡ 0) × (without_records p.memory p.modules true u ≡ None) × (s.is_guess ≡ false)
 records_at_bottom p m f s i h =
-    let zero = left_for_0 p.modules s h.0 h.2 in
-    (zero.0, subst (λ (x : Result (Arm64Registers × Bool) FrameError). StepsOutArm64 p.memory i (place_of m f s) s.registers x) zero.1 h.1, zero.2, zero.3)
+    let zero = left_for_0 p.memory p.modules s h.0 h.2 in
+    (zero.0, subst (λ (x : Result (Arm64Registers × Bool) FrameError). StepsOutArm64 p.memory i (place_of m f s) s.registers x) zero.1 h.1, zero.2, zero.3, zero.4)
 
-pub packed_at_bottom : (p : Process) (m : Module) (f : Arm64RuntimeFunction) (s : Arm64StackFrame) → CallsByInfo p m f s None (Err ends.Bottom) → (u : Arm64Registers) × (stepped_arm64_packed p.memory f.unwind_data (place_of m f s) s.registers ≡ Ok u) × (u.pc ≡ 0) × (s.is_guess ≡ false)
+pub packed_at_bottom : (p : Process) (m : Module) (f : Arm64RuntimeFunction) (s : Arm64StackFrame) → CallsByInfo p m f s None (Err ends.Bottom) → (u : Arm64Registers) × (stepped_arm64_packed p.memory f.unwind_data (place_of m f s) s.registers ≡ Ok u) × (u.pc ≡ 0) × (without_records p.memory p.modules true u ≡ None) × (s.is_guess ≡ false)
 packed_at_bottom p m f s h =
-    let zero = left_for_0 p.modules s (stepped_out_packed p.memory f.unwind_data (place_of m f s) s.registers) h in
-    (zero.0, packed_of (stepped_arm64_packed p.memory f.unwind_data (place_of m f s) s.registers) zero.0 false zero.1, zero.2, zero.3)
+    let zero = left_for_0 p.memory p.modules s (stepped_out_packed p.memory f.unwind_data (place_of m f s) s.registers) h in
+    (zero.0, packed_of (stepped_arm64_packed p.memory f.unwind_data (place_of m f s) s.registers) zero.0 false zero.1, zero.2, zero.3, zero.4)
 
 no_bottom : (o : Option Arm64StackFrame) (rest : Result Arm64StackFrame WalkEnd) → (Err ends.Bottom ≡ rest → ⊥) → Err ends.Bottom ≡ option_map_or Ok o rest → ⊥
 no_bottom None rest other is = other is
@@ -344,29 +418,31 @@ leaf_at_bottom memory modules guess s is =
     let by_scan = scanned memory modules s.registers in
     by_called s.has_called (option_map_or Ok by_scan (Err ends.NoFunction)) (option_map_or Ok found (jumped_frame modules s.registers)) (Err ends.Bottom) (sym is)
     (λ at. no_bottom by_scan (Err ends.NoFunction) (λ e. cc e) at)
-    (λ waits at. no_bottom found (jumped_frame modules s.registers) (no_end_at modules (after_leaf s.registers) (link == 0) (is_code modules link)) at)
+    (λ waits at. no_bottom found (jumped_frame modules s.registers) (no_end_at modules (after_leaf s.registers) (link == 0) (may_be_code modules link)) at)
 
 pub outside_at_bottom : (memory : ℕ → Option ℕ) (modules : List Module) (s : Arm64StackFrame) → caller_outside memory modules s ≡ Err ends.Bottom → ⊥
 outside_at_bottom memory modules s is =
-    let found = without_records memory modules true s.registers in
-    by_called s.has_called (Err ends.NoModule) (option_map_or Ok found (Err ends.NoModule)) (Err ends.Bottom) (sym is)
-    (λ at. cc at)
-    (λ waits at. no_bottom found (Err ends.NoModule) (λ e. cc e) at)
+    let found = cond s.has_called (scanned memory modules s.registers) (without_records memory modules true s.registers) in
+    no_bottom found (Err ends.NoModule) (λ e. cc e) (sym is)
+
+no_table_at_bottom : (memory : ℕ → Option ℕ) (modules : List Module) (s : Arm64StackFrame) (b : Bool) → Err ends.Bottom ≡ cond b (caller_outside memory modules s) (caller_of_leaf memory modules true s) → ⊥
+no_table_at_bottom memory modules s true is = outside_at_bottom memory modules s (sym is)
+no_table_at_bottom memory modules s false is = leaf_at_bottom memory modules true s (sym is)
 
 -- ---- the bottom of a whole walk
 
 sure_by_info : (p : Process) (m : Module) (f : Arm64RuntimeFunction) (s : Arm64StackFrame) (info : Option (Result Arm64InfoView Refusal)) → CallsByInfo p m f s info (Err ends.Bottom) → s.is_guess ≡ false
-sure_by_info p m f s None h = (packed_at_bottom p m f s h).3
+sure_by_info p m f s None h = (packed_at_bottom p m f s h).4
 sure_by_info p m f s (Some (Err r)) h = absurd h
-sure_by_info p m f s (Some (Ok i)) h = (records_at_bottom p m f s i h).3
+sure_by_info p m f s (Some (Ok i)) h = (records_at_bottom p m f s i h).4
 
 sure_found : (p : Process) (m : Module) (e : ExceptionView) (s : Arm64StackFrame) (found : Result (Option Arm64RuntimeFunction) Refusal) → CallsFound p m e s found (Err ends.Bottom) → s.is_guess ≡ false
 sure_found p m e s (Err r) h = absurd h
-sure_found p m e s (Ok None) h = absurd (leaf_at_bottom p.memory p.modules s.is_guess s (sym h))
+sure_found p m e s (Ok None) h = absurd (leaf_at_bottom p.memory p.modules (leaf_is_guess m s) s (sym h))
 sure_found p m e s (Ok (Some f)) h = sure_by_info p m f s (info_by (map_of_module m e) e.content f) h
 
 sure_by : (p : Process) (m : Module) (s : Arm64StackFrame) (o : Option ExceptionView) → CallsBy p m s o (Err ends.Bottom) → s.is_guess ≡ false
-sure_by p m s None h = absurd (leaf_at_bottom p.memory p.modules true s (sym h))
+sure_by p m s None h = absurd (no_table_at_bottom p.memory p.modules s (is_unknown m) h)
 sure_by p m s (Some e) h = sure_found p m e s h.0 h.2
 
 sure_in : (p : Process) (s : Arm64StackFrame) (o : Option Module) → CallsIn p s o (Err ends.Bottom) → s.is_guess ≡ false

@@ -1,5 +1,5 @@
 -- There is one walk on ARM64, up to the numbers in a refusal.
-use Rattle.std.proofs.Common.{◌≡◌, Bool, true, false, cond, List, [], ◌∷◌, Option, Some, None, Result, Ok, Err, ap, sym, ◌∙◌, subst}
+use Rattle.std.proofs.Common.{◌≡◌, ℕ, Bool, true, false, cond, List, [], ◌∷◌, Option, Some, None, Result, Ok, Err, ap, sym, ◌∙◌, subst}
 use Rattle.std.specs.List.{find}
 use Rattle.std.specs.Option.{option_map}
 use Rattle.pe_core.specs.Refusals.{Refusal}
@@ -21,13 +21,13 @@ use Rattle.pe_frame.specs.declared.walk.WalkEnd.{WalkEnd}
 use Rattle.pe_frame.specs.declared.walk.WalkEnd.TheVariants as ends
 use Rattle.pe_frame.proofs.Arm64Streams.{one_arm64_step_out}
 
-same_frame : (modules : List Module) (s : Arm64StackFrame) (x y : Result (Arm64Registers × Bool) FrameError) → by_kind x ≡ by_kind y → by_end_kind (frame_after modules s x) ≡ by_end_kind (frame_after modules s y)
-same_frame modules s (Ok u) (Ok v) e =
+same_frame : (memory : ℕ → Option ℕ) (modules : List Module) (s : Arm64StackFrame) (x y : Result (Arm64Registers × Bool) FrameError) → by_kind x ≡ by_kind y → by_end_kind (frame_after memory modules s x) ≡ by_end_kind (frame_after memory modules s y)
+same_frame memory modules s (Ok u) (Ok v) e =
     let same : u ≡ v = cc in
-    ap (λ (w : Arm64Registers × Bool). by_end_kind (frame_after modules s (Ok w))) same
-same_frame modules s (Ok u) (Err d) e = absurd (cc e)
-same_frame modules s (Err d) (Ok v) e = absurd (cc e)
-same_frame modules s (Err d) (Err e) h =
+    ap (λ (w : Arm64Registers × Bool). by_end_kind (frame_after memory modules s (Ok w))) same
+same_frame memory modules s (Ok u) (Err d) e = absurd (cc e)
+same_frame memory modules s (Err d) (Ok v) e = absurd (cc e)
+same_frame memory modules s (Err d) (Err e) h =
     let same : error_kind d ≡ error_kind e = cc in
     ap (λ (k : ErrorKind). Err (OfError k)) same
 
@@ -41,7 +41,7 @@ one_by_info p m f s None x y h k = ap by_end_kind (h ∙ sym k)
 one_by_info p m f s (Some (Err r)) x y h k = unreadable r x h ∙ sym (unreadable r y k)
 one_by_info p m f s (Some (Ok i)) x y h k =
     let one = one_arm64_step_out p.memory i (place_of m f s) s.registers h.0 k.0 h.1 k.1 in
-    ap by_end_kind h.2 ∙ same_frame p.modules s h.0 k.0 one ∙ sym (ap by_end_kind k.2)
+    ap by_end_kind h.2 ∙ same_frame p.memory p.modules s h.0 k.0 one ∙ sym (ap by_end_kind k.2)
 
 one_found : (p : Process) (m : Module) (e : ExceptionView) (s : Arm64StackFrame) (found : Result (Option Arm64RuntimeFunction) Refusal) (x y : Result Arm64StackFrame WalkEnd) → CallsFound p m e s found x → CallsFound p m e s found y → by_end_kind x ≡ by_end_kind y
 one_found p m e s (Err r) x y h k = unreadable r x h ∙ sym (unreadable r y k)

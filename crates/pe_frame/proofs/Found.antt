@@ -1,5 +1,5 @@
 -- The frames that a step of a walk finds, and where it comes to the bottom.
-use Rattle.std.proofs.Common.{◌≡◌, ◌-◌, ◌⊎◌, inl, inr, ℕ, ◌==◌, Bool, true, false, cond, List, Option, Some, None, Result, Ok, Err, refl, ap, sym, ◌∙◌, subst}
+use Rattle.std.proofs.Common.{◌++◌, ◌≡◌, ◌-◌, ◌⊎◌, inl, inr, ℕ, ◌==◌, ◌||◌, not, Bool, true, false, cond, List, Option, Some, None, Result, Ok, Err, refl, ap, sym, ◌∙◌, subst}
 use Rattle.std.proofs.lemmas.Bool.{eqb-true}
 use Rattle.std.specs.List.{AllByRecursion}
 use Rattle.std.specs.Option.{is_none, option_map, option_map_or, option_or}
@@ -9,19 +9,20 @@ use Rattle.pe_unwind.specs.ExceptionTable.{ExceptionView}
 use Rattle.pe_unwind.specs.UnwindRecord.{UnwindInfoView}
 use Rattle.pe_unwind.specs.declared.function_table.RuntimeFunction.{RuntimeFunction}
 use Rattle.pe_frame.specs.Jumps.{StepsInImage}
-use Rattle.pe_frame.specs.Modules.{is_after_call, is_code, module_at, map_of_module}
+use Rattle.pe_frame.specs.Modules.{is_after_call, is_after_call_in, is_after_call_of, is_code_of, is_code_return, is_code_return_of, is_executable, is_unknown, may_be_code, module_at, map_of_module}
 use Rattle.pe_frame.specs.Undoing.{popped}
 use Rattle.pe_frame.specs.FrameWalks.{IsWalk, Process, starting_walk}
-use Rattle.pe_frame.specs.Walks.{Calls, CallsBy, CallsByPlan, CallsFound, CallsIn, after_leaf, code_of_frame, end_at_0, frame_after, frame_of, has_called, is_bottom, caller_of_leaf, leaf_frame, lookup_address, caller_outside, returned_to, scanned, top_frame, without_records}
+use Rattle.pe_frame.specs.Walks.{Calls, CallsBy, CallsByPlan, CallsFound, CallsIn, after_leaf, by_records, code_of_frame, end_at_0, frame_after, frame_of, has_called, is_bottom, caller_of_leaf, leaf_frame, leaf_is_guess, lookup_address, caller_outside, returned_to, scanned, top_frame, without_records, called_in_gap, caller_in_gap, gap_return, scanned_by}
 use Rattle.pe_frame.specs.declared.error.FrameError.{FrameError}
 use Rattle.pe_frame.specs.declared.modules.Module.{Module}
 use Rattle.pe_frame.specs.declared.registers.Registers.{Registers}
+use Rattle.pe_frame.specs.declared.walk.Gap.{Gap}
 use Rattle.pe_frame.specs.declared.walk.StackFrame.{StackFrame}
 use Rattle.pe_frame.specs.declared.walk.Way.{Way}
 use Rattle.pe_frame.specs.declared.walk.Way.TheVariants.{Records, Leaf, Interrupt, Scanned}
 use Rattle.pe_frame.specs.declared.walk.WalkEnd.{WalkEnd}
 use Rattle.pe_frame.specs.declared.walk.WalkEnd.TheVariants as ends
-use Rattle.pe_frame.proofs.FrameWalks.{sure_frames}
+use Rattle.pe_frame.proofs.FrameWalks.{frames_keep, sure_frames}
 
 -- ---- how a frame is made
 
@@ -34,18 +35,20 @@ says modules t made =
 
 -- ---- a frame, and that before it
 
--- Records led on, or a scan, or the frame before it has not called. What a scan found is a guess, and what follows a guess.
+-- Records led on, or a scan, or the frame before it has not called. What a scan found is a guess, and what follows a guess; what
+-- records lead to follows one.
 pub record IsNext (modules : List Module) (s t : StackFrame) : Type 0 where
   pub made : IsMade modules t
   pub led : ((t.way ≡ Records) ⊎ ((t.way ≡ Interrupt) ⊎ (t.way ≡ Scanned))) ⊎ (s.has_called ≡ false)
   pub scans : t.way ≡ Scanned → t.is_guess ≡ true
   pub follows : s.is_guess ≡ true → t.is_guess ≡ true
+  pub keeps : by_records t.way ≡ true → t.is_guess ≡ s.is_guess
 
 way_of : (modules : List Module) (t : StackFrame) (way : Way) (guess : Bool) (u : Registers) → t ≡ frame_of modules way guess u → t.way ≡ way
 way_of modules t way guess u same = ap (λ (f : StackFrame). f.way) same
 
-next_of : (modules : List Module) (s t : StackFrame) (way : Way) (guess : Bool) (u : Registers) → t ≡ frame_of modules way guess u → ((way ≡ Records) ⊎ ((way ≡ Interrupt) ⊎ (way ≡ Scanned))) ⊎ (s.has_called ≡ false) → (way ≡ Scanned → guess ≡ true) → (s.is_guess ≡ true → guess ≡ true) → IsNext modules s t
-next_of modules s t way guess u same led scans follows =
+next_of : (modules : List Module) (s t : StackFrame) (way : Way) (guess : Bool) (u : Registers) → t ≡ frame_of modules way guess u → ((way ≡ Records) ⊎ ((way ≡ Interrupt) ⊎ (way ≡ Scanned))) ⊎ (s.has_called ≡ false) → (way ≡ Scanned → guess ≡ true) → (s.is_guess ≡ true → guess ≡ true) → (by_records way ≡ true → guess ≡ s.is_guess) → IsNext modules s t
+next_of modules s t way guess u same led scans follows keeps =
     let at : t.way ≡ way = way_of modules t way guess u same in
     let is : t.is_guess ≡ guess = ap (λ (f : StackFrame). f.is_guess) same in
     record {
@@ -53,6 +56,7 @@ next_of modules s t way guess u same led scans follows =
       led = subst (λ (w : Way). ((w ≡ Records) ⊎ ((w ≡ Interrupt) ⊎ (w ≡ Scanned))) ⊎ (s.has_called ≡ false)) (sym at) led;
       scans = λ by. is ∙ scans (sym at ∙ by);
       follows = λ before. is ∙ follows before;
+      keeps = λ by. is ∙ keeps (sym (ap by_records at) ∙ by);
     }
 
 -- ---- without records
@@ -71,20 +75,24 @@ IsLed modules guess t = IsScanned modules t ⊎ IsFound modules guess t
 
 next_scanned : (modules : List Module) (s t : StackFrame) → IsScanned modules t → IsNext modules s t
 next_scanned modules s t found =
-    next_of modules s t Scanned true found.0 found.1 (inl (inr (inr refl))) (λ by. refl) (λ before. refl)
+    next_of modules s t Scanned true found.0 found.1 (inl (inr (inr refl))) (λ by. refl) (λ before. refl) (λ by. absurd (cc by))
 
 next_led : (modules : List Module) (guess : Bool) (s t : StackFrame) → (s.is_guess ≡ true → guess ≡ true) → s.has_called ≡ false → IsLed modules guess t → IsNext modules s t
 next_led modules guess s t given waits (inl found) = next_scanned modules s t found
 next_led modules guess s t given waits (inr found) =
-    next_of modules s t Leaf found.0 found.1 found.3 (inr waits) (λ by. absurd (cc by)) (λ before. found.2 (given before))
+    next_of modules s t Leaf found.0 found.1 found.3 (inr waits) (λ by. absurd (cc by)) (λ before. found.2 (given before)) (λ by. absurd (cc by))
 
-leaf_if : (modules : List Module) (guess : Bool) (u : Registers) (t : StackFrame) (b : Bool) → cond b (Some (frame_of modules Leaf guess u)) None ≡ Some t → IsLed modules guess t
-leaf_if modules guess u t true is =
-    let same : t ≡ frame_of modules Leaf guess u = cc is in inr (guess, u, (λ is. is), same)
-leaf_if modules guess u t false is = absurd (cc is)
+or_true : (a b : Bool) → a ≡ true → (a || b) ≡ true
+or_true true b is = refl
+or_true false b is = absurd (cc is)
+
+leaf_if : (modules : List Module) (guess other : Bool) (u : Registers) (t : StackFrame) (b : Bool) → cond b (Some (frame_of modules Leaf (guess || other) u)) None ≡ Some t → IsLed modules guess t
+leaf_if modules guess other u t true is =
+    let same : t ≡ frame_of modules Leaf (guess || other) u = cc is in inr (guess || other, u, or_true guess other, same)
+leaf_if modules guess other u t false is = absurd (cc is)
 
 made_leaf : (modules : List Module) (guess : Bool) (p : Result Registers FrameError) (t : StackFrame) → leaf_frame modules guess p ≡ Some t → IsLed modules guess t
-made_leaf modules guess (Ok u) t is = leaf_if modules guess u t (is_after_call modules u.rip) is
+made_leaf modules guess (Ok u) t is = leaf_if modules guess (not (is_code_return modules u.rip)) u t (is_after_call modules u.rip) is
 made_leaf modules guess (Err e) t is = absurd (cc is)
 
 made_scan : (modules : List Module) (g : Registers) (o : Option (ℕ × ℕ)) (t : StackFrame) → option_map (λ found. frame_of modules Scanned true (returned_to g found)) o ≡ Some t → IsScanned modules t
@@ -105,17 +113,14 @@ made_found : {X : Type 0} (o : Option StackFrame) (rest : Result StackFrame Walk
 made_found (Some f) rest t found other is = let same : Some f ≡ Some t = cc is in found same
 made_found None rest t found other is = other is
 
-code_if : (modules : List Module) (guess : Bool) (u : Registers) (t : StackFrame) (b : Bool) → Ok t ≡ cond b (Ok (frame_of modules Leaf true u)) (Err ends.NoReturnAddress) → IsLed modules guess t
-code_if modules guess u t true is =
-    let same : t ≡ frame_of modules Leaf true u = cc is in inr (true, u, (λ given. refl), same)
-code_if modules guess u t false is = absurd (cc is)
-
-after_if : (modules : List Module) (guess : Bool) (u : Registers) (t : StackFrame) (b : Bool) → Ok t ≡ cond b (Err ends.Zero) (cond (is_code modules u.rip) (Ok (frame_of modules Leaf true u)) (Err ends.NoReturnAddress)) → IsLed modules guess t
-after_if modules guess u t true is = absurd (cc is)
-after_if modules guess u t false is = code_if modules guess u t (is_code modules u.rip) is
+jumped_if : (modules : List Module) (u : Registers) (t : StackFrame) (zero code : Bool) → Ok t ≡ cond zero (Err ends.Zero) (cond code (Ok (frame_of modules Leaf true u)) (Err ends.NoReturnAddress)) → t ≡ frame_of modules Leaf true u
+jumped_if modules u t true code is = absurd (cc is)
+jumped_if modules u t false true is = cc is
+jumped_if modules u t false false is = absurd (cc is)
 
 made_after : (modules : List Module) (guess : Bool) (p : Result Registers FrameError) (t : StackFrame) → Ok t ≡ after_leaf modules p → IsLed modules guess t
-made_after modules guess (Ok u) t is = after_if modules guess u t (u.rip == 0) is
+made_after modules guess (Ok u) t is =
+    inr (true, u, (λ given. refl), jumped_if modules u t (u.rip == 0) (may_be_code modules u.rip) is)
 made_after modules guess (Err e) t is = absurd (cc is)
 
 by_called : {X : Type 0} (b : Bool) (called waits answer : Result StackFrame WalkEnd) → answer ≡ cond b called waits → (answer ≡ called → X) → (b ≡ false → answer ≡ waits → X) → X
@@ -131,12 +136,32 @@ next_leaf memory modules guess s t given is =
     (λ at. made_found by_scan (Err ends.NoFunction) t (λ by. next_scanned modules s t (made_scan modules s.registers _ t by)) (λ none. absurd (cc none)) at)
     (λ waits at. next_led modules guess s t given waits (made_found found rest t (made_without memory modules guess s.registers t) (made_after modules guess (popped memory s.registers) t) at))
 
+made_if : {X : Type 0} (called : Bool) (leaf scan : Option StackFrame) (t : StackFrame) → option_or (cond called None leaf) scan ≡ Some t → (called ≡ false → leaf ≡ Some t → X) → (scan ≡ Some t → X) → X
+made_if true leaf scan t is first second = second is
+made_if false leaf scan t is first second = made_or leaf scan t (first refl) second is
+
+next_in_gap : (memory : ℕ → Option ℕ) (modules : List Module) (guess : Bool) (gap : Gap) (s t : StackFrame) → (s.is_guess ≡ true → guess ≡ true) → Ok t ≡ caller_in_gap memory modules guess gap s → IsNext modules s t
+next_in_gap memory modules guess gap s t given is =
+    let leaf = leaf_frame modules guess (popped memory s.registers) in
+    let scan = scanned_by memory modules (gap_return modules gap) s.registers in
+    made_found (called_in_gap memory modules guess gap s) (caller_of_leaf memory modules guess s) t
+    (λ found. made_if s.has_called leaf scan t found (λ waits by. next_led modules guess s t given waits (made_leaf modules guess (popped memory s.registers) t by)) (λ by. next_scanned modules s t (made_scan modules s.registers _ t by)))
+    (λ other. next_leaf memory modules guess s t given other)
+    is
+
+outside_if : (memory : ℕ → Option ℕ) (modules : List Module) (s t : StackFrame) (b : Bool) → s.has_called ≡ b → cond b (scanned memory modules s.registers) (without_records memory modules true s.registers) ≡ Some t → IsNext modules s t
+outside_if memory modules s t true called is = next_scanned modules s t (made_scan modules s.registers _ t is)
+outside_if memory modules s t false waits is =
+    next_led modules true s t (λ before. refl) waits (made_without memory modules true s.registers t is)
+
 next_outside : (memory : ℕ → Option ℕ) (modules : List Module) (s t : StackFrame) → Ok t ≡ caller_outside memory modules s → IsNext modules s t
 next_outside memory modules s t is =
-    let found = without_records memory modules true s.registers in
-    by_called s.has_called (Err ends.NoModule) (option_map_or Ok found (Err ends.NoModule)) (Ok t) is
-    (λ at. absurd (cc at))
-    (λ waits at. next_led modules true s t (λ before. refl) waits (made_found found (Err ends.NoModule) t (made_without memory modules true s.registers t) (λ none. absurd (cc none)) at))
+    let found = cond s.has_called (scanned memory modules s.registers) (without_records memory modules true s.registers) in
+    made_found found (Err ends.NoModule) t (outside_if memory modules s t s.has_called refl) (λ none. absurd (cc none)) is
+
+next_without_table : (memory : ℕ → Option ℕ) (modules : List Module) (s t : StackFrame) (b : Bool) → Ok t ≡ cond b (caller_outside memory modules s) (caller_of_leaf memory modules true s) → IsNext modules s t
+next_without_table memory modules s t true is = next_outside memory modules s t is
+next_without_table memory modules s t false is = next_leaf memory modules true s t (λ before. refl) is
 
 -- ---- by records
 
@@ -144,12 +169,12 @@ records_if : (modules : List Module) (s t : StackFrame) (u : Registers) (b : Boo
 records_if modules s t u true is = absurd (cc is)
 records_if modules s t u false is =
     let same : t ≡ frame_of modules Records s.is_guess u = cc is in
-    next_of modules s t Records s.is_guess u same (inl (inl refl)) (λ by. absurd (cc by)) (λ before. before)
+    next_of modules s t Records s.is_guess u same (inl (inl refl)) (λ by. absurd (cc by)) (λ before. before) (λ by. refl)
 
 next_after : (memory : ℕ → Option ℕ) (modules : List Module) (s t : StackFrame) (left : Result (Registers × Bool) FrameError) → Ok t ≡ frame_after memory modules s.is_guess left → IsNext modules s t
 next_after memory modules s t (Ok (u, true)) is =
     let same : t ≡ frame_of modules Interrupt s.is_guess u = cc is in
-    next_of modules s t Interrupt s.is_guess u same (inl (inr (inl refl))) (λ by. absurd (cc by)) (λ before. before)
+    next_of modules s t Interrupt s.is_guess u same (inl (inr (inl refl))) (λ by. absurd (cc by)) (λ before. before) (λ by. refl)
 next_after memory modules s t (Ok (u, false)) is = records_if modules s t u (is_bottom memory modules u) is
 next_after memory modules s t (Err e) is = absurd (cc is)
 
@@ -159,11 +184,11 @@ next_by_plan memory modules m e f s t (Ok None) h = absurd (cc h)
 next_by_plan memory modules m e f s t (Ok (Some plan)) h = next_after memory modules s t h.0 h.2
 
 next_found : (memory : ℕ → Option ℕ) (modules : List Module) (m : Module) (e : ExceptionView) (s t : StackFrame) (found : Option RuntimeFunction) → CallsFound memory modules m e s found (Ok t) → IsNext modules s t
-next_found memory modules m e s t None h = next_leaf memory modules s.is_guess s t (λ before. before) h
+next_found memory modules m e s t None h = next_in_gap memory modules (leaf_is_guess m s) h.0 s t (or_true s.is_guess _) h.2
 next_found memory modules m e s t (Some f) h = next_by_plan memory modules m e f s t h.0 h.2
 
 next_by : (memory : ℕ → Option ℕ) (modules : List Module) (m : Module) (s t : StackFrame) (o : Option ExceptionView) → CallsBy memory modules m s o (Ok t) → IsNext modules s t
-next_by memory modules m s t None h = next_leaf memory modules true s t (λ before. refl) h
+next_by memory modules m s t None h = next_without_table memory modules s t (is_unknown m) h
 next_by memory modules m s t (Some e) h = next_found memory modules m e s t h.0 h.2
 
 next_in : (memory : ℕ → Option ℕ) (modules : List Module) (s t : StackFrame) (o : Option Module) → CallsIn memory modules s o (Ok t) → IsNext modules s t
@@ -188,6 +213,75 @@ scans_are_guesses p s t h by = (next p s t h).scans by
 
 pub guesses_stay : (p : Process) (s t : StackFrame) → Calls p s (Ok t) → s.is_guess ≡ true → t.is_guess ≡ true
 guesses_stay p s t h before = (next p s t h).follows before
+
+pub records_keep : (p : Process) (s t : StackFrame) → Calls p s (Ok t) → by_records t.way ≡ true → t.is_guess ≡ s.is_guess
+records_keep p s t h by = (next p s t h).keeps by
+
+pub records_are_sure : (p : Process) (g : Registers) (most : ℕ) (first rest : List StackFrame) (end : WalkEnd) → IsWalk Calls (starting_walk p (top_frame g) most) (first ++ rest) end → AllByRecursion (λ s. by_records s.way ≡ true) first → AllByRecursion (λ s. s.is_guess ≡ false) first
+records_are_sure p g most first rest end h all =
+    frames_keep Calls (λ s. s.is_guess) (λ s. by_records s.way ≡ true) records_keep most (starting_walk p (top_frame g) most) first rest end h refl all
+
+-- ---- the caller of a leaf function whose call is in code
+
+or_false : (a b : Bool) → b ≡ true → (a || not b) ≡ a
+or_false true true is = refl
+or_false false true is = refl
+or_false a false is = absurd (cc is)
+
+call_of_code : (o : Option Module) (a : ℕ) → is_code_return_of o a ≡ true → is_after_call_of o a ≡ true
+call_of_code None a is = is
+call_of_code (Some m) a is = (both (is_executable m.sections.now (a - m.base - 1)) (is_after_call_in m a) is).1
+
+no_leaf : (modules : List Module) (g : Registers) (o : Option (ℕ × ℕ)) (t : StackFrame) → t.way ≡ Leaf → option_map (λ found. frame_of modules Scanned true (returned_to g found)) o ≡ Some t → ⊥
+no_leaf modules g o t leaf is =
+    let found = made_scan modules g o t is in
+    let both_ways : Leaf ≡ Scanned = sym leaf ∙ way_of modules t Scanned true found.0 found.1 in
+    cc both_ways
+
+sure_leaf : (modules : List Module) (guess : Bool) (u : Registers) (t : StackFrame) (b : Bool) (scan : Option StackFrame) → is_after_call modules u.rip ≡ b → (scan ≡ Some t → ⊥) → is_code_return modules (t.registers).rip ≡ true → Ok t ≡ option_map_or Ok (option_or (cond b (Some (frame_of modules Leaf (guess || not (is_code_return modules u.rip)) u)) None) scan) (after_leaf modules (Ok u)) → t.is_guess ≡ guess
+sure_leaf modules guess u t true scan test none code is =
+    let same : t ≡ frame_of modules Leaf (guess || not (is_code_return modules u.rip)) u = cc is in
+    let here = subst (λ (g : Registers). is_code_return modules g.rip ≡ true) (ap (λ (f : StackFrame). f.registers) same) code in
+    ap (λ (f : StackFrame). f.is_guess) same ∙ or_false guess (is_code_return modules u.rip) here
+sure_leaf modules guess u t false (Some f) test none code is =
+    let same : Some f ≡ Some t = cc is in absurd (none same)
+sure_leaf modules guess u t false None test none code is =
+    let same = jumped_if modules u t (u.rip == 0) (may_be_code modules u.rip) is in
+    let here = subst (λ (g : Registers). is_code_return modules g.rip ≡ true) (ap (λ (f : StackFrame). f.registers) same) code in
+    let call : is_after_call modules u.rip ≡ true = call_of_code (module_at modules (u.rip - 1)) u.rip here in
+    absurd (cc (sym call ∙ test))
+
+sure_popped : (modules : List Module) (guess : Bool) (p : Result Registers FrameError) (t : StackFrame) (scan : Option StackFrame) → (scan ≡ Some t → ⊥) → is_code_return modules (t.registers).rip ≡ true → Ok t ≡ option_map_or Ok (option_or (leaf_frame modules guess p) scan) (after_leaf modules p) → t.is_guess ≡ guess
+sure_popped modules guess (Ok u) t scan none code is = sure_leaf modules guess u t (is_after_call modules u.rip) scan refl none code is
+sure_popped modules guess (Err e) t scan none code is =
+    made_found scan (Err (ends.Step e)) t (λ by. absurd (none by)) (λ other. absurd (cc other)) is
+
+sure_called : (memory : ℕ → Option ℕ) (modules : List Module) (guess : Bool) (s t : StackFrame) → Ok t ≡ caller_of_leaf memory modules guess s → t.way ≡ Leaf → is_code_return modules (t.registers).rip ≡ true → t.is_guess ≡ guess
+sure_called memory modules guess s t h leaf returns =
+    let by_scan = scanned memory modules s.registers in
+    let found = without_records memory modules guess s.registers in
+    let rest = after_leaf modules (popped memory s.registers) in
+    let none : by_scan ≡ Some t → ⊥ = no_leaf modules s.registers _ t leaf in
+    by_called s.has_called (option_map_or Ok by_scan (Err ends.NoFunction)) (option_map_or Ok found rest) (Ok t) h
+    (λ at. made_found by_scan (Err ends.NoFunction) t (λ by. absurd (none by)) (λ other. absurd (cc other)) at)
+    (λ waits at. sure_popped modules guess (popped memory s.registers) t by_scan none returns at)
+
+alone : (o : Option StackFrame) (rest : Result StackFrame WalkEnd) (t : StackFrame) → o ≡ Some t → Ok t ≡ option_map_or Ok (option_or o None) rest
+alone (Some f) rest t is = cc
+alone None rest t is = absurd (cc is)
+
+sure_in_gap : (memory : ℕ → Option ℕ) (modules : List Module) (guess : Bool) (gap : Gap) (s t : StackFrame) → Ok t ≡ caller_in_gap memory modules guess gap s → t.way ≡ Leaf → is_code_return modules (t.registers).rip ≡ true → t.is_guess ≡ guess
+sure_in_gap memory modules guess gap s t h leaf returns =
+    let popped_leaf = leaf_frame modules guess (popped memory s.registers) in
+    let scan = scanned_by memory modules (gap_return modules gap) s.registers in
+    made_found (called_in_gap memory modules guess gap s) (caller_of_leaf memory modules guess s) t
+    (λ found. made_if s.has_called popped_leaf scan t found (λ waits by. sure_popped modules guess (popped memory s.registers) t None (λ none. cc none) returns (alone popped_leaf (after_leaf modules (popped memory s.registers)) t by)) (λ by. absurd (no_leaf modules s.registers _ t leaf by)))
+    (λ other. sure_called memory modules guess s t other leaf returns)
+    h
+
+pub leaf_keeps : (memory : ℕ → Option ℕ) (modules : List Module) (m : Module) (e : ExceptionView) (s t : StackFrame) → CallsFound memory modules m e s None (Ok t) → t.way ≡ Leaf → is_code_of (Some m) (lookup_address s) ≡ true → is_code_return modules (t.registers).rip ≡ true → t.is_guess ≡ s.is_guess
+leaf_keeps memory modules m e s t h leaf code returns =
+    sure_in_gap memory modules (leaf_is_guess m s) h.0 s t h.2 leaf returns ∙ or_false s.is_guess (is_code_of (Some m) (lookup_address s)) code
 
 -- ---- the bottom
 
@@ -230,7 +324,7 @@ no_end_at modules u false true is = cc is
 no_end_at modules u false false is = cc is
 
 no_end_of_leaf : (modules : List Module) (p : Result Registers FrameError) → Err ends.Bottom ≡ after_leaf modules p → ⊥
-no_end_of_leaf modules (Ok u) is = no_end_at modules u (u.rip == 0) (is_code modules u.rip) is
+no_end_of_leaf modules (Ok u) is = no_end_at modules u (u.rip == 0) (may_be_code modules u.rip) is
 no_end_of_leaf modules (Err e) is = cc is
 
 pub leaf_at_bottom : (memory : ℕ → Option ℕ) (modules : List Module) (guess : Bool) (s : StackFrame) → caller_of_leaf memory modules guess s ≡ Err ends.Bottom → ⊥
@@ -242,12 +336,18 @@ leaf_at_bottom memory modules guess s is =
     (λ at. no_bottom by_scan (Err ends.NoFunction) (λ e. cc e) at)
     (λ waits at. no_bottom found rest (no_end_of_leaf modules (popped memory s.registers)) at)
 
+pub gap_at_bottom : (memory : ℕ → Option ℕ) (modules : List Module) (guess : Bool) (gap : Gap) (s : StackFrame) → caller_in_gap memory modules guess gap s ≡ Err ends.Bottom → ⊥
+gap_at_bottom memory modules guess gap s is =
+    no_bottom (called_in_gap memory modules guess gap s) (caller_of_leaf memory modules guess s) (λ at. leaf_at_bottom memory modules guess s (sym at)) (sym is)
+
 pub outside_at_bottom : (memory : ℕ → Option ℕ) (modules : List Module) (s : StackFrame) → caller_outside memory modules s ≡ Err ends.Bottom → ⊥
 outside_at_bottom memory modules s is =
-    let found = without_records memory modules true s.registers in
-    by_called s.has_called (Err ends.NoModule) (option_map_or Ok found (Err ends.NoModule)) (Err ends.Bottom) (sym is)
-    (λ at. cc at)
-    (λ waits at. no_bottom found (Err ends.NoModule) (λ e. cc e) at)
+    let found = cond s.has_called (scanned memory modules s.registers) (without_records memory modules true s.registers) in
+    no_bottom found (Err ends.NoModule) (λ e. cc e) (sym is)
+
+no_table_at_bottom : (memory : ℕ → Option ℕ) (modules : List Module) (s : StackFrame) (b : Bool) → Err ends.Bottom ≡ cond b (caller_outside memory modules s) (caller_of_leaf memory modules true s) → ⊥
+no_table_at_bottom memory modules s true is = outside_at_bottom memory modules s (sym is)
+no_table_at_bottom memory modules s false is = leaf_at_bottom memory modules true s (sym is)
 
 -- ---- the bottom of a whole walk
 
@@ -257,11 +357,11 @@ sure_by_plan memory modules m e f s (Ok None) h = absurd (cc h)
 sure_by_plan memory modules m e f s (Ok (Some plan)) h = (records_at_bottom memory modules m e f s plan h).4
 
 sure_found : (memory : ℕ → Option ℕ) (modules : List Module) (m : Module) (e : ExceptionView) (s : StackFrame) (found : Option RuntimeFunction) → CallsFound memory modules m e s found (Err ends.Bottom) → s.is_guess ≡ false
-sure_found memory modules m e s None h = absurd (leaf_at_bottom memory modules s.is_guess s (sym h))
+sure_found memory modules m e s None h = absurd (gap_at_bottom memory modules (leaf_is_guess m s) h.0 s (sym h.2))
 sure_found memory modules m e s (Some f) h = sure_by_plan memory modules m e f s h.0 h.2
 
 sure_by : (memory : ℕ → Option ℕ) (modules : List Module) (m : Module) (s : StackFrame) (o : Option ExceptionView) → CallsBy memory modules m s o (Err ends.Bottom) → s.is_guess ≡ false
-sure_by memory modules m s None h = absurd (leaf_at_bottom memory modules true s (sym h))
+sure_by memory modules m s None h = absurd (no_table_at_bottom memory modules s (is_unknown m) h)
 sure_by memory modules m s (Some e) h = sure_found memory modules m e s h.0 h.2
 
 sure_in : (memory : ℕ → Option ℕ) (modules : List Module) (s : StackFrame) (o : Option Module) → CallsIn memory modules s o (Err ends.Bottom) → s.is_guess ≡ false

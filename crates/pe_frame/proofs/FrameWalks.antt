@@ -1,5 +1,5 @@
 -- Whole walks over the frames of any machine: what all calls of `next` return, that there is a walk, and only one.
-use Rattle.std.proofs.Common.{◌≡◌, ℕ, zero, suc, ◌≤◌, Bool, true, false, List, [], ◌∷◌, length, Option, Some, None, Result, Ok, Err, refl, ap, sym, ◌∙◌, subst, arith}
+use Rattle.std.proofs.Common.{◌≡◌, ℕ, zero, suc, ◌≤◌, Bool, true, false, List, [], ◌∷◌, ◌++◌, length, Option, Some, None, Result, Ok, Err, refl, ap, sym, ◌∙◌, subst, arith}
 use Rattle.std.specs.Iterator.{Yields}
 use Rattle.std.specs.List.{AllByRecursion}
 use Rattle.pe_frame.specs.FrameWalks.{FrameWalk, Follows, FollowsBy, Advances, AdvancesBy, IsWalk, IsWalkBy, returned_frame, walk_after}
@@ -147,3 +147,20 @@ module _ {P F : Type 0} (Calls : P → F → Result F WalkEnd → Type 0) where
     sure_frames stays sure (suc n) w (s ∷ frames) other h =
         let rest = sure_frames stays sure n (walk_after w (Ok s)) frames other h.1 in
         (sure_next stays w.has_returned w s h.0 (rest.0 refl), (rest.0 refl, rest.1))
+
+  -- ---- where each of the first frames has what the frame before it has, by what it is, the first frames have it
+
+  module _ (guess : F → Bool) (Is : F → Type 0) where
+    abbrev Keeps : Type 0
+    Keeps = (p : P) (s t : F) → Calls p s (Ok t) → Is t → guess t ≡ guess s
+
+    kept_next : Keeps → (returned : Bool) (w : FrameWalk P F) (s : F) → FollowsBy Calls returned w (Ok s) → Is s → guess s ≡ guess w.frame
+    kept_next keeps true w s h is = keeps w.process w.frame s h is
+    kept_next keeps false w s h is = let same : s ≡ w.frame = cc h in ap guess same
+
+    pub frames_keep : Keeps → (n : ℕ) (w : FrameWalk P F) (first rest : List F) (end : WalkEnd) → IsWalkBy Calls n w (first ++ rest) end → guess w.frame ≡ false → AllByRecursion Is first → AllByRecursion (λ s. guess s ≡ false) first
+    frames_keep keeps n w [] rest end h sure all = tt
+    frames_keep keeps zero w (s ∷ first) rest end h sure all = absurd (cc h.0)
+    frames_keep keeps (suc n) w (s ∷ first) rest end h sure all =
+        let here = kept_next keeps w.has_returned w s h.0 all.0 ∙ sure in
+        (here, frames_keep keeps n (walk_after w (Ok s)) first rest end h.1 here all.1)

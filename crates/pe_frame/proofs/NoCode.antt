@@ -3,7 +3,7 @@ use Rattle.std.proofs.Common.{◌≡◌, ℕ, ◌-◌, ◌==◌, Bool, true, fal
 use Rattle.std.proofs.lemmas.Bool.Decides.{nat_tests}
 use Rattle.std.specs.Option.{option_map_or}
 use Rattle.pe_unwind.specs.UnwindRecord.{UnwindInfoView}
-use Rattle.pe_frame.specs.Epilogs.{add_at, after_pops, epilog_at, exit_at, frame_register_of, is_frame_register, jump_at, lea_at, marked_jump, operand, pop_at, tail_at, unmarked_jump}
+use Rattle.pe_frame.specs.Epilogs.{add_at, after_pops, epilog_at, exit_at, frame_register_of, is_frame_register, jump_at, lea_at, marked_jump, operand, pop_at, return_number, tail_at, unmarked_jump}
 use Rattle.pe_frame.specs.Steps.{limit_of}
 
 lea_none : (r : ℕ) (is_frame is_twelve : Bool) → is_frame_register r ≡ is_frame → (r == 12) ≡ is_twelve → lea_at r [] ≡ None
@@ -13,7 +13,7 @@ lea_none r true true e twelve = rw (e, twelve) refl
 lea_none r true false e twelve = rw (e, twelve) refl
 
 tail_none : (plan : List UnwindInfoView) (start end : ℕ) → tail_at plan start end [] ≡ None
-unfolding add_at operand exit_at jump_at marked_jump unmarked_jump after_pops pop_at
+unfolding add_at operand exit_at return_number jump_at marked_jump unmarked_jump after_pops pop_at
 tail_none plan start end = rw (lea_none (frame_register_of plan) _ _ refl refl) refl
 
 left_none : (limit : Option ℕ) (plan : List UnwindInfoView) (start end : ℕ) → option_map_or (λ _. None) limit (tail_at plan start end []) ≡ None

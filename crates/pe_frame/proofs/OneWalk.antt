@@ -14,10 +14,11 @@ use Rattle.pe_frame.specs.Epilogs.{epilog_at}
 use Rattle.pe_frame.specs.FrameWalks.{Process}
 use Rattle.pe_frame.specs.Modules.{module_at, module_base, module_size, map_of_module}
 use Rattle.pe_frame.specs.Steps.{ErrorKind, by_kind, error_kind}
-use Rattle.pe_frame.specs.Walks.{AreSortedModules, Calls, CallsBy, CallsByPlan, CallsFound, CallsIn, HasSortedTable, IsSortedModule, IsUnreadable, OfError, OfRecords, by_end_kind, code_of_frame, frame_after, lookup_address}
+use Rattle.pe_frame.specs.Walks.{AreSortedModules, Calls, CallsBy, CallsByPlan, CallsFound, CallsIn, HasSortedTable, IsGap, IsSortedModule, IsUnreadable, OfError, OfRecords, by_end_kind, caller_in_gap, code_of_frame, frame_after, gap_of, leaf_is_guess, lookup_address}
 use Rattle.pe_frame.specs.declared.error.FrameError.{FrameError}
 use Rattle.pe_frame.specs.declared.modules.Module.{Module}
 use Rattle.pe_frame.specs.declared.registers.Registers.{Registers}
+use Rattle.pe_frame.specs.declared.walk.Gap.{Gap}
 use Rattle.pe_frame.specs.declared.walk.StackFrame.{StackFrame}
 use Rattle.pe_frame.specs.declared.walk.WalkEnd.{WalkEnd}
 use Rattle.pe_frame.specs.declared.walk.WalkEnd.TheVariants as ends
@@ -50,8 +51,15 @@ one_by_plan law memory modules m e f s (Ok (Some plan)) x y sorted h k =
     let one = one_in_image law e (map_of_module m e) (epilog_at plan f.begin_address ((s.registers).rip - m.base) (code_of_frame m e f.end_address s)) memory plan ((s.registers).rip - m.base - f.begin_address) s.registers h.0 k.0 sorted h.1 k.1 in
     ap by_end_kind h.2 ∙ same_frame memory modules s.is_guess h.0 k.0 one ∙ sym (ap by_end_kind k.2)
 
+one_gap : (m : Module) (e : ExceptionView) (s : StackFrame) (x y : Gap) → NeverFalls (functions (table_of e)) → IsGap m e s x → IsGap m e s y → x ≡ y
+one_gap m e s x y sorted h k =
+    let same = (h.1).scanned sorted ∙ sym ((k.1).scanned sorted) in
+    h.2 ∙ ap (λ (last : Option RuntimeFunction). gap_of m s last) same ∙ sym k.2
+
 one_found : (law : RecordLaw) (memory : ℕ → Option ℕ) (modules : List Module) (m : Module) (e : ExceptionView) (s : StackFrame) (found : Option RuntimeFunction) (x y : Result StackFrame WalkEnd) → NeverFalls (functions (table_of e)) → CallsFound memory modules m e s found x → CallsFound memory modules m e s found y → by_end_kind x ≡ by_end_kind y
-one_found law memory modules m e s None x y sorted h k = ap by_end_kind (h ∙ sym k)
+one_found law memory modules m e s None x y sorted h k =
+    let same = one_gap m e s h.0 k.0 sorted h.1 k.1 in
+    ap by_end_kind (h.2 ∙ ap (λ (gap : Gap). caller_in_gap memory modules (leaf_is_guess m s) gap s) same ∙ sym k.2)
 one_found law memory modules m e s (Some f) x y sorted h k =
     let same = one_short_plan law (links_with e (map_of_module m e)) e.content f h.0 k.0 h.1 k.1 in
     let here = subst (λ (p : Result (Option (List UnwindInfoView)) Refusal). CallsByPlan memory modules m e f s p x) same h.2 in

@@ -16,7 +16,7 @@ use Rattle.pe_unwind.specs.Arm64Words.{bits}
 use Rattle.pe_unwind.specs.ExceptionTable.{ExceptionView, table_of}
 use Rattle.pe_unwind.specs.declared.arm64.function.Arm64RuntimeFunction.{Arm64RuntimeFunction}
 use Rattle.pe_frame.specs.AddressRanges.{has_address}
-use Rattle.pe_frame.specs.Arm64Walks.{AreModulesOfBytes, Calls, CallsBy, CallsByInfo, CallsFound, CallsIn, HasBytes, IsModuleOfBytes, caller_of_leaf, caller_outside, frame_after, length_in, lookup_address, place_of, stepped_out_packed}
+use Rattle.pe_frame.specs.Arm64Walks.{AreModulesOfBytes, Calls, CallsBy, CallsByInfo, CallsFound, CallsIn, HasBytes, IsModuleOfBytes, caller_of_leaf, caller_outside, caller_without_table, leaf_is_guess, frame_after, length_in, lookup_address, place_of, stepped_out_packed}
 use Rattle.pe_frame.specs.FrameWalks.{Process}
 use Rattle.pe_frame.specs.Modules.{map_of_module, module_at, module_base, module_size}
 use Rattle.pe_frame.specs.Walks.{IsUnreadable}
@@ -109,19 +109,19 @@ readable m e f all =
 -- ---- the caller
 
 some_by_info : (p : Process) (m : Module) (f : Arm64RuntimeFunction) (s : Arm64StackFrame) (info : Option (Result Arm64InfoView Refusal)) → IsReadable info → Caller (CallsByInfo p m f s info)
-some_by_info p m f s None is = (frame_after p.modules s (stepped_out_packed p.memory f.unwind_data (place_of m f s) s.registers), refl)
+some_by_info p m f s None is = (frame_after p.memory p.modules s (stepped_out_packed p.memory f.unwind_data (place_of m f s) s.registers), refl)
 some_by_info p m f s (Some (Err r)) is = unreadable r is
 some_by_info p m f s (Some (Ok i)) is =
     let left = some_arm64_step_out p.memory i (place_of m f s) s.registers is in
-    (frame_after p.modules s left.0, (left.0, left.1, refl))
+    (frame_after p.memory p.modules s left.0, (left.0, left.1, refl))
 
 some_found : (p : Process) (m : Module) (e : ExceptionView) (s : Arm64StackFrame) (found : Result (Option Arm64RuntimeFunction) Refusal) → Lacks found → All (λ x. x < 256) e.content → Caller (CallsFound p m e s found)
 some_found p m e s (Err r) lack all = unreadable r lack
-some_found p m e s (Ok None) lack all = (caller_of_leaf p.memory p.modules s.is_guess s, refl)
+some_found p m e s (Ok None) lack all = (caller_of_leaf p.memory p.modules (leaf_is_guess m s) s, refl)
 some_found p m e s (Ok (Some f)) lack all = some_by_info p m f s (info_by (map_of_module m e) e.content f) (readable m e f all)
 
 some_by : (p : Process) (m : Module) (s : Arm64StackFrame) (o : Option ExceptionView) → HasBytes o → Caller (CallsBy p m s o)
-some_by p m s None all = (caller_of_leaf p.memory p.modules true s, refl)
+some_by p m s None all = (caller_without_table p.memory p.modules m s, refl)
 some_by p m s (Some e) all =
     let found = some_function (length_in m e) (arm64_functions (table_of e)) (lookup_address s - m.base) (λ f. length_lacks e.content (map_of_module m e) f) in
     let caller = some_found p m e s found.0 found.2 all in

@@ -1,6 +1,6 @@
 -- Walks of a stack on ARM64: from the frame of a function to that of its caller, through the modules of a process.
-use Rattle.std.specs.Prelude.{◌≡◌, ℕ, ◌+◌, ◌-◌, ◌/◌, ◌<◌, ◌==◌, ◌&&◌, All, Bool, true, false, if◌then◌else◌, List, Option, Some, None, Result, Ok, Err}
-use Rattle.std.specs.Option.{option_map, option_map_or, option_or}
+use Rattle.std.specs.Prelude.{◌≡◌, ℕ, ◌+◌, ◌-◌, ◌/◌, ◌<◌, ◌==◌, ◌&&◌, ◌||◌, not, All, Bool, true, false, if◌then◌else◌, List, Option, Some, None, Result, Ok, Err}
+use Rattle.std.specs.Option.{is_none, option_map, option_map_or, option_or}
 use Rattle.pe_core.specs.Refusals.{Refusal, ◌>>=◌}
 use Rattle.pe_core.specs.SectionMap.{rounded_up}
 use Rattle.pe_unwind.specs.Arm64Functions.{arm64_functions}
@@ -15,7 +15,7 @@ use Rattle.pe_frame.specs.Arm64Packed.{stepped_arm64_packed}
 use Rattle.pe_frame.specs.Arm64Steps.{StepsOutArm64}
 use Rattle.pe_frame.specs.Arm64Undoing.{link_register, put_pc, put_sp, stripped}
 use Rattle.pe_frame.specs.FrameWalks.{FrameWalk, Process, state_of}
-use Rattle.pe_frame.specs.Modules.{is_after_call_arm64, is_code, is_code_return_arm64, map_of_module, module_at}
+use Rattle.pe_frame.specs.Modules.{is_after_call_arm64, is_code_of, is_code_return_arm64, is_unknown, map_of_module, may_be_code, module_at}
 use Rattle.pe_frame.specs.Scans.{first_return, most_words}
 use Rattle.pe_frame.specs.Walks.{IsUnreadable, end_at_0}
 use Rattle.pe_frame.specs.declared.arm64.registers.Arm64Registers.{Arm64Registers}
@@ -73,10 +73,11 @@ scanned memory modules g =
 abbrev pub after_leaf : Arm64Registers → Arm64Registers
 after_leaf g = put_pc g (link_register g)
 
--- its frame, if a call ends there
+-- Its frame, if a call ends there. It is a guess where that call is in no executable section, as bytes of data that look like one.
 abbrev pub leaf_frame : List Module → Bool → Arm64Registers → Option Arm64StackFrame
 leaf_frame modules guess g =
-    if is_after_call_arm64 modules (link_register g) then Some (frame_of modules Leaf guess (after_leaf g)) else None
+    if is_after_call_arm64 modules (link_register g)
+    then Some (frame_of modules Leaf (guess || not (is_code_return_arm64 modules (link_register g))) (after_leaf g)) else None
 
 -- The frame that is found from registers without records: that of the caller of a leaf function, else by a scan. Whether the first
 -- is a guess depends on what says that the function is a leaf function.
@@ -86,11 +87,12 @@ without_records memory modules guess g = option_or (leaf_frame modules guess g) 
 -- ---- its caller, or why there is none
 
 -- The caller of a frame that has not called, where neither a call nor a scan leads on: the frame may be one of a leaf function that
--- was jumped to, so that it returns to code which no call precedes. It returns to no 0 that is known for the bottom, and to no data.
+-- was jumped to, so that it returns to code which no call precedes, or into a module whose image is not at hand. It returns to no 0
+-- that is known for the bottom, and to no data.
 abbrev pub jumped_frame : List Module → Arm64Registers → Result Arm64StackFrame WalkEnd
 jumped_frame modules g =
     if link_register g == 0 then Err ends.Zero
-    else (if is_code modules (link_register g) then Ok (frame_of modules Leaf true (after_leaf g)) else Err ends.NoReturnAddress)
+    else (if may_be_code modules (link_register g) then Ok (frame_of modules Leaf true (after_leaf g)) else Err ends.NoReturnAddress)
 
 -- The caller of a frame in no function of its module, by whether it is a guess that this is one of a leaf function. A leaf function
 -- calls nothing: that of a frame which has called is found by a scan alone.
@@ -102,21 +104,25 @@ caller_of_leaf memory modules guess s =
 -- The same in no module, to which a wild jump or call may lead.
 abbrev pub caller_outside : (ℕ → Option ℕ) → List Module → Arm64StackFrame → Result Arm64StackFrame WalkEnd
 caller_outside memory modules s =
-    if s.has_called then Err ends.NoModule
-    else option_map_or Ok (without_records memory modules true s.registers) (Err ends.NoModule)
+    option_map_or Ok (if s.has_called then scanned memory modules s.registers else without_records memory modules true s.registers)
+    (Err ends.NoModule)
+
+-- the bottom of a stack: a call that returns to 0, and from there no frame is found
+abbrev pub is_bottom : (ℕ → Option ℕ) → List Module → Arm64Registers → Bool
+is_bottom memory modules u = u.pc == 0 && is_none (without_records memory modules true u)
 
 -- The frame that records lead to. A function that calls has stored the link register, below the stack pointer of its caller: where
 -- it stands, the walk is lost.
-abbrev pub called_frame : List Module → Arm64StackFrame → Arm64Registers → Result Arm64StackFrame WalkEnd
-called_frame modules s u =
+abbrev pub called_frame : (ℕ → Option ℕ) → List Module → Arm64StackFrame → Arm64Registers → Result Arm64StackFrame WalkEnd
+called_frame memory modules s u =
     if s.has_called && u.sp == (s.registers).sp then Err (ends.Step (NotRising u.sp))
-    else (if u.pc == 0 then Err (end_at_0 s.is_guess) else Ok (frame_of modules Records s.is_guess u))
+    else (if is_bottom memory modules u then Err (end_at_0 s.is_guess) else Ok (frame_of modules Records s.is_guess u))
 
 -- what a step returned
-abbrev pub frame_after : List Module → Arm64StackFrame → Result (Arm64Registers × Bool) FrameError → Result Arm64StackFrame WalkEnd
-frame_after modules s (Ok (u, true)) = Ok (frame_of modules Interrupt s.is_guess u)
-frame_after modules s (Ok (u, false)) = called_frame modules s u
-frame_after modules s (Err e) = Err (ends.Step e)
+abbrev pub frame_after : (ℕ → Option ℕ) → List Module → Arm64StackFrame → Result (Arm64Registers × Bool) FrameError → Result Arm64StackFrame WalkEnd
+frame_after memory modules s (Ok (u, true)) = Ok (frame_of modules Interrupt s.is_guess u)
+frame_after memory modules s (Ok (u, false)) = called_frame memory modules s u
+frame_after memory modules s (Err e) = Err (ends.Step e)
 
 -- packed unwind data stand for no interrupt
 abbrev pub stepped_out_packed : (ℕ → Option ℕ) → ℕ → ℕ → Arm64Registers → Result (Arm64Registers × Bool) FrameError
@@ -125,26 +131,35 @@ stepped_out_packed memory d place g = stepped_arm64_packed memory d place g >>= 
 -- by the unwind record of its function, or by its packed unwind data
 abbrev pub CallsByInfo : Process → Module → Arm64RuntimeFunction → Arm64StackFrame → Option (Result Arm64InfoView Refusal) → Result Arm64StackFrame WalkEnd → Type 0
 CallsByInfo p m f s None answer =
-    answer ≡ frame_after p.modules s (stepped_out_packed p.memory f.unwind_data (place_of m f s) s.registers)
+    answer ≡ frame_after p.memory p.modules s (stepped_out_packed p.memory f.unwind_data (place_of m f s) s.registers)
 CallsByInfo p m f s (Some (Err r)) answer = IsUnreadable r answer
 CallsByInfo p m f s (Some (Ok i)) answer =
     (left : Result (Arm64Registers × Bool) FrameError) × StepsOutArm64 p.memory i (place_of m f s) s.registers left
-    × (answer ≡ frame_after p.modules s left)
+    × (answer ≡ frame_after p.memory p.modules s left)
 
--- By the function that lookup found, if it found one; lookup reads the length of a function from its record. Where it found none, the
--- table says that the function is a leaf function.
+-- Where lookup finds no function, the table of a module says that the function of a frame is a leaf function: of code alone.
+abbrev pub leaf_is_guess : Module → Arm64StackFrame → Bool
+leaf_is_guess m s = s.is_guess || not (is_code_of (Some m) (lookup_address s))
+
+-- By the function that lookup found, if it found one; lookup reads the length of a function from its record.
 abbrev pub CallsFound : Process → Module → ExceptionView → Arm64StackFrame → Result (Option Arm64RuntimeFunction) Refusal → Result Arm64StackFrame WalkEnd → Type 0
 CallsFound p m e s (Err r) answer = IsUnreadable r answer
-CallsFound p m e s (Ok None) answer = answer ≡ caller_of_leaf p.memory p.modules s.is_guess s
+CallsFound p m e s (Ok None) answer = answer ≡ caller_of_leaf p.memory p.modules (leaf_is_guess m s) s
 CallsFound p m e s (Ok (Some f)) answer = CallsByInfo p m f s (info_by (map_of_module m e) e.content f) answer
 
 -- the length of each function of a module
 abbrev pub length_in : Module → ExceptionView → Arm64RuntimeFunction → Result ℕ Refusal
 length_in m e = length_by (map_of_module m e) e.content
 
--- by the exception data of a module; without any nothing says which of its functions are leaf functions
+-- In a module without exception data: nothing says which of its functions are leaf functions. One whose image is not at hand is as no
+-- module, so that the end says so.
+abbrev pub caller_without_table : (ℕ → Option ℕ) → List Module → Module → Arm64StackFrame → Result Arm64StackFrame WalkEnd
+caller_without_table memory modules m s =
+    if is_unknown m then caller_outside memory modules s else caller_of_leaf memory modules true s
+
+-- by the exception data of a module
 abbrev pub CallsBy : Process → Module → Arm64StackFrame → Option ExceptionView → Result Arm64StackFrame WalkEnd → Type 0
-CallsBy p m s None answer = answer ≡ caller_of_leaf p.memory p.modules true s
+CallsBy p m s None answer = answer ≡ caller_without_table p.memory p.modules m s
 CallsBy p m s (Some e) answer =
     (found : Result (Option Arm64RuntimeFunction) Refusal)
     × FindsArm64 (length_in m e) (arm64_functions (table_of e)) (lookup_address s - m.base) found

@@ -11,7 +11,9 @@
 -- | FF 90 + r id, for r other than 4; FF 94 SIB id | 6, 7 | memory, four bytes away |
 --
 -- Those of FF may have one of 40 to 4F before it, a REX prefix.
-use Rattle.std.specs.Prelude.{ℕ, ◌+◌, ◌/◌, ◌%◌, ◌==◌, ◌&&◌, ◌||◌, not, nat_le, nat_lt, Bool, List, [], ◌∷◌, length, drop, slice_index, if◌then◌else◌}
+use Rattle.std.specs.Prelude.{ℕ, ◌+◌, ◌/◌, ◌%◌, ◌==◌, ◌&&◌, ◌||◌, not, nat_le, nat_lt, Bool, List, [], ◌∷◌, length, drop, slice_index, Option, Some, None, if◌then◌else◌}
+use Rattle.pe_core.specs.Bytes.{le}
+use Rattle.pe_frame.specs.Epilogs.{moved, widened}
 
 -- a SIB byte follows a ModRM byte
 abbrev pub has_sib : ℕ → Bool
@@ -46,6 +48,10 @@ is_rex b = nat_le 0x40 b && nat_lt b 0x50
 -- the bytes are a call
 unfoldable pub is_call : List ℕ → Bool
 is_call code = is_near_call code || is_operand_call code || is_rex (slice_index code 0) && is_operand_call (drop 1 code)
+
+-- where E8 leads, by its four bytes and the address at which it ends
+abbrev pub near_target : List ℕ → ℕ → Option ℕ
+near_target code end = if is_near_call code then Some (moved end (widened 32 (le code 1 4))) else None
 
 -- how many bytes a call may have, the sizes that are seen most first
 abbrev pub call_sizes : List ℕ

@@ -86,19 +86,15 @@ after_pops (suc n) code = option_map_or (λ p. after_pops n (drop p.1 code)) (po
 abbrev pub jump_of : ℕ → List ℕ → ℕ → ℕ → Option Instruction
 jump_of end code size n = Some (Jump (moved (moved (end - length code) size) n))
 
--- A jump by an operand is FF with /4 in ModRM: with mode 3 by a register, else by memory, with mode 0 without a number that is
--- added to a register. It may have any mode, or one of these two.
-abbrev pub is_plain_mode : ℕ → Bool
-is_plain_mode mode = mode == 0 || mode == 3
-
-abbrev pub jump_by_operand : Bool → ℕ → Option Instruction
-jump_by_operand any_mode b = if b / 8 % 8 == 4 && (any_mode || is_plain_mode (b / 64)) then Some JumpByOperand else None
+-- a jump by an operand is FF with /4 in ModRM: with mode 3 by a register, else by memory
+abbrev pub jump_by_operand : ℕ → Option Instruction
+jump_by_operand b = if b / 8 % 8 == 4 then Some JumpByOperand else None
 
 -- REX.W, which is 48 to 4F, changes nothing of such a jump: it marks one that leaves the function
 abbrev pub marked_by : ℕ → List ℕ → Option Instruction
 marked_by rex code =
     if nat_le 0x48 rex && nat_lt rex 0x50
-    then option_map_or (jump_by_operand true) (operand (rex ∷ 0xFF ∷ []) 1 code) None
+    then option_map_or jump_by_operand (operand (rex ∷ 0xFF ∷ []) 1 code) None
     else None
 
 unfoldable pub marked_jump : List ℕ → Option Instruction
@@ -110,13 +106,18 @@ unfoldable pub unmarked_jump : Bool → List ℕ → Option Instruction
 unmarked_jump restored code =
     if starts_with nat_eq code (0xFF ∷ 0x25 ∷ []) then Some JumpByOperand
     else if restored
-    then option_map_or (jump_by_operand false) (operand (0xFF ∷ []) 1 code)
-    (option_map_or (jump_by_operand false) (operand (0x41 ∷ 0xFF ∷ []) 1 code) None)
+    then option_map_or jump_by_operand (operand (0xFF ∷ []) 1 code)
+    (option_map_or jump_by_operand (operand (0x41 ∷ 0xFF ∷ []) 1 code) None)
     else None
 
--- `ret`, and `ret` after `rep`
+-- `ret`, and `ret` after `rep` or `bnd`
 abbrev pub is_return : List ℕ → Bool
-is_return code = starts_with nat_eq code (0xC3 ∷ []) || starts_with nat_eq code (0xF3 ∷ 0xC3 ∷ [])
+is_return code =
+    starts_with nat_eq code (0xC3 ∷ []) || starts_with nat_eq code (0xF3 ∷ 0xC3 ∷ []) || starts_with nat_eq code (0xF2 ∷ 0xC3 ∷ [])
+
+-- the number of `ret n`, and of it after `bnd`
+unfoldable pub return_number : List ℕ → Option ℕ
+return_number code = option_map_or Some (operand (0xC2 ∷ []) 2 code) (operand (0xF2 ∷ 0xC2 ∷ []) 2 code)
 
 -- a jump: to an RVA by a number of one byte or of four, or by an operand
 unfoldable pub jump_at : Bool → ℕ → List ℕ → Option Instruction
@@ -130,7 +131,7 @@ jump_at restored end code =
 unfoldable pub exit_at : Bool → ℕ → List ℕ → Option Instruction
 exit_at restored end code =
     if is_return code then Some (Return 0)
-    else option_map_or (λ n. Some (Return n)) (operand (0xC2 ∷ []) 2 code) (jump_at restored end code)
+    else option_map_or (λ n. Some (Return n)) (return_number code) (jump_at restored end code)
 
 -- an RVA lies in an entry that starts and ends there
 abbrev pub lies_in : ℕ → ℕ → ℕ → Bool

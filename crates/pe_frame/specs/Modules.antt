@@ -1,5 +1,5 @@
 -- The modules of a process: images, each with the addresses where it is loaded.
-use Rattle.std.specs.Prelude.{ℕ, ◌-◌, ◌/◌, ◌%◌, ◌^◌, ◌==◌, ◌&&◌, nat_le, Bool, false, List, [], Option, Some, None, if◌then◌else◌}
+use Rattle.std.specs.Prelude.{ℕ, ◌-◌, ◌/◌, ◌%◌, ◌^◌, ◌==◌, ◌&&◌, ◌||◌, nat_le, Bool, false, List, [], length, Option, Some, None, if◌then◌else◌}
 use Rattle.std.specs.List.{find, list_any}
 use Rattle.std.specs.Option.{option_map}
 use Rattle.pe_core.specs.Bytes.{holds, range}
@@ -8,7 +8,7 @@ use Rattle.pe_core.specs.declared.section_table.SectionTable.{SectionTable}
 use Rattle.pe_unwind.specs.ExceptionTable.{ExceptionView}
 use Rattle.pe_frame.specs.AddressRanges.{has_address}
 use Rattle.pe_frame.specs.Arm64CallForms.{is_call_arm64}
-use Rattle.pe_frame.specs.CallForms.{is_call, call_sizes}
+use Rattle.pe_frame.specs.CallForms.{is_call, call_sizes, near_target}
 use Rattle.pe_frame.specs.SectionIndexes.{sections_by}
 use Rattle.pe_frame.specs.SectionSearch.{memory_size, section_start, section_started}
 use Rattle.pe_frame.specs.declared.modules.Module.{Module}
@@ -88,13 +88,33 @@ is_code_return_of (Some m) a = is_executable m.sections.now (a - m.base - 1) && 
 abbrev pub is_code_return : List Module → ℕ → Bool
 is_code_return modules a = is_code_return_of (module_at modules (a - 1)) a
 
+-- the address to which the call E8 of an executable section leads that ends at an address of a module
+abbrev pub call_target_of : Option Module → ℕ → Option ℕ
+call_target_of None a = None
+call_target_of (Some m) a =
+    if nat_le 5 (a - m.base) && is_executable m.sections.now (a - m.base - 1)
+    then near_target (code_at m (code_alignment (option_map (λ e. e.now) m.exceptions)) (a - m.base - 5) (a - m.base)) a
+    else None
+
+-- the same in the module that has the last byte of the call
+abbrev pub call_target : List Module → ℕ → Option ℕ
+call_target modules a = call_target_of (module_at modules (a - 1)) a
+
 abbrev pub is_code_of : Option Module → ℕ → Bool
 is_code_of None a = false
 is_code_of (Some m) a = is_executable m.sections.now (a - m.base)
 
--- an address is one of an executable section, on each machine
-abbrev pub is_code : List Module → ℕ → Bool
-is_code modules a = is_code_of (module_at modules a) a
+-- The image of a module is not at hand: no sections say where its code is.
+abbrev pub is_unknown : Module → Bool
+is_unknown m = length m.sections.now == 0
+
+abbrev pub may_be_code_of : Option Module → ℕ → Bool
+may_be_code_of None a = false
+may_be_code_of (Some m) a = is_unknown m || is_executable m.sections.now (a - m.base)
+
+-- An address may be one of code, on each machine: it is one of an executable section, or in a module whose image is not at hand.
+abbrev pub may_be_code : List Module → ℕ → Bool
+may_be_code modules a = may_be_code_of (module_at modules a) a
 
 -- ---- return addresses on ARM64, where a call has four bytes
 

@@ -1,5 +1,5 @@
 -- Walks of a stack on x64: from the frame of a function to that of its caller, through the modules of a process.
-use Rattle.std.specs.Prelude.{◌≡◌, ℕ, ◌+◌, ◌-◌, ◌==◌, ◌&&◌, Bool, true, false, if◌then◌else◌, List, [], Option, Some, None, Result, Ok, Err}
+use Rattle.std.specs.Prelude.{◌≡◌, ℕ, ◌+◌, ◌-◌, ◌==◌, ◌&&◌, ◌||◌, not, Bool, true, false, if◌then◌else◌, List, [], Option, Some, None, Result, Ok, Err, nat_le}
 use Rattle.std.specs.List.{AllByRecursion}
 use Rattle.std.specs.Option.{is_none, option_map, option_map_or, option_or}
 use Rattle.pe_core.specs.Refusals.{Refusal, kind_of}
@@ -7,18 +7,20 @@ use Rattle.pe_core.specs.SectionMap.{rounded_up}
 use Rattle.pe_unwind.specs.ExceptionTable.{ExceptionView, table_of}
 use Rattle.pe_unwind.specs.FunctionTable.{functions, Finds, NeverFalls}
 use Rattle.pe_unwind.specs.Links.{links_with}
+use Rattle.pe_unwind.specs.Lookup.{FindsStart}
 use Rattle.pe_unwind.specs.UnwindRecord.{UnwindInfoView}
 use Rattle.pe_unwind.specs.declared.function_table.RuntimeFunction.{RuntimeFunction}
 use Rattle.pe_plan.specs.ShortPlans.{PlansShort}
 use Rattle.pe_frame.specs.FrameWalks.{FrameWalk, Process, state_of}
 use Rattle.pe_frame.specs.Jumps.{StepsInImage}
-use Rattle.pe_frame.specs.Modules.{module_at, map_of_module, code_in, is_after_call, is_code, is_code_return}
+use Rattle.pe_frame.specs.Modules.{module_at, map_of_module, code_in, is_after_call, is_code_of, is_code_return, is_unknown, may_be_code, call_target}
 use Rattle.pe_frame.specs.Scans.{first_return, most_words}
 use Rattle.pe_frame.specs.Steps.{ErrorKind, error_kind}
 use Rattle.pe_frame.specs.Undoing.{stack_pointer, popped, put_register, put_rip}
 use Rattle.pe_frame.specs.declared.error.FrameError.{FrameError}
 use Rattle.pe_frame.specs.declared.modules.Module.{Module}
 use Rattle.pe_frame.specs.declared.registers.Registers.{Registers}
+use Rattle.pe_frame.specs.declared.walk.Gap.{Gap}
 use Rattle.pe_frame.specs.declared.walk.StackFrame.{StackFrame}
 use Rattle.pe_frame.specs.declared.walk.StackFrames.{StackFrames}
 use Rattle.pe_frame.specs.declared.walk.Way.{Way}
@@ -38,6 +40,14 @@ has_called modules Records rip = is_after_call modules rip
 has_called modules Leaf rip = true
 has_called modules Interrupt rip = false
 has_called modules Scanned rip = true
+
+-- A frame is the top frame, or one that records lead to: by itself it is no guess.
+abbrev pub by_records : Way → Bool
+by_records Top = true
+by_records Records = true
+by_records Leaf = false
+by_records Interrupt = true
+by_records Scanned = false
 
 -- A frame with these registers, found in this way. It is a guess where nothing proves that it is the caller, and after one.
 abbrev pub frame_of : List Module → Way → Bool → Registers → StackFrame
@@ -61,15 +71,21 @@ code_return modules w = if is_code_return modules w then Some w else None
 abbrev pub returned_to : Registers → (ℕ × ℕ) → Registers
 returned_to g found = put_rip (put_register g RSP (found.0 + 8)) found.1
 
--- the frame that a scan of the stack finds, which is a guess: by the first word from the stack pointer on, rounded up to 8
-abbrev pub scanned : (ℕ → Option ℕ) → List Module → Registers → Option StackFrame
-scanned memory modules g =
+-- The frame that a scan of the stack finds, which is a guess: by the first word from the stack pointer on, rounded up to 8, that
+-- is a return address. `returns` says of a number which one it is.
+abbrev pub scanned_by : (ℕ → Option ℕ) → List Module → (ℕ → Option ℕ) → Registers → Option StackFrame
+scanned_by memory modules returns g =
     option_map (λ found. frame_of modules Scanned true (returned_to g found))
-    (first_return most_words memory (code_return modules) (rounded_up (stack_pointer g) 8))
+    (first_return most_words memory returns (rounded_up (stack_pointer g) 8))
 
--- the caller of a leaf function, which has the return address at the stack pointer, if a call ends at that
+abbrev pub scanned : (ℕ → Option ℕ) → List Module → Registers → Option StackFrame
+scanned memory modules g = scanned_by memory modules (code_return modules) g
+
+-- The caller of a leaf function, which has the return address at the stack pointer, if a call ends at that. It is a guess where that
+-- call is in no executable section, as bytes of data that look like one.
 abbrev pub leaf_frame : List Module → Bool → Result Registers FrameError → Option StackFrame
-leaf_frame modules guess (Ok u) = if is_after_call modules u.rip then Some (frame_of modules Leaf guess u) else None
+leaf_frame modules guess (Ok u) =
+    if is_after_call modules u.rip then Some (frame_of modules Leaf (guess || not (is_code_return modules u.rip)) u) else None
 leaf_frame modules guess (Err e) = None
 
 -- The frame that is found from registers without records: that of the caller of a leaf function, else by a scan. Whether the first
@@ -114,11 +130,12 @@ CallsByPlan memory modules m e f s (Ok (Some plan)) answer =
     × (answer ≡ frame_after memory modules s.is_guess left)
 
 -- The caller of a frame that has not called, where neither a call nor a scan leads on: the frame may be one of a leaf function that
--- was jumped to, so that it returns to code which no call precedes. It returns to no 0 that is known for the bottom, and to no data.
+-- was jumped to, so that it returns to code which no call precedes, or into a module whose image is not at hand. It returns to no 0
+-- that is known for the bottom, and to no data.
 abbrev pub after_leaf : List Module → Result Registers FrameError → Result StackFrame WalkEnd
 after_leaf modules (Ok u) =
     if u.rip == 0 then Err ends.Zero
-    else (if is_code modules u.rip then Ok (frame_of modules Leaf true u) else Err ends.NoReturnAddress)
+    else (if may_be_code modules u.rip then Ok (frame_of modules Leaf true u) else Err ends.NoReturnAddress)
 after_leaf modules (Err e) = Err (ends.Step e)
 
 -- The caller of a frame in no function of its module, by whether it is a guess that this is one of a leaf function. A leaf function
@@ -128,22 +145,66 @@ caller_of_leaf memory modules guess s =
     if s.has_called then option_map_or Ok (scanned memory modules s.registers) (Err ends.NoFunction)
     else option_map_or Ok (without_records memory modules guess s.registers) (after_leaf modules (popped memory s.registers))
 
+-- ---- the caller of a frame in code that no entry of the function table covers
+
+-- That code, up to where the frame is: it starts at the end of the last entry that starts at or before that, or with the image.
+abbrev pub gap_of : Module → StackFrame → Option RuntimeFunction → Gap
+gap_of m s last =
+    record { last = lookup_address s; before = lookup_address s - m.base - option_map_or (λ f. f.end_address) last 0 }
+
+-- by the entry to which lookup comes
+abbrev pub IsGap : Module → ExceptionView → StackFrame → Gap → Type 0
+IsGap m e s gap =
+    (last : Option RuntimeFunction) × FindsStart (λ f. f.begin_address) (functions (table_of e)) (lookup_address s - m.base) last
+    × (gap ≡ gap_of m s last)
+
+-- an address is in it, so that the function of the frame may start there
+abbrev pub is_in_gap : Gap → ℕ → Bool
+is_in_gap gap a = nat_le a gap.last && nat_le (gap.last - a) gap.before
+
+-- the return address that a number is, if its call leads there
+abbrev pub gap_return : List Module → Gap → ℕ → Option ℕ
+gap_return modules gap w = if option_map_or (is_in_gap gap) (call_target modules w) false then Some w else None
+
+-- What is looked for first: the caller of a leaf function, if a call ends at its return address, then the frame that a scan finds
+-- by the first call into the gap.
+abbrev pub called_in_gap : (ℕ → Option ℕ) → List Module → Bool → Gap → StackFrame → Option StackFrame
+called_in_gap memory modules guess gap s =
+    option_or (if s.has_called then None else leaf_frame modules guess (popped memory s.registers))
+    (scanned_by memory modules (gap_return modules gap) s.registers)
+
+-- its caller, without such a frame as in any other code
+abbrev pub caller_in_gap : (ℕ → Option ℕ) → List Module → Bool → Gap → StackFrame → Result StackFrame WalkEnd
+caller_in_gap memory modules guess gap s =
+    option_map_or Ok (called_in_gap memory modules guess gap s) (caller_of_leaf memory modules guess s)
+
 -- The same in no module, to which a wild jump or call may lead, but there nothing speaks for a leaf function.
 abbrev pub caller_outside : (ℕ → Option ℕ) → List Module → StackFrame → Result StackFrame WalkEnd
 caller_outside memory modules s =
-    if s.has_called then Err ends.NoModule
-    else option_map_or Ok (without_records memory modules true s.registers) (Err ends.NoModule)
+    option_map_or Ok (if s.has_called then scanned memory modules s.registers else without_records memory modules true s.registers)
+    (Err ends.NoModule)
 
--- By the function that lookup found, if it found one. Where it found none, the table says that the function is a leaf function.
+-- Where lookup finds no function, the table of a module says that the function of a frame is a leaf function: of code alone.
+abbrev pub leaf_is_guess : Module → StackFrame → Bool
+leaf_is_guess m s = s.is_guess || not (is_code_of (Some m) (lookup_address s))
+
+-- By the function that lookup found, if it found one.
 abbrev pub CallsFound : (ℕ → Option ℕ) → List Module → Module → ExceptionView → StackFrame → Option RuntimeFunction → Result StackFrame WalkEnd → Type 0
-CallsFound memory modules m e s None answer = answer ≡ caller_of_leaf memory modules s.is_guess s
+CallsFound memory modules m e s None answer =
+    (gap : Gap) × IsGap m e s gap × (answer ≡ caller_in_gap memory modules (leaf_is_guess m s) gap s)
 CallsFound memory modules m e s (Some f) answer =
     (plan : Result (Option (List UnwindInfoView)) Refusal)
     × PlansShort (links_with e (map_of_module m e)) e.content f plan × CallsByPlan memory modules m e f s plan answer
 
--- by the exception data of a module; without any nothing says which of its functions are leaf functions
+-- In a module without exception data: nothing says which of its functions are leaf functions. One whose image is not at hand is as no
+-- module, so that the end says so.
+abbrev pub caller_without_table : (ℕ → Option ℕ) → List Module → Module → StackFrame → Result StackFrame WalkEnd
+caller_without_table memory modules m s =
+    if is_unknown m then caller_outside memory modules s else caller_of_leaf memory modules true s
+
+-- by the exception data of a module
 abbrev pub CallsBy : (ℕ → Option ℕ) → List Module → Module → StackFrame → Option ExceptionView → Result StackFrame WalkEnd → Type 0
-CallsBy memory modules m s None answer = answer ≡ caller_of_leaf memory modules true s
+CallsBy memory modules m s None answer = answer ≡ caller_without_table memory modules m s
 CallsBy memory modules m s (Some e) answer =
     (found : Option RuntimeFunction) × Finds (functions (table_of e)) (lookup_address s - m.base) found
     × CallsFound memory modules m e s found answer

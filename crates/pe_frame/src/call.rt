@@ -6,12 +6,15 @@
 //! address at which none of them ends is no return address.
 
 ghost use Rattle.std.specs.Prelude.{◌≡◌};
-ghost use Rattle.pe_frame.specs.CallForms.{is_call, is_operand_call, is_near_call, is_rex, operand_size, displacement};
+ghost use Rattle.pe_frame.specs.CallForms.{is_call, is_operand_call, is_near_call, near_target, is_rex, operand_size, displacement};
+
+use crate::epilog::widened32;
+use pe_core::read_u32;
 
 /// `call` by the distance of its target, and its size.
 const CALL_REL32: u8 = 0xE8;
 
-const SIZE_OF_CALL_REL32: usize = 5;
+pub(crate) const SIZE_OF_CALL_REL32: u32 = 5;
 
 /// `call` of an operand, and the number in its ModRM byte that says so.
 const CALL_OPERAND: u8 = 0xFF;
@@ -87,7 +90,18 @@ fn is_operand_call(code: &[u8]) -> bool
 fn is_near_call(code: &[u8]) -> bool
     ensures { result ≡ is_near_call code.now }
 {
-    code.len() == SIZE_OF_CALL_REL32 && code[0] == CALL_REL32
+    code.len() == SIZE_OF_CALL_REL32 as usize && code[0] == CALL_REL32
+}
+
+/// Where a `call` by the distance of its target leads that ends at an address, if the bytes are one.
+pub(crate) fn near_target(code: &[u8], end: u64) -> Option<u64>
+    ensures { result ≡ near_target code.now end }
+{
+    if is_near_call(code) {
+        Some(end.wrapping_add(widened32(read_u32(code, 1))))
+    } else {
+        None
+    }
 }
 
 /// Whether a byte is a REX prefix.

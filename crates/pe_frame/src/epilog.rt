@@ -12,7 +12,7 @@ ghost use Rattle.std.specs.Prelude.{◌≡◌, ◌+◌, ◌≤◌, length, map, 
 ghost use Rattle.std.specs.Option.{option_map};
 ghost use Rattle.pe_unwind.specs.UnwindRecord.{unwind_view};
 ghost use Rattle.pe_frame.specs.declared.epilog.Instruction.TheVariants.{Pop};
-ghost use Rattle.pe_frame.specs.Epilogs.{widened, moved, operand, add_at, lea_at, trim_at, pop_of, pop_at, popped_first, most_pops, after_pops, jump_of, is_plain_mode, jump_by_operand, marked_by, marked_jump, unmarked_jump, jump_at, exit_at, restores, lies_in_parents, function_start, leaves, frame_register_of, with_rest, tail_at, executed, executed_all};
+ghost use Rattle.pe_frame.specs.Epilogs.{widened, moved, operand, add_at, lea_at, trim_at, pop_of, pop_at, popped_first, most_pops, after_pops, jump_of, jump_by_operand, marked_by, marked_jump, unmarked_jump, is_return, return_number, jump_at, exit_at, restores, lies_in_parents, function_start, leaves, frame_register_of, with_rest, tail_at, executed, executed_all};
 ghost use Rattle.pe_frame.specs.Jumps.{before_last, target_of};
 ghost use Rattle.pe_frame.specs.Undoing.{put_register};
 ghost use Rattle.pe_frame.specs.Tails.{alone, instructions_of};
@@ -56,12 +56,16 @@ const POP_END: u8 = 0x60;
 
 const REX_B: u8 = 0x41;
 
-/// `ret`, `ret` after `rep`, and `ret n` before its number.
+/// `ret`, after `rep` and after `bnd`, and `ret n` before its number, after `bnd` too.
 const RET: [u8; 1] = [0xC3];
 
 const REP_RET: [u8; 2] = [0xF3, 0xC3];
 
+const BND_RET: [u8; 2] = [0xF2, 0xC3];
+
 const RET_IMM16: [u8; 1] = [0xC2];
+
+const BND_RET_IMM16: [u8; 2] = [0xF2, 0xC2];
 
 /// `jmp` before its number, of one byte and of four.
 const JMP_REL8: [u8; 1] = [0xEB];
@@ -77,11 +81,6 @@ const JMP_RIP: [u8; 2] = [0xFF, 0x25];
 
 /// The byte after the last with REX.W.
 const REX_W_END: u8 = 0x50;
-
-/// Modes of ModRM: a register; memory, without a number that is added to a register.
-const MODE_REGISTER: u8 = 3;
-
-const MODE_MEMORY: u8 = 0;
 
 /// The least numbers of one byte and of four that are negative, and what widens them to 64 bits.
 const NEGATIVE8: u8 = 0x80;
@@ -135,7 +134,7 @@ fn widened8(number: u8) -> u64
 }
 
 /// A number of four bytes in two's complement, widened.
-fn widened32(number: u32) -> u64
+pub(crate) fn widened32(number: u32) -> u64
     ensures { result ≡ widened 32 number }
 {
     if number < NEGATIVE32 {
@@ -284,18 +283,11 @@ fn jump_of(end: u64, code: &[u8], size: u8, number: u64) -> Instruction
     Instruction::Jump(start.wrapping_add(u64::from(size)).wrapping_add(number))
 }
 
-/// Whether a mode of ModRM says a register, or memory without a number that is added to a register.
-fn is_plain_mode(mode: u8) -> bool
-    ensures { result ≡ is_plain_mode mode }
+/// A jump by an operand, by its ModRM byte.
+fn jump_by_operand(byte: u8) -> Option<Instruction>
+    ensures { result ≡ jump_by_operand byte }
 {
-    mode == MODE_MEMORY || mode == MODE_REGISTER
-}
-
-/// A jump by an operand, by its ModRM byte: with any mode, or with a plain one alone.
-fn jump_by_operand(any_mode: bool, byte: u8) -> Option<Instruction>
-    ensures { result ≡ jump_by_operand any_mode byte }
-{
-    if byte / 8 % 8 == JMP_DIGIT && (any_mode || is_plain_mode(byte / 64)) {
+    if byte / 8 % 8 == JMP_DIGIT {
         Some(Instruction::JumpByOperand)
     } else {
         None
@@ -309,7 +301,7 @@ fn marked_jump(code: &[u8]) -> Option<Instruction>
 {
     match byte_after(&[], code) {
         Some(rex) if REX_W <= rex && rex < REX_W_END => match byte_after(&[rex, JMP], code) {
-            Some(byte) => jump_by_operand(true, byte),
+            Some(byte) => jump_by_operand(byte),
             None => None,
         },
         _ => None,
@@ -329,10 +321,10 @@ fn unmarked_jump(restored: bool, code: &[u8]) -> Option<Instruction>
         return None;
     }
     if let Some(byte) = byte_after(&[JMP], code) {
-        return jump_by_operand(false, byte);
+        return jump_by_operand(byte);
     }
     match byte_after(&[REX_B, JMP], code) {
-        Some(byte) => jump_by_operand(false, byte),
+        Some(byte) => jump_by_operand(byte),
         None => None,
     }
 }
@@ -354,16 +346,34 @@ fn jump_at(restored: bool, end: u64, code: &[u8]) -> Option<Instruction>
     }
 }
 
+/// Whether the code starts with a return without a number.
+fn is_return(code: &[u8]) -> bool
+    ensures { result ≡ is_return code.now }
+{
+    code.starts_with(&RET) || code.starts_with(&REP_RET) || code.starts_with(&BND_RET)
+}
+
+/// The number of a return that has one.
+#[tactic(auto, unfolding(crate::specs::Epilogs::return_number))]
+fn return_number(code: &[u8]) -> Option<u16>
+    ensures { result ≡ return_number code.now }
+{
+    match u16_after(&RET_IMM16, code) {
+        Some(number) => Some(number),
+        None => u16_after(&BND_RET_IMM16, code),
+    }
+}
+
 /// The instruction with which an epilog ends, by the RVA where the code ends, and whether one before it freed stack or popped
 /// a register.
 #[tactic(auto, unfolding(crate::specs::Epilogs::exit_at))]
 fn exit_at(restored: bool, end: u64, code: &[u8]) -> Option<Instruction>
     ensures { result ≡ exit_at restored end code.now }
 {
-    if code.starts_with(&RET) || code.starts_with(&REP_RET) {
+    if is_return(code) {
         return Some(Instruction::Return(0));
     }
-    match u16_after(&RET_IMM16, code) {
+    match return_number(code) {
         Some(number) => Some(Instruction::Return(number)),
         None => jump_at(restored, end, code),
     }

@@ -6,11 +6,11 @@ ghost use Rattle.std.specs.Option.{option_map};
 ghost use Rattle.pe_core.specs.SectionMap.{offset_in};
 ghost use Rattle.pe_frame.specs.AddressRanges.{AreAscending, IsOverlap};
 ghost use Rattle.pe_frame.specs.SectionIndexes.{sections_by};
-ghost use Rattle.pe_frame.specs.Modules.{bytes_or_none, module_base, module_size, module_at, map_of_module, code_alignment, code_at, code_in, follows_call, is_after_call_in, is_after_call, is_after_call_arm64_in, is_after_call_arm64, executes, is_executable, is_code, is_code_of, is_code_return, is_code_return_of, is_code_return_arm64, is_code_return_arm64_of};
+ghost use Rattle.pe_frame.specs.Modules.{bytes_or_none, module_base, module_size, module_at, map_of_module, code_alignment, code_at, code_in, follows_call, is_after_call_in, is_after_call, is_after_call_arm64_in, is_after_call_arm64, executes, is_executable, is_code_of, is_code_return, is_code_return_of, is_code_return_arm64, is_code_return_arm64_of, is_unknown, may_be_code, may_be_code_of, call_target, call_target_of};
 
 use crate::address_ranges::{AddressRange, first_overlap, has_address, range_with};
 use crate::arm64::is_call_arm64;
-use crate::call::is_call;
+use crate::call::{SIZE_OF_CALL_REL32, is_call, near_target};
 use crate::section_index::{IndexEntry, sections_by};
 use crate::section_search::section_started;
 use pe_core::{ParseOptions, RvaMap, SectionMap, SectionTable, slice_at};
@@ -35,7 +35,7 @@ pub struct Module<'a> {
     pub size: u32,
     /// The bytes of the image, a file or as loaded, as `opts` say.
     pub bytes: &'a [u8],
-    /// Its section headers.
+    /// Its section headers. None where its image is not at hand: then nothing says where its code is.
     pub sections: &'a [SectionTable],
     /// An index of the sections, by which its RVAs are mapped; no entries without one. A scan asks `sections` itself whether an RVA
     /// is executable.
@@ -196,6 +196,21 @@ impl<'a> Module<'a> {
         self.is_executable(self.rva_of(address))
     }
 
+    /// Whether the image of the module is not at hand: it has no sections.
+    pub fn is_unknown(&self) -> bool
+        ensures { result ≡ is_unknown self.now }
+    {
+        self.sections.is_empty()
+    }
+
+    /// Whether an address of the module may be one of code: it is one of an executable section, or the image is not at hand.
+    pub fn may_be_code(&self, address: u64) -> bool
+        requires { address ≤ self.now.base + self.now.size }
+        ensures { result ≡ may_be_code_of (Some self.now) address }
+    {
+        self.is_unknown() || self.is_code(address)
+    }
+
     /// Whether an address, which may be the end of the module, is one after a call in an executable section. Asked is the last section
     /// that starts at or before the last byte of the call, found by halving: in a valid image no other has it.
     pub fn is_code_return(&self, address: u64) -> bool
@@ -204,6 +219,20 @@ impl<'a> Module<'a> {
     {
         let last = address.saturating_sub(1);
         self.is_executable(self.rva_of(last)) && self.is_after_call(address)
+    }
+
+    /// The address to which the call of an executable section leads that ends at an address, which may be the end of the module.
+    /// None where the five bytes before it are no `call` by the distance of its target, E8.
+    pub fn call_target(&self, address: u64) -> Option<u64>
+        requires { address ≤ self.now.base + self.now.size }
+        ensures { result ≡ call_target_of (Some self.now) address }
+    {
+        let (size, rva) = (SIZE_OF_CALL_REL32, self.rva_of(address));
+        if size <= rva && self.is_executable(rva - 1) {
+            near_target(self.called_code(rva - size..rva), address)
+        } else {
+            None
+        }
     }
 
     /// The same on ARM64.
@@ -286,12 +315,24 @@ impl<'a> Modules<'a> {
         }
     }
 
-    /// Whether an address is one of an executable section of its module.
-    pub(crate) fn is_code(&self, address: u64) -> bool
-        ensures { result ≡ is_code self.now.modules.now address }
+    /// The address to which the call of an executable section leads that ends at an address, if it is E8 with the distance of its
+    /// target.
+    pub(crate) fn call_target(&self, address: u64) -> Option<u64>
+        ensures { result ≡ call_target self.now.modules.now address }
+    {
+        let last = address.saturating_sub(1);
+        match self.find(last) {
+            Some(module) => module.call_target(address),
+            None => None,
+        }
+    }
+
+    /// Whether an address may be one of code: it is one of an executable section, or in a module whose image is not at hand.
+    pub(crate) fn may_be_code(&self, address: u64) -> bool
+        ensures { result ≡ may_be_code self.now.modules.now address }
     {
         match self.find(address) {
-            Some(module) => module.is_code(address),
+            Some(module) => module.may_be_code(address),
             None => false,
         }
     }

@@ -7,7 +7,8 @@
 //!
 //! What is a return address is a fact of the bytes before it: a call ends there. Records lead to interrupted code too, where a
 //! dispatcher of exceptions saved the registers without a machine frame. After a call of a null pointer the frame is in no module:
-//! its return address is at the stack pointer, if a call ends at that. Where neither leads on, the stack is scanned.
+//! its return address is at the stack pointer, if a call ends at that. Where neither leads on, the stack is scanned: first for a
+//! call of the function itself, which starts between the entries of the function table around it, then for any call.
 //!
 //! What is found so may be wrong, and so may all that follows. Each frame says whether it is such a guess, and a stack is called whole
 //! only where none is.
@@ -19,7 +20,7 @@ ghost use Rattle.pe_frame.specs.AddressRanges.{has_address};
 ghost use Rattle.pe_frame.specs.InPlace.{changed_with};
 ghost use Rattle.pe_frame.specs.FrameWalks.{frame_left};
 ghost use Rattle.pe_frame.specs.Modules.{module_base, module_size};
-ghost use Rattle.pe_frame.specs.Walks.{has_called, frame_of, lookup_address, code_of_frame, code_return, scanned, leaf_frame, without_records, is_bottom, end_at_0, after_leaf, caller_of_leaf, caller_outside, frame_after, CallsFound, CallsIn};
+ghost use Rattle.pe_frame.specs.Walks.{has_called, frame_of, lookup_address, code_of_frame, code_return, scanned, leaf_frame, without_records, is_bottom, end_at_0, after_leaf, caller_of_leaf, caller_outside, caller_without_table, leaf_is_guess, frame_after, CallsFound, CallsIn, scanned_by, IsGap, is_in_gap, gap_return, called_in_gap, caller_in_gap};
 ghost use Rattle.pe_frame.specs.declared.modules.Module.{Module};
 
 use crate::error::FrameError;
@@ -33,7 +34,7 @@ use crate::position::{WalkFrame, WalkPosition};
 use crate::process::{CallSites, LoadedModules};
 use crate::registers::{RSP, Registers};
 use crate::scan::{ReturnWords, first_return_above};
-use pe_unwind::{ExceptionData, RuntimeFunction, search};
+use pe_unwind::{ExceptionData, RuntimeFunction, search, search_start};
 
 /// How a frame was found.
 #[derive(Clone, Copy, Debug, PartialEq, Eq)]
@@ -46,8 +47,9 @@ pub enum Way {
     Leaf,
     /// An interrupt stopped it: the records of the frame before it show what the processor pushed.
     Interrupt,
-    /// By a scan of the stack, where no records led on: it is the first word that is after a call in executable code. It may
-    /// be a return address that was left there, so this frame and those after it may be wrong.
+    /// By a scan of the stack, where no records led on. It is the first word whose call leads to the code without records in
+    /// which the frame before it is, or if there is none, the first that is after a call in executable code. It may be a return
+    /// address that was left there, so this frame and those after it may be wrong.
     Scanned,
 }
 
@@ -63,7 +65,7 @@ pub struct StackFrame {
     pub has_called: bool,
     /// Whether it may be wrong: nothing proves that it is the caller, or it follows a frame of which this holds. What a scan finds
     /// is a guess, and so is the caller of code of which no function table says that it is a leaf function: in a module without
-    /// exception data, in no module, and where no call ends at the return address.
+    /// exception data, in no module, in data, and where no call in executable code ends at the return address.
     pub is_guess: bool,
 }
 
@@ -77,16 +79,18 @@ pub enum WalkEnd {
     /// there, and none of the frames is a guess.
     #[error("bottom of the stack")]
     Bottom,
-    /// The last frame returns to 0, but it is a guess, or no records describe its code: frames may be missing or wrong.
-    #[error("0 after a guess")]
+    /// The last frame returns to 0, but a frame is a guess, as after a call of a null pointer, or no records describe the code of the
+    /// last one: frames may be missing or wrong.
+    #[error("return to 0, by a guess or without records")]
     Zero,
-    /// No module has the instruction pointer of the last frame, and no return address is found.
-    #[error("no module has the instruction pointer")]
+    /// The instruction pointer of the last frame is in no module, or in one whose image is not at hand, and no return address is found.
+    #[error("no module with an image has the instruction pointer")]
     NoModule,
     /// No function covers the call in the last frame, and no return address is found. A leaf function calls nothing.
     #[error("no function covers the call")]
     NoFunction,
-    /// No records describe the code of the last frame, and where it would return to is no executable code.
+    /// No records describe the code of the last frame, and where it would return to is no executable code of a module, nor in a module
+    /// whose image is not at hand.
     #[error("no return address")]
     NoReturnAddress,
     /// An unwind record of the function in the last frame cannot be read.
@@ -161,7 +165,58 @@ impl<'a, L: CallSites> ReturnWords for CodeReturns<'a, L> {
     }
 }
 
-/// The frame that a scan of the stack finds.
+/// Code that no entry of a function table covers, up to an address.
+#[derive(Clone, Copy)]
+struct Gap {
+    /// The address.
+    last: u64,
+    /// How many bytes before it no entry covers either.
+    before: u64,
+}
+
+/// The return addresses of calls into such code.
+#[derive(Drop)]
+struct GapReturns<'a, L> {
+    modules: &'a L,
+    gap: Gap,
+}
+
+/// Whether an address is in code that no entry covers.
+fn is_in_gap(gap: Gap, address: u64) -> bool
+    ensures { result ≡ is_in_gap gap address }
+{
+    address <= gap.last && gap.last - address <= gap.before
+}
+
+impl<'a, L: CallSites> ReturnWords for GapReturns<'a, L> {
+    ghost returns = { λ r. gap_return (L.list r.modules.now) r.gap };
+
+    fn return_of(&self, word: u64) -> Option<u64> {
+        match self.modules.target_of_call(word) {
+            Some(target) if is_in_gap(self.gap, target) => Some(word),
+            _ => None,
+        }
+    }
+}
+
+/// The frame that a scan of the stack finds, by what says which of its words are return addresses.
+fn scanned_by<R: ReturnWords, L: CallSites, M: Memory>(
+    returns: &R,
+    modules: &L,
+    memory: &M,
+    registers: &Registers,
+) -> Option<StackFrame>
+    ensures { result ≡ scanned_by
+        (M.word memory.now) (L.list modules.now) (R.returns returns.now) registers.now }
+{
+    let (address, word) = first_return_above(returns, memory, registers.general[RSP])?;
+    let mut caller = *registers;
+    caller.general[RSP] = address + SIZE_OF_WORD;
+    caller.rip = word;
+    Some(frame_of(modules, Way::Scanned, true, caller))
+}
+
+/// The frame that a scan of the stack finds by any call.
 fn scanned<L: CallSites, M: Memory>(
     modules: &L,
     memory: &M,
@@ -169,12 +224,7 @@ fn scanned<L: CallSites, M: Memory>(
 ) -> Option<StackFrame>
     ensures { result ≡ scanned (M.word memory.now) (L.list modules.now) registers.now }
 {
-    let returns = CodeReturns { modules };
-    let (address, word) = first_return_above(&returns, memory, registers.general[RSP])?;
-    let mut caller = *registers;
-    caller.general[RSP] = address + SIZE_OF_WORD;
-    caller.rip = word;
-    Some(frame_of(modules, Way::Scanned, true, caller))
+    scanned_by(&CodeReturns { modules }, modules, memory, registers)
 }
 
 /// The frame of the caller of a leaf function, if a call ends where it returns to.
@@ -187,6 +237,7 @@ fn leaf_frame<L: CallSites>(
 {
     match popped {
         Ok(registers) if modules.ends_call(registers.rip) => {
+            let is_guess = is_guess || !modules.ends_code_call(registers.rip);
             Some(frame_of(modules, Way::Leaf, is_guess, *registers))
         }
         _ => None,
@@ -237,7 +288,7 @@ pub(crate) fn end_at_0(is_guess: bool) -> WalkEnd
     }
 }
 
-/// The frame of the caller of a leaf function to which no call led, if it returns to executable code.
+/// The frame of the caller of a leaf function to which no call led, if it returns to what may be code.
 fn after_leaf<L: CallSites>(
     modules: &L,
     popped: Result<Registers, FrameError>,
@@ -246,7 +297,7 @@ fn after_leaf<L: CallSites>(
 {
     match popped {
         Ok(registers) if registers.rip == 0 => Err(WalkEnd::Zero),
-        Ok(registers) if modules.has_code(registers.rip) => {
+        Ok(registers) if modules.may_be_code(registers.rip) => {
             Ok(frame_of(modules, Way::Leaf, true, registers))
         }
         Ok(_) => Err(WalkEnd::NoReturnAddress),
@@ -272,6 +323,63 @@ fn caller_of_leaf<L: CallSites, M: Memory>(
     match without_records(modules, memory, is_guess, &frame.registers) {
         Some(caller) => Ok(caller),
         None => after_leaf(modules, leaf(frame.registers, memory)),
+    }
+}
+
+/// The code in which a frame is that no entry covers.
+#[tactic(auto, unfolding(pe_unwind::specs::FunctionTable::functions))]
+fn gap_of(module: &Module<'_>, exceptions: &ExceptionData<'_>, frame: &StackFrame) -> Gap
+    requires { lookup_address frame.now ≤ module.now.base + module.now.size }
+    ensures { IsGap module.now exceptions.now frame.now result }
+{
+    let last = frame.lookup_address();
+    let rva = module.rva_of(last);
+    let end = match search_start(&mut exceptions.table(), rva) {
+        Some(function) => function.end_address,
+        None => 0,
+    };
+    let before = u64::from(rva.saturating_sub(end));
+    Gap { last, before }
+}
+
+/// The frame of the caller of a frame in code that no entry covers, by a leaf function at whose return address a call ends, or by a
+/// scan for a call into that code.
+fn called_in_gap<L: CallSites, M: Memory>(
+    modules: &L,
+    is_guess: bool,
+    gap: Gap,
+    frame: &StackFrame,
+    memory: &M,
+) -> Option<StackFrame>
+    ensures { result ≡ called_in_gap (M.word memory.now) (L.list modules.now) is_guess gap frame.now }
+{
+    if !frame.has_called {
+        let popped = leaf(frame.registers, memory);
+        if let Some(caller) = leaf_frame(modules, is_guess, &popped) {
+            return Some(caller);
+        }
+    }
+    scanned_by(
+        &GapReturns { modules, gap },
+        modules,
+        memory,
+        &frame.registers,
+    )
+}
+
+/// The frame of the caller of a frame in code that no entry covers.
+fn caller_in_gap<L: CallSites, M: Memory>(
+    modules: &L,
+    is_guess: bool,
+    gap: Gap,
+    frame: &StackFrame,
+    memory: &M,
+) -> Result<StackFrame, WalkEnd>
+    ensures { result ≡ caller_in_gap (M.word memory.now) (L.list modules.now) is_guess gap frame.now }
+{
+    match called_in_gap(modules, is_guess, gap, frame, memory) {
+        Some(caller) => Ok(caller),
+        None => caller_of_leaf(modules, is_guess, frame, memory),
     }
 }
 
@@ -306,6 +414,25 @@ fn become_caller_of_leaf<L: CallSites, M: Memory>(
     put(caller, frame)
 }
 
+/// The same of a frame in code that no entry of the function table covers.
+#[inline(never)]
+fn become_caller_in_gap<L: CallSites, M: Memory>(
+    modules: &L,
+    found: &ModuleMap<'_>,
+    frame: &mut StackFrame,
+    memory: &M,
+) -> Result<(), WalkEnd>
+    requires { lookup_address frame.old ≤ found.now.module.now.base + found.now.module.now.size }
+    ensures caller { CallsFound (M.word memory.now) (L.list modules.now)
+        found.now.module.now found.now.exceptions.now
+        frame.old None (frame_left result frame.new) }
+    ensures kept { OnErr result (frame.new ≡ frame.old) }
+{
+    let is_guess = leaf_is_guess(found.module, frame);
+    let gap = gap_of(found.module, found.exceptions, frame);
+    put(caller_in_gap(modules, is_guess, gap, frame, memory), frame)
+}
+
 /// Makes a frame in no module that of its caller, or says why there is none: then the frame stays. Out of line, as
 /// `become_caller_of_leaf`.
 #[inline(never)]
@@ -318,16 +445,44 @@ pub fn caller_outside<L: CallSites, M: Memory>(
         ≡ caller_outside (M.word memory.now) (L.list modules.now) frame.old }
     ensures kept { OnErr result (frame.new ≡ frame.old) }
 {
-    if frame.has_called {
-        return Err(WalkEnd::NoModule);
-    }
-    match without_records(modules, memory, true, &frame.registers) {
+    let caller = if frame.has_called {
+        scanned(modules, memory, &frame.registers)
+    } else {
+        without_records(modules, memory, true, &frame.registers)
+    };
+    match caller {
         Some(caller) => {
             *frame = caller;
             Ok(())
         }
         None => Err(WalkEnd::NoModule),
     }
+}
+
+/// Makes a frame in a module without exception data that of its caller, or says why there is none: then the frame stays.
+fn become_caller_without_table<L: CallSites, M: Memory>(
+    modules: &L,
+    module: &Module<'_>,
+    frame: &mut StackFrame,
+    memory: &M,
+) -> Result<(), WalkEnd>
+    ensures caller { frame_left result frame.new
+        ≡ caller_without_table (M.word memory.now) (L.list modules.now) module.now frame.old }
+    ensures kept { OnErr result (frame.new ≡ frame.old) }
+{
+    if module.is_unknown() {
+        caller_outside(modules, frame, memory)
+    } else {
+        become_caller_of_leaf(modules, true, frame, memory)
+    }
+}
+
+/// Whether it is a guess that a frame of which the module's table has no function is one of a leaf function.
+fn leaf_is_guess(module: &Module<'_>, frame: &StackFrame) -> bool
+    requires { lookup_address frame.now ≤ module.now.base + module.now.size }
+    ensures { result ≡ leaf_is_guess module.now frame.now }
+{
+    frame.is_guess || !module.is_code(frame.lookup_address())
 }
 
 /// The function of a frame, as lookup found it.
@@ -450,7 +605,7 @@ pub fn caller_in_module<L: CallSites, M: Memory>(
     ensures kept { OnErr result (frame.new ≡ frame.old) }
 {
     let Some(exceptions) = module.exceptions else {
-        return become_caller_of_leaf(modules, true, frame, memory);
+        return become_caller_without_table(modules, module, frame, memory);
     };
     let mut table = exceptions.table();
     match search(&mut table, module.rva_of(frame.lookup_address())) {
@@ -463,7 +618,7 @@ pub fn caller_in_module<L: CallSites, M: Memory>(
             let rva = module.rva_of(frame.registers.rip);
             become_caller_by_records(modules, &found, frame, rva, memory)
         }
-        None => become_caller_of_leaf(modules, frame.is_guess, frame, memory),
+        None => become_caller_in_gap(modules, &ModuleMap { module, exceptions }, frame, memory),
     }
 }
 
@@ -489,7 +644,10 @@ impl WalkFrame for StackFrame {
 ///
 /// In the top frame, and in one that was interrupted, the return address of code that no records describe is the word at the stack
 /// pointer, if a call ends at it, else the first of 128 words from there on that is after a call in an executable section. In a
-/// frame that has called it is the first such word. Where none is found, a walk that comes to 0 says `Zero`.
+/// module, where neither is, it is the word at the stack pointer, if that may be an address of code: of an executable section, or in a
+/// module whose image is not at hand. In a frame that has called it is the first such word after a call. Between two entries of a
+/// function table the first word whose call, E8, leads there, up to the frame, comes before all others after a call but that at the
+/// stack pointer. Where none is found, a walk that comes to 0 says `Zero`.
 #[derive(Drop)]
 pub struct StackFrames<'a, M> {
     modules: Modules<'a>,

@@ -299,6 +299,7 @@ pub use pe_unwind::linked_record_offset;
 pub use pe_unwind::scope_table_size;
 pub use pe_unwind::search;
 pub use pe_unwind::search_arm64;
+pub use pe_unwind::search_start;
 pub use te::TE;
 pub use write::certificate_list::CertificateList;
 pub use write::image::ImageWriter;

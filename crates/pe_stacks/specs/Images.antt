@@ -22,12 +22,14 @@ has_size n (Some o) = o.windows_fields.size_of_image == n
 abbrev pub is_image_of : HeaderView → Module → Bool
 is_image_of h m = (h.coff_header).time_date_stamp == m.time_date_stamp && has_size m.size_of_image h.optional_header
 
--- the exception data of an image in directory 3: entries of 12 bytes on x64, of 8 bytes on ARM64; none on any other machine
+-- The exception data of an image in directory 3: entries of 12 bytes on x64, of 8 bytes on ARM64; none on any other machine. A
+-- directory of no bytes is none: no table says then that functions are leaf functions.
 abbrev pub exceptions_in : ℕ → (ℕ → DataDirectory → Result ExceptionView Refusal) → Option DataDirectory → Result (Option ExceptionView) Refusal
 exceptions_in machine value None = Ok None
 exceptions_in machine value (Some d) =
-    if machine == COFF_MACHINE_X86_64 then (value 12 d >>= λ e. Ok (Some e))
-    else (if machine == COFF_MACHINE_ARM64 then (value 8 d >>= λ e. Ok (Some e)) else Ok None)
+    if d.size == 0 then Ok None
+    else (if machine == COFF_MACHINE_X86_64 then (value 12 d >>= λ e. Ok (Some e))
+    else (if machine == COFF_MACHINE_ARM64 then (value 8 d >>= λ e. Ok (Some e)) else Ok None))
 
 abbrev pub exceptions_by : List ℕ → ℕ → List SectionTable → ParseOptions → Option OptionalHeaderView → Result (Option ExceptionView) Refusal
 exceptions_by b machine sections opts None = Ok None

@@ -38,13 +38,14 @@ pub struct ModuleImage<'a, A: Allocator + Drop> {
     pub bytes: &'a [u8],
     /// Its section headers.
     pub sections: Vec<SectionTable, A>,
-    /// Its exception data. `None` if it has none, and on other machines than x64 and ARM64.
+    /// Its exception data. `None` if it has none, or a directory of no bytes, and on other machines than x64 and ARM64.
     pub exceptions: Option<ExceptionData<'a>>,
     /// The options with which it was parsed.
     pub opts: ParseOptions,
 }
 
-/// The exception data of an image. `None` without any, and on other machines than x64 and ARM64.
+/// The exception data of an image. `None` without any, also where their directory has no bytes, and on other machines than x64 and
+/// ARM64.
 fn exceptions_of<'a>(
     bytes: &'a [u8],
     header: &Header<'a>,
@@ -60,6 +61,9 @@ fn exceptions_of<'a>(
     let Some(directory) = optional.data_directories.get_exception_table() else {
         return Ok(None);
     };
+    if directory.size == 0 {
+        return Ok(None);
+    }
     let alignment = optional.windows_fields.file_alignment;
     match header.coff_header.machine {
         COFF_MACHINE_X86_64 => Ok(Some(ExceptionData::parse_with_opts(

@@ -54,9 +54,16 @@ impl<'a, A: Allocator + Copy + Drop> CallSites for IndexedModules<'a, A> {
         }
     }
 
-    fn has_code(&self, address: u64) -> bool {
+    fn target_of_call(&self, address: u64) -> Option<u64> {
+        match self.find(address.saturating_sub(1)) {
+            Some(module) => module.call_target(address),
+            None => None,
+        }
+    }
+
+    fn may_be_code(&self, address: u64) -> bool {
         match self.find(address) {
-            Some(module) => module.is_code(address),
+            Some(module) => module.may_be_code(address),
             None => false,
         }
     }

@@ -7,7 +7,7 @@ ghost use Rattle.std.proofs.Common.{arith};
 ghost use Rattle.pe_core.specs.Refusals.{Returns};
 ghost use Rattle.pe_unwind.specs.ExceptionTable.{function_of};
 ghost use Rattle.pe_unwind.specs.FunctionTable.{function_at, functions, Finds};
-ghost use Rattle.pe_unwind.specs.Lookup.{digits};
+ghost use Rattle.pe_unwind.specs.Lookup.{FindsStart, digits};
 ghost use Rattle.pe_unwind.specs.EntriesAfter.{functions_after};
 
 use crate::lookup::{FunctionEntry, last_start};
@@ -75,6 +75,20 @@ impl FunctionEntry for RuntimeFunction {
     fn start(&self) -> u32 {
         self.begin_address
     }
+}
+
+/// Returns the entry of `search`, whether it covers the RVA or ends before it: then no entry of a sorted table covers what lies
+/// between its end and the RVA.
+#[inline(always)]
+#[tactic(auto, unfolding(crate::specs::FunctionTable::functions))]
+pub fn search_start(table: &mut CountedTable, rva: u32) -> Option<RuntimeFunction>
+    ensures found { FindsStart (λ f. f.begin_address) (functions table.old.content) rva result }
+    ensures kept { table.new.content ≡ table.old.content }
+    ensures counted { table.old.count ≤ table.new.count }
+    ensures cost { table.new.count ≤ table.old.count + digits
+        (length (functions table.old.content)) }
+{
+    last_start(table, rva)
 }
 
 /// Returns the entry that covers an RVA, by binary search. It reads at most as many entries as their number has binary

@@ -36,7 +36,7 @@ pub use arm64::words::{
     Arm64EpilogScope, Arm64EpilogScopeIterator, Arm64UnwindExtension, Arm64UnwindHeader,
 };
 pub use exception::ExceptionData;
-pub use function_table::{RuntimeFunction, RuntimeFunctionIterator, search};
+pub use function_table::{RuntimeFunction, RuntimeFunctionIterator, search, search_start};
 pub use links::linked_record_offset;
 pub use register::Register;
 pub use scope_table::{ScopeTableEntry, ScopeTableIterator};

@@ -28,7 +28,9 @@ fn page_of(told: &Told, size: usize) -> String {
     head(&name, &mut html);
     html.markup("<header><h1>").text(&name).markup("</h1><p>minidump · ").text(grouped(size as u64));
     html.markup(" bytes</p><p class=path>").text(escaped(&told.origin.file)).markup("</p></header>");
-    warnings(&told.refusals(), &[], &mut html);
+    let mut refused = told.refusals();
+    refused.extend(told.damaged_tables().map(|(_, it)| ("function table of a module", it)));
+    warnings(&refused, &[], &mut html);
     let mut main = Html::new();
     list("crash", "Crash", stack::text::summary(told), &mut main);
     threads(told, &mut main);

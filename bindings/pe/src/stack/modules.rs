@@ -3,9 +3,9 @@
 use super::files::Images;
 use super::told::Module;
 use super::{name_of, Loaded, PDB_RECORD};
-use crate::facts::{List, Stamp};
+use crate::facts::{List, Refusal, Stamp};
 use pe_c::sys::{DumpModule, DumpVersion, ImageInfo};
-use pe_c::{Dump, ImageSource, SymbolKey};
+use pe_c::{DirectoryIndex, Dump, Image, ImageSource, SymbolKey};
 
 /// `VS_FFI_SIGNATURE`: a module has a version.
 const FIXED_VERSION: u32 = 0xFEEF_04BD;
@@ -27,9 +27,16 @@ pub fn of(dump: &Dump<'_>, loaded: &Loaded<'_>, files: &Images<'_>) -> List<Modu
             symbol_server_path: path.as_deref().and_then(|it| own_path_of(module, it)),
             image: source.map(source_of),
             image_file: files.path_of(module).filter(|_| is_file).map(|it| it.to_string_lossy().into_owned()),
+            function_table_error: loaded.images.image(index).and_then(|it| damage_of(&it.image)),
         }
     });
     List { entries: told.collect(), error: None, is_limited: false }
+}
+
+/// Why the function table of an image is refused.
+fn damage_of(image: &Image<'_>) -> Option<Refusal> {
+    let error = pe_c::Module::new(image, 0).err()?;
+    Some(Refusal::of_directory(error, image, DirectoryIndex::Exception))
 }
 
 fn version_of(version: &DumpVersion) -> Option<String> {

@@ -17,6 +17,9 @@ pub fn of(told: &Told, style: Style) -> String {
     for (part, refusal) in told.refusals() {
         page.warning(format_args!("{part}: {refusal}"));
     }
+    for (module, refusal) in told.damaged_tables() {
+        page.warning(format_args!("function table of {}: {refusal}; its whole entries serve", name_or(&module.name)));
+    }
     told.threads.entries().iter().for_each(|it| thread_of(it, &mut page));
     if let Some(modules) = told.modules.present().filter(|it| !it.entries.is_empty()) {
         page.heading("modules");
@@ -146,11 +149,15 @@ fn thread_of(thread: &Thread, page: &mut Page) {
 pub fn end_of(thread: &Thread) -> String {
     let words = match thread.end {
         Some("bottom") => "the stack is whole",
-        Some("zero") => "the last frame returns to 0, after a guess or without records: frames may be missing or wrong",
+        Some("zero") => {
+            "the last frame returns to 0, but a frame is a guess, or no records describe the last one: frames may be missing or wrong"
+        }
         Some("bound") => "there may be more frames",
-        Some("no-module") => "LOST: no module with an image has the address of the last frame",
+        Some("no-module") => {
+            "LOST: no module with an image has the address of the last frame, and no return address is found"
+        }
         Some("no-function") => "LOST: no function covers the call in the last frame, and no return address is found",
-        Some("no-return-address") => "LOST: the last frame, without records, would return to no executable code",
+        Some("no-return-address") => "LOST: the last frame, without records, would return to no executable code of a module",
         Some("long-chain") => "LOST: more than 32 unwind records are chained",
         Some(_) => "LOST",
         None => "not walked",

@@ -104,7 +104,8 @@ pub struct Thread {
     pub is_crashed: bool,
     /// From the top frame outwards.
     pub frames: Vec<Frame>,
-    /// Why there are no more: `bottom` where the stack is whole, `zero` where it comes to 0 too, but past a guess.
+    /// Why there are no more: `bottom` where the stack is whole, `zero` where it comes to 0 too, but a frame is a guess or no records
+    /// describe the last one.
     pub end: Option<&'static str>,
     /// More on it; or why the registers of the thread cannot be read.
     pub end_error: Option<Refusal>,
@@ -144,6 +145,8 @@ pub struct Module {
     /// Where its image comes from: `memory`, `memory in part`, `file`, or null where there is none.
     pub image: Option<&'static str>,
     pub image_file: Option<String>,
+    /// Why the function table of its image is refused: walks then take the whole entries that are there.
+    pub function_table_error: Option<Refusal>,
 }
 entry!(Module, "modules");
 
@@ -202,6 +205,11 @@ impl Told {
         found.extend(self.unloaded_modules.list_refusal().map(|it| ("unloaded modules", it)));
         found.extend(self.memory.iter().flat_map(|it| &it.errors).map(|it| ("memory", it)));
         found
+    }
+
+    /// The modules whose function tables are refused. That refuses nothing of the dump: their whole entries serve.
+    pub fn damaged_tables(&self) -> impl Iterator<Item = (&Module, &Refusal)> {
+        self.modules.entries().iter().filter_map(|it| Some((it, it.function_table_error.as_ref()?)))
     }
 
     /// The stacks that did not end at their bottom, nor where no more was asked for.

@@ -323,7 +323,8 @@ class Way(enum.IntEnum):
     """an interrupt stopped it: the records before it show what the processor pushed, on ARM64 what the
     operating system saved"""
     SCANNED = 4
-    """by a scan of the stack, where no records led on: it may be wrong, and those after it"""
+    """by a scan of the stack, where no records led on: at the first call of the code without records, on x64,
+    else at the first call. It may be wrong, and those after it"""
 
 
 class End(enum.IntEnum):
@@ -335,7 +336,8 @@ class End(enum.IntEnum):
     """the stack is whole: by records its last frame returns to 0, no frame is found there, and no frame is a
     guess"""
     NO_MODULE = 2
-    """no module has the last instruction pointer, and no return address is found"""
+    """the last instruction pointer is in no module, or in one without an image, and no return address is
+    found"""
     NO_FUNCTION = 3
     """no function covers the call in the last frame, and no return address is found"""
     RECORDS = 4
@@ -345,7 +347,8 @@ class End(enum.IntEnum):
     STEP = 6
     """the step from the last frame is refused: `error` and `address` as in pe_c_step"""
     ZERO = 7
-    """the last frame returns to 0, but it is a guess, or no records describe its code: frames may be missing or
-    wrong"""
+    """the last frame returns to 0, but a frame is a guess, as after a call of a null pointer, or no records
+    describe the code of the last one: frames may be missing or wrong"""
     NO_RETURN_ADDRESS = 8
-    """no records describe the code of the last frame, and where it would return to is no executable code"""
+    """no records describe the code of the last frame, and where it would return to is no executable code, nor
+    in a module without an image"""

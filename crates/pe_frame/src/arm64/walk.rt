@@ -16,7 +16,7 @@ ghost use Rattle.pe_core.specs.Refusals.{answer_by};
 ghost use Rattle.pe_unwind.specs.Arm64Record.{info_view};
 ghost use Rattle.pe_unwind.specs.Arm64Unwinding.{info_by};
 ghost use Rattle.pe_frame.specs.AddressRanges.{has_address};
-ghost use Rattle.pe_frame.specs.Arm64Walks.{frame_of, code_return, scanned, leaf_frame, without_records, lookup_address, place_of, jumped_frame, caller_of_leaf, caller_outside, called_frame, frame_after, stepped_out_packed, CallsByInfo, CallsFound, CallsIn};
+ghost use Rattle.pe_frame.specs.Arm64Walks.{frame_of, code_return, scanned, leaf_frame, without_records, lookup_address, place_of, jumped_frame, caller_of_leaf, caller_outside, caller_without_table, leaf_is_guess, is_bottom, called_frame, frame_after, stepped_out_packed, CallsByInfo, CallsFound, CallsIn};
 ghost use Rattle.pe_frame.specs.Modules.{map_of_module, module_base, module_size};
 
 use super::registers::{Arm64Registers, LINK_REGISTER};
@@ -130,7 +130,9 @@ fn leaf_frame<L: CallSites>(
 ) -> Option<Arm64StackFrame>
     ensures { result ≡ leaf_frame (L.list modules.now) is_guess registers.now }
 {
-    if modules.ends_call_arm64(registers.general[LINK_REGISTER]) {
+    let address = registers.general[LINK_REGISTER];
+    if modules.ends_call_arm64(address) {
+        let is_guess = is_guess || !modules.ends_code_call_arm64(address);
         Some(frame_of(modules, Way::Leaf, is_guess, leaf_arm64(*registers)))
     } else {
         None
@@ -152,7 +154,7 @@ fn without_records<L: CallSites, M: Memory>(
     }
 }
 
-/// The frame of the caller of a leaf function to which no call led, if it returns to executable code.
+/// The frame of the caller of a leaf function to which no call led, if it returns to what may be code.
 fn jumped_frame<L: CallSites>(
     modules: &L,
     registers: &Arm64Registers,
@@ -163,7 +165,7 @@ fn jumped_frame<L: CallSites>(
     if address == 0 {
         return Err(WalkEnd::Zero);
     }
-    if modules.has_code(address) {
+    if modules.may_be_code(address) {
         return Ok(frame_of(modules, Way::Leaf, true, leaf_arm64(*registers)));
     }
     Err(WalkEnd::NoReturnAddress)
@@ -198,45 +200,80 @@ pub fn caller_outside_arm64<L: CallSites, M: Memory>(
 ) -> Result<Arm64StackFrame, WalkEnd>
     ensures { result ≡ caller_outside (M.word memory.now) (L.list modules.now) frame.now }
 {
-    if frame.has_called {
-        return Err(WalkEnd::NoModule);
-    }
-    match without_records(modules, memory, true, &frame.registers) {
+    let caller = if frame.has_called {
+        scanned(modules, memory, &frame.registers)
+    } else {
+        without_records(modules, memory, true, &frame.registers)
+    };
+    match caller {
         Some(caller) => Ok(caller),
         None => Err(WalkEnd::NoModule),
     }
 }
 
-/// The frame that records lead to, without an interrupt.
-fn called_frame<L: CallSites>(
+/// The frame of the caller of a frame in a module without exception data.
+fn caller_without_table<L: CallSites, M: Memory>(
     modules: &L,
+    module: &Module<'_>,
+    frame: &Arm64StackFrame,
+    memory: &M,
+) -> Result<Arm64StackFrame, WalkEnd>
+    ensures { result ≡ caller_without_table (M.word memory.now) (L.list modules.now) module.now frame.now }
+{
+    if module.is_unknown() {
+        caller_outside_arm64(modules, frame, memory)
+    } else {
+        caller_of_leaf(modules, true, frame, memory)
+    }
+}
+
+/// Whether it is a guess that a frame of which the module's table has no function is one of a leaf function.
+fn leaf_is_guess(module: &Module<'_>, frame: &Arm64StackFrame) -> bool
+    requires { lookup_address frame.now ≤ module.now.base + module.now.size }
+    ensures { result ≡ leaf_is_guess module.now frame.now }
+{
+    frame.is_guess || !module.is_code(frame.lookup_address())
+}
+
+/// Whether the registers of a caller are those of the bottom of the stack.
+fn is_bottom<L: CallSites, M: Memory>(modules: &L, memory: &M, registers: &Arm64Registers) -> bool
+    ensures { result ≡ is_bottom (M.word memory.now) (L.list modules.now) registers.now }
+{
+    registers.pc == 0 && without_records(modules, memory, true, registers).is_none()
+}
+
+/// The frame that records lead to, without an interrupt.
+fn called_frame<L: CallSites, M: Memory>(
+    modules: &L,
+    memory: &M,
     frame: &Arm64StackFrame,
     registers: Arm64Registers,
 ) -> Result<Arm64StackFrame, WalkEnd>
-    ensures { result ≡ called_frame (L.list modules.now) frame.now registers }
+    ensures { result ≡ called_frame (M.word memory.now) (L.list modules.now) frame.now registers }
 {
     if frame.has_called && registers.sp == frame.registers.sp {
         return Err(WalkEnd::Step(FrameError::NotRising(registers.sp)));
     }
-    if registers.pc == 0 {
+    if is_bottom(modules, memory, &registers) {
         return Err(end_at_0(frame.is_guess));
     }
     Ok(frame_of(modules, Way::Records, frame.is_guess, registers))
 }
 
 /// What a step returned, as a frame.
-fn frame_after<L: CallSites>(
+fn frame_after<L: CallSites, M: Memory>(
     modules: &L,
+    memory: &M,
     frame: &Arm64StackFrame,
     left: Result<(Arm64Registers, bool), FrameError>,
 ) -> Result<Arm64StackFrame, WalkEnd>
-    ensures { result ≡ frame_after (L.list modules.now) frame.now left }
+    ensures { result ≡ frame_after (M.word memory.now) (L.list modules.now) frame.now left }
 {
     match left {
         Ok((registers, true)) => {
             Ok(frame_of(modules, Way::Interrupt, frame.is_guess, registers))
         }
-        Ok((registers, false)) => called_frame(modules, frame, registers),
+        Ok((registers, false)) => called_frame(modules, memory, frame, registers),
         Err(error) => Err(WalkEnd::Step(error)),
     }
 }
@@ -302,9 +339,12 @@ fn caller_by_records<L: CallSites, M: Memory>(
     match exceptions.get_unwind_info_arm64_with_map(function, &map) {
         None => {
             let left = step_out_packed(&function, place, registers, memory);
-            frame_after(modules, frame, left)
+            frame_after(modules, memory, frame, left)
         }
-        Some(Ok(info)) => frame_after(modules, frame, caller(&info, place, registers, memory)),
+        Some(Ok(info)) => {
+            let left = caller(&info, place, registers, memory);
+            frame_after(modules, memory, frame, left)
+        }
         Some(Err(error)) => Err(WalkEnd::Records(error)),
     }
 }
@@ -321,7 +361,7 @@ pub fn caller_in_module_arm64<L: CallSites, M: Memory>(
         frame.now (Some module.now) result }
 {
     let Some(exceptions) = module.exceptions else {
-        return caller_of_leaf(modules, true, frame, memory);
+        return caller_without_table(modules, module, frame, memory);
     };
     let rva = module.rva_of(frame.lookup_address());
     match exceptions.find_function_arm64_with_map(rva, &ModuleMap { module, exceptions }) {
@@ -333,7 +373,7 @@ pub fn caller_in_module_arm64<L: CallSites, M: Memory>(
             };
             caller_by_records(modules, &found, frame, memory)
         }
-        Ok(None) => caller_of_leaf(modules, frame.is_guess, frame, memory),
+        Ok(None) => caller_of_leaf(modules, leaf_is_guess(module, frame), frame, memory),
         Err(error) => Err(WalkEnd::Records(error)),
     }
 }
@@ -370,8 +410,9 @@ impl WalkFrame for Arm64StackFrame {
 ///
 /// In the top frame, and in one that was interrupted, the return address of code that no unwind data describe is the link register,
 /// if a call ends at it, else the first of 128 words from the stack pointer on that is, without its signature, after a call in an
-/// executable section. In a module, where neither is, it is the link register, if that is an address of executable code. In a frame
-/// that has called it is the first such word. Where none is found, a walk that comes to 0 says `Zero`.
+/// executable section. In a module, where neither is, it is the link register, if that may be an address of code: of an executable
+/// section, or in a module whose image is not at hand. In a frame that has called it is the first such word after a call. Where none
+/// is found, a walk that comes to 0 says `Zero`.
 #[derive(Drop)]
 pub struct Arm64StackFrames<'a, M> {
     modules: Modules<'a>,

@@ -1,20 +1,22 @@
 //! Laws of whole walks on ARM64.
 
-ghost use Rattle.std.specs.Prelude.{Bool, ◌≡◌, ◌≢◌, ◌≤◌, ◌<◌, ◌⊎◌, ℕ, true, false, List, length, Option, None, Some, Ok, Err};
+ghost use Rattle.std.specs.Prelude.{Bool, ◌≡◌, ◌≢◌, ◌≤◌, ◌<◌, ◌++◌, ◌⊎◌, ℕ, true, false, List, length, Option, None, Some, Ok, Err};
 ghost use Rattle.std.specs.Iterator.{YieldsThen};
 ghost use Rattle.std.specs.List.{AllByRecursion};
 ghost use Rattle.pe_unwind.specs.Arm64Record.{Arm64InfoView};
 ghost use Rattle.pe_unwind.specs.declared.arm64.function.Arm64RuntimeFunction.{Arm64RuntimeFunction};
 ghost use Rattle.pe_frame.specs.Arm64Packed.{stepped_arm64_packed};
 ghost use Rattle.pe_frame.specs.Arm64Steps.{StepsOutArm64};
-ghost use Rattle.pe_frame.specs.Arm64Walks.{AreModulesOfBytes, AreSortedModules, Calls, CallsByInfo, has_called, caller_of_leaf, caller_outside, place_of, top_frame, walk_of};
+ghost use Rattle.pe_frame.specs.Arm64Walks.{AreModulesOfBytes, AreSortedModules, Calls, CallsByInfo, CallsFound, has_called, caller_of_leaf, caller_outside, lookup_address, place_of, top_frame, walk_of, without_records};
 ghost use Rattle.pe_frame.specs.FrameWalks.{FrameWalk, IsWalk, Process, starting_walk};
-ghost use Rattle.pe_frame.specs.Walks.{end_kind};
+ghost use Rattle.pe_frame.specs.Modules.{is_code_of, is_code_return_arm64};
+ghost use Rattle.pe_frame.specs.Walks.{by_records, end_kind};
+ghost use Rattle.pe_unwind.specs.ExceptionTable.{ExceptionView};
 ghost use Rattle.pe_frame.specs.declared.arm64.registers.Arm64Registers.{Arm64Registers};
 ghost use Rattle.pe_frame.specs.declared.arm64.walk.Arm64StackFrame.{Arm64StackFrame};
 ghost use Rattle.pe_frame.specs.declared.arm64.walk.Arm64StackFrames.{Arm64StackFrames};
 ghost use Rattle.pe_frame.specs.declared.modules.Module.{Module};
-ghost use Rattle.pe_frame.specs.declared.walk.Way.TheVariants.{Records, Interrupt, Scanned};
+ghost use Rattle.pe_frame.specs.declared.walk.Way.TheVariants.{Records, Leaf, Interrupt, Scanned};
 ghost use Rattle.pe_frame.specs.declared.walk.WalkEnd.{WalkEnd};
 ghost use Rattle.pe_frame.specs.declared.walk.WalkEnd.TheVariants.{Bottom};
 
@@ -67,12 +69,25 @@ pub fn arm64_frames_say_whether_they_called()
         (t.way ≡ Records) ⊎ ((t.way ≡ Interrupt) ⊎ (t.way ≡ Scanned)) }
 {}
 
-/// What a scan finds is a guess (`scans`), and so is each frame after a guess (`follows`).
+/// What a scan finds is a guess (`scans`), and so is each frame after a guess (`follows`). No other one is but the caller of a leaf
+/// function: what records lead to is a guess where the frame before it is (`records`), and so is the caller of code of which a table
+/// says that it is a leaf function, where the call is in an executable section too (`leaf`). So the frames of a thread are no guesses
+/// up to the first that records do not lead to (`sure`).
 pub fn arm64_frames_say_whether_they_are_guesses()
     ensures scans { (p : Process) (s t : Arm64StackFrame) →
         Calls p s (Ok t) → t.way ≡ Scanned → t.is_guess ≡ true }
     ensures follows { (p : Process) (s t : Arm64StackFrame) →
         Calls p s (Ok t) → s.is_guess ≡ true → t.is_guess ≡ true }
+    ensures records { (p : Process) (s t : Arm64StackFrame) →
+        Calls p s (Ok t) → by_records t.way ≡ true → t.is_guess ≡ s.is_guess }
+    ensures leaf { (p : Process) (m : Module) (e : ExceptionView) (s t : Arm64StackFrame) →
+        CallsFound p m e s (Ok None) (Ok t) → t.way ≡ Leaf →
+        is_code_of (Some m) (lookup_address s) ≡ true →
+        is_code_return_arm64 p.modules (t.registers).pc ≡ true → t.is_guess ≡ s.is_guess }
+    ensures sure { (p : Process) (g : Arm64Registers) (most : ℕ) (first rest : List Arm64StackFrame) (end : WalkEnd) →
+        IsWalk Calls (starting_walk p (top_frame g) most) (first ++ rest) end →
+        AllByRecursion (λ s. by_records s.way ≡ true) first →
+        AllByRecursion (λ s. s.is_guess ≡ false) first }
 {}
 
 /// From a frame that has called to one that is found by records the stack pointer rises, so that such frames do not go round.
@@ -83,20 +98,21 @@ pub fn arm64_frames_that_called_rise()
 {}
 
 /// A walk of a thread ends at the bottom only if none of its frames is a guess (`whole`). There a caller's instruction pointer is 0,
-/// to which records led (`records`) or packed unwind data (`packed`), from a frame that is no guess. A frame that no unwind data
-/// describe is never the bottom: in no function of a module (`leaf`), or in no module (`outside`).
+/// to which records led (`records`) or packed unwind data (`packed`), from a frame that is no guess, and no frame is found from that
+/// caller's registers. A frame that no unwind data describe is never the bottom: in no function of a module (`leaf`), or in no module
+/// (`outside`).
 pub fn arm64_bottoms_are_returns_to_0()
     ensures records { (p : Process) (m : Module) (f : Arm64RuntimeFunction)
         (s : Arm64StackFrame) (i : Arm64InfoView) →
         CallsByInfo p m f s (Some (Ok i)) (Err Bottom) →
         (u : Arm64Registers)
         × StepsOutArm64 p.memory i (place_of m f s) s.registers (Ok (u, false)) × (u.pc ≡ 0)
-        × (s.is_guess ≡ false) }
+        × (without_records p.memory p.modules true u ≡ None) × (s.is_guess ≡ false) }
     ensures packed { (p : Process) (m : Module) (f : Arm64RuntimeFunction) (s : Arm64StackFrame) →
         CallsByInfo p m f s None (Err Bottom) →
         (u : Arm64Registers)
         × (stepped_arm64_packed p.memory f.unwind_data (place_of m f s) s.registers ≡ Ok u)
-        × (u.pc ≡ 0) × (s.is_guess ≡ false) }
+        × (u.pc ≡ 0) × (without_records p.memory p.modules true u ≡ None) × (s.is_guess ≡ false) }
     ensures leaf { (memory : ℕ → Option ℕ) (modules : List Module) (guess : Bool) (s : Arm64StackFrame) →
         caller_of_leaf memory modules guess s ≢ Err Bottom }
     ensures outside { (memory : ℕ → Option ℕ) (modules : List Module) (s : Arm64StackFrame) →

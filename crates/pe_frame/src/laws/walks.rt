@@ -1,6 +1,6 @@
 //! Laws of whole walks.
 
-ghost use Rattle.std.specs.Prelude.{Bool, ◌≡◌, ◌≢◌, ◌≤◌, ◌<◌, ◌+◌, ◌-◌, ◌*◌, ◌⊎◌, ℕ, true, false, List, [], length, Option, Some, None, Ok, Err};
+ghost use Rattle.std.specs.Prelude.{Bool, ◌≡◌, ◌≢◌, ◌≤◌, ◌<◌, ◌+◌, ◌-◌, ◌*◌, ◌++◌, ◌⊎◌, ℕ, true, false, List, [], length, Option, Some, None, Ok, Err};
 ghost use Rattle.std.specs.Iterator.{YieldsThen};
 ghost use Rattle.std.specs.List.{AllByRecursion};
 ghost use Rattle.pe_unwind.specs.ExceptionTable.{ExceptionView};
@@ -10,12 +10,14 @@ ghost use Rattle.pe_frame.specs.Epilogs.{epilog_at};
 ghost use Rattle.pe_frame.specs.Scans.{IsFirstReturn, first_return, most_words, return_at};
 ghost use Rattle.pe_frame.specs.Steps.{Steps};
 ghost use Rattle.pe_frame.specs.FrameWalks.{FrameWalk, IsWalk, Process, starting_walk};
-ghost use Rattle.pe_frame.specs.Walks.{AreSortedModules, Calls, CallsByPlan, end_kind, has_called, caller_of_leaf, caller_outside, top_frame, walk_of, without_records, StepsFromFrame};
+ghost use Rattle.pe_frame.specs.Modules.{is_code_of, is_code_return};
+ghost use Rattle.pe_frame.specs.Walks.{AreSortedModules, Calls, CallsByPlan, CallsFound, by_records, end_kind, has_called, lookup_address, caller_of_leaf, caller_outside, top_frame, walk_of, without_records, StepsFromFrame, caller_in_gap};
 ghost use Rattle.pe_frame.specs.declared.modules.Module.{Module};
 ghost use Rattle.pe_frame.specs.declared.registers.Registers.{Registers};
+ghost use Rattle.pe_frame.specs.declared.walk.Gap.{Gap};
 ghost use Rattle.pe_frame.specs.declared.walk.StackFrame.{StackFrame};
 ghost use Rattle.pe_frame.specs.declared.walk.StackFrames.{StackFrames};
-ghost use Rattle.pe_frame.specs.declared.walk.Way.TheVariants.{Records, Interrupt, Scanned};
+ghost use Rattle.pe_frame.specs.declared.walk.Way.TheVariants.{Records, Leaf, Interrupt, Scanned};
 ghost use Rattle.pe_frame.specs.declared.walk.WalkEnd.{WalkEnd};
 ghost use Rattle.pe_frame.specs.declared.walk.WalkEnd.TheVariants.{Bottom};
 
@@ -85,17 +87,30 @@ pub fn frames_say_whether_they_called()
         (t.way ≡ Records) ⊎ ((t.way ≡ Interrupt) ⊎ (t.way ≡ Scanned)) }
 {}
 
-/// What a scan finds is a guess (`scans`), and so is each frame after a guess (`follows`).
+/// What a scan finds is a guess (`scans`), and so is each frame after a guess (`follows`). No other one is but the caller of a leaf
+/// function: what records lead to is a guess where the frame before it is (`records`), and so is the caller of code of which a table
+/// says that it is a leaf function, where the call is in an executable section too (`leaf`). So the frames of a thread are no guesses
+/// up to the first that records do not lead to (`sure`).
 pub fn frames_say_whether_they_are_guesses()
     ensures scans { (p : Process) (s t : StackFrame) →
         Calls p s (Ok t) → t.way ≡ Scanned → t.is_guess ≡ true }
     ensures follows { (p : Process) (s t : StackFrame) →
         Calls p s (Ok t) → s.is_guess ≡ true → t.is_guess ≡ true }
+    ensures records { (p : Process) (s t : StackFrame) →
+        Calls p s (Ok t) → by_records t.way ≡ true → t.is_guess ≡ s.is_guess }
+    ensures leaf { (memory : ℕ → Option ℕ) (modules : List Module) (m : Module) (e : ExceptionView) (s t : StackFrame) →
+        CallsFound memory modules m e s None (Ok t) → t.way ≡ Leaf →
+        is_code_of (Some m) (lookup_address s) ≡ true →
+        is_code_return modules (t.registers).rip ≡ true → t.is_guess ≡ s.is_guess }
+    ensures sure { (p : Process) (g : Registers) (most : ℕ) (first rest : List StackFrame) (end : WalkEnd) →
+        IsWalk Calls (starting_walk p (top_frame g) most) (first ++ rest) end →
+        AllByRecursion (λ s. by_records s.way ≡ true) first →
+        AllByRecursion (λ s. s.is_guess ≡ false) first }
 {}
 
 /// A walk of a thread ends at the bottom only if none of its frames is a guess (`whole`). There a caller's instruction pointer is 0,
 /// to which records led from a frame that is no guess, and no frame is found from that caller's registers (`records`). A frame that
-/// no records describe is never the bottom: in no function of a module (`leaf`), or in no module (`outside`).
+/// no records describe is never the bottom: in no function of a module (`leaf`, `gap`), or in no module (`outside`).
 pub fn bottoms_are_returns_to_0()
     ensures records { (memory : ℕ → Option ℕ) (modules : List Module) (m : Module) (e : ExceptionView)
         (f : RuntimeFunction) (s : StackFrame) (plan : List UnwindInfoView) →
@@ -104,6 +119,8 @@ pub fn bottoms_are_returns_to_0()
         × (u.rip ≡ 0) × (without_records memory modules true u ≡ None) × (s.is_guess ≡ false) }
     ensures leaf { (memory : ℕ → Option ℕ) (modules : List Module) (guess : Bool) (s : StackFrame) →
         caller_of_leaf memory modules guess s ≢ Err Bottom }
+    ensures gap { (memory : ℕ → Option ℕ) (modules : List Module) (guess : Bool) (gap : Gap) (s : StackFrame) →
+        caller_in_gap memory modules guess gap s ≢ Err Bottom }
     ensures outside { (memory : ℕ → Option ℕ) (modules : List Module) (s : StackFrame) →
         caller_outside memory modules s ≢ Err Bottom }
     ensures whole { (p : Process) (g : Registers) (most : ℕ) (frames : List StackFrame) →
