@@ -1440,8 +1440,11 @@ fn what_only_looks_like_an_object_is_refused() {
     for words in [["key", &file].as_slice(), &["digest", &file], &["find", "a", &file], &["unwind", &file, "1000"]] {
         assert_eq!(run(words).2, 1, "{words:?}");
     }
+    folder.file("c.te", &made::te_image());
+    folder.file("d.txt", b"text");
     let (out, error, status) = run(&["-r", folder.0.to_str().unwrap()]);
-    assert_eq!((out.as_str(), error.as_str(), status), ("", "pe: 2 files are no images, and skipped\n", 0));
+    let counted = "pe: 4 files are no images, and skipped; by their start 2 TE images, 1 COFF object\n";
+    assert_eq!((out.as_str(), error.as_str(), status), ("", counted, 0));
 }
 
 #[test]
