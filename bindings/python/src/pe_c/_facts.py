@@ -606,7 +606,8 @@ def version(image: Exact) -> Facts:
     shown = tables["languages"] or []
     first = next((it for it in shown if it["language"]["id"] in (0, 0x409)), shown[0] if shown else None)
     answer, number = fixed_version(image)
-    return {**part("fixed", answer, fixed), "strings_error": refusal(number), "language": first and first["language"],
+    own = next((it.language for it in (image.read("resources")[0] or ())[:LEAVES] if it.type == RT_VERSION), None)
+    return {**part("fixed", answer, fixed), "fixed_language": None if own is None else language(own), "strings_error": refusal(number), "language": first and first["language"],
             "strings": first and first["strings"], **tables,
             **part("manifest", image.read("manifest"), lambda it: {"size": len(it), "requested_level": level_of(it)})}
 
