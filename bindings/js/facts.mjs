@@ -558,6 +558,7 @@ export function kindOf(bytes) {
   if (starts('\x7fELF')) return 'an ELF file';
   if (starts('!<arch>\n')) return 'an archive of objects';
   if (starts('PK\x03\x04')) return 'a ZIP archive';
+  if (starts('MDMP')) return 'a minidump, which pe stack shows';
   return null;
 }
 
