@@ -3,6 +3,7 @@
 // one that comes beside the first. Texts of a file, which may be hostile, reach the page as text alone, and never as markup.
 import { Library } from './library.mjs';
 import { factsOf } from './facts.mjs';
+import { dumpFacts } from './crash.mjs';
 import { addHashes, differences, escaped, regions, sectionName, shown } from './diff.mjs';
 import { module as encoded } from './module.mjs';
 
@@ -218,7 +219,36 @@ function show(to, facts) {
   others(to, facts);
 }
 
+// ---- what a minidump is
+
+const END_WORDS = {
+  bottom: 'the stack is whole', bound: 'there may be more frames',
+  zero: 'the last frame returns to 0, after a guess or without records: frames may be missing or wrong',
+  'no-module': 'LOST: no module with an image has the address of the last frame',
+  'no-function': 'LOST: no function covers the call in the last frame, and no return address is found',
+  'no-return-address': 'LOST: the last frame, without records, would return to no executable code',
+  'long-chain': 'LOST: more than 32 unwind records are chained',
+};
+
+/** What `pe report` shows of a dump; images of modules are those in its memory. */
+function showDump(to, { reason, address_va: address, threads, modules, refused: errors }) {
+  pairs(to, [['Why it crashed', reason], ['At', address !== null && hex(address)], ['Images', 'those in the memory of the dump alone;'
+    + ' pe stack takes those of files too']]);
+  errors.forEach((it) => add(to, 'p', it, 'bad'));
+  const place = (it) => (it.module === null ? '' : `${escaped(it.module)}+${hex(it.offset)}`);
+  threads.forEach(({ id, is_crashed: isCrashed, frames, end }) => {
+    add(to, 'h3', `Thread ${id}${isCrashed ? ', which crashed' : ''}`);
+    add(to, 'p', end === null ? 'not walked' : END_WORDS[end] ?? 'LOST', 'faint');
+    table(to, ['Frame', 'Place', 'Address', 'Found by'], frames.map((it, i) => [i, place(it), hex(it.ip_va),
+      `${it.way}${it.is_guess ? ', a guess' : ''}`]), [0, 2]);
+  });
+  add(to, 'h3', count(modules.length, 'module'));
+  table(to, ['Name', 'Base', 'Size', 'Image from'], modules.map((it) => [shown(it), hex(it.base_va), hex(it.size), it.image ?? 'none']), [1, 2]);
+}
+
 // ---- files
+
+const isDump = (bytes) => [0x4D, 0x44, 0x4D, 0x50].every((it, i) => bytes[i] === it);
 
 /** Reads a file and shows it. Returns its facts, or null where it cannot be read. */
 async function read(file) {
@@ -237,6 +267,11 @@ async function read(file) {
     return null;
   }
   try {
+    if (isDump(bytes)) {
+      const dump = dumpFacts(await compiled, bytes);
+      showDump(article, dump);
+      return { error: null, dump };
+    }
     const found = factsOf(await compiled, bytes, file.name, { mode: PERMISSIVE });
     show(article, found);
     return found;
@@ -287,7 +322,7 @@ async function compare(pair) {
 
 // ---- all files
 
-const isImage = ({ facts }) => facts !== null && !facts.error;
+const isImage = ({ facts }) => facts !== null && !facts.error && !facts.dump;
 // The only file that is shown, beside which another can come; and the number of the run that reads files.
 let alone = [], runs = 0;
 
