@@ -6,7 +6,8 @@ const PLAIN = /^[^\p{Cc}\u00ad\u061c\u180e\u200b-\u200f\u2028-\u202e\u2060-\u206
 const digits = (number) => number.toString(16).padStart(2, '0');
 const utf8 = new TextDecoder('utf-8', { fatal: true, ignoreBOM: true });
 
-function escapedText(text) {
+/** A text of a file as it may be shown: what would move or hide other text, by numbers. */
+export function escaped(text) {
   const one = (it) => (PLAIN.test(it) ? it : it < '\x80' ? `\\x${digits(it.codePointAt(0))}` : `\\u{${it.codePointAt(0).toString(16)}}`);
   return Array.from(text, one).join('');
 }
@@ -23,21 +24,22 @@ function firstOf(bytes) {
   return null;
 }
 
-/** A name or a text of a file as it may be shown: what would move or hide other text, by numbers, and so the bytes of a name that is
- * not UTF-8, whose digits the facts have beside it. */
-export function escaped(name, hex = null) {
-  if (!hex) return escapedText(name);
+/** The bytes of a name that is not UTF-8, by their digits, in the same way. */
+function escapedBytes(hex) {
   let bytes = Uint8Array.from(hex.match(/../g), (it) => parseInt(it, 16)), text = '';
   while (bytes.length) {
     const first = firstOf(bytes);
-    text += first ? escapedText(first.text) : `\\x${digits(bytes[0])}`;
+    text += first ? escaped(first.text) : `\\x${digits(bytes[0])}`;
     bytes = bytes.subarray(first?.length ?? 1);
   }
   return text;
 }
 
 /** A field that has a name, as it may be shown, or nothing where it has none. */
-export const shown = (it, field = 'name') => (it[field] === null ? '' : escaped(it[field], it[`${field}_hex`]));
+export function shown(it, field = 'name') {
+  const hex = it[`${field}_hex`];
+  return hex ? escapedBytes(hex) : escaped(it[field] ?? '');
+}
 export const sectionName = (it) => shown(it, it.long_name === null ? 'name' : 'long_name');
 
 // ---- rows: a name and a value
