@@ -19,6 +19,8 @@ const TRUST_LIST: &[u8] = &[0x2B, 6, 1, 4, 1, 0x82, 0x37, 10, 1];
 const INDIRECT_DATA: &[u8] = &[0x2B, 6, 1, 4, 1, 0x82, 0x37, 2, 1, 4];
 const TIMES: [u8; 2] = [0x17, 0x18];
 
+/// A digest and its algorithm.
+type Key = (Hash, Vec<u8>);
 /// A table of hashes of pages.
 type Table = (Hash, Vec<u8>);
 
@@ -32,7 +34,7 @@ pub struct Member {
 /// A catalog, and what its signature says.
 pub struct Catalog {
     path: PathBuf,
-    members: BTreeMap<(Hash, Vec<u8>), Member>,
+    members: BTreeMap<Key, Member>,
     hashes: BTreeSet<Hash>,
     entries: usize,
     signature: Signature,
@@ -57,7 +59,7 @@ fn members_of(list: &[u8]) -> Option<&[u8]> {
 }
 
 /// The digest that a member has, and the tables of hashes of pages beside it.
-fn member_of(member: &Element<'_>) -> Option<((Hash, Vec<u8>), Vec<Table>)> {
+fn member_of(member: &Element<'_>) -> Option<(Key, Vec<Table>)> {
     let (identifier, attributes) = content_of(member.content, OCTET_STRING)?;
     let attributes = content_of(attributes, SET).map_or(&[][..], |it| it.0);
     let data = elements(attributes).find_map(|it| {
