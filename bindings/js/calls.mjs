@@ -2,7 +2,7 @@
 import { calls, constants } from './layouts.mjs';
 import { PeError, whole, width } from './memory.mjs';
 
-const utf8 = new TextDecoder('utf-8'), utf16 = new TextDecoder('utf-16le');
+const utf8 = new TextDecoder('utf-8', { ignoreBOM: true }), utf16 = new TextDecoder('utf-16le', { ignoreBOM: true });
 
 /** The parameters of a call, if those that are given are its own, and none is missing but arrays. */
 function expected(name, given, own) {

@@ -6,7 +6,7 @@ import { Tables } from './metadata.mjs';
 import * as names from './names.mjs';
 import { signerOf } from './signatures.mjs';
 
-const utf8 = new TextDecoder('utf-8', { fatal: true });
+const utf8 = new TextDecoder('utf-8', { ignoreBOM: true }), strict = new TextDecoder('utf-8', { fatal: true });
 const CODE_AND_WRITABLE = 0xA0000000, PERMISSIONS = [[0x40000000, 'r'], [0x80000000, 'w'], [0x20000000, 'x']];
 const X86 = 0x14C, X64 = 0x8664, PE32 = 0x10B, EMBEDDED_PDB = 17, PDB_CHECKSUM = 19;
 // What is shown in all is bounded by the file's length times this; each item counts as so many bytes.
@@ -27,16 +27,23 @@ const time = (stamp, isHash = false) => ({
   time: stamp === 0 || isHash ? null : new Date(stamp * 1000).toISOString().replace('.000', ''),
 });
 
-/** The text of some bytes, or their digits where they are not UTF-8. */
-function name(bytes) {
+/** The digits of bytes that are not UTF-8, or null. */
+function hexOf(bytes) {
   try {
-    return utf8.decode(bytes);
+    strict.decode(bytes);
+    return null;
   } catch {
-    return { hex: hex(bytes) };
+    return hex(bytes);
   }
 }
+
+/** A field that has a name, or null, and beside it the bytes of one that is not UTF-8, as names of sections may be, and of debug data. */
+function name(bytes, field = 'name') {
+  const digits = bytes && hexOf(bytes);
+  return { [field]: bytes && utf8.decode(bytes), ...(digits === null ? {} : { [`${field}_hex`]: digits }) };
+}
 const untilZero = (bytes) => (bytes.includes(0) ? bytes.slice(0, bytes.indexOf(0)) : bytes);
-const lower = (text) => (typeof text === 'string' ? text.toLowerCase() : null);
+const lower = (text) => (text === null ? null : text.toLowerCase());
 
 /** A part that may be absent or refused: its value and its error. */
 function part(key, read) {
@@ -198,7 +205,7 @@ function sections(image) {
     const own = untilZero(Uint8Array.from(section.name));
     const long = table && i < LONG_NAMES ? attempt(() => image.call('pe_c_long_section_name', { table, section })) : null;
     return {
-      name: name(own), long_name: long ? name(image.slice(long)) : null, rva: section.virtual_address,
+      ...name(own), long_name: long && image.utf8(long), rva: section.virtual_address,
       virtual_size: section.virtual_size, file_offset: section.pointer_to_raw_data, file_size: section.size_of_raw_data,
       permissions: PERMISSIONS.map(([flag, letter]) => ((section.characteristics & flag) !== 0 ? letter : '-')).join(''),
       flags: section.characteristics,
@@ -213,7 +220,7 @@ const hintOrOrdinal = (has, value) => (has ? { hint: value, ordinal: null } : { 
 function functionsOf(image, library, items, budget, more) {
   const own = Number(library.name.length);
   const found = list('functions', items, (it) => budget.takes(ITEM + own + (it.has_name ? Number(it.name.length) : 0)) ? {
-    name: it.has_name ? name(image.slice(it.name)) : null, ...hintOrOrdinal(it.has_name, it.ordinal), ...more(it),
+    name: it.has_name ? image.utf8(it.name) : null, ...hintOrOrdinal(it.has_name, it.ordinal), ...more(it),
   } : null);
   return budget.inside(found, found.functions_error);
 }
@@ -222,7 +229,7 @@ function imports(image) {
   const budget = new Budget(image);
   return listAfter('imports', image, 'pe_c_import_libraries', () => image.list('libraries'), (library) => {
     if (!budget.takes(ITEM + Number(library.name.length))) return null;
-    const own = name(image.slice(library.name)), isUnmapped = image.hasUnmappedList(library);
+    const own = image.utf8(library.name), isUnmapped = image.hasUnmappedList(library);
     const items = isUnmapped ? image.addressTable(library) : image.imports(library);
     return { name: own, name_lower: lower(own),
       ...functionsOf(image, library, items, budget, (it) => ({ slot_rva: number(it.rva) })),
@@ -234,7 +241,7 @@ function delayImports(image) {
   const budget = new Budget(image);
   return listAfter('delay_imports', image, 'pe_c_delay_imports', () => image.list('delayImports'), (library) => {
     if (!budget.takes(ITEM + Number(library.name.length))) return null;
-    const own = name(image.slice(library.name));
+    const own = image.utf8(library.name);
     return { name: own, name_lower: lower(own), ...time(library.descriptor.time_date_stamp),
       ...functionsOf(image, library, image.delayedFunctions(library), budget, () => ({})) };
   });
@@ -259,7 +266,7 @@ function exports(image) {
     for (const it of image.items('pe_c_next_export', { exports })) {
       isLimited = !budget.takes(ITEM + Number(it.name.length));
       if (isLimited) break;
-      byIndex.set(it.index, [...(byIndex.get(it.index) ?? []), name(image.slice(it.name))]);
+      byIndex.set(it.index, [...(byIndex.get(it.index) ?? []), image.utf8(it.name)]);
     }
     budget = new Budget(image);
     const entries = [];
@@ -272,9 +279,9 @@ function exports(image) {
         break;
       }
       entries.push({ ordinal: number(it.ordinal), rva: it.rva, names: names_,
-        forwarder: it.is_forwarder ? name(image.slice(it.forwarder)) : null });
+        forwarder: it.is_forwarder ? image.utf8(it.forwarder) : null });
     }
-    const own = table.has_name ? name(image.slice(table.name)) : null;
+    const own = table.has_name ? image.utf8(table.name) : null;
     return { name: own, name_lower: lower(own), ordinal_base: table.ordinal_base, entries, is_limited: isLimited };
   });
 }
@@ -310,7 +317,7 @@ function debug(image) {
       const key = image.call('pe_c_symbol_key');
       if (!key) return null;
       const all = guid(key.guid);
-      return { name: name(untilZero(image.slice(key.name))), guid: hyphenated(all), age: key.age,
+      return { ...name(untilZero(image.slice(key.name))), guid: hyphenated(all), age: key.age,
         key: `${all}${key.age.toString(16).toUpperCase()}` };
     }),
     ...part('repro', () => {
@@ -327,7 +334,7 @@ function debug(image) {
     }),
     ...part('pdb_checksum', () => {
       const record = recordOf(image, PDB_CHECKSUM, 'pe_c_pdb_checksum_of');
-      return record && { algorithm: name(image.slice(record.algorithm)), checksum_hex: hex(image.slice(record.checksum)) };
+      return record && { ...name(image.slice(record.algorithm), 'algorithm'), checksum_hex: hex(image.slice(record.checksum)) };
     }),
   };
 }
@@ -505,10 +512,10 @@ function metadata(image, found) {
   const streams = list('streams', image.metadataStreams(), (it) => {
     const own = image.utf8(it.name);
     if (!contents.has(own)) contents.set(own, it.has_content ? image.slice(it.content) : new Uint8Array());
-    return { name: name(image.slice(it.name)), offset: it.offset, size: it.size, is_there: Boolean(it.has_content) };
+    return { ...name(image.slice(it.name)), offset: it.offset, size: it.size, is_there: Boolean(it.has_content) };
   });
   return {
-    version: name(untilZero(image.slice(found.version))), format_version: `${found.major_version}.${found.minor_version}`,
+    ...name(untilZero(image.slice(found.version)), 'version'), format_version: `${found.major_version}.${found.minor_version}`,
     ...streams, ...part('tables', () => metadataTables(contents, Number(found.streams.metadata.length))),
   };
 }
@@ -518,7 +525,7 @@ function metadataTables(contents, length) {
   const bytes = [...contents].find(([key]) => key === '#~' || key === '#-')?.[1];
   if (!bytes) return null;
   const tables = new Tables({ tables: bytes, texts: heap('#Strings'), guids: heap('#GUID'), blobs: heap('#Blob') });
-  const named = ({ name: own, culture }) => ({ name: name(own), culture: culture.length ? name(culture) : null });
+  const named = ({ name: own, culture }) => ({ ...name(own), ...name(culture.length ? culture : null, 'culture') });
   let left = length * READINGS;
   const references = list('references', tables.references(), (it) => {
     const cost = ITEM + it.name.length + it.culture.length;
@@ -529,7 +536,7 @@ function metadataTables(contents, length) {
   });
   const { module, assembly } = tables;
   return {
-    module: module && { name: name(module.name), mvid: module.mvid && hyphenated(guid(module.mvid)) },
+    module: module && { ...name(module.name), mvid: module.mvid && hyphenated(guid(module.mvid)) },
     assembly: assembly && { version: assembly.version, has_public_key: assembly.has_public_key, ...named(assembly) },
     ...references,
   };
@@ -551,6 +558,7 @@ export function kindOf(bytes) {
   if (starts('\x7fELF')) return 'an ELF file';
   if (starts('!<arch>\n')) return 'an archive of objects';
   if (starts('PK\x03\x04')) return 'a ZIP archive';
+  if (starts('MDMP')) return 'a minidump, which pe stack shows';
   return null;
 }
 

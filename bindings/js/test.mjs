@@ -90,6 +90,16 @@ test('an unmapped lookup table is said, and the address table is listed in its p
   assert.throws(() => [...image.addressTable(first)], (it) => it instanceof PeError && it.constant === 'PE_C_UNMAPPED');
 });
 
+test('names that are no text', () => {
+  const bytes = Buffer.from(file('debug'));
+  bytes.set([0xFF, 0xC3, 0xA4], bytes.indexOf('.rdata'));
+  bytes.set([0xEF, 0xBB, 0xBF, 0xE2, 0x82], bytes.indexOf('RSDS') + 24);
+  const { sections: [section], debug: { pdb } } = factsOf(library, new Uint8Array(bytes), 'a.dll');
+  assert.deepEqual([section.name, section.name_hex], ['\ufffd\u00e4ata', 'ffc3a4617461']);
+  assert.deepEqual([pdb.name, pdb.name_hex], ['\ufeff\ufffd', 'efbbbfe282']);
+  assert.equal('name_hex' in factsOf(library, file('debug'), 'a.dll').debug.pdb, false);
+});
+
 test('a damaged version string costs neither the fixed information nor the other strings', () => {
   const bytes = Uint8Array.from(file('resources')), whole = factsOf(library, bytes, 'a.dll').version;
   const key = Buffer.from('ProductName\0', 'utf16le'), at = Buffer.from(bytes).indexOf(key);

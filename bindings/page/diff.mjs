@@ -6,7 +6,8 @@ const PLAIN = /^[^\p{Cc}\u00ad\u061c\u180e\u200b-\u200f\u2028-\u202e\u2060-\u206
 const digits = (number) => number.toString(16).padStart(2, '0');
 const utf8 = new TextDecoder('utf-8', { fatal: true, ignoreBOM: true });
 
-function escapedText(text) {
+/** A text of a file as it may be shown: what would move or hide other text, by numbers. */
+export function escaped(text) {
   const one = (it) => (PLAIN.test(it) ? it : it < '\x80' ? `\\x${digits(it.codePointAt(0))}` : `\\u{${it.codePointAt(0).toString(16)}}`);
   return Array.from(text, one).join('');
 }
@@ -23,23 +24,29 @@ function firstOf(bytes) {
   return null;
 }
 
-/** A name or a text of a file as it may be shown: what would move or hide other text, and bytes that are not UTF-8, by numbers. */
-export function escaped(name) {
-  if (typeof name === 'string') return escapedText(name);
-  let bytes = Uint8Array.from(name.hex.match(/../g) ?? [], (it) => parseInt(it, 16)), text = '';
+/** The bytes of a name that is not UTF-8, by their digits, in the same way. */
+function escapedBytes(hex) {
+  let bytes = Uint8Array.from(hex.match(/../g), (it) => parseInt(it, 16)), text = '';
   while (bytes.length) {
     const first = firstOf(bytes);
-    text += first ? escapedText(first.text) : `\\x${digits(bytes[0])}`;
+    text += first ? escaped(first.text) : `\\x${digits(bytes[0])}`;
     bytes = bytes.subarray(first?.length ?? 1);
   }
   return text;
 }
 
+/** A field that has a name, as it may be shown, or nothing where it has none. */
+export function shown(it, field = 'name') {
+  const hex = it[`${field}_hex`];
+  return hex ? escapedBytes(hex) : escaped(it[field] ?? '');
+}
+export const sectionName = (it) => shown(it, it.long_name === null ? 'name' : 'long_name');
+
 // ---- rows: a name and a value
 
 function sections({ sections: all }) {
   const hash = (it) => (it.sha256_hex ? `, SHA-256 ${it.sha256_hex.slice(0, 16)}` : '');
-  return all.map((it) => [escaped(it.long_name ?? it.name),
+  return all.map((it) => [sectionName(it),
     `${it.permissions}, ${it.virtual_size} bytes in memory, ${it.file_size} in the file${hash(it)}`]);
 }
 
@@ -108,7 +115,7 @@ function regionsOf(bytes, facts) {
   const named = [['DOS header', 0, DOS_HEADER], ['DOS stub', DOS_HEADER, rich?.[0] ?? signature],
     ...(rich ? [['Rich header', ...rich], ['after the Rich header', rich[1], signature]] : []), ['PE headers', signature, sections],
     ['section headers', sections, end], ['header slack', end, all],
-    ...facts.sections.map((it) => [`section ${escaped(it.long_name ?? it.name)}`, it.file_offset, it.file_offset + it.file_size])];
+    ...facts.sections.map((it) => [`section ${sectionName(it)}`, it.file_offset, it.file_offset + it.file_size])];
   const within = (it) => Math.min(it, bytes.length), last = Math.max(...named.map((it) => within(it[2])));
   if (directories + 40 <= sections && u32(bytes, directories - 4) > 4) {
     const start = u32(bytes, directories + 32);

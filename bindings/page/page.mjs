@@ -3,7 +3,8 @@
 // one that comes beside the first. Texts of a file, which may be hostile, reach the page as text alone, and never as markup.
 import { Library } from './library.mjs';
 import { factsOf } from './facts.mjs';
-import { addHashes, differences, escaped, regions } from './diff.mjs';
+import { dumpFacts } from './crash.mjs';
+import { addHashes, differences, escaped, regions, sectionName, shown } from './diff.mjs';
 import { module as encoded } from './module.mjs';
 
 const LARGEST = 2 ** 31 - 2 ** 26, ROWS = 500, PERMISSIVE = 1;
@@ -12,7 +13,6 @@ const compiled = WebAssembly.compile(Uint8Array.from(atob(encoded), (it) => it.c
 
 // ---- parts of the page
 
-const textOf = (name) => (name === null ? '' : escaped(name));
 const hex = (number) => `0x${number.toString(16)}`;
 const count = (number, what) => `${number.toLocaleString('en')} ${what}${number === 1 ? '' : 's'}`;
 const named = ({ number, name }) => name ?? hex(number);
@@ -96,11 +96,11 @@ function overview(to, { headers, version, debug, clr }) {
     ['File version', version.fixed?.file_version],
     ['Product version', version.fixed?.product_version],
     ...Object.entries(version.texts).map(([name, text]) => [name, escaped(text)]),
-    ['PDB', debug.pdb && textOf(debug.pdb.name)],
+    ['PDB', debug.pdb && shown(debug.pdb)],
     ['PDB key', debug.pdb?.key],
     ['PDB in the image', debug.embedded_pdb && count(debug.embedded_pdb.size, 'byte')],
-    ['Checksum of the PDB', debug.pdb_checksum && `${textOf(debug.pdb_checksum.algorithm)} ${debug.pdb_checksum.checksum_hex}`],
-    ['Assembly of .NET', assembly && `${textOf(assembly.name)} ${assembly.version}`],
+    ['Checksum of the PDB', debug.pdb_checksum && `${shown(debug.pdb_checksum, 'algorithm')} ${debug.pdb_checksum.checksum_hex}`],
+    ['Assembly of .NET', assembly && `${shown(assembly)} ${assembly.version}`],
     ['Linker', headers.optional?.linker_version],
     ['Subsystem version', headers.optional?.subsystem_version],
   ]);
@@ -122,12 +122,12 @@ function hardening(to, it) {
 
 function sections(to, all) {
   add(to, 'h3', count(all.length, 'section'));
-  const row = (it) => [textOf(it.long_name ?? it.name), it.permissions,
+  const row = (it) => [sectionName(it), it.permissions,
     ...[it.rva, it.virtual_size, it.file_offset, it.file_size].map(hex)];
   table(to, ['Name', 'Access', 'RVA', 'Size', 'File offset', 'Size in file'], all.map(row), [2, 3, 4, 5]);
 }
 
-const functionRow = (it) => [it.name === null ? `#${it.ordinal}` : textOf(it.name)];
+const functionRow = (it) => [it.name === null ? `#${it.ordinal}` : shown(it)];
 
 function libraries(to, title, facts, key) {
   const all = facts[key];
@@ -135,9 +135,9 @@ function libraries(to, title, facts, key) {
   if (!all?.length) return;
   add(to, 'h3', `${title}: ${count(all.length, 'DLL')}`);
   for (const it of all) {
-    folded(to, `${textOf(it.name)} (${it.functions.length.toLocaleString('en')})`, (box) => {
-      refused(box, `Lookup table of ${textOf(it.name)}, whose address table is listed`, it.lookup_table_error);
-      refused(box, textOf(it.name), it.functions_error);
+    folded(to, `${shown(it)} (${it.functions.length.toLocaleString('en')})`, (box) => {
+      refused(box, `Lookup table of ${shown(it)}, whose address table is listed`, it.lookup_table_error);
+      refused(box, shown(it), it.functions_error);
       table(box, null, it.functions.map(functionRow));
     });
   }
@@ -147,10 +147,10 @@ function exported(to, facts) {
   refused(to, 'Exports', facts.exports_error);
   const all = facts.exports?.entries;
   if (!all) return;
-  const own = facts.exports.name ? ` of ${textOf(facts.exports.name)}` : '';
+  const own = facts.exports.name ? ` of ${shown(facts.exports)}` : '';
   add(to, 'h3', `Exports${own}: ${count(all.length, 'function')}`);
   folded(to, 'names', (box) => table(box, ['Ordinal', 'RVA', 'Name', 'Forwarder'], all.map((it) => [it.ordinal, hex(it.rva),
-    it.names.map(textOf).join(', '), textOf(it.forwarder)]), [0, 1]));
+    it.names.map((name) => escaped(name)).join(', '), shown(it, 'forwarder')]), [0, 1]));
 }
 
 const signer = (it) => (it ? escaped(it.subject ?? `number ${it.serial_hex} of ${it.issuer}`) : '');
@@ -191,7 +191,7 @@ function others(to, facts) {
       it.types.map((one) => `${one.count} ${named(one.type)}`).join(', ')], [0]],
     ...guards(facts.load_config, facts.load_config_error),
     ['References of .NET', facts.clr?.metadata?.tables?.references, referencesError(facts),
-      ['Assembly', 'Version', 'Culture', 'Public key token'], (it) => [textOf(it.name), it.version, textOf(it.culture ?? ''),
+      ['Assembly', 'Version', 'Culture', 'Public key token'], (it) => [shown(it), it.version, shown(it, 'culture'),
         it.public_key_token_hex ?? ''], []],
     ['Rich header', facts.rich?.tools, facts.rich_error, ['Product', 'Build', 'Objects'], (it) => [it.product, it.build,
       it.count], [0, 1, 2]],
@@ -219,7 +219,36 @@ function show(to, facts) {
   others(to, facts);
 }
 
+// ---- what a minidump is
+
+const END_WORDS = {
+  bottom: 'the stack is whole', bound: 'there may be more frames',
+  zero: 'the last frame returns to 0, after a guess or without records: frames may be missing or wrong',
+  'no-module': 'LOST: no module with an image has the address of the last frame',
+  'no-function': 'LOST: no function covers the call in the last frame, and no return address is found',
+  'no-return-address': 'LOST: the last frame, without records, would return to no executable code',
+  'long-chain': 'LOST: more than 32 unwind records are chained',
+};
+
+/** What `pe report` shows of a dump; images of modules are those in its memory. */
+function showDump(to, { reason, address_va: address, threads, modules, refused: errors }) {
+  pairs(to, [['Why it crashed', reason], ['At', address !== null && hex(address)], ['Images', 'those in the memory of the dump alone;'
+    + ' pe stack takes those of files too']]);
+  errors.forEach((it) => add(to, 'p', it, 'bad'));
+  const place = (it) => (it.module === null ? '' : `${escaped(it.module)}+${hex(it.offset)}`);
+  threads.forEach(({ id, is_crashed: isCrashed, frames, end }) => {
+    add(to, 'h3', `Thread ${id}${isCrashed ? ', which crashed' : ''}`);
+    add(to, 'p', end === null ? 'not walked' : END_WORDS[end] ?? 'LOST', 'faint');
+    table(to, ['Frame', 'Place', 'Address', 'Found by'], frames.map((it, i) => [i, place(it), hex(it.ip_va),
+      `${it.way}${it.is_guess ? ', a guess' : ''}`]), [0, 2]);
+  });
+  add(to, 'h3', count(modules.length, 'module'));
+  table(to, ['Name', 'Base', 'Size', 'Image from'], modules.map((it) => [shown(it), hex(it.base_va), hex(it.size), it.image ?? 'none']), [1, 2]);
+}
+
 // ---- files
+
+const isDump = (bytes) => [0x4D, 0x44, 0x4D, 0x50].every((it, i) => bytes[i] === it);
 
 /** Reads a file and shows it. Returns its facts, or null where it cannot be read. */
 async function read(file) {
@@ -238,6 +267,11 @@ async function read(file) {
     return null;
   }
   try {
+    if (isDump(bytes)) {
+      const dump = dumpFacts(await compiled, bytes);
+      showDump(article, dump);
+      return { error: null, dump };
+    }
     const found = factsOf(await compiled, bytes, file.name, { mode: PERMISSIVE });
     show(article, found);
     return found;
@@ -288,7 +322,7 @@ async function compare(pair) {
 
 // ---- all files
 
-const isImage = ({ facts }) => facts !== null && !facts.error;
+const isImage = ({ facts }) => facts !== null && !facts.error && !facts.dump;
 // The only file that is shown, beside which another can come; and the number of the run that reads files.
 let alone = [], runs = 0;
 

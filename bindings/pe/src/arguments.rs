@@ -269,6 +269,9 @@ pub enum Command {
         /// Those that the system trusts, which are mostly for servers.
         #[arg(long, conflicts_with = "roots")]
         system_roots: bool,
+        /// A catalog (.cat), once for each: one that lists the image is a signature of it.
+        #[arg(long = "catalog", value_name = "FILE")]
+        catalogs: Vec<PathBuf>,
         #[command(flatten)]
         reading: Reading,
         #[command(flatten)]

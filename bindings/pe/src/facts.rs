@@ -18,6 +18,7 @@ pub mod headers;
 pub mod imports;
 pub mod languages;
 pub mod load_config;
+pub mod name;
 pub mod ordinals;
 pub mod others;
 pub mod overlay;
@@ -35,6 +36,7 @@ pub mod version;
 use crate::names::{name_of, MACHINES};
 use chrono::{TimeZone, Utc};
 use clap::ValueEnum;
+pub use name::Name;
 use others::Other;
 use pe_c::{DirectoryIndex, Error, Image};
 use serde::ser::SerializeMap;
@@ -43,7 +45,7 @@ use std::fmt;
 use std::path::Path;
 
 /// The version of the JSON that `docs/JSON.md` describes. It grows when a field changes its meaning or goes away.
-pub const JSON_VERSION: u32 = 2;
+pub const JSON_VERSION: u32 = 3;
 
 /// A part of an image that can be asked for.
 #[derive(Clone, Copy, Debug, PartialEq, Eq, ValueEnum)]
@@ -130,6 +132,8 @@ impl Wanted {
 
 const TE_IMAGE: &str = "a TE image";
 const OBJECT_AS_IT_SEEMS: &str = "a COFF object, as it seems";
+/// What `pe FILE` shows that is no image, and how such files are counted.
+pub const OTHERS: [(&str, &str); 2] = [(TE_IMAGE, "TE image"), (OBJECT_AS_IT_SEEMS, "COFF object")];
 
 /// What a file is that is no image, by its first bytes.
 pub fn kind_of(bytes: &[u8]) -> Option<&'static str> {
@@ -446,37 +450,6 @@ pub fn counted(count: usize, what: &str) -> String {
 /// How many entries there are, with a plus sign where there are more.
 pub fn count_of(count: usize, is_limited: bool) -> String {
     count.to_string() + if is_limited { "+" } else { "" }
-}
-
-/// A name in an image. In JSON its text, or an object with the one field `hex` where it is not UTF-8.
-#[derive(Clone, Copy, Debug, PartialEq, Eq)]
-pub struct Name<'a>(pub &'a [u8]);
-
-impl fmt::Display for Name<'_> {
-    fn fmt(&self, f: &mut fmt::Formatter<'_>) -> fmt::Result {
-        f.pad(&crate::escape::Escaped(self.0).to_string())
-    }
-}
-
-impl Name<'_> {
-    /// In lower case, as the names of DLLs are compared. Null where it is not UTF-8.
-    pub fn lower(&self) -> Option<String> {
-        std::str::from_utf8(self.0).ok().map(str::to_lowercase)
-    }
-}
-
-#[derive(Serialize)]
-struct Hex {
-    hex: String,
-}
-
-impl Serialize for Name<'_> {
-    fn serialize<S: Serializer>(&self, serializer: S) -> Result<S::Ok, S::Error> {
-        match std::str::from_utf8(self.0) {
-            Ok(text) => text.serialize(serializer),
-            Err(_) => Hex { hex: hex_of(self.0) }.serialize(serializer),
-        }
-    }
 }
 
 /// Two digits for each byte.

@@ -3,7 +3,7 @@
 //! few.
 
 use crate::arguments::{Arguments, Files};
-use crate::facts::Topic;
+use crate::facts::{counted, kind_of, Topic, OTHERS};
 use crate::new_file::Target;
 use crate::streams::{complain, complaint};
 use crate::system::{ask_for_large_pages, is_folder, is_loop, Progress};
@@ -81,18 +81,41 @@ struct Below<'a> {
     skipped: &'a Skipped,
 }
 
-/// How much was skipped, and whether each is named.
+/// How much was skipped, how many of it are of the kinds that `pe FILE` shows, and whether each is named.
 struct Skipped {
     count: Cell<usize>,
+    shown: [Cell<usize>; OTHERS.len()],
     is_verbose: bool,
 }
 
 impl Skipped {
+    fn new(is_verbose: bool) -> Skipped {
+        Skipped { count: Cell::new(0), shown: Default::default(), is_verbose }
+    }
+
     fn put(&self, path: &Path, why: &str) {
         self.count.set(self.count.get() + 1);
         if self.is_verbose {
             complain(complaint(path, format_args!("skipped, {why}")));
         }
+    }
+
+    /// A file that is no image, of this kind where that can be seen.
+    fn put_kind(&self, path: &Path, kind: Option<&str>) {
+        if let Some(at) = OTHERS.iter().position(|it| Some(it.0) == kind) {
+            self.shown[at].set(self.shown[at].get() + 1);
+        }
+        self.put(path, &format!("it is {}", kind.unwrap_or("no image")));
+    }
+
+    /// What is said in the end, if anything was skipped.
+    fn text(&self) -> Option<String> {
+        let what = if self.count.get() == 1 { "is no image" } else { "are no images" };
+        let kinds = OTHERS.iter().zip(&self.shown).filter(|it| it.1.get() > 0);
+        let kinds: Vec<String> = kinds.map(|(kind, count)| counted(count.get(), kind.1)).collect();
+        let shown = if kinds.is_empty() { String::new() } else { format!("; by their start {}", kinds.join(", ")) };
+        let files = counted(self.count.get(), "file");
+        (self.count.get() > 0).then(|| format!("pe: {files} {what}, and skipped{shown}\n"))
     }
 }
 
@@ -144,7 +167,7 @@ fn found<'a>(named: &'a Files, skipped: &'a Skipped) -> impl Iterator<Item = Fou
 
 /// All files below a folder, or the file that is named, in the order of their names.
 pub fn below(folder: &Path) -> Vec<PathBuf> {
-    let skipped = Skipped { count: Cell::new(0), is_verbose: false };
+    let skipped = Skipped::new(false);
     Below { waiting: vec![folder.to_path_buf()], skipped: &skipped }.collect()
 }
 
@@ -182,65 +205,56 @@ pub fn whole(path: &Path) -> io::Result<Vec<u8>> {
     Ok(bytes)
 }
 
-/// Reads a file whole. Of one below a folder the start is read first: one without an image's signatures is no image, and
-/// is not read on.
-fn content(found: &Found) -> io::Result<Option<Vec<u8>>> {
+/// What is said of a file, or what it is where it is skipped.
+type Said = Result<Report, Option<&'static str>>;
+
+/// Reads a file whole, and reports on it. Of one below a folder the start is read first: one without an image's signatures is no image,
+/// and is not read on.
+fn said_of(found: &Found, report: &(impl Fn(&Path, &[u8]) -> Report + Sync)) -> io::Result<Said> {
     if found.is_below {
         let start = start_of(&found.path)?;
         if Image::parse(&start, Mode::Permissive).is_err_and(|error| error == Error::BAD_MAGIC) {
-            return Ok(None);
+            return Ok(Err(kind_of(&start)));
         }
     }
-    whole(&found.path).map(Some)
+    let said = report(&found.path, &whole(&found.path)?);
+    Ok(if said.is_image || !found.is_below { Ok(said) } else { Err(None) })
 }
 
 /// Writes what `report` says of each file, in their order. Returns the worst status.
 pub fn each(named: &Files, out: &mut dyn Write, report: impl Fn(&Path, &[u8]) -> Report + Sync) -> io::Result<Status> {
     let (mut worst, mut has_head) = (Status::Done, false);
-    let skipped = Skipped { count: Cell::new(0), is_verbose: named.walk.verbose };
+    let skipped = Skipped::new(named.walk.verbose);
     let mut files = found(named, &skipped).peekable();
     let bar = progress(named.walk.recursive);
     while files.peek().is_some() {
         let some: Vec<Found> = files.by_ref().take(AT_ONCE).collect();
-        let of = |found: &Found| Ok(content(found)?.map(|bytes| report(&found.path, &bytes)));
+        let of = |found: &Found| said_of(found, &report);
         // For one file threads cost more than they help.
-        let reports: Vec<io::Result<Option<Report>>> =
+        let reports: Vec<io::Result<Said>> =
             if let [one] = some.as_slice() { vec![of(one)] } else { some.par_iter().map(of).collect() };
         for (found, report) in some.iter().zip(reports) {
-            match write(found, report, &mut has_head, out)? {
-                Some(status) => worst = worst.max(status),
-                None => skipped.put(&found.path, "it is no image"),
+            match report {
+                Ok(Ok(report)) => worst = worst.max(write(report, &mut has_head, out)?),
+                Ok(Err(kind)) => skipped.put_kind(&found.path, kind),
+                Err(error) => worst = worst.max(unread(&found.path, &error)),
             }
         }
         bar.add(some.len());
     }
     bar.end();
-    if skipped.count.get() > 0 {
-        let what = if skipped.count.get() == 1 { "is no image" } else { "are no images" };
-        complain(format_args!("pe: {} {what}, and skipped\n", crate::facts::counted(skipped.count.get(), "file")));
-    }
+    skipped.text().into_iter().for_each(complain);
     Ok(worst)
 }
 
-/// Writes what is said of a file. `None` where it is skipped.
-fn write(
-    found: &Found,
-    report: io::Result<Option<Report>>,
-    has_head: &mut bool,
-    out: &mut dyn Write,
-) -> io::Result<Option<Status>> {
-    match report {
-        Ok(Some(report)) if report.is_image || !found.is_below => {
-            complain(&report.complaints);
-            if !report.head.is_empty() && !*has_head {
-                out.write_all(report.head.as_bytes())?;
-                *has_head = true;
-            }
-            out.write_all(&report.text).map(|()| Some(report.status))
-        }
-        Ok(_) => Ok(None),
-        Err(error) => Ok(Some(unread(&found.path, &error))),
+/// Writes what is said of a file, and a head once.
+fn write(report: Report, has_head: &mut bool, out: &mut dyn Write) -> io::Result<Status> {
+    complain(&report.complaints);
+    if !report.head.is_empty() && !*has_head {
+        out.write_all(report.head.as_bytes())?;
+        *has_head = true;
     }
+    out.write_all(&report.text).map(|()| report.status)
 }
 
 /// Says why a file cannot be read.

@@ -44,6 +44,7 @@ use std::path::{Path, PathBuf};
 use std::process::ExitCode;
 use std::sync::atomic::{AtomicBool, Ordering};
 use streams::{complain, complaint};
+use verify::catalog::Catalog;
 use verify::checked::Roots;
 
 /// What a run came to: the exit status. The worst of several files counts.
@@ -142,9 +143,15 @@ fn run_command(command: &Command, out: &mut dyn Write) -> io::Result<Status> {
                 of_image(bytes, reading, |image| digest::report(path, image, output.json))
             })
         }
-        Command::Verify { files, roots, system_roots, reading, output } => {
+        Command::Verify { files, roots, system_roots, catalogs, reading, output } => {
+            refuse_mapped(reading, "a signature");
             let of_system = system_roots.then(verify::checked::roots_of_system);
-            verify_signatures(files, roots.as_deref().or(of_system), (reading, output), out)
+            let Some(given) = given_to_verify(roots.as_deref().or(of_system), catalogs) else {
+                return Ok(Status::FileError);
+            };
+            files::each(files, out, |path, bytes| {
+                of_image(bytes, reading, |image| verify::report(path, image, &given, output.json))
+            })
         }
         Command::Stack { dump, images, stacks, output } => {
             let (there, known, asked) =
@@ -203,25 +210,18 @@ fn unwind_functions(words: (&[PathBuf], Walk), is_all: bool, how: How, out: &mut
     files::each(&files, out, |path, bytes| of_image(bytes, how.reading, |image| unwind::report(path, image, asked)))
 }
 
-/// `pe verify`: the roots are read once.
-fn verify_signatures(
-    files: &Files,
-    roots: Option<&Path>,
-    (reading, output): (&Reading, &Output),
-    out: &mut dyn Write,
-) -> io::Result<Status> {
-    refuse_mapped(reading, "a signature");
-    let roots = match roots.map(|path| (path, Roots::read(path))) {
-        Some((path, Err(why))) => {
-            complain(complaint(path, why));
-            return Ok(Status::FileError);
-        }
-        Some((_, Ok(roots))) => Some(roots),
-        None => None,
-    };
-    files::each(files, out, |path, bytes| {
-        of_image(bytes, reading, |image| verify::report(path, image, roots.as_ref(), output.json))
-    })
+/// What `pe verify` is given, which is read once. `None` where a file of it is refused, which is said.
+fn given_to_verify(roots: Option<&Path>, catalogs: &[PathBuf]) -> Option<verify::Given> {
+    let said = |path: &Path, why: String| complain(complaint(path, why));
+    let roots = roots.map(|path| Roots::read(path).map_err(|why| said(path, why)).ok());
+    if matches!(roots, Some(None)) {
+        return None;
+    }
+    let roots = roots.flatten();
+    let read = |path: &PathBuf| Catalog::read(path, roots.as_ref()).map_err(|why| said(path, why)).ok();
+    let catalogs: Vec<Option<Catalog>> = catalogs.iter().map(read).collect();
+    let catalogs = catalogs.into_iter().collect::<Option<_>>()?;
+    Some(verify::Given { roots, catalogs })
 }
 
 /// Ends where the last of the files is none, and its name is nearly that of a part, or the first, and its name is one.

@@ -14,7 +14,7 @@ use std::process::Command;
 #[test]
 fn headers_and_sections() {
     let all = json_of("headers", &made::with_certificates());
-    assert_eq!((&all["json_version"], &all["error"], &all["file_hex"]), (&json!(2), &json!(null), &json!(null)));
+    assert_eq!((&all["json_version"], &all["error"], &all["file_hex"]), (&json!(3), &json!(null), &json!(null)));
     assert_eq!(all["file_size"], 0x400 + 0x200 + 24);
     let headers = &all["headers"];
     assert_eq!((&headers["format"], &headers["machine"]["name"]), (&json!("PE32+"), &json!("x64")));
@@ -310,7 +310,8 @@ fn hostile_names_forge_no_lines() {
     let (out, _, _) = run(&["--json", &file]);
     assert_eq!(out.lines().count(), 1);
     let all: Value = serde_json::from_str(&out).unwrap();
-    assert_eq!(all["sections"][0]["name"], json!({"hex": "1b5b324a0aff2261"}));
+    let section = &all["sections"][0];
+    assert_eq!((&section["name"], &section["name_hex"]), (&json!("\x1b[2J\n\u{fffd}\"a"), &json!("1b5b324a0aff2261")));
 }
 
 #[test]
@@ -341,7 +342,7 @@ fn each_file_has_a_line_of_json() {
     let error = json!({"number": 2, "name": "SHORT", "text": "truncated"});
     let (out, _, status) = run(&["digest", "--json", &short, &image]);
     let lines: Vec<Value> = out.lines().map(|line| serde_json::from_str(line).unwrap()).collect();
-    let refused = json!({"json_version": 2, "file": short, "file_hex": null, "sha256_hex": null, "checksum": null,
+    let refused = json!({"json_version": 3, "file": short, "file_hex": null, "sha256_hex": null, "checksum": null,
         "right_checksum": null, "error": error});
     assert_eq!((lines.len(), &lines[0], status), (2, &refused, 1));
     assert_eq!((&lines[1]["file"], &lines[1]["error"]), (&json!(image), &json!(null)));

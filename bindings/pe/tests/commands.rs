@@ -453,6 +453,14 @@ fn versions_are_changed() {
     for part in ["1.2.3.65535", "7.0.0.0", "\u{c4}hre=1"] {
         assert!(said.contains(part), "{part} in {said}");
     }
+    // One more language: the numbers are of the first resource, German, and the strings in English.
+    let words = ["set-version", &second, &path("f.exe"), "--file-version", "8", "--language", "0x409"];
+    assert_eq!(run(&[&words[..], &["--string", "Own=English"]].concat()).2, 0);
+    let line = run(&["--json", "--parts", "version", &path("f.exe")]).0;
+    let version = &serde_json::from_str::<Value>(&line).unwrap()["version"];
+    let languages = [&version["fixed_language"]["id"], &version["language"]["id"]];
+    assert_eq!((&version["fixed"]["file_version"], languages), (&json!("1.2.3.65535"), [&json!(0x407), &json!(0x409)]));
+    assert_eq!(version["strings"]["Own"], "English");
     let which = ["extract", &second, "resource", "--type", "16", "--name", "1", "-"];
     let (languages, units) =
         (["0x407", "0x409"], |text: &str| text.encode_utf16().flat_map(u16::to_le_bytes).collect::<Vec<_>>());
@@ -1440,8 +1448,11 @@ fn what_only_looks_like_an_object_is_refused() {
     for words in [["key", &file].as_slice(), &["digest", &file], &["find", "a", &file], &["unwind", &file, "1000"]] {
         assert_eq!(run(words).2, 1, "{words:?}");
     }
+    folder.file("c.te", &made::te_image());
+    folder.file("d.txt", b"text");
     let (out, error, status) = run(&["-r", folder.0.to_str().unwrap()]);
-    assert_eq!((out.as_str(), error.as_str(), status), ("", "pe: 2 files are no images, and skipped\n", 0));
+    let counted = "pe: 4 files are no images, and skipped; by their start 2 TE images, 1 COFF object\n";
+    assert_eq!((out.as_str(), error.as_str(), status), ("", counted, 0));
 }
 
 #[test]

@@ -124,7 +124,7 @@ fn a_dump_has_a_page_of_its_stacks() {
     let folder = Folder::new("report-dump");
     let (page, status) = page_of(&folder, &folder.file("a.dmp", &made::full_dump(made::X64)));
     assert_well_formed(&page);
-    assert_eq!((status, page.contains("Nothing is refused.")), (0, true));
+    assert_eq!((status, page.contains("No part is damaged.")), (0, true));
     assert!(page.contains("<title>a.dmp: pe</title>"));
     // One element a line, as `tests/golden/dump_page.txt` has it.
     let said = main_of(&page).replace("><", ">\n<") + "\n";
@@ -257,7 +257,7 @@ fn what_is_not_shown_whole_says_so_on_top_and_beside_its_table() {
         assert_well_formed(&page);
         assert_eq!(status, 0, "{part}");
         let (before, after) = page.split_once("<main>").unwrap();
-        assert!(before.contains("Nothing is refused."), "{part}");
+        assert!(before.contains("No part is damaged."), "{part}");
         let warning = format!(
             "<h2 id=warnings>1 not shown whole</h2><ul><li><b>{name}</b> not shown whole: the image has more</li></ul>"
         );

@@ -116,6 +116,20 @@ class Lines(Room):
         self.assertEqual(bytes.fromhex(found["file_hex"]), path)
         self.assertTrue(found["file"].endswith("\ufffd.bin"))
 
+    def test_names_that_are_no_text(self):
+        path = os.path.join(self.room, "debug.bin")
+        with open(path, "r+b") as file:
+            data = file.read()
+            name, pdb = data.index(b".rdata\0\0"), data.index(b"RSDS") + 24
+            for at, text in ((name, b"\xff\xc3\xa4"), (pdb, b"\xef\xbb\xbf\xe2\x82")):
+                file.seek(at)
+                file.write(text)
+        found = json.loads(run(path)[0])
+        section, key = found["sections"][0], found["debug"]["pdb"]
+        self.assertEqual((section["name"], section["name_hex"]), ("\ufffd\xe4ata", "ffc3a4617461"))
+        self.assertEqual((key["name"], key["name_hex"]), ("\ufeff\ufffd", "efbbbfe282"))
+        self.assertNotIn("name_hex", found["debug"]["pogo"]["parts"][0])
+
     def test_the_facts_of_an_image(self):
         with pe_c.open(os.path.join(self.room, "debug.bin")) as image:
             found = image.facts()

@@ -5,6 +5,7 @@
 //! Of the 64 tables it reads the rows of three, and of those before them how large they are. What is not whole there is
 //! [`Error::SHORT`].
 
+use super::name::text;
 use super::{entry, field, hex_of, Budget, List, Name, Part, ENTRY};
 use pe_c::{Error, Metadata};
 use serde::Serialize;
@@ -22,6 +23,7 @@ field!(Tables<'_>, "tables");
 
 #[derive(Clone, Debug, Serialize)]
 pub struct Module<'a> {
+    #[serde(flatten, serialize_with = "text::name")]
     pub name: Name<'a>,
     /// The GUID that each build gets.
     pub mvid: Option<String>,
@@ -29,10 +31,12 @@ pub struct Module<'a> {
 
 #[derive(Clone, Debug, Serialize)]
 pub struct Assembly<'a> {
+    #[serde(flatten, serialize_with = "text::name")]
     pub name: Name<'a>,
     /// Such as `4.0.0.0`.
     pub version: String,
     /// Null of an assembly that is neutral.
+    #[serde(flatten, serialize_with = "text::culture")]
     pub culture: Option<Name<'a>>,
     /// Whether it has a public key, as one with a strong name does.
     pub has_public_key: bool,

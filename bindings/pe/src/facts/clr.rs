@@ -1,6 +1,7 @@
 //! The CLR header of an image for the .NET runtime, the streams of its metadata, and the assembly by their tables.
 
 use super::assembly::{self, Tables};
+use super::name::text;
 use super::{entry, field, Flags, List, Name, Part};
 use crate::names::CLR_FLAGS;
 use pe_c::{DirectoryIndex, Image, Metadata as FoundMetadata, MetadataStream};
@@ -48,6 +49,7 @@ field!(Metadata<'_>, "metadata");
 
 #[derive(Clone, Debug, Serialize)]
 pub struct Stream<'a> {
+    #[serde(flatten, serialize_with = "text::name")]
     pub name: Name<'a>,
     /// From the start of the metadata.
     pub offset: u32,

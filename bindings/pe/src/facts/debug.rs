@@ -1,5 +1,6 @@
 //! Debug data: the entries of the directory, and of the records that have a reader the first of each type.
 
+use super::name::text;
 use super::{entry, field, hex_of, Flags, List, Name, Named, Part, Refusal, Stamp};
 use crate::names::{DEBUG_TYPES, EXTENDED_DLL_CHARACTERISTICS};
 use pe_c::{DebugEntry, Directory, DirectoryIndex, Error, Image, Repro, SymbolKey, Te};
@@ -57,6 +58,7 @@ pub struct Entry {
 
 #[derive(Clone, Debug, Serialize)]
 pub struct Pdb<'a> {
+    #[serde(flatten, serialize_with = "text::name")]
     pub name: Name<'a>,
     pub guid: String,
     pub age: u32,
@@ -68,6 +70,7 @@ pub struct Pdb<'a> {
 
 #[derive(Clone, Debug, Serialize)]
 pub struct Pdb20<'a> {
+    #[serde(flatten, serialize_with = "text::name")]
     pub name: Name<'a>,
     #[serde(flatten)]
     pub stamp: Stamp,
@@ -90,6 +93,7 @@ pub struct Pogo<'a> {
 
 #[derive(Clone, Debug, Serialize)]
 pub struct PogoPart<'a> {
+    #[serde(flatten, serialize_with = "text::name")]
     pub name: Name<'a>,
     pub rva: u32,
     pub size: u32,
@@ -117,6 +121,7 @@ pub struct EmbeddedPdb {
 /// A checksum of the PDB file, with zeros in place of its id.
 #[derive(Clone, Debug, Serialize)]
 pub struct PdbChecksum<'a> {
+    #[serde(flatten, serialize_with = "text::algorithm")]
     pub algorithm: Name<'a>,
     pub checksum_hex: String,
 }

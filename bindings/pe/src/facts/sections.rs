@@ -2,6 +2,7 @@
 
 use super::entropy::ByteCounts;
 use super::hashes::sha256_of;
+use super::name::text;
 use super::others::Other;
 use super::{Budget, Name};
 use crate::names::permissions;
@@ -12,6 +13,7 @@ use std::ops::Range;
 #[derive(Clone, Debug, Serialize)]
 pub struct Section<'a> {
     /// As the header has it.
+    #[serde(flatten, serialize_with = "text::name")]
     pub name: Name<'a>,
     /// The name in the string table to which a name such as `/4` leads.
     pub long_name: Option<Name<'a>>,

@@ -1,6 +1,7 @@
 //! COFF symbols: those of an object, and those that images of mingw-w64 and Go have.
 //! <https://learn.microsoft.com/windows/win32/debug/pe-format#coff-symbol-table>
 
+use super::name::text;
 use super::{entry, Budget, List, Name, Named, Part, ENTRY};
 use crate::names::{SECTION_NUMBERS, STORAGE_CLASSES};
 use pe_c::{Error, Symbols};
@@ -16,6 +17,7 @@ pub struct Symbol<'a> {
     /// From 1; 0 where the symbol is undefined, -1 where it is absolute, -2 of debugging.
     pub section_number: i16,
     /// The name of that section, the long one if it has one. Null where it is none.
+    #[serde(flatten, serialize_with = "text::section")]
     pub section: Option<Name<'a>>,
     /// 0x20 is a function.
     pub r#type: u16,

@@ -2,7 +2,7 @@
 
 use super::resources::{label_of, language_of, Label, VERSION};
 use super::{entry, field, Budget, List, Part, Refusal};
-use pe_c::{Error, FixedVersion, Image, ResourceLeaf, VersionBlock, VersionBlocks};
+use pe_c::{Error, FixedVersion, Image, ResourceLeaf, ResourceName, VersionBlock, VersionBlocks};
 use serde::Serialize;
 use std::collections::BTreeMap;
 
@@ -11,6 +11,8 @@ pub struct Version {
     /// Of the first resource of version information.
     #[serde(flatten)]
     pub fixed: Part<Fixed>,
+    /// The language of that resource, which need not be that of `strings`.
+    pub fixed_language: Option<Label>,
     /// Why a string of the same resource is refused, where the fixed file information is not. Another reader may have no string at all.
     pub strings_error: Option<Refusal>,
     /// The language of `strings`: neutral or English (US) where there is one of these, else the first.
@@ -130,9 +132,7 @@ fn tables_of<'a>(
             list.is_limited = true;
             break;
         }
-        let language = label_of(leaf.language);
-        let language = language.id.map_or(language, language_of);
-        let put = leaf.version_blocks().and_then(|it| put_tables(it, &language, &mut list.entries));
+        let put = leaf.version_blocks().and_then(|it| put_tables(it, &named(leaf.language), &mut list.entries));
         if let Err(error) = put {
             list.error = Some(error.into());
             break;
@@ -141,10 +141,20 @@ fn tables_of<'a>(
     list
 }
 
+/// The first resources of an image. What is wrong with the tree is said of the resources.
+fn leaves_of<'a>(image: &'a Image<'_>) -> impl Iterator<Item = Result<ResourceLeaf<'a>, Error>> {
+    image.resource_leaves().ok().flatten().into_iter().flatten().take(super::resources::LEAVES)
+}
+
+/// A language with its name.
+fn named(language: ResourceName<'_>) -> Label {
+    let language = label_of(language);
+    language.id.map_or(language, language_of)
+}
+
 /// All tables of strings, or absent where there are none.
 pub fn languages_of(image: &Image<'_>) -> Part<List<StringTable>> {
-    // What is wrong with the tree is said of the resources.
-    let leaves = image.resource_leaves().ok().flatten().into_iter().flatten().take(super::resources::LEAVES);
+    let leaves = leaves_of(image);
     let list = tables_of(leaves, Budget::of(image));
     if list.entries.is_empty() && list.error.is_none() {
         Part::Absent
@@ -181,6 +191,7 @@ pub fn of(image: &Image<'_>) -> Version {
     Version {
         strings_error: fixed.as_ref().ok().and_then(|_| image.version().err()).map(Refusal::from),
         fixed: fixed.map(|it| it.map(fixed_of)).into(),
+        fixed_language: leaves_of(image).flatten().find(|it| it.resource_type == VERSION).map(|it| named(it.language)),
         language: first.map(|it| it.language.clone()),
         strings: first.map(|it| it.strings.clone()),
         languages,

@@ -11,6 +11,8 @@ use crate::tables::Table;
 use crate::Status;
 use std::path::Path;
 
+/// The columns of frames in their order here: the place before the address, since a narrow screen shows the first ones.
+const ORDER: [usize; 4] = [0, 2, 1, 3];
 /// How many frames are on the page: a browser takes more only slowly.
 const FRAMES: usize = 20_000;
 
@@ -80,14 +82,14 @@ fn rows(frames: &Table, thread: usize, left: &mut usize, html: &mut Html) {
         html.markup("<p>Only the first ").text(counted(shown, "row")).markup(" are on this page.</p>");
     }
     html.markup("<div class=scroll role=region tabindex=0 aria-label=Frames><table><thead><tr>");
-    for column in &frames.columns {
+    for column in ORDER.iter().filter_map(|it| frames.columns.get(*it)) {
         html.markup(if column.is_number { "<th scope=col class=n>" } else { "<th scope=col>" });
         html.markup(column.head).markup("</th>");
     }
     html.markup("</tr></thead><tbody>");
     for (index, row) in frames.rows.iter().take(shown).enumerate() {
         html.markup("<tr id=frame-").text(thread).markup("-").text(index).markup(">");
-        for (column, cell) in frames.columns.iter().zip(row) {
+        for (column, cell) in ORDER.iter().filter_map(|it| frames.columns.get(*it).zip(row.get(*it))) {
             html.markup(if column.is_number { "<td class=n>" } else { "<td>" }).text(cell).markup("</td>");
         }
         html.markup("</tr>");

@@ -1,5 +1,5 @@
-//! What is asked first, on top of the page: what the image is, its version, whether it is signed, its checksum, and how it is
-//! hardened.
+//! What is asked first, on top of the page: what the image is, its version, whether it is signed, its checksum, its PDB and hashes,
+//! and how it is hardened.
 
 use super::markup::Html;
 use crate::escape::escaped;
@@ -52,7 +52,10 @@ fn rows_of(facts: &Facts) -> Vec<Row> {
         let kind = it.kind.unwrap_or("of no known kind");
         ("overlay", format!("{} bytes at file offset {:#x}, {kind}", it.size, it.file_offset), "")
     }));
+    let pdb = facts.debug.as_ref().and_then(|it| it.pdb.present());
+    rows.extend(pdb.map(|it| ("PDB", format!("{}, key {}", it.name, it.key), "")));
     rows.extend(facts.hashes.as_ref().map(|it| ("SHA-256", it.sha256_hex.clone(), "")));
+    rows.extend(facts.hashes.as_ref().and_then(|it| Some(("imphash", it.imphash.clone()?, ""))));
     rows
 }
 

@@ -1,14 +1,19 @@
-//! The few elements of DER that the library has no call for: what RSASSA-PSS is by, and where an element ends
+//! The few elements of DER that the library has no call for: what RSASSA-PSS is by, hashes of pages, lists of digests, and where an
+//! element ends
 //! ([X.690](https://www.itu.int/rec/T-REC-X.690), 8.1).
 
 use super::hashing::Hash;
 use pe_c::{Algorithm, KnownOid};
 
 const INTEGER: u8 = 0x02;
-const OCTET_STRING: u8 = 0x04;
-const OBJECT_IDENTIFIER: u8 = 0x06;
-const SEQUENCE: u8 = 0x30;
-const SET: u8 = 0x31;
+pub const OCTET_STRING: u8 = 0x04;
+pub const OBJECT_IDENTIFIER: u8 = 0x06;
+pub const SEQUENCE: u8 = 0x30;
+pub const SET: u8 = 0x31;
+const BIT_STRING: u8 = 0x03;
+/// `[0]`, and `[1]` in place of a tag of its own.
+const EXPLICIT: u8 = 0xA0;
+const MONIKER: u8 = 0xA1;
 
 /// An element: its tag, its content, and the bytes after it.
 pub struct Element<'a> {
@@ -33,8 +38,13 @@ pub fn element(bytes: &[u8]) -> Option<Element<'_>> {
     Some(Element { tag, content, rest })
 }
 
+/// The elements that follow each other, up to what is none.
+pub fn elements(bytes: &[u8]) -> impl Iterator<Item = Element<'_>> {
+    std::iter::successors(element(bytes), |it| element(it.rest))
+}
+
 /// The content of an element of this tag that bytes start with, and the bytes after it.
-fn content_of(bytes: &[u8], tag: u8) -> Option<(&[u8], &[u8])> {
+pub fn content_of(bytes: &[u8], tag: u8) -> Option<(&[u8], &[u8])> {
     element(bytes).filter(|it| it.tag == tag).map(|it| (it.content, it.rest))
 }
 
@@ -94,6 +104,13 @@ fn hash_at(algorithm: &[u8]) -> Option<Hash> {
     }
 }
 
+/// The algorithm and the digest of a `DigestInfo`.
+pub fn digest_info(info: &[u8]) -> Option<(Hash, &[u8])> {
+    let (info, _) = content_of(info, SEQUENCE)?;
+    let algorithm = element(info)?;
+    Some((hash_at(info)?, content_of(algorithm.rest, OCTET_STRING)?.0))
+}
+
 /// `id-mgf1`, 1.2.840.113549.1.1.8.
 const MGF1: &[u8] = &[0x2A, 0x86, 0x48, 0x86, 0xF7, 0x0D, 1, 1, 8];
 
@@ -103,20 +120,29 @@ fn mask_at(algorithm: &[u8]) -> Option<Hash> {
 }
 
 /// The start of `SPC_PE_IMAGE_PAGE_HASHES_V1_OBJID`, 1.3.6.1.4.1.311.2.3.1, and of V2, which ends with 2: SHA-1 and SHA-256.
-const PAGE_HASHES: &[u8] = &[OBJECT_IDENTIFIER, 10, 0x2B, 6, 1, 4, 1, 0x82, 0x37, 2, 3];
+const PAGE_HASHES: &[u8] = &[0x2B, 6, 1, 4, 1, 0x82, 0x37, 2, 3];
 
-/// By what the pages of an image are hashed, and how many: a table in the value of what is signed. Of each page it has the offset and
-/// the hash; the last entry has the end alone.
-pub fn page_hashes(value: &[u8]) -> Option<(Hash, usize)> {
-    let at = value.windows(PAGE_HASHES.len()).position(|it| it == PAGE_HASHES)? + PAGE_HASHES.len();
-    let (version, rest) = value.get(at..)?.split_first()?;
-    let (hash, size) = match version {
-        1 => (Hash::Sha1, 20),
-        2 => (Hash::Sha256, 32),
+/// By what the pages of an image are hashed, and the tables of the hashes: attributes of the moniker that the link of an
+/// `SpcPeImageData` is.
+pub fn page_hashes(value: &[u8]) -> Vec<(Hash, &[u8])> {
+    attributes_of(value).map_or(Vec::new(), |set| elements(set).filter_map(|it| page_hashes_at(it.content)).collect())
+}
+
+fn attributes_of(value: &[u8]) -> Option<&[u8]> {
+    let (_flags, rest) = content_of(content_of(value, SEQUENCE)?.0, BIT_STRING)?;
+    let moniker = content_of(content_of(rest, EXPLICIT)?.0, MONIKER)?.0;
+    let (_class, data) = content_of(moniker, OCTET_STRING)?;
+    Some(content_of(content_of(data, OCTET_STRING)?.0, SET)?.0)
+}
+
+fn page_hashes_at(attribute: &[u8]) -> Option<(Hash, &[u8])> {
+    let (kind, values) = content_of(attribute, OBJECT_IDENTIFIER)?;
+    let hash = match kind.strip_prefix(PAGE_HASHES)? {
+        [1] => Hash::Sha1,
+        [2] => Hash::Sha256,
         _ => return None,
     };
-    let table = content_of(content_of(rest, SET)?.0, OCTET_STRING)?.0;
-    Some((hash, (table.len() / (4 + size)).saturating_sub(1)))
+    Some((hash, content_of(content_of(values, SET)?.0, OCTET_STRING)?.0))
 }
 
 /// What an entry of the certificate table is filled up to.

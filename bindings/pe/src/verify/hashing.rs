@@ -8,7 +8,7 @@ use sha2::{Digest, Sha256, Sha384, Sha512};
 use std::collections::BTreeSet;
 
 /// An algorithm of a digest.
-#[derive(Clone, Copy, Debug, PartialEq, Eq)]
+#[derive(Clone, Copy, Debug, PartialEq, Eq, PartialOrd, Ord)]
 pub enum Hash {
     Md5,
     Sha1,
@@ -46,6 +46,17 @@ impl Hash {
     /// Whether two texts with one digest have been made.
     pub fn is_weak(self) -> bool {
         matches!(self, Hash::Md5 | Hash::Sha1)
+    }
+
+    /// Bytes of a digest.
+    pub fn size(self) -> usize {
+        match self {
+            Hash::Md5 => 16,
+            Hash::Sha1 => 20,
+            Hash::Sha256 => 32,
+            Hash::Sha384 => 48,
+            Hash::Sha512 => 64,
+        }
     }
 
     pub fn name(self) -> &'static str {

@@ -16,7 +16,7 @@ const STAMPS: usize = 4;
 const CHARACTERS: usize = 1024;
 
 /// What is said of a signer.
-#[derive(Debug, Serialize)]
+#[derive(Clone, Debug, Serialize)]
 pub struct Told {
     /// Null where it is not in the file.
     pub certificate: Option<Certificate>,
@@ -57,7 +57,7 @@ pub struct Told {
 }
 
 /// What is said of a time stamp.
-#[derive(Debug, Serialize)]
+#[derive(Clone, Debug, Serialize)]
 pub struct Stamp {
     /// `RFC 3161` or `PKCS #9`.
     pub kind: &'static str,

@@ -30,14 +30,6 @@ fn words_of(state: State) -> &'static str {
     }
 }
 
-/// The words, and what of page hashes is left open where all else fits.
-fn result_of(verified: &Verified) -> String {
-    let fits = [State::Weak, State::DigestsEqual, State::SignaturesGood, State::Trusted].contains(&verified.state);
-    let has_page_hashes = verified.signatures.iter().any(|it| it.page_hashes.is_some());
-    let pages = if fits && has_page_hashes { "; page hashes were not compared" } else { "" };
-    format!("{}{pages}", words_of(verified.state))
-}
-
 fn words_of_digest(digest: &Compared) -> String {
     match digest {
         Compared::Different { worked_out_hex } => format!("DIFFERENT: {worked_out_hex} is right"),
@@ -57,24 +49,37 @@ pub fn of(verified: &Verified, style: Style) -> String {
     if verified.is_limited {
         page.warning("there are more signers, time stamps or nested signatures");
     }
+    for catalog in verified.catalogs.iter().filter(|it| !it.is_listed) {
+        let entries = if catalog.entries == 1 { "entry" } else { "entries" };
+        let said =
+            format_args!("{}, which does not list the image ({} {entries})", escaped(&catalog.file), catalog.entries);
+        page.row("catalog", said);
+    }
     if verified.other_entries > 0 {
         let entries = if verified.other_entries == 1 { "entry" } else { "entries" };
         page.warning(format_args!("{} {entries} of other types, which are not looked at", verified.other_entries));
     }
-    page.row("result", result_of(verified));
+    page.row("result", words_of(verified.state));
     page.into_text()
 }
 
 fn signature_of(signature: &Signature, page: &mut Page) {
     let nested = if signature.depth == 0 { "" } else { ", nested" };
-    page.row("signature", format_args!("entry {} of the certificate table{nested}", signature.entry));
+    let of = signature
+        .catalog
+        .as_ref()
+        .map_or("the certificate table".to_string(), |it| format!("the catalog {}", escaped(it)));
+    page.row("signature", format_args!("entry {} of {of}{nested}", signature.entry));
     if let (Some(algorithm), Some(digest)) = (&signature.digest_algorithm, &signature.digest_hex) {
         let compared = signature.digest.as_ref().map(words_of_digest).unwrap_or_default();
         page.row("  file digest", format_args!("{algorithm} {digest}, {compared}"));
     }
-    if let Some(hashes) = &signature.page_hashes {
+    for hashes in &signature.page_hashes {
+        let compared = hashes.compared.word().replace("different", "DIFFERENT");
+        let place =
+            hashes.different_file_offset.map_or(String::new(), |it| format!(", first that at file offset {it:#x}"));
         let pages = counted(hashes.pages, "page");
-        page.row("  page hashes", format_args!("{}, {pages}, not compared", hashes.algorithm));
+        page.row("  page hashes", format_args!("{}, {pages}, {compared}{place}", hashes.algorithm()));
     }
     signature.signers.iter().for_each(|it| signer_of(it, page));
     if !signature.weak_algorithms.is_empty() {

@@ -25,7 +25,7 @@ from ._signer import signer_of
 Facts = dict[str, Any]
 Triple = tuple[Any, int, bool]
 
-JSON_VERSION = 2
+JSON_VERSION = 3
 RT_VERSION, SIZE_OF_TE_HEADER = 16, 40
 TE_IMAGE, OBJECT_AS_IT_SEEMS = "a TE image", "a COFF object, as it seems"
 # How many sections are looked up in the string table, how many leaves and string tables are shown.
@@ -71,17 +71,25 @@ def refusal(number: int) -> Facts | None:
     return {"number": number, "name": "UNKNOWN" if kind is Kind.OTHER else kind.name, "text": _core.text_of(number)}
 
 
-def name_of(text: str) -> str | Facts:
-    """A text, or the digits of what is none."""
+def bytes_of(text: str | None) -> bytes | None:
+    """The bytes of what is no text, or None."""
+    if text is None:
+        return None
     try:
         text.encode()
-        return text
+        return None
     except UnicodeEncodeError:
-        return {"hex": text.encode("utf-8", "surrogateescape").hex()}
+        return text.encode("utf-8", "surrogateescape")
 
 
-def lower(text: str) -> str | None:
-    return text.lower() if isinstance(name_of(text), str) else None
+def name_of(text: str | None, field: str = "name") -> Facts:
+    """A field that has a name, and beside it the bytes of one that is no text, as names of sections may be, and of debug data."""
+    raw = bytes_of(text)
+    return {field: text} if raw is None else {field: raw.decode("utf-8", "replace"), f"{field}_hex": raw.hex()}
+
+
+def lower(text: str | None) -> str | None:
+    return None if text is None or bytes_of(text) else text.lower()
 
 
 def decoded(raw: bytes) -> str:
@@ -336,7 +344,7 @@ def sections(image: Exact, kind: int) -> list[Facts]:
     contents, found = Contents(image), []
     # The same flags and names stand in many headers.
     permissions: dict[int, str] = {}
-    own: dict[bytes, str | Facts] = {}
+    own: dict[bytes, Facts] = {}
     for index, it in enumerate(image.read("sections")[0]):
         start, length = (it.virtual_address, it.virtual_size) if is_mapped else (it.pointer_to_raw_data, it.size_of_raw_data)
         # Zeros of an object, as in .bss, have a size and no bytes.
@@ -348,7 +356,7 @@ def sections(image: Exact, kind: int) -> list[Facts]:
         if it.raw_name not in own:
             own[it.raw_name] = name_of(decoded(it.raw_name.split(b"\0")[0]))
         found.append({
-            "name": own[it.raw_name], "long_name": None if long_name is None else name_of(long_name),
+            **own[it.raw_name], "long_name": long_name,
             "rva": it.virtual_address, "virtual_size": it.virtual_size, "file_offset": it.pointer_to_raw_data,
             "file_size": it.size_of_raw_data, "permissions": permissions[flags], "flags": flags, **contents.of(start, length)})
     return found
@@ -359,26 +367,26 @@ def sections(image: Exact, kind: int) -> list[Facts]:
 
 def hint_or_ordinal(it: Any) -> Facts:
     is_named = it.name is not None
-    return {"name": name_of(it.name) if is_named else None, "hint": it.ordinal if is_named else None,
+    return {"name": it.name, "hint": it.ordinal if is_named else None,
             "ordinal": None if is_named else it.ordinal}
 
 
 def imports(image: Exact) -> Facts:
     return rows("imports", image.read("imports"), lambda it: {
-        "name": name_of(it.name), "name_lower": lower(it.name),
+        "name": it.name, "name_lower": lower(it.name),
         **rows("functions", it.imports, lambda one: {**hint_or_ordinal(one), "slot_rva": one.rva}),
         "lookup_table_error": refusal(int(Kind.UNMAPPED) if it.has_unmapped_list and it.lookup_table_rva else 0)})
 
 
 def delay_imports(image: Exact) -> Facts:
     return rows("delay_imports", image.read("delay_imports"), lambda it: {
-        "name": name_of(it.name), "name_lower": lower(it.name), **stamp(it.descriptor.time_date_stamp),
+        "name": it.name, "name_lower": lower(it.name), **stamp(it.descriptor.time_date_stamp),
         **rows("functions", it.imports, hint_or_ordinal)})
 
 
 def bound_imports(image: Exact) -> Facts:
     def of(it: Any) -> Facts:
-        return {"name": name_of(it.name), "name_lower": lower(it.name), **stamp(it.time_date_stamp)}
+        return {"name": it.name, "name_lower": lower(it.name), **stamp(it.time_date_stamp)}
     return rows("bound_imports", image.read("bound_imports"), lambda it: {**of(it), **rows("forwarders", it.forwarders, of)})
 
 
@@ -390,13 +398,10 @@ def exports(image: Exact) -> Facts:
     entries: dict[int, Facts] = {}
     for it in found:
         own = entries.setdefault(it.ordinal, {
-            "ordinal": it.ordinal, "rva": it.rva, "names": [],
-            "forwarder": None if it.forwarder is None else name_of(it.forwarder)}) if it.rva else {"names": []}
-        own["names"] += [] if it.name is None else [name_of(it.name)]
-    name = table.name
-    return {"exports": {"name": None if name is None else name_of(name), "name_lower": None if name is None else lower(name),
-                        "ordinal_base": table.ordinal_base, "entries": [entries[it] for it in sorted(entries)],
-                        "is_limited": is_limited}, "exports_error": None}
+            "ordinal": it.ordinal, "rva": it.rva, "names": [], "forwarder": it.forwarder}) if it.rva else {"names": []}
+        own["names"] += [] if it.name is None else [it.name]
+    return {"exports": {"name": table.name, "name_lower": lower(table.name), "ordinal_base": table.ordinal_base,
+                        "entries": [entries[it] for it in sorted(entries)], "is_limited": is_limited}, "exports_error": None}
 
 
 # ---- debug data
@@ -409,10 +414,9 @@ def debug_entry(it: _core.DebugEntry, is_hash: bool) -> Facts:
 
 def pdb(key: _core.SymbolKey) -> Facts:
     digits = guid_of(key.guid)
-    own = file_name(key.name) if isinstance(name_of(key.name), str) else None
+    own = None if bytes_of(key.name) else file_name(key.name)
     identifier = f"{digits}{key.age:X}"
-    return {"name": name_of(key.name),
-            "guid": hyphenated(digits), "age": key.age, "key": identifier, "symbol_server_path": own and f"{own}/{identifier}/{own}"}
+    return {**name_of(key.name), "guid": hyphenated(digits), "age": key.age, "key": identifier, "symbol_server_path": own and f"{own}/{identifier}/{own}"}
 
 
 NO_RECORDS = {f"{name}{end}": None for name in ("pdb20", "repro", "pogo", "vc_features", "extended_dll_characteristics",
@@ -424,11 +428,11 @@ def debug(image: Exact) -> Facts:
     return {
         **rows("entries", image.read("debug_entries"), lambda it: debug_entry(it, is_hash)),
         **part("pdb", image.read("symbol_key"), pdb),
-        **part("pdb20", image.read("pdb20"), lambda it: {"name": name_of(it.name), **stamp(it.signature), "age": it.age}),
+        **part("pdb20", image.read("pdb20"), lambda it: {**name_of(it.name), **stamp(it.signature), "age": it.age}),
         **part("repro", image.read("repro"), lambda it: {"hash_hex": None if it.hash is None else it.hash.hex()}),
         **part("pogo", image.read("pogo"), lambda it: {
             "signature": "LTCG" if it.signature == 0x4C544347 else "PGU",
-            **rows("parts", it.entries, lambda one: {"name": name_of(one.name), "rva": one.rva, "size": one.size})}),
+            **rows("parts", it.entries, lambda one: {**name_of(one.name), "rva": one.rva, "size": one.size})}),
         **part("vc_features", image.read("vc_features"), lambda it: dict(zip(
             ("before_vc_11", "c_and_cpp", "gs", "sdl", "guard_n"), it))),
         **part("extended_dll_characteristics", image.read("extended_dll_characteristics"),
@@ -436,7 +440,7 @@ def debug(image: Exact) -> Facts:
         **part("embedded_pdb", image.read("embedded_pdb"),
                lambda it: {"size": it.uncompressed_size, "compressed_size": len(it.compressed)}),
         **part("pdb_checksum", image.read("pdb_checksum"),
-               lambda it: {"algorithm": name_of(it.algorithm), "checksum_hex": it.checksum.hex()})}
+               lambda it: {**name_of(it.algorithm, "algorithm"), "checksum_hex": it.checksum.hex()})}
 
 
 def certificates(image: Exact) -> Facts:
@@ -602,7 +606,8 @@ def version(image: Exact) -> Facts:
     shown = tables["languages"] or []
     first = next((it for it in shown if it["language"]["id"] in (0, 0x409)), shown[0] if shown else None)
     answer, number = fixed_version(image)
-    return {**part("fixed", answer, fixed), "strings_error": refusal(number), "language": first and first["language"],
+    own = next((it.language for it in (image.read("resources")[0] or ())[:LEAVES] if it.type == RT_VERSION), None)
+    return {**part("fixed", answer, fixed), "fixed_language": None if own is None else language(own), "strings_error": refusal(number), "language": first and first["language"],
             "strings": first and first["strings"], **tables,
             **part("manifest", image.read("manifest"), lambda it: {"size": len(it), "requested_level": level_of(it)})}
 
@@ -659,7 +664,7 @@ CLR_DIRECTORIES = ("metadata", "resources", "strong_name_signature", "code_manag
 
 
 def assembly(it: _tables.Assembly) -> Facts:
-    return {"name": name_of(decoded(it.name)), "version": it.version, "culture": name_of(decoded(it.culture)) if it.culture else None,
+    return {**name_of(decoded(it.name)), "version": it.version, **name_of(decoded(it.culture) if it.culture else None, "culture"),
             "has_public_key": it.has_public_key}
 
 
@@ -668,15 +673,15 @@ def reference(it: _tables.Assembly) -> Facts:
 
 
 def tables(it: _tables.Tables) -> Facts:
-    module = it.module and {"name": name_of(decoded(it.module.name)), "mvid": it.module.mvid and hyphenated(guid_of(it.module.mvid))}
+    module = it.module and {**name_of(decoded(it.module.name)), "mvid": it.module.mvid and hyphenated(guid_of(it.module.mvid))}
     return {"module": module, "assembly": it.assembly and assembly(it.assembly), **rows("references", it.references, reference)}
 
 
 def clr(image: Exact) -> Facts:
     def metadata(it: Any, length: int) -> Facts:
         streams = [(one.name, one.content) for one in it.streams[0] or ()]
-        return {"version": name_of(it.version), "format_version": f"{it.major_version}.{it.minor_version}",
-                **rows("streams", it.streams, lambda one: {"name": name_of(one.name), "offset": one.offset, "size": one.size,
+        return {"version": it.version, "format_version": f"{it.major_version}.{it.minor_version}",
+                **rows("streams", it.streams, lambda one: {**name_of(one.name), "offset": one.offset, "size": one.size,
                                                            "is_there": one.content is not None}),
                 **part("tables", _tables.tables(streams, length), tables)}
 
@@ -726,8 +731,8 @@ def symbols(found: Exact) -> Facts:
 
     def of(it: _core.Symbol) -> Facts:
         section = own[it.section_number - 1] if 0 < it.section_number <= len(own) else None
-        return {"index": it.at, "name": name_of(it.name), "value": it.value, "section_number": it.section_number,
-                "section": None if section is None else name_of(section), "type": it.type,
+        return {"index": it.at, "name": it.name, "value": it.value, "section_number": it.section_number,
+                **name_of(section, "section"), "type": it.type,
                 "storage_class": named(it.storage_class, names.STORAGE_CLASSES),
                 "number_of_auxiliary_records": it.number_of_aux_symbols}
     return rows("symbols", found.read("symbols"), of)
@@ -753,7 +758,7 @@ def kind_of(data: bytes) -> str | None:
 
 def origin(path: str, size: int, number: int = 0, kind: str | None = None) -> Facts:
     raw = os.fsencode(path)
-    is_text = isinstance(name_of(path), str)
+    is_text = bytes_of(path) is None
     return {"json_version": JSON_VERSION, "file": path if is_text else raw.decode("utf-8", "replace"),
             "file_hex": None if is_text else raw.hex(), "file_size": size, "error": refusal(number), "file_kind": kind}
 
