@@ -1174,14 +1174,16 @@ const _: () = assert!(core::mem::size_of::<MemoryPiece>() == 24);
 
 /// A module of a process: its image, which has `size_of_image` bytes where it is loaded.
 ///
-/// What the view leads to stays readable as long as the record is passed.
+/// What the view leads to stays readable as long as the record is passed. One whose image is not at hand has no bytes
+/// and no sections, and an image of which `size_of_image` is set: a leaf function may have been called from it.
 #[repr(C)]
 #[derive(Clone, Copy, Debug)]
 pub struct Module {
     /// The image.
     pub image: View,
     /// Of [`pe_c_function_table`], on ARM64 [`pe_c_arm64_table`]; all 0 where that returned [`NOTHING`]: no records
-    /// describe its functions.
+    /// describe its functions. Walks take the whole entries of any range that is inside the bytes, so of a damaged
+    /// table those that are there.
     pub table: Range,
     /// Address where it is loaded.
     pub base: u64,
@@ -3509,8 +3511,9 @@ extern "C" {
     /// last section of its module that starts at or before the call's last byte is asked, so sections have to be in
     /// ascending order. In a frame that has called it is the first such word. What is found so may be wrong:
     /// `walk->is_guess` says so of each frame, but not of the caller of code in a module with a table that has no
-    /// function there, if a call ends at the return address: that is a leaf function. Only past an interrupt may the
-    /// stack pointer not rise.
+    /// function there, if both are executable and a call ends at the return address: that is a leaf function. Without
+    /// such a call a leaf function of a module, which was jumped to, returns to executable code, or into a module
+    /// without an image. Only past an interrupt may the stack pointer not rise.
     ///
     /// Errors, which change nothing: [`Error::SHORT`] where the table of a module is not inside its bytes, or, where
     /// `walk->is_searched` is 0, a piece not inside the memory.
