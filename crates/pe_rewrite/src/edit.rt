@@ -144,13 +144,14 @@ fn write_at_end(
 ///   truncated;
 /// - `Alignment` if that of sections is below 4096, or that of their data below 512 or no power of two;
 /// - of a new section, where the resources do not fit in place and their section does not grow: `ImageTooLarge` if its RVA or the
-///   offset of its data is not below 2^32, and `Leaves` with `TooLarge` at its RVA; `NoHeaderRoom` if no 40 zeros follow the section
+///   offset of its data is not below 2^32, and `Leaves` with `TooLarge` at its RVA; `SharedSection` if a base relocation, as far as
+///   these are read, changes what is after the image in memory; `NoHeaderRoom` if no 40 zeros follow the section
 ///   table in the headers, there are 65,535 sections, or the PE signature lies in the DOS header; `ImageTooLarge` if the image
 ///   ends after 4 GB; `Section` if the data of all sections and the headers do not end in the file, at a multiple of the file
 ///   alignment; `SharedSection` if the entry point or a directory leads after the image in memory; `Symbols` if COFF symbols
 ///   start before the end of the data and end after it; `Overlap` if a section ends after the image in memory, by `SizeOfImage`,
 ///   or shares bytes with the headers; `DebugData` if the debug entries do not lie between the section headers and the section's
-///   data, or the data of one neither end before the section's nor start after those of all sections;
+///   data, or the data of one neither end before the section's nor start after those of all sections, or are loaded after the image;
 /// - `Image` with `WriteFit` if the file does not fit into `out`.
 #[tactic(auto, using(crate::proofs::Calls::written_first, crate::proofs::Calls::write_second, crate::proofs::Calls::write_neither))]
 pub fn write_edited(
