@@ -3798,7 +3798,8 @@ uint32_t pe_c_memory_runs(const pe_c_memory_piece *pieces, size_t piece_count, p
  * end. Where no piece has it the range has no bytes. `written` is how many ranges are asked for; the rest of `found` is
  * unchanged. In what pe_c_memory_runs writes a range ends at the first address that the dump has no byte of, or has
  * elsewhere: so the images of modules are found that the dump's own memory has, for pe_c_image with PE_C_MAPPED. The pieces
- * are tested once a call.
+ * are tested once a call; where they overlap or are in no order, all of them for each range too, and in what
+ * pe_c_memory_runs writes a search by halves finds each.
  * Errors, which change nothing: PE_C_SHORT if a piece is not inside `memory`; PE_C_ROOM where there is room for fewer ranges
  * than are asked for. */
 uint32_t pe_c_memory_ranges(const uint8_t *memory, size_t memory_length, const pe_c_memory_piece *pieces, size_t piece_count,
