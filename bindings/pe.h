@@ -167,7 +167,7 @@ enum pe_c_result {
     PE_C_EDIT_ALIGNMENT = 459,      /* alignment of sections or of their data is too small or no power of two */
     PE_C_EDIT_NO_SECTION = 460,     /* no section starts at the RVA of the resource directory */
     PE_C_EDIT_SECTION = 461,        /* data of the sections are in the headers, truncated or not aligned */
-    PE_C_EDIT_SHARED_SECTION = 462, /* the entry point or another directory lies in the resource section */
+    PE_C_EDIT_SHARED_SECTION = 462, /* the entry point, another directory or a base relocation leads where the resources go */
     PE_C_EDIT_SYMBOLS = 463,        /* COFF symbols lie in the data of the resource section or at its end */
     PE_C_EDIT_OVERLAP = 464,        /* section shares bytes or pages with the resource section or headers, or is after it */
     PE_C_EDIT_NO_ROOM = 465,        /* resources do not fit into the data of their section or into the image in memory */
@@ -306,7 +306,7 @@ static inline const char *pe_c_message(uint32_t number)
     case PE_C_EDIT_ALIGNMENT: return "alignment of sections or of their data is too small or no power of two";
     case PE_C_EDIT_NO_SECTION: return "no section starts at the RVA of the resource directory";
     case PE_C_EDIT_SECTION: return "data of the sections are in the headers, truncated or not aligned";
-    case PE_C_EDIT_SHARED_SECTION: return "the entry point or another directory lies in the resource section";
+    case PE_C_EDIT_SHARED_SECTION: return "the entry point, another directory or a base relocation leads where the resources go";
     case PE_C_EDIT_SYMBOLS: return "COFF symbols lie in the data of the resource section or at its end";
     case PE_C_EDIT_OVERLAP: return "section shares bytes or pages with the resource section or headers, or is after it";
     case PE_C_EDIT_NO_ROOM: return "resources do not fit into the data of their section or into the image in memory";
@@ -3822,7 +3822,8 @@ uint32_t pe_c_memory_runs(const pe_c_memory_piece *pieces, size_t piece_count, p
  * end. Where no piece has it the range has no bytes. `written` is how many ranges are asked for; the rest of `found` is
  * unchanged. In what pe_c_memory_runs writes a range ends at the first address that the dump has no byte of, or has
  * elsewhere: so the images of modules are found that the dump's own memory has, for pe_c_image with PE_C_MAPPED. The pieces
- * are tested once a call.
+ * are tested once a call; where they overlap or are in no order, all of them for each range too, and in what
+ * pe_c_memory_runs writes a search by halves finds each.
  * Errors, which change nothing: PE_C_SHORT if a piece is not inside `memory`; PE_C_ROOM where there is room for fewer ranges
  * than are asked for. */
 uint32_t pe_c_memory_ranges(const uint8_t *memory, size_t memory_length, const pe_c_memory_piece *pieces, size_t piece_count,

@@ -378,7 +378,9 @@ fn debug_data_in_the_resource_section(rt: HostRuntime) -> Result<(), Fail> {
         ([0, 0], [0, 6], true),
         ([0, 0x21], [0, 5], false),
         ([0, 0x21], [0, 0], false),
-        ([0xFF, 0x1F], [0, 6], true),
+        // The five bytes end where the section starts in memory, or after that; or start where it ends.
+        ([0xFB, 0x1F], [0x80, 3], true),
+        ([0xFC, 0x1F], [0x80, 3], false),
         ([0, 0x30], [0, 6], true),
     ] {
         let mut bytes = with_part(old_image(rt.alloc())?, 0xCC, &[0, 2]);
@@ -458,6 +460,42 @@ fn a_section_at_rva_0_stays(rt: HostRuntime) -> Result<(), Fail> {
     Ok(())
 }
 
+/// Not loaded: debug data at the RVA 0 share no byte of memory with the section, however many they are.
+#[test]
+fn debug_data_that_are_not_loaded(rt: HostRuntime) -> Result<(), Fail> {
+    let mut bytes = with_part(old_image(rt.alloc())?, 0xCC, &[0, 2]);
+    bytes.resize(0x3605, 0)?;
+    put(
+        &mut bytes,
+        &[
+            (0x130, &[0, 0x10, 0, 0, 28]),
+            (0x210, &[0, 0x30, 0, 0, 0, 0, 0, 0, 5, 6, 0, 0]),
+        ],
+    );
+    let leaves = [resource(1, &CONTENT)];
+    let length = edited_len(&bytes, &header_of(&bytes)?, &list(&leaves))?;
+    assert_eq!(rt; length, 0x3605);
+    Ok(())
+}
+
+/// A block of base relocations of this size with one, for the page of this number of 256 bytes.
+fn block_of(page: u8, size: u8, relocation: [u8; 2]) -> [u8; 12] {
+    [
+        0,
+        page,
+        0,
+        0,
+        size,
+        0,
+        0,
+        0,
+        relocation[0],
+        relocation[1],
+        0,
+        0,
+    ]
+}
+
 /// Resources are not written over what a base relocation changes: the table, at the RVA 0x1000, has a block with one.
 #[test]
 fn base_relocations_in_the_resource_section(rt: HostRuntime) -> Result<(), Fail> {
@@ -472,20 +510,84 @@ fn base_relocations_in_the_resource_section(rt: HostRuntime) -> Result<(), Fail>
         (0x10, 12, [0xFC, 0x3F], true),
         (0x10, 12, [0xFD, 0x3F], false),
         (0x30, 12, [0, 0xA0], true),
+        // HIGH (1) and LOW (2) of 2; LOONGARCH64_MARK_LA (8) of 16.
+        (0x10, 12, [0xFE, 0x1F], true),
+        (0x10, 12, [0xFF, 0x2F], false),
+        (0x10, 12, [0xF0, 0x8F], true),
+        (0x10, 12, [0xF1, 0x8F], false),
         // The block ends after the table.
         (0x10, 14, [0, 0xA1], false),
     ] {
+        let block = block_of(page, size, relocation);
+        let mut bytes = with_part(old_image(rt.alloc())?, 0xCC, &[0, 2]);
+        put(
+            &mut bytes,
+            &[(0x128, &[0, 0x10, 0, 0, 12]), (0x200, &block)],
+        );
+        assert_eq!(rt; is_in_place(rt.alloc(), &bytes)?, in_place);
+    }
+    Ok(())
+}
+
+/// IA64_IMM64 (9) changes a bundle that starts before its RVA, at a multiple of 16: the section ends at the RVA 0x3008.
+#[test]
+fn base_relocations_of_bundles(rt: HostRuntime) -> Result<(), Fail> {
+    for (relocation, in_place) in [([9, 0x90], false), ([9, 0x80], true), ([0x10, 0x90], true)] {
         let mut bytes = with_part(old_image(rt.alloc())?, 0xCC, &[0, 2]);
         put(
             &mut bytes,
             &[
+                (0xC8, &[0, 0x40]),
+                (0x110, &[8]),
                 (0x128, &[0, 0x10, 0, 0, 12]),
-                (0x200, &[0, page, 0, 0, size, 0, 0, 0]),
-                (0x208, &relocation),
-                (0x20A, &[0, 0]),
+                (0x1B4, &[8]),
+                (0x200, &block_of(0x30, 12, relocation)),
             ],
         );
         assert_eq!(rt; is_in_place(rt.alloc(), &bytes)?, in_place);
+    }
+    Ok(())
+}
+
+/// The table in the headers, at 0x40, which no section maps; and one at 0x3000, which is nowhere.
+#[test]
+fn base_relocations_in_the_headers(rt: HostRuntime) -> Result<(), Fail> {
+    for (rva, in_place) in [([0x40, 0], false), ([0, 0x30], true)] {
+        let mut bytes = with_part(old_image(rt.alloc())?, 0xCC, &[0, 2]);
+        put(
+            &mut bytes,
+            &[
+                (0x40, &block_of(0x20, 12, [0, 0xA1])),
+                (0x128, &rva),
+                (0x12C, &[12]),
+            ],
+        );
+        assert_eq!(rt; is_in_place(rt.alloc(), &bytes)?, in_place);
+    }
+    Ok(())
+}
+
+/// Nor do they go into a new section where one changes what is after the image: HIGHLOW of 4 bytes, of which the last is the first
+/// there.
+#[test]
+fn base_relocations_after_the_image(rt: HostRuntime) -> Result<(), Fail> {
+    let leaves = [resource(1, &CONTENT)];
+    for (relocation, text) in [([0xFD, 0x3F], "SharedSection(4096)"), ([0xFC, 0x3F], "")] {
+        let mut bytes = without_resources(rt.alloc())?;
+        put(
+            &mut bytes,
+            &[
+                (0x128, &[0, 0x10, 0, 0, 12]),
+                (0x200, &block_of(0x20, 12, relocation)),
+            ],
+        );
+        // shows: pe_rewrite/src/relocation.rt require_unrelocated SharedSection
+        if text.is_empty() {
+            assert!(rt; !is_in_place(rt.alloc(), &bytes)?);
+        } else {
+            let shown = refused(rt.alloc(), &bytes, &leaves)?;
+            assert_eq!(rt; shown.as_str(), text);
+        }
     }
     Ok(())
 }
@@ -504,6 +606,10 @@ fn texts_of_refusals(rt: HostRuntime) -> Result<(), Fail> {
         (
             RewriteError::Section(1),
             "data of section 1 start in the headers, end after the end of the file, or are not aligned to 512",
+        ),
+        (
+            RewriteError::SharedSection(0x1000),
+            "the entry point, another directory or base relocations, at the RVA 0x1000, lead where the resources go",
         ),
         (
             RewriteError::NoHeaderRoom(0x1D0),

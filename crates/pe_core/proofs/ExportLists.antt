@@ -1,11 +1,12 @@
 -- The exports of a list of names are those of the name table.
-use Rattle.std.proofs.Common.{◌≡◌, ℕ, zero, suc, ◌+◌, ◌*◌, ◌/◌, ◌-◌, ◌^◌, ◌<◌, ◌≤◌, List, [], ◌∷◌, ◌++◌, map, length, Option, Some, None, refl, sym, ap, ◌∙◌, arith}
+use Rattle.std.proofs.Common.{◌≡◌, ℕ, zero, suc, ◌+◌, ◌*◌, ◌/◌, ◌-◌, ◌^◌, ◌<◌, ◌≤◌, List, [], ◌∷◌, ◌++◌, map, length, Option, Some, None, Result, Ok, refl, sym, ap, ◌∙◌, arith}
 use Rattle.std.specs.List.{filter_map, cons_option}
 use Rattle.std.specs.Option.{option_and_then}
 use Rattle.std.proofs.lemmas.List.{drop_all, length-map, map-append}
 use Rattle.std.proofs.lemmas.List.Elements.{filter_map-append}
 use Rattle.pe_core.proofs.EntryItems.{length-each}
 use Rattle.pe_core.specs.Bytes.{le}
+use Rattle.pe_core.specs.Refusals.{Refusal}
 use Rattle.pe_core.specs.Rows.{each}
 use Rattle.pe_core.specs.SectionIndex.{offset_or_end}
 use Rattle.pe_core.specs.Text.{text_at, text_to_zero}
@@ -49,6 +50,13 @@ from_table offset b d (suc n) lt =
     ∙ ap (λ i. filter_map (λ (e : Option ExportView). e) (each (export_at offset b d) n) ++ exports_from offset d i (text_at b (offsets n) ∷ [])) many
     ∙ ap (λ t. filter_map (λ (e : Option ExportView). e) (each (export_at offset b d) n) ++ exports_from offset d n (t ∷ [])) text
     ∙ sym (filter_map-append (λ (e : Option ExportView). e) (each (export_at offset b d) n) (export_at offset b d n ∷ []))
+
+-- without an entry there are none
+pub none_named : (offset : ℕ → Option ℕ) (b : List ℕ) (d : ExportDataView) → length d.names < 4 → ◌≡◌ {A = Result (List ExportView) Refusal} (Ok (exports offset b d)) (Ok [])
+unfolding exports each
+none_named offset b d few =
+    let none : length d.names / 4 ≡ 0 = omega (arith, few) in
+    ap (λ (n : ℕ). Ok (filter_map (λ (e : Option ExportView). e) (each (export_at offset b d) n))) none
 
 pub listed : (offset : ℕ → Option ℕ) (b : List ℕ) (d : ExportDataView) (offsets : List ℕ) (names : List (Option (List ℕ))) → length b < 2 ^ 64
     → offsets ≡ each (λ i. offset_or_end (offset (le d.names (4 * i) 4))) (length d.names / 4) → names ≡ map (text_at b) offsets → exports_from offset d 0 names ≡ exports offset b d

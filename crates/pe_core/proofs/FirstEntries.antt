@@ -1,5 +1,5 @@
 -- The first entries of all records, and how many there are.
-use Rattle.std.proofs.Common.{◌≡◌, ℕ, zero, suc, ◌+◌, ◌-◌, ◌/◌, ◌^◌, ◌<◌, ◌≤◌, List, [], ◌∷◌, ◌++◌, map, length, get_or, Option, take, drop, refl, sym, ap, subst, ◌∙◌, arith, ⊎_elim, length-append, append_assoc, zero-add}
+use Rattle.std.proofs.Common.{◌≡◌, ℕ, zero, suc, ◌+◌, ◌-◌, ◌/◌, ◌^◌, ◌<◌, ◌≤◌, List, [], ◌∷◌, ◌++◌, map, length, get_or, Option, Ok, take, drop, refl, sym, ap, subst, ◌∙◌, arith, ⊎_elim, length-append, append_assoc, zero-add}
 use Rattle.std.specs.Prelude.{min}
 use Rattle.std.proofs.lemmas.Bool.{cases_lt}
 use Rattle.std.proofs.lemmas.List.{append-nil, drop_all, drop_more, take-append-le, take_all}
@@ -27,6 +27,10 @@ left-none : (w : ℕ) (records : List SyntheticImportDirectoryEntry) (i : ℕ) �
 unfolding import_entries
 left-none w records i le = ap (λ l. import_entries w (map import_record_view l)) (drop_all i records le)
 
+empty_is : {X : Type 0} (xs : List X) → length xs ≡ 0 → xs ≡ []
+empty_is [] e = refl
+empty_is (x ∷ xs) e = absurd cc
+
 -- ---- how many
 
 -- so many are counted of the first i records
@@ -53,6 +57,23 @@ counted-done w records i count c le =
     all ∙ c.rest
 
 pub ruleset entries_counted = (counted-start, counted-more, counted-done)
+
+-- without an entry there are no imports; nor are there any among the first 0
+pub none_imported : (offset : ℕ → Option ℕ) (w : ℕ) (b : List ℕ) (records : List ImportRecordView) → min (length (import_entries w records)) (2 ^ 64 - 1) ≡ 0 → imports offset w b records ≡ Ok []
+unfolding imports
+none_imported offset w b records none =
+    let empty : import_entries w records ≡ [] = empty_is (import_entries w records) (omega (arith, none)) in
+    ap (λ (es : List EntryView). all_or_refusal (map (import_of offset w b) es)) empty
+
+pub none_among : (offset : ℕ → Option ℕ) (w : ℕ) (b : List ℕ) (records : List ImportRecordView) (most : ℕ) → min most (min (length (import_entries w records)) (2 ^ 64 - 1)) ≡ 0 → first_imports offset w b records most ≡ Ok []
+unfolding first_imports
+none_among offset w b records most none =
+    let es : List EntryView = import_entries w records in
+    let taken : take most es ≡ [] = ⊎_elim
+    (λ (h : most < length es). let zero_most : most ≡ 0 = omega (arith, h, none) in ap (λ (n : ℕ). take n es) zero_most)
+    (λ (h : length es ≤ most). take_all most es h ∙ empty_is es (omega (arith, h, none)))
+    (cases_lt most (length es)) in
+    ap (λ (xs : List EntryView). all_or_refusal (map (import_of offset w b) xs)) taken
 
 -- ---- the first of them
 

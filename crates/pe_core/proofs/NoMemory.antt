@@ -1,6 +1,6 @@
 -- What is never refused as out of memory.
 use Rattle.std.proofs.Common.{◌≡◌, Bool, true, false, List, [], ◌∷◌, Result, Ok, Err, ap}
-use Rattle.std.specs.Prelude.{if◌then◌else◌}
+use Rattle.std.specs.Prelude.{IfErr, if◌then◌else◌}
 use Rattle.pe_core.specs.Refusals.{Refusal, Memory, IfMemory, kind_of, outcome, ◌>>=◌}
 use Rattle.pe_core.specs.declared.error.Error.{Error}
 use Rattle.pe_core.specs.declared.error.Error.TheVariants as errors
@@ -25,6 +25,12 @@ memory_never (Err refusal) l given =
 pub nothing_owed : {X : Type 0} (r : Result X Refusal) (e : Error) (P : Type 0) → Lacks r → r ≡ Err (kind_of e) → IfMemory e P
 nothing_owed r (errors.Memory e) P l given = absurd (memory_never r l given)
 nothing_owed r other P l given = tt
+
+-- what holds, holds if memory ran out
+pub asked : {X : Type 0} (r : Result X Error) (P : Type 0) → P → IfErr r (λ e. IfMemory e P)
+asked (Ok x) P p = tt
+asked (Err (errors.Memory e)) P p = p
+asked (Err other) P p = tt
 
 -- the same of what each of these tests is refused as
 abbrev pub TestsLack : List (Bool × Refusal) → Type 0

@@ -21,6 +21,12 @@ use Rattle.pe_core.proofs.Gathering.{Gathered, drop-each, gathered-start, gather
 use Rattle.pe_core.proofs.ImportLists.{unless_memory}
 use Rattle.pe_core.proofs.SymbolRows.{first, row_of-next}
 
+-- a table without an entry has none
+pub no_names : (b table : List ℕ) → length b < 18 → symbol_names b table ≡ Ok []
+unfolding symbol_names each row_of
+no_names b table few =
+    let none : row_count b ≡ 0 = omega (arith, few) in rw none refl
+
 -- ---- the offsets of the names
 
 -- the offset of the name of symbol k

@@ -3,13 +3,13 @@
 //! and the ordinal table go in parallel: one has the RVA of a name, the other its index into the address table. A
 //! caller parses `ExportData` from data directory 0, and lists it by `Export::parse_with_opts`.
 
-ghost use Rattle.std.specs.Prelude.{◌≡◌, ◌*◌, ◌+◌, ◌/◌, ◌≤◌, length, map, IfOk, Ok};
+ghost use Rattle.std.specs.Prelude.{◌≡◌, ◌*◌, ◌+◌, ◌/◌, ◌≤◌, length, map, IfErr, IfOk, Ok};
 ghost use Rattle.std.specs.Option.{option_and_then, option_map};
 ghost use Rattle.pe_core.specs.Bytes.{le};
 ghost use Rattle.pe_core.specs.ExportSteps.{exports_from};
 ghost use Rattle.pe_core.specs.Exports.{export_data_view, export_data_at, export_view, exports, image_name, table_at, table_entry, named_export};
 ghost use Rattle.pe_core.specs.Options.{default_options};
-ghost use Rattle.pe_core.specs.Refusals.{ReturnsAs, ReturnsUnlessMemory};
+ghost use Rattle.pe_core.specs.Refusals.{IfMemory, ReturnsAs, ReturnsUnlessMemory};
 ghost use Rattle.pe_core.specs.Rows.{each};
 ghost use Rattle.pe_core.specs.SectionIndex.{offset_or_end};
 ghost use Rattle.pe_core.specs.SectionMap.{offset_in, section_map};
@@ -31,6 +31,9 @@ use std::alloc::{AllocError, Allocator};
 
 /// The size of an export directory in bytes.
 const SIZE_OF_EXPORT_DIRECTORY: usize = 40;
+
+/// The size of an entry of the name table in bytes.
+const SIZE_OF_NAME: usize = 4;
 
 /// The export directory (`IMAGE_EXPORT_DIRECTORY`), 40 bytes.
 #[derive(Clone, Copy, Debug, PartialEq)]
@@ -292,7 +295,9 @@ fn name_offsets<A: Allocator>(
 
 impl<'a> Export<'a> {
     /// The exports that have names, in the order of the name table. An entry is skipped if its name is unmapped, not
-    /// NUL-terminated or not UTF-8, or if its index in the ordinal table is past the address table. Error: `Memory`.
+    /// NUL-terminated or not UTF-8, or if its index in the ordinal table is past the address table. Error: `Memory`, if there is
+    /// an entry: without one no memory is asked for.
+    #[tactic(auto, using(crate::proofs::ExportLists::none_named))]
     pub fn parse_with_opts<A: Allocator + Copy + Drop>(
         alloc: A,
         bytes: &'a [u8],
@@ -301,25 +306,33 @@ impl<'a> Export<'a> {
         file_alignment: u32,
         opts: &ParseOptions,
     ) -> Result<Vec<Export<'a>, A>>
-        ensures { ReturnsUnlessMemory (λ v. map export_view v.items) result
+        ensures exports { ReturnsUnlessMemory (λ v. map export_view v.items) result
             (Ok (exports (section_map opts.now sections.now file_alignment) bytes.entry.now
             (export_data_view export_data.now))) }
+        ensures memory { IfErr result (λ error. IfMemory error (4 ≤ length export_data.now.names.now)) }
     {
+        if export_data.names.len() < SIZE_OF_NAME {
+            return Ok(Vec::new(alloc));
+        }
         let index = SectionIndex::new(alloc, sections, file_alignment, opts)?;
         let map = index.map();
         Export::parse_with_map(alloc, &MappedBytes { bytes, map }, export_data)
     }
 
     /// The exports that have names, as `parse_with_opts` lists them, by a section map.
-    #[tactic(auto, using(crate::proofs::ExportLists::listed))]
+    #[tactic(auto, using(crate::proofs::ExportLists::listed, crate::proofs::ExportLists::none_named, crate::proofs::NoMemory::asked))]
     pub fn parse_with_map<A: Allocator + Copy + Drop>(
         alloc: A,
         image: &MappedBytes<'a, '_>,
         export_data: &ExportData<'_>,
     ) -> Result<Vec<Export<'a>, A>>
-        ensures { ReturnsUnlessMemory (λ v. map export_view v.items) result (Ok (exports
+        ensures exports { ReturnsUnlessMemory (λ v. map export_view v.items) result (Ok (exports
             (offset_in image.now.map) image.now.bytes.now (export_data_view export_data.now))) }
+        ensures memory { IfErr result (λ error. IfMemory error (4 ≤ length export_data.now.names.now)) }
     {
+        if export_data.names.len() < SIZE_OF_NAME {
+            return Ok(Vec::new(alloc));
+        }
         let offsets = name_offsets(alloc, export_data.names, &image.map)?;
         // All names at once: many of them may lie in one long text.
         let names = texts_at(alloc, image.bytes, &offsets)?;

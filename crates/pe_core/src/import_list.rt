@@ -2,12 +2,12 @@
 //! ([layout](https://learn.microsoft.com/windows/win32/debug/pe-format#the-idata-section)). An entry is an ordinal, or
 //! the RVA of a hint and a name. A caller passes the `ImportData` of the image to `Import::parse_with_opts`.
 
-ghost use Rattle.std.specs.Prelude.{◌≡◌, ◌≤◌, ◌-◌, ◌*◌, ◌/◌, ◌%◌, ◌^◌, ◌++◌, length, map, min, take, IfOk, OnOk};
+ghost use Rattle.std.specs.Prelude.{◌≡◌, ◌≤◌, ◌<◌, ◌-◌, ◌*◌, ◌/◌, ◌%◌, ◌^◌, ◌++◌, length, map, min, take, IfErr, IfOk, OnOk};
 ghost use Rattle.std.specs.Option.{option_map};
 ghost use Rattle.pe_core.specs.Gathered.{all_or_refusal};
 ghost use Rattle.pe_core.specs.Imports.{first_imports, import_entries, import_entry_at, import_data_view, import_of, import_record_view, import_view, imports, entry_size};
 ghost use Rattle.pe_core.specs.ImportSteps.{AreEntryNames, entry_view, hint_offset_of};
-ghost use Rattle.pe_core.specs.Refusals.{ReturnsAs, ReturnsUnlessMemory};
+ghost use Rattle.pe_core.specs.Refusals.{IfMemory, ReturnsAs, ReturnsUnlessMemory};
 ghost use Rattle.pe_core.specs.Rows.{each};
 ghost use Rattle.pe_core.specs.SectionMap.{offset_in, section_map};
 ghost use Rattle.pe_core.specs.SectionWindow.{IsWindow};
@@ -268,7 +268,8 @@ impl<'a> Import<'a> {
     /// - `Unmapped`: the RVA of the hint; `Short`: the hint;
     /// - `ImportName`: the name is not NUL-terminated or not UTF-8.
     ///
-    /// `Memory` is possible at any point.
+    /// `Memory` is possible at any point, if there is an entry: without one no memory is asked for.
+    #[tactic(auto, using(crate::proofs::FirstEntries::none_imported))]
     pub fn parse_with_opts<A: Allocator + Copy + Drop>(
         alloc: A,
         bytes: &'a [u8],
@@ -278,10 +279,15 @@ impl<'a> Import<'a> {
         opts: &ParseOptions,
         is_64: bool,
     ) -> Result<Vec<Import<'a>, A>>
-        ensures { ReturnsUnlessMemory (λ v. map import_view v.items) result
+        ensures imports { ReturnsUnlessMemory (λ v. map import_view v.items) result
             (imports (section_map opts.now sections.now file_alignment)
             (entry_size is_64) bytes.entry.now (import_data_view import_data.now)) }
+        ensures memory { IfErr result (λ error. IfMemory error
+            (0 < length (import_entries (entry_size is_64) (import_data_view import_data.now)))) }
     {
+        if import_data.import_count(is_64) == 0 {
+            return Ok(Vec::new(alloc));
+        }
         let index = SectionIndex::new(alloc, sections, file_alignment, opts)?;
         let map = index.map();
         Import::parse_with_map(alloc, &MappedBytes { bytes, map }, import_data, is_64)
@@ -289,17 +295,22 @@ impl<'a> Import<'a> {
 
     /// The imports of all records, as `parse_with_opts` lists them, by a section map. Records may share their lookup
     /// entries, so these may be more imports than fit in memory; `parse_at_most` lists the first of them.
-    #[tactic(auto, unfolding(crate::specs::Imports::imports))]
+    #[tactic(auto, using(crate::proofs::FirstEntries::none_imported, crate::proofs::NoMemory::asked), unfolding(crate::specs::Imports::imports))]
     pub fn parse_with_map<A: Allocator + Copy + Drop>(
         alloc: A,
         image: &MappedBytes<'a, '_>,
         import_data: &ImportData<'a, A>,
         is_64: bool,
     ) -> Result<Vec<Import<'a>, A>>
-        ensures { ReturnsUnlessMemory
+        ensures imports { ReturnsUnlessMemory
             (λ v. map import_view v.items) result (imports (offset_in image.now.map)
             (entry_size is_64) image.now.bytes.now (import_data_view import_data.now)) }
+        ensures memory { IfErr result (λ error. IfMemory error
+            (0 < length (import_entries (entry_size is_64) (import_data_view import_data.now)))) }
     {
+        if import_data.import_count(is_64) == 0 {
+            return Ok(Vec::new(alloc));
+        }
         let entries = entries_of(alloc, &import_data.import_data, is_64)?;
         imports_of(alloc, image, &entries, is_64)
     }
@@ -307,7 +318,7 @@ impl<'a> Import<'a> {
     /// The imports of the first entries, at most `most`, as `parse_with_map` lists them. Records may share their lookup
     /// entries, so an image may have more imports than fit in memory; `ImportData::import_count` says how many. Errors:
     /// those of `parse_with_map`, of these entries alone. It asks for memory for these entries alone.
-    #[tactic(auto, unfolding(crate::specs::Imports::first_imports))]
+    #[tactic(auto, using(crate::proofs::FirstEntries::none_among, crate::proofs::NoMemory::asked), unfolding(crate::specs::Imports::first_imports))]
     pub fn parse_at_most<A: Allocator + Copy + Drop>(
         alloc: A,
         image: &MappedBytes<'a, '_>,
@@ -315,10 +326,15 @@ impl<'a> Import<'a> {
         is_64: bool,
         most: usize,
     ) -> Result<Vec<Import<'a>, A>>
-        ensures { ReturnsUnlessMemory
+        ensures imports { ReturnsUnlessMemory
             (λ v. map import_view v.items) result (first_imports (offset_in image.now.map)
             (entry_size is_64) image.now.bytes.now (import_data_view import_data.now) most) }
+        ensures memory { IfErr result (λ error. IfMemory error ((0 < most)
+            × (0 < length (import_entries (entry_size is_64) (import_data_view import_data.now))))) }
     {
+        if most.min(import_data.import_count(is_64)) == 0 {
+            return Ok(Vec::new(alloc));
+        }
         let entries = first_entries_of(alloc, &import_data.import_data, is_64, most)?;
         imports_of(alloc, image, &entries, is_64)
     }

@@ -1,9 +1,9 @@
 //! The names of all symbols of a table at once. Each long name is an offset in the string table, and a hostile object may
 //! let thousands of them lead into one long string: to read each by itself would take quadratic time.
 
-ghost use Rattle.std.specs.Prelude.{◌≡◌, ◌<◌, map, IfOk};
+ghost use Rattle.std.specs.Prelude.{◌≡◌, ◌<◌, map, IfErr, IfOk};
 ghost use Rattle.std.specs.Option.{option_map};
-ghost use Rattle.pe_core.specs.Refusals.{ReturnsAs, ReturnsUnlessMemory};
+ghost use Rattle.pe_core.specs.Refusals.{IfMemory, ReturnsAs, ReturnsUnlessMemory};
 ghost use Rattle.pe_core.specs.SectionIndex.{offset_or_end};
 ghost use Rattle.pe_core.specs.Symbols.{or_no_text, row_count, symbol_in, symbol_names};
 ghost use Rattle.pe_core.specs.SymbolSteps.{AreStringOffsets, name_by_text, named_at};
@@ -91,15 +91,21 @@ fn names_at<'a, A: Allocator + Copy + Drop>(
 impl<'a> SymbolTable<'a> {
     /// The names of all symbols, in the order in which `iter` returns them: of each what `Symbol::name` returns. Takes
     /// about as long as it takes to read both tables, and to sort the offsets of long names that overlap. Error, of each
-    /// symbol in turn: `StringTable`, as of `Symbol::name`. `Memory` is possible at any point.
+    /// symbol in turn: `StringTable`, as of `Symbol::name`. `Memory` is possible at any point, if there is a symbol: without one no
+    /// memory is asked for.
+    #[tactic(auto, using(crate::proofs::SymbolNames::no_names, crate::proofs::NoMemory::asked))]
     pub fn names<A: Allocator + Copy + Drop>(
         &self,
         alloc: A,
         strings: &Strtab<'a>,
     ) -> Result<Vec<&'a str, A>>
-        ensures { ReturnsUnlessMemory (λ v. map (λ s. s.now) v.items) result
+        ensures names { ReturnsUnlessMemory (λ v. map (λ s. s.now) v.items) result
             (symbol_names self.now.bytes.now strings.now.bytes.now) }
+        ensures memory { IfErr result (λ error. IfMemory error (0 < row_count self.now.bytes.now)) }
     {
+        if self.bytes.len() < SIZE_OF_SYMBOL {
+            return Ok(Vec::new(alloc));
+        }
         let offsets = string_offsets(alloc, self.bytes)?;
         names_at(alloc, self.bytes, strings, &offsets)
     }

@@ -2,7 +2,7 @@
 //! error, but for an invalid export directory, which counts as absent. `PE` adds the other directories to it. Layout:
 //! <https://learn.microsoft.com/windows/win32/debug/pe-format>.
 
-ghost use Rattle.std.specs.Prelude.{◌≡◌, ◌<◌, ◌⊎◌, map, IfErr, IfOk, IfSome, IsSome, IsSomeAnd, Ok};
+ghost use Rattle.std.specs.Prelude.{◌≡◌, ◌<◌, ◌⊎◌, [], false, map, true, IfErr, IfOk, IfSome, IsSome, IsSomeAnd, Ok};
 ghost use Rattle.pe_core.specs.declared.error.Error.TheVariants.{Memory};
 ghost use Rattle.std.specs.Option.{option_map};
 ghost use Rattle.pe_core.specs.Exports.{export_data_view, export_view};
@@ -45,6 +45,15 @@ pub struct Core<'a, A: Allocator + Copy + Drop> {
 struct Headers<'a, A: Allocator> {
     header: Header<'a>,
     sections: Vec<SectionTable, A>,
+}
+
+/// What is read of the imports.
+#[derive(Clone, Copy)]
+pub(crate) struct Wanted {
+    /// How many there may be at most; any number without a limit.
+    pub most: Option<u32>,
+    /// Whether the names of the DLLs are listed.
+    pub libraries: bool,
 }
 
 /// The section headers of an image.
@@ -249,29 +258,34 @@ struct Imported<'a, A: Allocator + Copy + Drop> {
 }
 
 impl<'a, A: Allocator + Copy + Drop> Imported<'a, A> {
-    /// Reads what the import directory says. Errors: those of the directory; `ImportsLimit` if there is a limit and it has
-    /// more imports; those of its imports; `Memory`.
+    /// Reads what the import directory says; without the names of the DLLs where they are not wanted. Errors: those of the
+    /// directory; `ImportsLimit` if there is a limit and it has more imports; those of its imports; `Memory`.
     #[tactic(auto, using(crate::proofs::Limited::tested_first, crate::proofs::Requests::asks_for_imports), unfolding(crate::specs::LimitSteps::imported_of))]
     fn read(
         alloc: A,
         image: &MappedBytes<'a, '_>,
         opts: &ParseOptions,
         layout: &Layout,
-        most: Option<u32>,
+        wanted: Wanted,
     ) -> Result<Imported<'a, A>>
-        ensures imported { ReturnsUnlessMemory imported_view result (imported_of most
+        ensures imported { ReturnsUnlessMemory imported_view result (imported_of wanted.most
             (offset_in image.now.map) (entry_size layout.now.is_64) image.now.bytes.now
             (import_directory_in opts.now layout.now)) }
-        ensures libraries { IfOk result (λ imported. AreLibrariesOf
+        ensures libraries { IfOk result (λ imported. wanted.libraries ≡ true → AreLibrariesOf
             (option_map import_data_view imported.data) (map (λ s. s.now) imported.libraries.items)) }
+        ensures none { IfOk result (λ imported. wanted.libraries ≡ false → imported.libraries.items ≡ []) }
         ensures memory { MemoryOnlyIf
             (IsSomeAnd (import_directory_in opts.now layout.now)
             (λ d. IsSome (offset_in image.now.map d.virtual_address))) result }
     {
         let data = import_data(alloc, image, opts, layout)?;
-        require_within(&data, layout.is_64, most)?;
+        require_within(&data, layout.is_64, wanted.most)?;
         let imports = imports(alloc, image, &data, layout.is_64)?;
-        let libraries = libraries(alloc, image, opts, layout, &data)?;
+        let libraries = if wanted.libraries {
+            libraries(alloc, image, opts, layout, &data)?
+        } else {
+            Vec::new(alloc)
+        };
         Ok(Imported {
             data,
             imports,
@@ -289,9 +303,9 @@ impl<'a, A: Allocator + Copy + Drop> Core<'a, A> {
         bytes: &'a [u8],
         opts: &ParseOptions,
         headers: Headers<'a, A>,
-        most: Option<u32>,
+        wanted: Wanted,
     ) -> Result<Core<'a, A>>
-        ensures core { ReturnsUnlessMemory core_view result (unless_above most (number_or_0
+        ensures core { ReturnsUnlessMemory core_view result (unless_above wanted.most (number_or_0
             (imports_with bytes.entry.now opts.now
             (header_view headers.entry.header).optional_header headers.entry.sections.items))
             (core_with bytes.entry.now opts.now
@@ -301,7 +315,8 @@ impl<'a, A: Allocator + Copy + Drop> Core<'a, A> {
             (header_view headers.entry.header).optional_header
             ⊎ HasImports opts.now headers.entry.sections.items
             (header_view headers.entry.header).optional_header) result }
-        ensures libraries { IfOk result CoreHasLibraries }
+        ensures libraries { IfOk result (λ core. wanted.libraries ≡ true → CoreHasLibraries core) }
+        ensures none { IfOk result (λ core. wanted.libraries ≡ false → core.libraries.items ≡ []) }
         ensures layout { IfOk result CoreHasLayout }
     {
         let Headers { header, sections } = headers;
@@ -314,7 +329,7 @@ impl<'a, A: Allocator + Copy + Drop> Core<'a, A> {
             map: map_by(&index, opts, &sections, layout.file_alignment),
         };
         let exports = exports(alloc, &image, &export_data)?;
-        let imported = Imported::read(alloc, &image, opts, &layout, most)?;
+        let imported = Imported::read(alloc, &image, opts, &layout, wanted)?;
         // They borrow the sections, which the core takes.
         drop(image);
         drop(index);
@@ -339,27 +354,47 @@ impl<'a, A: Allocator + Copy + Drop> Core<'a, A> {
         ensures libraries { IfOk result CoreHasLibraries }
         ensures layout { IfOk result CoreHasLayout }
     {
-        Core::read_within(alloc, bytes, opts, None)
+        let wanted = Wanted {
+            most: None,
+            libraries: true,
+        };
+        Core::read_within(alloc, bytes, opts, wanted)
     }
 
-    /// Reads the core of an image, as `read` does, unless there is a limit and it has more imports. `ImportsLimit` comes
-    /// after the errors of the import directory, and before those of its imports.
+    /// Reads the core of an image, as `read` does, but for the names of the DLLs, which stay empty.
+    pub fn read_unlisted(alloc: A, bytes: &'a [u8], opts: &ParseOptions) -> Result<Core<'a, A>>
+        ensures core { ReturnsUnlessMemoryAfter (sections_read bytes.entry.now opts.now)
+            core_view result (core_of bytes.entry.now opts.now) }
+        ensures memory { MemoryOnlyIf (AsksForMemory bytes.entry.now opts.now) result }
+        ensures none { IfOk result (λ core. core.libraries.items ≡ []) }
+        ensures layout { IfOk result CoreHasLayout }
+    {
+        let wanted = Wanted {
+            most: None,
+            libraries: false,
+        };
+        Core::read_within(alloc, bytes, opts, wanted)
+    }
+
+    /// Reads the core of an image, as `read` does, unless there is a limit and it has more imports; without the names of the DLLs
+    /// where they are not wanted. `ImportsLimit` comes after the errors of the import directory, and before those of its imports.
     #[tactic(auto, using(crate::proofs::NoMemory::header_owes_nothing, crate::proofs::Requests::asks_for_sections, crate::proofs::Requests::asks_for_core), unfolding(crate::specs::Core::core_of, crate::specs::Limits::import_count))]
     pub fn read_within(
         alloc: A,
         bytes: &'a [u8],
         opts: &ParseOptions,
-        most: Option<u32>,
+        wanted: Wanted,
     ) -> Result<Core<'a, A>>
         ensures core { ReturnsUnlessMemoryAfter (sections_read bytes.entry.now opts.now)
-            core_view result (unless_above most (import_count bytes.entry.now opts.now)
+            core_view result (unless_above wanted.most (import_count bytes.entry.now opts.now)
             (core_of bytes.entry.now opts.now)) }
         ensures memory { MemoryOnlyIf (AsksForMemory bytes.entry.now opts.now) result }
-        ensures libraries { IfOk result CoreHasLibraries }
+        ensures libraries { IfOk result (λ core. wanted.libraries ≡ true → CoreHasLibraries core) }
+        ensures none { IfOk result (λ core. wanted.libraries ≡ false → core.libraries.items ≡ []) }
         ensures layout { IfOk result CoreHasLayout }
     {
         let header = Header::parse_with_opts(bytes, opts)?;
         let sections = sections(alloc, bytes, &header)?;
-        Core::with(alloc, bytes, opts, Headers { header, sections }, most)
+        Core::with(alloc, bytes, opts, Headers { header, sections }, wanted)
     }
 }

@@ -2,7 +2,7 @@
 //! COFF and the optional header, the section table, and the bytes of the sections. `PE::parse` reads all of it into one
 //! value. Layout: <https://learn.microsoft.com/windows/win32/debug/pe-format>.
 
-ghost use Rattle.std.specs.Prelude.{◌≡◌, IfOk, Ok};
+ghost use Rattle.std.specs.Prelude.{◌≡◌, [], IfOk, Ok};
 ghost use Rattle.std.specs.Option.{option_and_then, option_map};
 ghost use Rattle.pe_core.specs.Exports.{export_data_view};
 ghost use Rattle.pe_core.specs.declared.header.TheConstants.{COFF_MACHINE_ARM64, COFF_MACHINE_X86_64};
@@ -17,7 +17,7 @@ ghost use Rattle.pe_image.specs.LayoutParts.{layout_of};
 ghost use Rattle.pe_image.specs.Limits.{ReturnsImageWithin};
 ghost use Rattle.pe_image.specs.Memory.{AsksForMemory, HasCertificates, MemoryOnlyIf};
 
-use crate::core_image::Core;
+use crate::core_image::{Core, Wanted};
 use crate::fields::{FirstFields, resource_data};
 use crate::layout::is_library;
 use crate::limits::Limits;
@@ -126,6 +126,7 @@ impl<'a, A: Allocator + Copy + Drop> PE<'a, A> {
         ensures view { image_view result ≡ image_of (core_view core.entry)
             (first_fields_view first.entry) (option_map resource_view resource_data.entry) }
         ensures libraries { CoreHasLibraries core.entry → HasLibraries result }
+        ensures names { result.libraries.items ≡ core.entry.libraries.items }
         ensures source { source_of result ≡ bytes.entry.now }
     {
         let Core {
@@ -175,12 +176,12 @@ impl<'a, A: Allocator + Copy + Drop> PE<'a, A> {
         opts: &ParseOptions,
         core: Core<'a, A>,
     ) -> Result<PE<'a, A>>
-        requires libraries { CoreHasLibraries core }
         requires layout { CoreHasLayout core }
         ensures image { ReturnsAfterCore bytes.entry.now opts.now (core_view core.entry) result }
         ensures memory { MemoryOnlyIf (HasCertificates bytes.entry.now opts.now
             (core_view core.entry).header.optional_header) result }
-        ensures libraries { IfOk result HasLibraries }
+        ensures libraries { IfOk result (λ p. CoreHasLibraries core.entry → HasLibraries p) }
+        ensures names { IfOk result (λ p. p.libraries.items ≡ core.entry.libraries.items) }
         ensures source { IfOk result (λ p. source_of p ≡ bytes.entry.now) }
     {
         let layout = core.layout;
@@ -224,6 +225,24 @@ impl<'a, A: Allocator + Copy + Drop> PE<'a, A> {
         PE::with_core(alloc, bytes, opts, core)
     }
 
+    /// Reads the image in `bytes`, a whole file, as `parse_with_opts` does, but leaves `libraries` empty. Its errors are the same.
+    /// Names of DLLs may share their bytes in a hostile image, and to sort them then takes quadratic time.
+    pub fn parse_without_libraries(
+        alloc: A,
+        bytes: &'a [u8],
+        opts: &ParseOptions,
+    ) -> Result<PE<'a, A>>
+        ensures image { ReturnsImage bytes.entry.now opts.now result }
+        ensures memory { MemoryOnlyIf (AsksForMemory bytes.entry.now opts.now) result }
+        ensures sections { IfOk result
+            (λ p. sections_read bytes.entry.now opts.now ≡ Ok (image_view p).sections) }
+        ensures libraries { IfOk result (λ p. p.libraries.items ≡ []) }
+        ensures source { IfOk result (λ p. source_of p ≡ bytes.entry.now) }
+    {
+        let core = Core::read_unlisted(alloc, bytes, opts)?;
+        PE::with_core(alloc, bytes, opts, core)
+    }
+
     /// Reads the image in `bytes`, a whole file, as `parse_with_opts` does, unless it has more than a limit allows.
     /// Import records may share their lookup entries, so the imports of a file of 1 MiB may not fit in memory. An image
     /// with more of them than `limits.imports` is refused as `ImportsLimit`, in both modes, after the errors of its
@@ -241,7 +260,11 @@ impl<'a, A: Allocator + Copy + Drop> PE<'a, A> {
         ensures libraries { IfOk result HasLibraries }
         ensures source { IfOk result (λ p. source_of p ≡ bytes.entry.now) }
     {
-        let core = Core::read_within(alloc, bytes, opts, Some(limits.imports))?;
+        let wanted = Wanted {
+            most: Some(limits.imports),
+            libraries: true,
+        };
+        let core = Core::read_within(alloc, bytes, opts, wanted)?;
         PE::with_core(alloc, bytes, opts, core)
     }
 

@@ -19,7 +19,7 @@ use Rattle.pe_edit.specs.Written.{Leaf}
 use Rattle.pe_sign.specs.WrittenHeaders.{directories_end, directories_end_after}
 use Rattle.pe_rewrite.specs.Edited.{RoomLies}
 use Rattle.pe_rewrite.specs.Places.{debug_entries, header_tests, headers_end, index_of, is_alone, length_at, section_header, target_of}
-use Rattle.pe_rewrite.specs.Rooms.{are_u32, count_with, data_end, debug_moves, ends_data, enlarged, entries_lie, entry_moves, has_header, image_end, is_last, is_u32, new_room, new_section, or_else, own_room, own_tests, own_section, room_at, room_of, room_tests, room_with, sizes_of, symbols_move, table_end}
+use Rattle.pe_rewrite.specs.Rooms.{are_u32, count_with, data_end, debug_moves, ends_data, enlarged, entries_lie, entry_moves, has_header, image_end, is_last, is_u32, new_room, new_section, or_else, own_room, rvas_tests, own_section, room_at, room_of, room_tests, room_with, sizes_of, symbols_move, table_end}
 use Rattle.pe_rewrite.specs.RewriteRefusals.{RewriteRefusal, ImageTooLarge}
 use Rattle.pe_rewrite.specs.declared.place.Target.{Target}
 use Rattle.pe_rewrite.specs.declared.room.LastSection.{LastSection}
@@ -243,7 +243,7 @@ by_section b h xs m t n l of headers leaves is e = record {
 by_own : (b : List ℕ) (h : HeaderView) (xs : List Leaf) (m : Room) (t : Target) (n : ℕ) → TargetIs h t → HeadersLie b h t → Made t.rva n xs → own_room b h t n ≡ Ok m → HasRoom b h xs m
 by_own b h xs m t n of headers leaves e =
     let i = first_ok (index_of b h t.rva) _ m e in
-    let tests = first_ok (outcome {Y = Unit {0}} (own_tests b h t (own_section b h t n i.0)) tt) _ m i.1.1 in
+    let tests = first_ok (outcome {Y = Unit {0}} (rvas_tests b h t (own_section b h t n i.0)) tt) _ m i.1.1 in
     let at : IndexIs b h t.rva i.0 = index_is b h t.rva i.0 i.1.0 in
     by_section b h xs m t n (own_section b h t n i.0) of headers (subst (λ (a : ℕ). Made a n xs) (sym at.address) leaves)
     (own_is_last b h t n i.0 headers.inside (positive t.file_alignment headers.power) at.below) tests.1.1
@@ -255,8 +255,9 @@ by_new b h xs m t of headers e =
     let both = passed (is_u32 (image_end t) && is_u32 (data_end b h t)) ImageTooLarge (Ok tt) u.0 u.1.0 in
     let rva : is_u32 (image_end t) ≡ true = first_of (is_u32 (image_end t)) (is_u32 (data_end b h t)) both.0 in
     let offset : is_u32 (data_end b h t) ≡ true = second_of (is_u32 (image_end t)) (is_u32 (data_end b h t)) both.0 in
+    let tests = first_ok (outcome {Y = Unit {0}} (rvas_tests b h t (new_section b h t n.0)) tt) _ m n.1.1 in
     by_section b h xs m t n.0 (new_section b h t n.0) of headers (made_at (image_end t) n.0 xs n.1.0)
-    (new_is_last b h t n.0 (positive t.file_alignment headers.power) (grind (arith, nat_tests, rva)) (grind (arith, nat_tests, offset))) n.1.1
+    (new_is_last b h t n.0 (positive t.file_alignment headers.power) (grind (arith, nat_tests, rva)) (grind (arith, nat_tests, offset))) tests.1.1
 
 pub has_room : (b : List ℕ) (h : HeaderView) (xs : List Leaf) (m : Room) → room_of b h xs ≡ Ok m → HasRoom b h xs m
 has_room b h xs m e =
@@ -275,12 +276,13 @@ by_which : (b : List ℕ) (h : HeaderView) (xs : List Leaf) (m : Room) (t : Targ
 by_which b h xs m t n of e = ⊎_elim
     (λ (own : own_room b h t n ≡ Ok m).
     let i = first_ok (index_of b h t.rva) _ m own in
-    let tests = first_ok (outcome {Y = Unit {0}} (own_tests b h t (own_section b h t n i.0)) tt) _ m i.1.1 in
+    let tests = first_ok (outcome {Y = Unit {0}} (rvas_tests b h t (own_section b h t n i.0)) tt) _ m i.1.1 in
     debug_by b h m t n (own_section b h t n i.0) of refl tests.1.1)
     (λ (new : new_room b h t xs ≡ Ok m).
     let u = first_ok (outcome {Y = Unit {0}} ((is_u32 (image_end t) && is_u32 (data_end b h t), ImageTooLarge) ∷ []) tt) _ m new in
     let k = first_ok (length_at (image_end t) xs) _ m u.1.1 in
-    debug_by b h m t k.0 (new_section b h t k.0) of refl k.1.1)
+    let tests = first_ok (outcome {Y = Unit {0}} (rvas_tests b h t (new_section b h t k.0)) tt) _ m k.1.1 in
+    debug_by b h m t k.0 (new_section b h t k.0) of refl tests.1.1)
     (or_cases (own_room b h t n) (new_room b h t xs) m e)
 
 pub has_debug : (b : List ℕ) (h : HeaderView) (xs : List Leaf) (m : Room) → room_of b h xs ≡ Ok m → HasDebug b h m

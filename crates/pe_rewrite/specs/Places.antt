@@ -1,5 +1,5 @@
 -- Where an image has its resources, and whether others can be put there. (PE format: optional header, section table.)
-use Rattle.std.specs.Prelude.{ℕ, ◌+◌, ◌*◌, ◌/◌, ◌%◌, ◌==◌, ◌&&◌, ◌||◌, max, Bool, true, Option, Some, None, List, [], ◌∷◌, Result, Err, length, nat_le, nat_lt, slice_index_or, if◌then◌else◌}
+use Rattle.std.specs.Prelude.{ℕ, ◌+◌, ◌*◌, ◌/◌, ◌%◌, ◌==◌, ◌&&◌, ◌||◌, max, Bool, true, false, Option, Some, None, List, [], ◌∷◌, Result, Err, length, nat_le, nat_lt, slice_index_or, if◌then◌else◌}
 use Rattle.std.specs.Int.{is_power_of_two}
 use Rattle.std.specs.List.{list_all, position_or_len}
 use Rattle.pe_core.specs.Bytes.{le}
@@ -21,6 +21,7 @@ use Rattle.pe_rewrite.specs.Relocations.{table_at, table_beside}
 use Rattle.pe_rewrite.specs.declared.debug.DebugEntries.{DebugEntries}
 use Rattle.pe_rewrite.specs.declared.place.Place.{Place}
 use Rattle.pe_rewrite.specs.declared.place.Target.{Target}
+use Rattle.pe_rewrite.specs.declared.relocation.Rvas.{Rvas}
 
 -- ---- the headers
 
@@ -166,12 +167,18 @@ entries_apart b h s d =
     || (nat_le (headers_end h) d.offset
     && (nat_le (d.offset + 28 * d.count) s.pointer_to_raw_data || (nat_le (raw_end s) d.offset && nat_le (d.offset + 28 * d.count) (length b))))
 
--- the data of the debug entry at file offset e end before the section's data or start after them, and their RVA is outside of the
--- section
+-- n bytes from an RVA on lie outside of the section; at RVA 0 are data that are not loaded
+abbrev pub are_outside : SectionTable → ℕ → ℕ → Bool
+are_outside s rva n =
+    nat_le (pages_end s) rva || (nat_lt rva s.virtual_address && (rva == 0 || nat_le (rva + n) s.virtual_address))
+
+-- the data of the debug entry at file offset e end before the section's data or start after them, and are outside of the section
+-- when they are loaded
 abbrev pub debug_data_apart : List ℕ → SectionTable → ℕ → Bool
 debug_data_apart b s e =
     let p = le b (e + 24) 4 in
-    (nat_le (p + le b (e + 16) 4) s.pointer_to_raw_data || nat_le (raw_end s) p) && is_outside s (le b (e + 20) 4)
+    let n = le b (e + 16) 4 in
+    (nat_le (p + n) s.pointer_to_raw_data || nat_le (raw_end s) p) && are_outside s (le b (e + 20) 4) n
 
 abbrev pub entry_apart : List ℕ → SectionTable → DebugEntries → ℕ → Bool
 entry_apart b s d k = debug_data_apart b s (d.offset + 28 * k)
@@ -180,10 +187,14 @@ abbrev pub debug_apart : List ℕ → HeaderView → SectionTable → DebugEntri
 debug_apart b h s d = entries_apart b h s d && list_all (entry_apart b s d) (each (λ k. k) d.count)
 
 -- no base relocation, of which the directory is the sixth, changes what is between two RVAs
-unfoldable pub relocations_beside : List ℕ → HeaderView → Target → ℕ → ℕ → Bool
-relocations_beside b h t start end =
+unfoldable pub relocations_beside : List ℕ → HeaderView → Target → Rvas → Bool
+relocations_beside b h t v =
     let d = directory_in h.optional_header 5 in
-    table_beside start end (table_at b d.size (offset_of true t.file_alignment (section_headers b h) d.virtual_address))
+    table_beside v (table_at b d t.size_of_headers (offset_of true t.file_alignment (section_headers b h) d.virtual_address))
+
+-- the RVAs of a section that is written over; a relocation that is not read may change them
+abbrev pub rvas_of : SectionTable → Rvas
+rvas_of s = record { start = s.virtual_address; end = pages_end s; skips_unread = false }
 
 -- the section with index i can be written over, and n bytes fit into its data and into the image in memory
 abbrev pub section_tests : List ℕ → HeaderView → Target → ℕ → ℕ → List (Bool × RewriteRefusal)
@@ -196,7 +207,7 @@ section_tests b h t i n =
     ∷ (nat_le n s.size_of_raw_data && nat_le (s.virtual_address + n) t.size_of_image, NoRoom)
     ∷ (grows_clear b h n i, Overlap)
     ∷ (debug_apart b h s (debug_entries b h t), DebugData)
-    ∷ (relocations_beside b h t s.virtual_address (pages_end s), SharedSection) ∷ []
+    ∷ (relocations_beside b h t (rvas_of s), SharedSection) ∷ []
 
 -- ---- the place
 

@@ -10,9 +10,10 @@ use Rattle.pe_core.specs.SectionMap.{raw_start, rounded_up}
 use Rattle.pe_core.specs.Sections.{raw_end, sections_offset}
 use Rattle.pe_core.specs.declared.section_table.SectionTable.{SectionTable}
 use Rattle.pe_edit.specs.Written.{Leaf}
-use Rattle.pe_rewrite.specs.Places.{debug_entries, header_tests, headers_end, index_of, is_alone, is_outside, length_at, pages_end, relocations_beside, section_header, section_headers, target_of}
+use Rattle.pe_rewrite.specs.Places.{debug_entries, header_tests, headers_end, are_outside, index_of, is_alone, length_at, pages_end, relocations_beside, section_header, section_headers, target_of}
 use Rattle.pe_rewrite.specs.RewriteRefusals.{RewriteRefusal, DebugData, NoHeaderRoom, ImageTooLarge, Section, SharedSection, Symbols, Overlap}
 use Rattle.pe_rewrite.specs.declared.place.Target.{Target}
+use Rattle.pe_rewrite.specs.declared.relocation.Rvas.{Rvas}
 use Rattle.pe_rewrite.specs.declared.room.LastSection.{LastSection}
 use Rattle.pe_rewrite.specs.declared.room.Room.{Room}
 use Rattle.pe_rewrite.specs.declared.room.Sizes.{Sizes}
@@ -168,12 +169,13 @@ entries_lie h l =
     || (nat_le (table_end h l.index) l.debug.offset && nat_le (l.debug.offset + 28 * l.debug.count) l.section.pointer_to_raw_data)
 
 -- the data of the debug entry at file offset e end before the section's data, or start after what was the end of all data, and
--- then their offset, when they have moved, has 32 bits; and their RVA is outside of the section
+-- then their offset, when they have moved, has 32 bits; and they are outside of the section when they are loaded
 abbrev pub data_moves : List ℕ → LastSection → ℕ → Bool
 data_moves b l e =
     let p = le b (e + 24) 4 in
-    (nat_le (p + le b (e + 16) 4) l.section.pointer_to_raw_data || (nat_le (raw_end l.section) p && is_u32 (p + l.more)))
-    && is_outside (enlarged l) (le b (e + 20) 4)
+    let n = le b (e + 16) 4 in
+    (nat_le (p + n) l.section.pointer_to_raw_data || (nat_le (raw_end l.section) p && is_u32 (p + l.more)))
+    && are_outside (enlarged l) (le b (e + 20) 4) n
 
 abbrev pub entry_moves : List ℕ → LastSection → ℕ → Bool
 entry_moves b l k = data_moves b l (l.debug.offset + 28 * k)
@@ -202,23 +204,33 @@ abbrev pub or_else : Result Room RewriteRefusal → Result Room RewriteRefusal �
 or_else (Ok r) other = Ok r
 or_else (Err e) other = other
 
--- no base relocation changes the section with its data
-abbrev pub own_tests : List ℕ → HeaderView → Target → LastSection → List (Bool × RewriteRefusal)
-own_tests b h t l = (relocations_beside b h t l.section.virtual_address (pages_end (enlarged l)), SharedSection) ∷ []
+-- the RVAs of the section with its data. A relocation that is not read may change the resource section; a new section is after the
+-- image
+abbrev pub rvas_with : HeaderView → LastSection → Rvas
+rvas_with h l = record {
+  start = l.section.virtual_address;
+  end = pages_end (enlarged l);
+  skips_unread = nat_le h.coff_header.number_of_sections l.index;
+}
 
-abbrev pub own_with : List ℕ → HeaderView → Target → ℕ → LastSection → Result Room RewriteRefusal
-own_with b h t n l = outcome {Y = Unit {0}} (own_tests b h t l) tt >>= λ u. room_with b h t n l
+-- no base relocation changes the section with its data; then the room that it makes
+abbrev pub rvas_tests : List ℕ → HeaderView → Target → LastSection → List (Bool × RewriteRefusal)
+rvas_tests b h t l = (relocations_beside b h t (rvas_with h l), SharedSection) ∷ []
+
+abbrev pub room_beside : List ℕ → HeaderView → Target → ℕ → LastSection → Result Room RewriteRefusal
+room_beside b h t n l = outcome {Y = Unit {0}} (rvas_tests b h t l) tt >>= λ u. room_with b h t n l
 
 -- room for n bytes in the resource section
 abbrev pub own_room : List ℕ → HeaderView → Target → ℕ → Result Room RewriteRefusal
-own_room b h t n = index_of b h t.rva >>= λ i. own_with b h t n (own_section b h t n i)
+own_room b h t n = index_of b h t.rva >>= λ i. room_beside b h t n (own_section b h t n i)
 
--- room for the leaves in a new section, whose RVA and data have 32 bits
+-- room for the leaves in a new section, whose RVA and data have 32 bits. What a base relocation changes in the old section is not
+-- asked: that section stays, with its RVA and its bytes, as the law `edits_at_the_end_change_no_more` says
 abbrev pub new_room : List ℕ → HeaderView → Target → List Leaf → Result Room RewriteRefusal
 new_room b h t xs =
     outcome {Y = Unit {0}} ((is_u32 (image_end t) && is_u32 (data_end b h t), ImageTooLarge) ∷ []) tt >>= λ u.
     length_at (image_end t) xs >>= λ n.
-    room_with b h t n (new_section b h t n)
+    room_beside b h t n (new_section b h t n)
 
 -- room for the leaves at the end of the image: in their own section, or else in a new one
 abbrev pub room_of : List ℕ → HeaderView → List Leaf → Result Room RewriteRefusal

@@ -12,7 +12,7 @@ ghost use Rattle.pe_rewrite.specs.RewriteRefusals.{DebugData, RewriteReturns};
 
 use crate::directory::{directory_in, offset_of};
 use crate::error::RewriteError;
-use crate::place::{Target, headers_end, is_outside, raw_end, section_header};
+use crate::place::{Target, are_outside, headers_end, raw_end, section_header};
 use pe_core::{DataDirectory, Header, SectionTable, read_u32};
 
 /// The index of the debug directory, and the size of its entries in bytes.
@@ -87,16 +87,16 @@ fn entries_apart(
             && (size <= before || raw_end(section) <= entries.offset && size <= after)
 }
 
-/// Whether the data of the debug entry at this offset are outside of the section, by their offset and by their RVA.
+/// Whether the data of the debug entry at this offset are outside of the section, in the file and when they are loaded.
 fn debug_data_apart(bytes: &[u8], section: &SectionTable, entry: usize) -> bool
     requires { entry + 28 ≤ length bytes.now }
     ensures { result ≡ debug_data_apart bytes.now section.now entry }
 {
     let start = read_u32(bytes, entry + POINTER_TO_RAW_DATA) as usize;
-    let size = read_u32(bytes, entry + SIZE_OF_DATA) as usize;
-    let is_apart = start + size <= section.pointer_to_raw_data as usize
+    let size = read_u32(bytes, entry + SIZE_OF_DATA);
+    let is_apart = start + size as usize <= section.pointer_to_raw_data as usize
         || raw_end(section) <= start;
-    is_apart && is_outside(section, read_u32(bytes, entry + ADDRESS_OF_RAW_DATA))
+    is_apart && are_outside(section, read_u32(bytes, entry + ADDRESS_OF_RAW_DATA), size)
 }
 
 /// `DebugData` if debug entries or their data lie in the section, or the entries in the headers or after the end of the file.

@@ -128,10 +128,10 @@ fn write_at_end(
 /// The resources go over the data of the section that they are in, with zeros up to its end, if they fit there: it has nothing
 /// else, no debug data and no base relocation either, its data and the image have room, and no section follows in memory before
 /// their end. Its size in memory grows where it has to. Otherwise they go to the end of the
-/// image: if their section is the last, has no debug data and no base relocation, its data grow, else a new section `.rsrc` follows the last one, and the old section
-/// stays as it was. What follows the data of the sections in the file, such as an installer's data or COFF symbols, moves by the
-/// bytes that are added, a multiple of the file alignment, and with it the pointer to the symbols and those of debug entries whose
-/// data move. `NumberOfSections`, `SizeOfInitializedData` and `SizeOfImage` change as they have to.
+/// image: if their section is the last, has no debug data and no base relocation, its data grow, else a new section `.rsrc` follows
+/// the last one, and the old section stays as it was. What follows the data of the sections in the file, such as an installer's
+/// data or COFF symbols, moves by the bytes that are added, a multiple of the file alignment, and with it the pointer to the symbols
+/// and those of debug entries whose data move. `NumberOfSections`, `SizeOfInitializedData` and `SizeOfImage` change as they have to.
 ///
 /// The entry of the resource directory gets RVA and size of the resources, and the checksum is made good, or stays 0 where it
 /// was 0. All other bytes of the file stay.
@@ -144,13 +144,15 @@ fn write_at_end(
 ///   truncated;
 /// - `Alignment` if that of sections is below 4096, or that of their data below 512 or no power of two;
 /// - of a new section, where the resources do not fit in place and their section does not grow: `ImageTooLarge` if its RVA or the
-///   offset of its data is not below 2^32, and `Leaves` with `TooLarge` at its RVA; `NoHeaderRoom` if no 40 zeros follow the section
+///   offset of its data is not below 2^32, and `Leaves` with `TooLarge` at its RVA; `SharedSection` if a base relocation, as far as
+///   these are read, changes what is after the image in memory; `NoHeaderRoom` if no 40 zeros follow the section
 ///   table in the headers, there are 65,535 sections, or the PE signature lies in the DOS header; `ImageTooLarge` if the image
 ///   ends after 4 GB; `Section` if the data of all sections and the headers do not end in the file, at a multiple of the file
 ///   alignment; `SharedSection` if the entry point or a directory leads after the image in memory; `Symbols` if COFF symbols
 ///   start before the end of the data and end after it; `Overlap` if a section ends after the image in memory, by `SizeOfImage`,
 ///   or shares bytes with the headers; `DebugData` if the debug entries do not lie between the section headers and the section's
-///   data, or the data of one neither end before the section's nor start after those of all sections;
+///   data, or the data of one neither end before the section's nor start after those of all sections, or are loaded after the
+///   image;
 /// - `Image` with `WriteFit` if the file does not fit into `out`.
 #[tactic(auto, using(crate::proofs::Calls::written_first, crate::proofs::Calls::write_second, crate::proofs::Calls::write_neither))]
 pub fn write_edited(

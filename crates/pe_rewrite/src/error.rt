@@ -34,8 +34,9 @@ pub enum RewriteError {
     /// file, or are not aligned to 512.
     #[error("data of section {0} start in the headers, end after the end of the file, or are not aligned to 512")]
     Section(usize),
-    /// The RVA of the entry point or of another directory, which lies in the resource section.
-    #[error("the entry point or another directory, at the RVA {0:#x}, lies in the resource section")]
+    /// The RVA of the entry point or of another directory, which lies where the resources go; or that of the directory of base
+    /// relocations, of which one changes what is there.
+    #[error("the entry point, another directory or base relocations, at the RVA {0:#x}, lead where the resources go")]
     SharedSection(u32),
     /// The offset of the COFF symbols, which lie in the data of the resource section.
     #[error("COFF symbols at file offset {0:#x} lie in the data of the resource section")]

@@ -10,12 +10,12 @@ ghost use Rattle.pe_core.specs.declared.optional_header.TheConstants.{MAGIC_64};
 ghost use Rattle.pe_edit.specs.Views.{leaf_views};
 ghost use Rattle.pe_sign.specs.WrittenHeaders.{directories_end};
 ghost use Rattle.pe_rewrite.specs.Edited.{Lies};
-ghost use Rattle.pe_rewrite.specs.Places.{data_apart, grows_clear, has_data, header_tests, headers_end, index_of, is_alone, is_apart, is_clear, is_outside, leads_out, memory_apart, pages_end, place_at, place_of, relocations_beside, section_header, section_tests, sections_apart, symbols_apart, target_before, target_of};
+ghost use Rattle.pe_rewrite.specs.Places.{are_outside, data_apart, grows_clear, has_data, header_tests, headers_end, index_of, is_alone, is_apart, is_clear, is_outside, leads_out, memory_apart, pages_end, place_at, place_of, relocations_beside, rvas_of, section_header, section_tests, sections_apart, symbols_apart, target_before, target_of};
 ghost use Rattle.pe_rewrite.specs.RewriteRefusals.{Overlap, RewriteReturns, SharedSection};
 
 use crate::debug::{debug_entries, require_debug_apart};
 use crate::error::RewriteError;
-use crate::relocation::require_unrelocated;
+use crate::relocation::{Rvas, require_unrelocated};
 use pe_core::{
     DataDirectory, Error, Header, MAGIC_64, OptionalHeader, Reason, SectionTable, require_bytes,
     rounded_up,
@@ -220,6 +220,15 @@ pub fn is_outside(section: &SectionTable, rva: u32) -> bool
     rva < section.virtual_address || pages_end(section) <= rva as usize
 }
 
+/// Whether as many bytes from an RVA on lie outside of the section, or are not loaded.
+pub fn are_outside(section: &SectionTable, rva: u32, size: u32) -> bool
+    ensures { result ≡ are_outside section.now rva size }
+{
+    pages_end(section) <= rva as usize
+        || rva < section.virtual_address
+            && (rva == 0 || rva as usize + size as usize <= section.virtual_address as usize)
+}
+
 /// Whether a directory leads out of the section, or may lead into it.
 fn leads_out(section: &SectionTable, directories: &[DataDirectory], index: usize) -> bool
     requires { index < length directories.now }
@@ -373,7 +382,7 @@ fn require_clear(
     Ok(())
 }
 
-/// `SharedSection` if a base relocation changes what is in the section.
+/// `SharedSection` if a base relocation changes what is in the section, or one is not read.
 fn require_section_unrelocated(
     bytes: &[u8],
     header: &Header<'_>,
@@ -382,10 +391,14 @@ fn require_section_unrelocated(
 ) -> Result<(), RewriteError>
     requires { headers_end (header_view header.now) ≤ length bytes.now }
     ensures { RewriteReturns result (outcome
-        ((relocations_beside bytes.now (header_view header.now) target.now section.now.virtual_address (pages_end section.now), SharedSection) ∷ []) tt) }
+        ((relocations_beside bytes.now (header_view header.now) target.now (rvas_of section.now), SharedSection) ∷ []) tt) }
 {
-    let start = section.virtual_address as usize;
-    require_unrelocated(bytes, header, target, start, pages_end(section))
+    let rvas = Rvas {
+        start: section.virtual_address as usize,
+        end: pages_end(section),
+        skips_unread: false,
+    };
+    require_unrelocated(bytes, header, target, &rvas)
 }
 
 /// The place of resources of `size` bytes in the section that has this index. Errors, in order: `Section`,

@@ -10,7 +10,7 @@ ghost use Rattle.pe_core.specs.Refusals.{outcome};
 ghost use Rattle.pe_core.specs.Sections.{raw_end, sections_offset};
 ghost use Rattle.pe_edit.specs.Views.{leaf_views};
 ghost use Rattle.pe_rewrite.specs.Places.{debug_entries, headers_end, length_at};
-ghost use Rattle.pe_rewrite.specs.Rooms.{are_u32, are_zeros, count_with, data_end, data_moves, debug_moves, ends_data, enlarged, entries_lie, entry_moves, has_header, image_end, is_before, is_before_or_same, is_last, is_u32, later_end, sizes_of, moved, new_header, new_room, new_section, own_room, own_section, own_tests, own_with, room_at, room_of, room_tests, room_with, symbols_move, table_end};
+ghost use Rattle.pe_rewrite.specs.Rooms.{are_u32, are_zeros, count_with, data_end, data_moves, debug_moves, ends_data, enlarged, entries_lie, entry_moves, has_header, image_end, is_before, is_before_or_same, is_last, is_u32, later_end, sizes_of, moved, new_header, new_room, new_section, own_room, own_section, room_at, room_beside, room_of, room_tests, room_with, rvas_tests, symbols_move, table_end};
 ghost use Rattle.pe_rewrite.specs.RewriteRefusals.{DebugData, NoHeaderRoom, Overlap, RewriteReturns, ImageTooLarge};
 
 use crate::debug::{
@@ -19,10 +19,10 @@ use crate::debug::{
 };
 use crate::error::RewriteError;
 use crate::place::{
-    PAGE, Place, SECTOR, SIZE_OF_SECTION_HEADER, SIZE_OF_SYMBOL, Target, find_target, headers_end,
-    is_outside, pages_end, raw_end, require_alone, require_headers, section_header, section_index,
+    PAGE, Place, SECTOR, SIZE_OF_SECTION_HEADER, SIZE_OF_SYMBOL, Target, are_outside, find_target,
+    headers_end, pages_end, raw_end, require_alone, require_headers, section_header, section_index,
 };
-use crate::relocation::require_unrelocated;
+use crate::relocation::{Rvas, require_unrelocated};
 use pe_core::{Header, SectionTable, read_u32, read_u64, rounded_up};
 use pe_edit::{Leaves, section_len};
 
@@ -367,18 +367,18 @@ fn entries_lie(header: &Header<'_>, last: &LastSection) -> bool
 }
 
 /// Whether the data of the debug entry at this offset end before the section's data, or can move with what is after them; and
-/// whether their RVA is outside of the section.
+/// whether they are outside of the section when they are loaded.
 fn data_moves(bytes: &[u8], last: &LastSection, entry: usize) -> bool
     requires inside { entry + 28 ≤ length bytes.now }
     requires more { last.now.section.size_of_raw_data + last.now.more < 2 ^ 32 }
     ensures { result ≡ data_moves bytes.now last.now entry }
 {
     let start = read_u32(bytes, entry + POINTER_TO_RAW_DATA) as usize;
-    let size = read_u32(bytes, entry + SIZE_OF_DATA) as usize;
+    let size = read_u32(bytes, entry + SIZE_OF_DATA);
     let rva = read_u32(bytes, entry + ADDRESS_OF_RAW_DATA);
-    let can_move = start + size <= last.section.pointer_to_raw_data as usize
+    let can_move = start + size as usize <= last.section.pointer_to_raw_data as usize
         || raw_end(&last.section) <= start && is_u32(start + last.more);
-    can_move && is_outside(&enlarged(last), rva)
+    can_move && are_outside(&enlarged(last), rva, size)
 }
 
 /// `DebugData` if the debug entries or their data can't move.
@@ -481,8 +481,9 @@ fn room_with(
     Ok(room)
 }
 
-/// `SharedSection` if a base relocation changes what is in the section with its data.
-fn require_own(
+/// `SharedSection` if a base relocation changes what is in the section with its data; one that is not read may change the resource
+/// section.
+fn require_beside(
     bytes: &[u8],
     header: &Header<'_>,
     target: &Target,
@@ -491,16 +492,20 @@ fn require_own(
     requires inside { headers_end (header_view header.now) ≤ length bytes.now }
     requires more { last.now.more < 2 ^ 33 }
     ensures { RewriteReturns result
-        (outcome (own_tests bytes.now (header_view header.now) target.now last.now) tt) }
+        (outcome (rvas_tests bytes.now (header_view header.now) target.now last.now) tt) }
 {
     let start = last.section.virtual_address as usize;
     let size = last.section.size_of_raw_data as usize + last.more;
-    let end = start + rounded_up(size, PAGE as usize);
-    require_unrelocated(bytes, header, target, start, end)
+    let rvas = Rvas {
+        start,
+        end: start + rounded_up(size, PAGE as usize),
+        skips_unread: header.coff_header.number_of_sections as usize <= last.index,
+    };
+    require_unrelocated(bytes, header, target, &rvas)
 }
 
-/// The same as `room_with`, of the resource section: before it `SharedSection` of a base relocation.
-fn own_with(
+/// The same as `room_with`, and before it `SharedSection` of a base relocation.
+fn room_beside(
     bytes: &[u8],
     header: &Header<'_>,
     target: &Target,
@@ -515,14 +520,13 @@ fn own_with(
     requires index { last.now.index ≤ header.now.coff_header.number_of_sections }
     requires count { last.now.debug.count < 2 ^ 32 }
     ensures { RewriteReturns result
-        (own_with bytes.now (header_view header.now) target.now size last.now) }
+        (room_beside bytes.now (header_view header.now) target.now size last.now) }
 {
-    require_own(bytes, header, target, last)?;
+    require_beside(bytes, header, target, last)?;
     room_with(bytes, header, target, size, last)
 }
 
-/// Room for resources of `size` bytes in their own section. Errors: `NoSection`; `SharedSection` of a base relocation; those of
-/// `room_with`.
+/// Room for resources of `size` bytes in their own section. Errors: `NoSection`; those of `room_beside`.
 fn own_room(
     bytes: &[u8],
     header: &Header<'_>,
@@ -538,10 +542,10 @@ fn own_room(
 {
     let index = section_index(bytes, header, target.rva)?;
     let last = own_section(bytes, header, target, size, index);
-    own_with(bytes, header, target, size, &last)
+    room_beside(bytes, header, target, size, &last)
 }
 
-/// Room for the leaves in a new section. Errors: `ImageTooLarge`; `Leaves`; those of `room_with`.
+/// Room for the leaves in a new section. Errors: `ImageTooLarge`; `Leaves`; those of `room_beside`.
 fn new_room(
     bytes: &[u8],
     header: &Header<'_>,
@@ -566,7 +570,7 @@ fn new_room(
         more: rounded_up(length, target.file_alignment as usize),
         debug: debug_entries(bytes, header, target),
     };
-    room_with(bytes, header, target, length, &last)
+    room_beside(bytes, header, target, length, &last)
 }
 
 /// Room for the leaves at the end of the image: in their own section, or else in a new one. Errors: those of `write_edited`,

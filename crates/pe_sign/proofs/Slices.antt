@@ -1,11 +1,15 @@
 -- The slices that are left of a file without its three parts.
-use Rattle.std.proofs.Common.{◌≡◌, ℕ, ◌+◌, ◌||◌, Bool, true, false, List, [], ◌∷◌, ◌++◌, length, refl, ap, sym, ◌∙◌, arith}
+use Rattle.std.proofs.Common.{◌≡◌, ℕ, ◌+◌, ◌-◌, ◌<◌, ◌≤◌, ◌||◌, Bool, true, false, List, [], ◌∷◌, ◌++◌, drop, length, take, Ok, refl, ap, sym, ◌∙◌, arith, subst, ⊎_elim}
+use Rattle.std.specs.Prelude.{min}
 use Rattle.std.specs.Borrow.{Bor}
-use Rattle.std.proofs.lemmas.List.{append-nil, append_assoc, length-append}
+use Rattle.std.proofs.lemmas.Bool.{cases_lt}
+use Rattle.std.proofs.lemmas.List.{append-nil, append_assoc, drop_all, length-append, length-drop, take_all}
 use Rattle.pe_core.specs.declared.byte_range.ByteRange.{ByteRange}
+use Rattle.pe_core.specs.Header.{HeaderView}
+use Rattle.pe_sign.specs.declared.digest.AuthenticodeRanges.{AuthenticodeRanges}
 use Rattle.pe_sign.specs.declared.digest.LeftOut.{LeftOut}
 use Rattle.pe_sign.specs.declared.digest.Part.{Part}
-use Rattle.pe_sign.specs.Digest.{Covered, covered, is_in, is_left_out, kept_bytes, digested, zeros_after, joined_slices, Throughout, IsCut}
+use Rattle.pe_sign.specs.Digest.{AreSides, Covered, covered, is_in, is_left_out, kept_bytes, digested, left_out_of, zeros_after, joined_slices, Throughout, IsCut}
 use Rattle.pe_sign.proofs.Parts.{kept_append, kept_all, kept_none}
 
 -- the length of a part that is split
@@ -78,6 +82,47 @@ pub both_sides : (l : LeftOut) (w x y : Part) (fs bs : List (Bor (List ℕ))) �
     joined_slices fs ++ joined_slices bs ≡ kept_bytes (is_left_out l) w.offset w.bytes.now
 both_sides l w x y fs bs cut front back =
     ap (λ (ys : List ℕ). ys ++ joined_slices bs) front ∙ ap (λ (ys : List ℕ). kept_bytes (is_left_out l) x.offset x.bytes.now ++ ys) back ∙ sym (cut_kept (is_left_out l) l.certificates w x y cut (in_certificates l))
+
+-- ---- which bytes are on which side
+
+pub take_to : {X : Type 0} (xs : List X) (n k : ℕ) → k ≡ min n (length xs) → take k xs ≡ take n xs
+take_to {X} xs n k e = ⊎_elim
+    (λ (h : n < length xs). let same : k ≡ n = omega (arith, e, h) in ap (λ (m : ℕ). take m xs) same)
+    (λ (h : length xs ≤ n). take_all k xs (omega (arith, e, h)) ∙ sym (take_all n xs h))
+    (cases_lt n (length xs))
+
+drop_to : {X : Type 0} (xs : List X) (n k : ℕ) → k ≡ min n (length xs) → drop k xs ≡ drop n xs
+drop_to {X} xs n k e = ⊎_elim
+    (λ (h : n < length xs). let same : k ≡ n = omega (arith, e, h) in ap (λ (m : ℕ). drop m xs) same)
+    (λ (h : length xs ≤ n). drop_all k xs (omega (arith, e, h)) ∙ sym (drop_all n xs h))
+    (cases_lt n (length xs))
+
+pub rest_to : {X : Type 0} (xs : List X) (n k : ℕ) → k ≡ min n (length xs) → take (length xs - k) (drop k xs) ≡ drop n xs
+rest_to {X} xs n k e = take_all (length xs - k) (drop k xs) (omega (arith, length-drop k xs)) ∙ drop_to xs n k e
+
+pub kept_before : (q : ℕ → Bool) (r : ByteRange) (b : List ℕ) (x : Part) → x.offset ≡ 0 → x.bytes.now ≡ take (r.offset - 0) b → kept_bytes q x.offset x.bytes.now ≡ kept_bytes q 0 (take r.offset b)
+kept_before q r b x start bytes =
+    let same : r.offset - 0 ≡ r.offset = omega arith in
+    ap (λ (k : ℕ). kept_bytes q k x.bytes.now) start ∙ ap (λ (l : List ℕ). kept_bytes q 0 l) (bytes ∙ ap (λ (k : ℕ). take k b) same)
+
+-- no byte is after the end, wherever it starts
+none_after : (q : ℕ → Bool) (k n : ℕ) (xs : List ℕ) → xs ≡ [] → kept_bytes q k xs ≡ kept_bytes q n xs
+unfolding kept_bytes
+none_after q k n xs e = rw e refl
+
+pub kept_after : (q : ℕ → Bool) (r : ByteRange) (b : List ℕ) (y : Part) → y.bytes.now ≡ drop (r.offset + r.length - 0) b → y.offset ≡ 0 + min (r.offset + r.length - 0) (length b)
+    → kept_bytes q y.offset y.bytes.now ≡ kept_bytes q (r.offset + r.length) (drop (r.offset + r.length) b)
+kept_after q r b y bytes offset =
+    let end : ℕ = r.offset + r.length in
+    let same : end - 0 ≡ end = omega arith in
+    let dropped : y.bytes.now ≡ drop end b = bytes ∙ ap (λ (k : ℕ). drop k b) same in
+    ap (λ (l : List ℕ). kept_bytes q y.offset l) dropped ∙ ⊎_elim
+    (λ (h : end < length b). let at : y.offset ≡ end = omega (arith, offset, h) in ap (λ (k : ℕ). kept_bytes q k (drop end b)) at)
+    (λ (h : length b ≤ end). none_after q y.offset end (drop end b) (drop_all end b h))
+    (cases_lt end (length b))
+
+pub sides_of : (h : HeaderView) (b : List ℕ) (r : AuthenticodeRanges) (x : LeftOut) → left_out_of h ≡ Ok x → AreSides x b r → (l : LeftOut) → left_out_of h ≡ Ok l → AreSides l b r
+sides_of h b r x e sides l f = let same : x ≡ l = cc in subst (λ (k : LeftOut). AreSides k b r) same sides
 
 -- the length of a file without its certificates
 pub length_without : (r : ByteRange) (w x y : Part) → IsCut r w x y → length (kept_bytes (is_in r) w.offset w.bytes.now) ≡ length x.bytes.now + length y.bytes.now

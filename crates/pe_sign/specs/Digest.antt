@@ -1,5 +1,5 @@
 -- The bytes that the Authenticode digest of an image covers. (Windows Authenticode Portable Executable Signature Format.)
-use Rattle.std.specs.Prelude.{◌≡◌, ℕ, suc, ◌+◌, ◌-◌, ◌%◌, ◌<◌, ◌≤◌, ◌==◌, ◌&&◌, ◌||◌, Bool, true, false, List, [], ◌∷◌, ◌++◌, length, flat_map, replicate, nat_le, nat_lt, Option, Some, None, Result, Ok, Err, if◌then◌else◌}
+use Rattle.std.specs.Prelude.{◌≡◌, ℕ, suc, ◌+◌, ◌-◌, ◌%◌, ◌<◌, ◌≤◌, ◌==◌, ◌&&◌, ◌||◌, Bool, true, false, List, [], ◌∷◌, ◌++◌, drop, length, flat_map, replicate, take, nat_le, nat_lt, Option, Some, None, Result, Ok, Err, if◌then◌else◌}
 use Rattle.std.specs.Borrow.{Bor}
 use Rattle.pe_core.specs.Directories.{present}
 use Rattle.pe_core.specs.Header.{HeaderView, OptionalHeaderView, directories_offset}
@@ -58,6 +58,15 @@ kept_bytes is_out p (x ∷ xs) = unless (is_out p) x (kept_bytes is_out (suc p) 
 abbrev pub digested : LeftOut → List ℕ → List ℕ
 digested l b = kept_bytes (is_left_out l) 0 b
 
+-- those of them before the certificates, and those after; all are after certificates that are absent
+abbrev pub digested_before : LeftOut → List ℕ → List ℕ
+digested_before l b = kept_bytes (is_left_out l) 0 (take l.certificates.offset b)
+
+abbrev pub digested_after : LeftOut → List ℕ → List ℕ
+digested_after l b =
+    let end = l.certificates.offset + l.certificates.length in
+    kept_bytes (is_left_out l) end (drop end b)
+
 -- how many zeros fill up n bytes to a multiple of eight
 abbrev pub lacking_to_eight : ℕ → ℕ
 lacking_to_eight n = (8 - n % 8) % 8
@@ -91,6 +100,11 @@ pub record Covered : Type 0 where
 
 abbrev pub ranges_view : AuthenticodeRanges → Covered
 ranges_view r = record { content = joined_slices r.before_certificates ++ joined_slices r.after_certificates; zeros = r.zeros }
+
+-- the slices of each field are these bytes
+pub record AreSides (l : LeftOut) (b : List ℕ) (r : AuthenticodeRanges) : Type 0 where
+  pub before : joined_slices r.before_certificates ≡ digested_before l b
+  pub after : joined_slices r.after_certificates ≡ digested_after l b
 
 -- what the digest of a file covers that leaves out these parts
 abbrev pub covered : LeftOut → List ℕ → Covered

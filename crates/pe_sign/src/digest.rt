@@ -5,11 +5,12 @@
 //!
 //! [process]: https://learn.microsoft.com/windows/win32/debug/pe-format#process-for-generating-the-authenticode-pe-image-hash
 
-ghost use Rattle.std.specs.Prelude.{◌≡◌, ◌+◌, ◌^◌, ◌<◌, ◌≤◌, ◌⊎◌, false, length};
+ghost use Rattle.std.specs.Prelude.{◌≡◌, ◌+◌, ◌-◌, ◌^◌, ◌<◌, ◌≤◌, ◌⊎◌, Ok, drop, false, length, min, take};
 ghost use Rattle.std.specs.Result.{IfOk};
 ghost use Rattle.pe_core.specs.Header.{header_view, optional_header_view};
 ghost use Rattle.pe_core.specs.Refusals.{Returns, ReturnsAs};
-ghost use Rattle.pe_sign.specs.Digest.{left_out_of, is_in, is_left_out, kept_bytes, digested, zeros_after, Throughout, IsCut, joined_slices, ranges_view, covered, digest_of};
+ghost use Rattle.pe_sign.specs.declared.digest.LeftOut.{LeftOut};
+ghost use Rattle.pe_sign.specs.Digest.{AreSides, left_out_of, is_in, is_left_out, kept_bytes, digested, zeros_after, Throughout, IsCut, joined_slices, ranges_view, covered, digest_of};
 
 use crate::image_checksum::checksum_range;
 use pe_core::{ByteRange, Header, OptionalHeader, Result};
@@ -87,6 +88,7 @@ fn index_in(part: Part<'_>, offset: usize) -> usize
     ensures inside { result ≤ length part.entry.bytes.now }
     ensures before { (part.entry.offset + result ≤ offset) ⊎ (result ≡ 0) }
     ensures after { (offset ≤ part.entry.offset + result) ⊎ (result ≡ length part.entry.bytes.now) }
+    ensures index { result ≡ min (offset - part.entry.offset) (length part.entry.bytes.now) }
 {
     if offset <= part.offset {
         0
@@ -100,7 +102,13 @@ fn index_in(part: Part<'_>, offset: usize) -> usize
 /// What is before a range and what is after it.
 fn cut<'a>(part: Part<'a>, range: ByteRange) -> (Part<'a>, Part<'a>)
     requires { part.offset + length part.bytes.now < 2 ^ 64 }
-    ensures { IsCut range part.entry result.0 result.1 }
+    ensures cut { IsCut range part.entry result.0 result.1 }
+    ensures before { result.0.bytes.now
+        ≡ take (range.offset - part.entry.offset) part.entry.bytes.now }
+    ensures after { result.1.bytes.now
+        ≡ drop (range.offset + range.length - part.entry.offset) part.entry.bytes.now }
+    ensures offset { result.1.offset ≡ part.entry.offset
+        + min (range.offset + range.length - part.entry.offset) (length part.entry.bytes.now) }
 {
     let start = index_in(part, range.offset);
     let end = index_in(part, range.offset.saturating_add(range.length));
@@ -132,7 +140,7 @@ fn without_fields<'a>(part: Part<'a>, left_out: &LeftOut) -> [&'a [u8]; 4]
 /// be empty.
 #[derive(Clone, Copy)]
 pub struct AuthenticodeRanges<'a> {
-    /// The slices before the certificates.
+    /// The slices before the certificates; without these they are empty.
     pub before_certificates: [&'a [u8]; 4],
     /// The slices after the certificates.
     pub after_certificates: [&'a [u8]; 4],
@@ -142,7 +150,8 @@ pub struct AuthenticodeRanges<'a> {
 
 /// What the digest of a file covers that leaves out these parts.
 pub fn ranges_without<'a>(bytes: &'a [u8], left_out: &LeftOut) -> AuthenticodeRanges<'a>
-    ensures { ranges_view result ≡ covered left_out.now bytes.entry.now }
+    ensures value { ranges_view result ≡ covered left_out.now bytes.entry.now }
+    ensures sides { AreSides left_out.now bytes.entry.now result }
 {
     let whole = Part { offset: 0, bytes };
     let (front, back) = cut(whole, left_out.certificates);
@@ -157,11 +166,14 @@ pub fn ranges_without<'a>(bytes: &'a [u8], left_out: &LeftOut) -> AuthenticodeRa
 /// What the Authenticode digest of an image covers. `bytes` is the whole file, and `header` is the image's. Where its
 /// parts overlap or end after the file, which no linker writes, the digest covers the bytes that are in none of them.
 /// Error: `NoOptionalHeader`.
+#[tactic(auto, using(crate::proofs::Slices::sides_of))]
 pub fn authenticode_ranges<'a>(
     bytes: &'a [u8],
     header: &Header<'_>,
 ) -> Result<AuthenticodeRanges<'a>>
-    ensures { ReturnsAs ranges_view result (digest_of bytes.entry.now (header_view header.now)) }
+    ensures value { ReturnsAs ranges_view result (digest_of bytes.entry.now (header_view header.now)) }
+    ensures sides { IfOk result (λ r. (l : LeftOut) → left_out_of (header_view header.now) ≡ Ok l →
+        AreSides l bytes.entry.now r) }
 {
     let left_out = left_out(header)?;
     Ok(ranges_without(bytes, &left_out))

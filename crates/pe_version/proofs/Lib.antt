@@ -14,3 +14,4 @@ pub mod Measures
 pub mod Heads
 pub mod Records
 pub mod Least
+pub mod LeastBlocks

@@ -1,6 +1,7 @@
 //! Laws over the definitions. Each is the contract of a function that does nothing.
 
-ghost use Rattle.std.specs.Prelude.{◌≡◌, ◌++◌, List, ◌∷◌, Ok, Some, false, map, true, ℕ};
+ghost use Rattle.std.specs.Prelude.{◌≡◌, ◌++◌, List, ◌∷◌, Ok, Some, false, length, map, true, ℕ};
+ghost use Rattle.std.specs.List.{list_all};
 ghost use Rattle.std.specs.Option.{option_map};
 ghost use Rattle.std.specs.Str.{bytes_eq};
 ghost use Rattle.pe_resource.specs.VersionBlocks.{blocks, first_block};
@@ -9,7 +10,12 @@ ghost use Rattle.pe_version.specs.WrittenBlocks.{AllFit, BlockValue, Fits, block
 ghost use Rattle.pe_resource.specs.VersionFields.{VersionView, file_strings, value_named, version_in, version_key};
 ghost use Rattle.pe_resource.specs.VersionStrings.{is_name, strings, text};
 ghost use Rattle.pe_resource.specs.declared.version.VersionName.{VersionName};
+ghost use Rattle.pe_resource.specs.declared.version.VsFixedFileInfo.{VsFixedFileInfo};
 ghost use Rattle.pe_version.specs.VersionReads.{value_read};
+ghost use Rattle.pe_version.specs.VersionRecords.{string_fits, table_fits, value_at, version_at};
+ghost use Rattle.pe_version.specs.declared.record.LanguageRecord.{LanguageRecord};
+ghost use Rattle.pe_version.specs.declared.record.StringRecord.{StringRecord};
+ghost use Rattle.pe_version.specs.declared.record.TableRecord.{TableRecord};
 ghost use Rattle.pe_version.specs.VersionStrings.{SameNames, flat, flat_blocks, padded, text_with_name, texts_of, value_with};
 ghost use Rattle.pe_version.specs.VersionValues.{NumbersFit, TableValue, TextValue, Value, as_read, text_named, version_of, version_read, with_text};
 
@@ -87,4 +93,13 @@ pub fn set_texts_are_found()
         (new : TextValue) → NumbersFit v → is_name (version_key n) (text new.name) ≡ false →
         version_of v ≡ Ok s → version_in s ≡ Ok w → version_of (value_with new v) ≡ Ok u →
         version_in u ≡ Ok x → value_named n x.strings ≡ value_named n w.strings }
+{}
+
+/// The test of records by their least bytes refuses nothing that would be written: of records whose ranges lie in their arrays it is
+/// the version information of their value, where that is not refused.
+#[tactic(auto, using(crate::proofs::LeastBlocks::short_enough))]
+pub fn no_short_records_are_refused()
+    ensures { (fixed : VsFixedFileInfo) (ts : List TableRecord) (rs : List StringRecord) (ps : List LanguageRecord)
+        (d s : List ℕ) → list_all (string_fits d) rs ≡ true → list_all (table_fits (length rs)) ts ≡ true →
+        version_of (value_at fixed ts rs ps d) ≡ Ok s → version_at fixed ts rs ps d ≡ Ok s }
 {}

@@ -10,7 +10,7 @@ ghost use Rattle.peinfo.specs.Output.{writer_of, failures_of};
 use crate::counted_out::CountedOut;
 use crate::engine::{ReportError, write_text};
 use crate::functions;
-use pe_image::{ExceptionData, PE, RuntimeFunction};
+use pe_image::{ExceptionData, PE, ParseOptions, RuntimeFunction};
 use std::alloc::{AllocError, Allocator};
 use std::io;
 
@@ -49,7 +49,7 @@ fn text_of<A: Allocator + Copy + Drop>(
 ) -> pe_image::Result<Vec<u8, A>>
     ensures { ReturnsFindText bytes.now rva result }
 {
-    let image = PE::parse(alloc, bytes)?;
+    let image = PE::parse_without_libraries(alloc, bytes, &ParseOptions::default())?;
     let found = found_in(image.x64_exceptions(), rva);
     let mut text = Vec::new(alloc);
     push_found(&mut text, found)?;

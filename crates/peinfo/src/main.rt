@@ -178,7 +178,7 @@ fn advice_on<A: Allocator + Copy + Drop>(
         return Ok("");
     }
     let opts = ParseOptions::default().with_parse_mode(ParseMode::Permissive);
-    match PE::parse_with_opts(alloc, bytes, &opts) {
+    match PE::parse_without_libraries(alloc, bytes, &opts) {
         Ok(_) => Ok("; --permissive lists the rest"),
         Err(Error::Memory(error)) => Err(error),
         Err(_) => Ok(""),

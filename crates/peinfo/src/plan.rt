@@ -105,7 +105,7 @@ fn text_of<A: Allocator + Copy + Drop>(
 ) -> pe_image::Result<Vec<u8, A>>
     ensures { ReturnsPlanText bytes.now rva result }
 {
-    let image = PE::parse(alloc, bytes)?;
+    let image = PE::parse_without_libraries(alloc, bytes, &ParseOptions::default())?;
     let found = found_in(image.x64_exceptions(), rva);
     let records = records_of(alloc, &image.exception_data, &image.sections, found)?;
     let mut text = Vec::new(alloc);

@@ -66,7 +66,7 @@ fn text_of<A: Allocator + Copy + Drop>(
 ) -> pe_image::Result<Vec<u8, A>>
     ensures { ReturnsReport bytes.now opts.now result }
 {
-    let image = PE::parse_with_opts(alloc, bytes, opts)?;
+    let image = PE::parse_without_libraries(alloc, bytes, opts)?;
     let text = text_of_image(alloc, &image)?;
     Ok(text)
 }

@@ -6,7 +6,7 @@ ghost use Rattle.peinfo.specs.Rewrite.{IsRewritten, IsRewriteRefusal, ReturnsRew
 
 use crate::counted_out::CountedOut;
 use crate::engine::{ReportError, write_text};
-use pe_image::PE;
+use pe_image::{PE, ParseOptions};
 use std::alloc::Allocator;
 use std::io;
 
@@ -14,7 +14,7 @@ use std::io;
 fn bytes_of<A: Allocator + Copy + Drop>(alloc: A, bytes: &[u8]) -> pe_image::Result<Vec<u8, A>>
     ensures { ReturnsRewritten bytes.now result }
 {
-    let image = PE::parse(alloc, bytes)?;
+    let image = PE::parse_without_libraries(alloc, bytes, &ParseOptions::default())?;
     let mut copy = Vec::with_capacity(alloc, bytes.len())?;
     copy.extend_from_slice(bytes)?;
     image.write_into(&mut copy)?;

@@ -99,7 +99,8 @@ fn put_ranges(memory: &[u8], pieces: &[MemoryPiece], asked: &[Range], found: &mu
 /// `memory` where these bytes are: those of the first piece that has the address, up to its end. Where no piece has it the range has
 /// no bytes. `written` is how many. Of runs, as `pe_c_memory_runs` writes them, a range ends at the first address of which the dump
 /// has no byte, or where the dump has it elsewhere: so the images of modules that the dump's own memory has are found. The pieces
-/// are tested once a call.
+/// are tested once a call; where they overlap or are in no order, all of them for each range too, and in runs a search by halves
+/// finds each.
 ///
 /// Errors, which change nothing: `SHORT` if a piece does not lie in `memory`; `ROOM` where there is room for fewer than are asked
 /// for.

@@ -9,5 +9,5 @@ use Rattle.pe_rewrite.proofs.relocation.block_beside.Given as goal
 abbrev pub invariant-loop-item : goal.invariant-loop-item
 invariant-loop-item l = record {
   page : page_of l.relocations ≡ l.block.page_rva;
-  rest : list_all (is_beside l.start l.end) (relocations_of l.block.page_rva l.relocations) ≡ list_all (is_beside l.start l.end) (items_of_block (block_view l.block));
+  rest : list_all (is_beside l.rvas) (relocations_of l.block.page_rva l.relocations) ≡ list_all (is_beside l.rvas) (items_of_block (block_view l.block));
 }

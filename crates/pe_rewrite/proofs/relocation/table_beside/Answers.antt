@@ -7,12 +7,12 @@ use Rattle.pe_rewrite.proofs.relocation.table_beside.Goals as goal
 pub returns-then-not-item_beside : goal.returns-then-not-item_beside
 returns-then-not-item_beside c =
     let taken = block_taken _ _ c.in-Some.item c.in-Some.ensures.steps in
-    sym (one_inside (item_beside c.args.start c.args.end) _ _ (items_of_table c.args.table.now) _ c.loop-item.invariant taken (sym c.item_beside.ensures ∙ c.if-not-item_beside.true))
+    sym (one_inside (item_beside c.args.rvas.now) _ _ (items_of_table c.args.table.now) _ c.loop-item.invariant taken (sym c.item_beside.ensures ∙ c.if-not-item_beside.true))
 
 pub loop-item-preserved : goal.loop-item-preserved
 loop-item-preserved c =
     let taken = block_taken _ _ c.in-Some.item c.in-Some.ensures.steps in
-    one_beside (item_beside c.args.start c.args.end) _ _ (items_of_table c.args.table.now) _ c.loop-item.invariant taken (sym c.item_beside.ensures ∙ c.if-not-item_beside.false)
+    one_beside (item_beside c.args.rvas.now) _ _ (items_of_table c.args.table.now) _ c.loop-item.invariant taken (sym c.item_beside.ensures ∙ c.if-not-item_beside.false)
 
 pub returns : goal.returns
-returns c = sym (all_beside (item_beside c.args.start c.args.end) _ (items_of_table c.args.table.now) c.loop-item.invariant (no_block _ _ c.in_default.ensures.steps))
+returns c = sym (all_beside (item_beside c.args.rvas.now) _ (items_of_table c.args.table.now) c.loop-item.invariant (no_block _ _ c.in_default.ensures.steps))

@@ -6,4 +6,4 @@ use Rattle.pe_rewrite.proofs.relocation.table_beside.Given as goal
 
 -- the blocks so far are beside
 abbrev pub invariant-loop-item : goal.invariant-loop-item
-invariant-loop-item l = list_all (item_beside l.start l.end) (blocks_of l.blocks) ≡ list_all (item_beside l.start l.end) (items_of_table l.table)
+invariant-loop-item l = list_all (item_beside l.rvas) (blocks_of l.blocks) ≡ list_all (item_beside l.rvas) (items_of_table l.table)

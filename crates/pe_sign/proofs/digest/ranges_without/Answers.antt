@@ -1,13 +1,22 @@
-use Rattle.std.proofs.Common.{ℕ, ◌-◌, ◌%◌, ap, sym}
+use Rattle.std.proofs.Common.{ℕ, ◌-◌, ◌%◌, ap, sym, ◌∙◌}
+use Rattle.pe_sign.specs.Digest.{is_left_out}
 use Rattle.pe_sign.specs.declared.digest.LeftOut.{LeftOut}
 use Rattle.pe_sign.specs.declared.digest.Part.{Part}
-use Rattle.pe_sign.proofs.Slices.{both_sides, length_without, is_covered}
+use Rattle.pe_sign.proofs.Slices.{both_sides, is_covered, kept_after, kept_before, length_without}
 use Rattle.pe_sign.proofs.digest.ranges_without.Goals as goal
 
-pub returns : goal.returns
-returns c =
+pub returns-clause-value : goal.returns-clause-value
+returns-clause-value c =
     let l : LeftOut = c.args.left_out.now in
     let whole : Part = record { offset = 0; bytes = c.args.bytes } in
     is_covered l c.args.bytes.now _ _
-    (both_sides l whole _ _ c.without_fields.result c.without_fields-2.result c.cut.ensures c.without_fields.ensures c.without_fields-2.ensures)
-    (ap (λ (n : ℕ). (8 - n % 8) % 8) (sym (length_without l.certificates whole _ _ c.cut.ensures)))
+    (both_sides l whole _ _ c.without_fields.result c.without_fields-2.result c.cut.ensures.cut c.without_fields.ensures c.without_fields-2.ensures)
+    (ap (λ (n : ℕ). (8 - n % 8) % 8) (sym (length_without l.certificates whole _ _ c.cut.ensures.cut)))
+
+pub returns-clause-sides : goal.returns-clause-sides
+returns-clause-sides c =
+    let l : LeftOut = c.args.left_out.now in
+    record {
+      before = c.without_fields.ensures ∙ kept_before (is_left_out l) l.certificates c.args.bytes.now c.cut.result.0 c.cut.ensures.cut.start c.cut.ensures.before;
+      after = c.without_fields-2.ensures ∙ kept_after (is_left_out l) l.certificates c.args.bytes.now c.cut.result.1 c.cut.ensures.after c.cut.ensures.offset;
+    }
