@@ -4823,7 +4823,8 @@ extern "C" {
     /// Where no piece has it the range has no bytes. `written` is how many ranges are asked for; the rest of `found` is
     /// unchanged. In what [`pe_c_memory_runs`] writes a range ends at the first address that the dump has no byte of,
     /// or has elsewhere: so the images of modules are found that the dump's own memory has, for [`pe_c_image`] with
-    /// [`MAPPED`]. The pieces are tested once a call.
+    /// [`MAPPED`]. The pieces are tested once a call; where they overlap or are in no order, all of them for each range
+    /// too, and in what [`pe_c_memory_runs`] writes a search by halves finds each.
     ///
     /// Errors, which change nothing: [`Error::SHORT`] if a piece is not inside `memory`; `PE_C_ROOM` where there is
     /// room for fewer ranges than are asked for.
