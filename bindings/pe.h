@@ -80,9 +80,9 @@ extern "C" {
  *
  * The number of the ABI is in the name of this call, and grows with each change that breaks callers. A program refers to the name
  * from each file that includes pe.h, so it does not link with an archive of another ABI. Returns the number. */
-uint32_t pe_c_abi_4(void);
+uint32_t pe_c_abi_5(void);
 #if defined(__GNUC__)
-static uint32_t (*const pe_c_abi)(void) __attribute__((used)) = pe_c_abi_4;
+static uint32_t (*const pe_c_abi)(void) __attribute__((used)) = pe_c_abi_5;
 #endif
 
 /* ---- results

@@ -6,7 +6,7 @@ use std::path::{Path, PathBuf};
 use std::{env, fs, process};
 
 /// The name that an archive of this ABI defines.
-const ABI: &[u8] = b"pe_c_abi_4\0";
+const ABI: &[u8] = b"pe_c_abi_5\0";
 
 fn refuse(why: &str) -> ! {
     eprintln!("pe-c: {why}");

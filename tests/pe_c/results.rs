@@ -1,7 +1,7 @@
 //! The numbers of results, and their texts.
 
 use crate::results::{
-    number_of, number_of_directory, number_of_signing, number_of_tree, pe_c_abi_4,
+    number_of, number_of_directory, number_of_signing, number_of_tree, pe_c_abi_5,
 };
 use crate::texts::pe_c_text;
 use pe_core::{Error, Reason};
@@ -272,5 +272,5 @@ fn a_text_is_cut_at_the_end_of_its_room(rt: HostRuntime) {
 /// The number of the ABI is that of its name.
 #[test]
 fn number_of_the_abi(rt: HostRuntime) {
-    assert_eq!(rt; pe_c_abi_4(), 4);
+    assert_eq!(rt; pe_c_abi_5(), 5);
 }

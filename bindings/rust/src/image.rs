@@ -522,7 +522,7 @@ impl<'a> Image<'a> {
     /// - [`Error::SHORT`] where they are truncated.
     pub fn parse_as(bytes: &'a [u8], mode: Mode, layout: Layout) -> Result<Self, Error> {
         // SAFETY: it takes no arguments. The call is here so that no program links with an archive of another ABI.
-        unsafe { sys::pe_c_abi_4() };
+        unsafe { sys::pe_c_abi_5() };
         let mut info = ImageInfo::default();
         let way = number_of(mode, layout);
         // SAFETY: as above.

@@ -2685,7 +2685,7 @@ extern "C" {
     ///
     /// A program refers to the name from each file that includes pe.h, so it does not link with an archive of another
     /// ABI. Returns the number.
-    pub fn pe_c_abi_4() -> u32;
+    pub fn pe_c_abi_5() -> u32;
     /// Writes the text of a result to the start of the array, in UTF-8, with a zero after it; where the array is too
     /// small as much of it as has room before the zero.
     ///
