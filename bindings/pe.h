@@ -167,7 +167,7 @@ enum pe_c_result {
     PE_C_EDIT_ALIGNMENT = 459,      /* alignment of sections or of their data is too small or no power of two */
     PE_C_EDIT_NO_SECTION = 460,     /* no section starts at the RVA of the resource directory */
     PE_C_EDIT_SECTION = 461,        /* data of the sections are in the headers, truncated or not aligned */
-    PE_C_EDIT_SHARED_SECTION = 462, /* the entry point, another directory or a base relocation leads where the resources go */
+    PE_C_EDIT_SHARED_SECTION = 462, /* the entry point, a directory or a base relocation leads where the resources go */
     PE_C_EDIT_SYMBOLS = 463,        /* COFF symbols lie in the data of the resource section or at its end */
     PE_C_EDIT_OVERLAP = 464,        /* section shares bytes or pages with the resource section or headers, or is after it */
     PE_C_EDIT_NO_ROOM = 465,        /* resources do not fit into the data of their section or into the image in memory */
@@ -306,7 +306,7 @@ static inline const char *pe_c_message(uint32_t number)
     case PE_C_EDIT_ALIGNMENT: return "alignment of sections or of their data is too small or no power of two";
     case PE_C_EDIT_NO_SECTION: return "no section starts at the RVA of the resource directory";
     case PE_C_EDIT_SECTION: return "data of the sections are in the headers, truncated or not aligned";
-    case PE_C_EDIT_SHARED_SECTION: return "the entry point, another directory or a base relocation leads where the resources go";
+    case PE_C_EDIT_SHARED_SECTION: return "the entry point, a directory or a base relocation leads where the resources go";
     case PE_C_EDIT_SYMBOLS: return "COFF symbols lie in the data of the resource section or at its end";
     case PE_C_EDIT_OVERLAP: return "section shares bytes or pages with the resource section or headers, or is after it";
     case PE_C_EDIT_NO_ROOM: return "resources do not fit into the data of their section or into the image in memory";

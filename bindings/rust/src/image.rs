@@ -212,7 +212,7 @@ errors! {
     EDIT_ALIGNMENT = 459;
     /// Data of the sections are in the headers, truncated or not aligned.
     EDIT_SECTION = 461;
-    /// The entry point, another directory or a base relocation leads where the resources go.
+    /// The entry point, a directory or a base relocation leads where the resources go.
     EDIT_SHARED_SECTION = 462;
     /// COFF symbols lie in the data of the resource section or at its end.
     EDIT_SYMBOLS = 463;

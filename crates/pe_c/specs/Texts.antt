@@ -127,7 +127,7 @@ edit_texts =
     codes "alignment of sections or of their data is too small or no power of two" ∷
     codes "no section starts at the RVA of the resource directory" ∷
     codes "data of the sections are in the headers, truncated or not aligned" ∷
-    codes "the entry point, another directory or a base relocation leads where the resources go" ∷
+    codes "the entry point, a directory or a base relocation leads where the resources go" ∷
     codes "COFF symbols lie in the data of the resource section or at its end" ∷
     codes "section shares bytes or pages with the resource section or headers, or is after it" ∷
     codes "resources do not fit into the data of their section or into the image in memory" ∷

@@ -159,8 +159,7 @@ fn edit_text(number: u32) -> &'static str
         8 => "alignment of sections or of their data is too small or no power of two",
         9 => "no section starts at the RVA of the resource directory",
         10 => "data of the sections are in the headers, truncated or not aligned",
-        11 =>
-            "the entry point, another directory or a base relocation leads where the resources go",
+        11 => "the entry point, a directory or a base relocation leads where the resources go",
         12 => "COFF symbols lie in the data of the resource section or at its end",
         13 => "section shares bytes or pages with the resource section or headers, or is after it",
         14 => "resources do not fit into the data of their section or into the image in memory",

@@ -156,7 +156,7 @@ class Kind(enum.IntEnum):
     EDIT_SECTION = 461
     """data of the sections are in the headers, truncated or not aligned"""
     EDIT_SHARED_SECTION = 462
-    """the entry point, another directory or a base relocation leads where the resources go"""
+    """the entry point, a directory or a base relocation leads where the resources go"""
     EDIT_SYMBOLS = 463
     """COFF symbols lie in the data of the resource section or at its end"""
     EDIT_OVERLAP = 464
