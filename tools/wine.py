@@ -2,6 +2,7 @@
 
 import contextlib
 import os
+import shutil
 
 from limits import Failed, limited
 from needs import WINE
@@ -9,6 +10,8 @@ from needs import WINE
 # Wine makes its folder at the first program, which takes most of a minute on a busy machine.
 SECONDS = 600
 SECONDS_TO_END = 60
+# Debian's package wine64 alone has it under another name, and not on PATH.
+SERVER = shutil.which("wineserver") or "/usr/lib/wine/wineserver64"
 
 
 class Wine:
@@ -42,6 +45,8 @@ class Wine:
         return done.stdout.decode("utf-8", "replace")
 
     def end(self):
-        """Ends the server, and with it whatever runs in this folder. That it does not answer fails nothing: it ends by itself."""
-        with contextlib.suppress(Failed, OSError):
-            limited(["wineserver", "-k"], SECONDS_TO_END, env=self.environment)
+        """Ends the server, and with it whatever runs in this folder, and waits for its end, since it writes there until then. That it does
+        not answer fails nothing: it ends by itself."""
+        for word in ("-k", "-w"):
+            with contextlib.suppress(Failed, OSError):
+                limited([SERVER, word], SECONDS_TO_END, env=self.environment)
