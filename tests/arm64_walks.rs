@@ -193,13 +193,23 @@ fn expect_walk_in<M: Memory>(
 
 const BOTTOM: &str = "bottom of the stack";
 
-const ZERO: &str = "0 after a guess";
+const ZERO: &str = "return to 0, by a guess or without records";
 
 const NO_RETURN_ADDRESS: &str = "no return address";
 
 const NO_FUNCTION: &str = "no function covers the call";
 
-const NO_MODULE: &str = "no module has the instruction pointer";
+const NO_MODULE: &str = "no module with an image has the instruction pointer";
+
+/// The section with the functions.
+const CODE: SectionTable = SectionTable {
+    virtual_size: 0x100,
+    virtual_address: 0x100,
+    size_of_raw_data: 0x100,
+    pointer_to_raw_data: 0x100,
+    characteristics: 0x6000_0020,
+    ..sections::SECTION
+};
 
 /// A leaf function, called by the last instruction of a chained function, whose return address is the start of the next one; that
 /// was called by the one with packed data, and that by the chained one of the other module, which returns to 0.
@@ -238,7 +248,9 @@ fn a_walk_goes_through_all_modules(rt: HostRuntime) -> Result<(), Fail> {
         (NT + 0x110, 0x2050, 0x3000, Way::Records, true),
     ];
     let memory = StackPieces::new(&pieces);
-    expect_walk(&rt, rt.alloc(), top, &memory, &frames, BOTTOM)?;
+    expect_walk_in(&[CODE], &rt, rt.alloc(), top, &memory, &frames, BOTTOM)?;
+    // Without sections nothing says that the leaf function is code, so that its caller is a guess.
+    expect_walk(&rt, rt.alloc(), top, &memory, &frames, ZERO)?;
     let memory = StackPieces::new(&pieces[..1]);
     expect_walk(
         &rt,
@@ -376,10 +388,6 @@ fn stacks_are_scanned(rt: HostRuntime) -> Result<(), Fail> {
         start: 0x2000,
         bytes: &stack,
     };
-    let code = [SectionTable {
-        characteristics: 0x6000_0020,
-        ..sections::section(0x100, 0x100, 0x100, 0x100)
-    }];
     for pc in [APP + 0x1F0, 0x1234] {
         let mut top = registers(pc, 0x2004, 7);
         top.general[FP] = 0x2020;
@@ -387,11 +395,11 @@ fn stacks_are_scanned(rt: HostRuntime) -> Result<(), Fail> {
             (pc, 0x2004, 0x2020, Way::Top, false),
             (APP + 0x190, 0x2020, 0x2020, Way::Scanned, true),
         ];
-        expect_walk_in(&code, &rt, rt.alloc(), top, &memory, &found, ZERO)?;
+        expect_walk_in(&[CODE], &rt, rt.alloc(), top, &memory, &found, ZERO)?;
         // The last of 128 words, and the one after it.
         top.sp = 0x2018 - 127 * 8;
         let far = [(pc, top.sp, 0x2020, Way::Top, false), found[1]];
-        expect_walk_in(&code, &rt, rt.alloc(), top, &memory, &far, ZERO)?;
+        expect_walk_in(&[CODE], &rt, rt.alloc(), top, &memory, &far, ZERO)?;
         top.sp -= 8;
         let lost = [(pc, top.sp, 0x2020, Way::Top, false)];
         let end = if pc == 0x1234 {
@@ -399,7 +407,7 @@ fn stacks_are_scanned(rt: HostRuntime) -> Result<(), Fail> {
         } else {
             NO_RETURN_ADDRESS
         };
-        expect_walk_in(&code, &rt, rt.alloc(), top, &memory, &lost, end)?;
+        expect_walk_in(&[CODE], &rt, rt.alloc(), top, &memory, &lost, end)?;
     }
     Ok(())
 }
@@ -438,14 +446,10 @@ fn a_walk_says_why_it_is_over(rt: HostRuntime) -> Result<(), Fail> {
         expect_walk(&rt, rt.alloc(), top(pc, 0), &memory, &one(pc), end)?;
     }
     // a leaf function that goes on in no function, and in no module: data, and what is no address of code, are no frame
-    let code = [SectionTable {
-        characteristics: 0x6000_0020,
-        ..sections::section(0x100, 0x100, 0x100, 0x100)
-    }];
     let (leaf, lr) = (APP + 0x1F0, APP + 0x1F8);
     let frames = [one(leaf)[0], (lr, 0x2000, 0, Way::Leaf, true)];
     expect_walk_in(
-        &code,
+        &[CODE],
         &rt,
         rt.alloc(),
         top(leaf, lr),
@@ -455,7 +459,7 @@ fn a_walk_says_why_it_is_over(rt: HostRuntime) -> Result<(), Fail> {
     )?;
     for lr in [NT - 0x100, APP + 0xF0, 0x30, u64::MAX] {
         expect_walk_in(
-            &code,
+            &[CODE],
             &rt,
             rt.alloc(),
             top(leaf, lr),
@@ -467,4 +471,37 @@ fn a_walk_says_why_it_is_over(rt: HostRuntime) -> Result<(), Fail> {
     let pc = APP + 0x1A4;
     let end = "unwind code cannot be undone: CustomStack(TrapFrame)";
     expect_walk(&rt, rt.alloc(), top(pc, 0), &memory, &one(pc), end)
+}
+
+/// From a caller at 0 a scan leads on, as under a dispatcher whose records do not say that an interrupt came before it: then it is
+/// no bottom, but a frame. Of words that are no return addresses it is one.
+#[test]
+fn a_caller_at_0_may_have_a_caller(rt: HostRuntime) -> Result<(), Fail> {
+    let top = registers(APP + 0x180, 0x2000, 0);
+    let one = (APP + 0x180, 0x2000, 0, Way::Top, false);
+    for (word, frames, end) in [
+        (APP + 0x18C, 1, BOTTOM),
+        (APP + 0x190, 3, "no memory at address 0x0"),
+    ] {
+        let stack = bytes_of(rt.alloc(), &[7, word])?;
+        let memory = Stack {
+            start: 0x2000,
+            bytes: &stack,
+        };
+        let found = [
+            one,
+            (0, 0x2000, 0, Way::Records, false),
+            (APP + 0x190, 0x2010, 0, Way::Scanned, true),
+        ];
+        expect_walk_in(
+            &[CODE],
+            &rt,
+            rt.alloc(),
+            top,
+            &memory,
+            &found[..frames],
+            end,
+        )?;
+    }
+    Ok(())
 }

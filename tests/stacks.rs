@@ -218,6 +218,14 @@ fn images_are_those_of_modules(rt: HostRuntime) -> Result<(), Fail> {
     assert!(rt; loaded.exceptions.is_some());
     assert!(rt; ModuleImage::parse(alloc, &bytes, &opts, &dump_module(stamp + 1, size))?.is_none());
     assert!(rt; ModuleImage::parse(alloc, &bytes[..60], &opts, &own).is_err());
+    // Without its size the exception directory is none.
+    let bytes = with_byte(
+        with_byte(pe_images::with_functions(alloc)?, 0x48, 9),
+        0xE4,
+        0,
+    );
+    let found = ModuleImage::parse(alloc, &bytes, &opts, &own)?.ok_or("an image")?;
+    assert!(rt; found.loaded(&own).exceptions.is_none());
     Ok(())
 }
 

@@ -127,12 +127,21 @@ pub(crate) fn module<'a>(
         base,
         size: SIZE,
         bytes,
-        sections: &[],
+        sections: &ALL_CODE,
         index: &[],
         exceptions: Some(exceptions),
         opts: flat(),
     }
 }
+
+/// One section, executable, which has all of a module.
+pub(crate) const ALL_CODE: [SectionTable; 1] = [SectionTable {
+    virtual_size: SIZE,
+    virtual_address: 0,
+    size_of_raw_data: SIZE,
+    characteristics: CODE,
+    ..sections::SECTION
+}];
 
 /// Registers that are 0, but for these.
 pub(crate) fn registers(rip: u64, rsp: u64) -> Registers {
@@ -324,9 +333,9 @@ fn a_walk_says_why_it_is_over(rt: HostRuntime) -> Result<(), Fail> {
     let end = end_of_step(&rt, alloc, registers(LIB + 0x70, 0x1000), &[LIB + 0xA0], 2)?;
     assert_eq!(rt; end.as_str(), "more than 32 unwind records are chained");
     let end = end_of_step(&rt, alloc, registers(LIB + 0x70, 0x1000), &[LIB], 2)?;
-    assert_eq!(rt; end.as_str(), "no module has the instruction pointer");
+    assert_eq!(rt; end.as_str(), NO_MODULE);
     let end = end_of_step(&rt, alloc, registers(LIB + 0xA0, 0x1000), &[], 1)?;
-    assert_eq!(rt; end.as_str(), "no module has the instruction pointer");
+    assert_eq!(rt; end.as_str(), NO_MODULE);
     Ok(())
 }
 
@@ -517,9 +526,9 @@ fn expect_frames(
 
 const BOTTOM: &str = "bottom of the stack";
 
-const ZERO: &str = "0 after a guess";
+const ZERO: &str = "return to 0, by a guess or without records";
 
-const NO_MODULE: &str = "no module has the instruction pointer";
+const NO_MODULE: &str = "no module with an image has the instruction pointer";
 
 /// The frame of the function that pushes rbx, at the call: its return address is 0.
 const OUTERMOST: [u64; 7] = [APP + 0x50, 0, 0, 0, 0, 0xB0, 0];
@@ -745,6 +754,124 @@ fn a_scan_reads_128_words(rt: HostRuntime) -> Result<(), Fail> {
         expect_frames(&rt, alloc, (0, high), &OUTERMOST, &frames, NO_MODULE)?;
     }
     Ok(())
+}
+
+/// A leaf function was jumped to, so that it returns where no call is known: into a module whose image is not at hand, or with the
+/// image into data of it, or where no module is. From the first a scan leads on, here by a word that is past the scan before it, and
+/// without one the walk ends there.
+#[test]
+fn a_leaf_function_returns_into_a_module_without_an_image(rt: HostRuntime) -> Result<(), Fail> {
+    let alloc = rt.alloc();
+    let program = program(alloc)?;
+    let data = exceptions(&program, 3)?;
+    let sections = [section(0x40, 0x80, CODE), section(0xC0, 0x40, DATA)];
+    let app = Module {
+        size: 0x100,
+        sections: &sections,
+        ..module(APP, &program, &data)
+    };
+    let unknown = Module {
+        base: LIB,
+        bytes: &[],
+        sections: &[],
+        exceptions: None,
+        ..app
+    };
+    let top = (APP + 0x90, 0x1000, Way::Top, false);
+    let there = (LIB + 0x44, 0x1008, Way::Leaf, true);
+    let call = (APP + 0x50, 0x1408, Way::Scanned, true);
+    let mut on = [0; 135];
+    (on[0], on[128], on[133]) = (LIB + 0x44, APP + 0x50, 0xB0);
+    let modules = [app, unknown];
+    expect_guesses(
+        &rt,
+        alloc,
+        &modules,
+        &[LIB + 0x44, 7],
+        &[top, there],
+        WalkEnd::NoModule,
+    )?;
+    expect_guesses(
+        &rt,
+        alloc,
+        &modules,
+        &on,
+        &[top, there, call],
+        WalkEnd::Zero,
+    )?;
+    for word in [LIB - 1, LIB + 0x100, APP + 0xC8] {
+        expect_guesses(
+            &rt,
+            alloc,
+            &modules,
+            &[word, 7],
+            &[top],
+            WalkEnd::NoReturnAddress,
+        )?;
+    }
+    // A wild jump into it: nothing speaks for a leaf function there.
+    let wild = (LIB + 0x44, 0x1000, Way::Top, false);
+    let words = [LIB + 0x48, 7];
+    expect_guesses(&rt, alloc, &[unknown], &words, &[wild], WalkEnd::NoModule)
+}
+
+/// The walk from the first of these frames, over words from address 0x1000 on, has these, all of them guesses but the first, and ends
+/// so.
+fn expect_guesses(
+    rt: &impl Abort,
+    alloc: Global,
+    modules: &[Module<'_>],
+    words: &[u64],
+    frames: &[Frame],
+    end: WalkEnd,
+) -> Result<(), Fail> {
+    let modules = Modules::new(modules).map_err(|_| "the modules ascend")?;
+    let bytes = bytes_of(alloc, words)?;
+    let memory = Stack {
+        start: 0x1000,
+        bytes: &bytes,
+    };
+    let top = registers(frames[0].0, frames[0].1);
+    let mut walk = StackFrames::new(modules, &memory, top, 100);
+    for (index, frame) in frames.iter().enumerate() {
+        let found = walk.next().ok_or("a frame")?;
+        let registers = found.registers;
+        let rsp = registers.general[RSP];
+        assert_eq!(rt; (registers.rip, rsp, found.way, found.has_called), *frame);
+        assert_eq!(rt; found.is_guess, index > 0);
+    }
+    assert!(rt; walk.next().is_none());
+    let (found, wanted) = (walk.end().ok_or("an end")?, end);
+    assert_eq!(rt; text(alloc, found)?, text(alloc, &wanted)?);
+    Ok(())
+}
+
+/// In data at 0xD0 bytes look like a call. What returns there is a frame and a guess, and so is the caller of data, of which the table
+/// says nothing.
+#[test]
+fn frames_in_data_are_guesses(rt: HostRuntime) -> Result<(), Fail> {
+    let alloc = rt.alloc();
+    let program = program(alloc)?;
+    let data = exceptions(&program, 3)?;
+    let sections = [section(0x40, 0x80, CODE), section(0xC0, 0x40, DATA)];
+    let modules = [Module {
+        size: 0x100,
+        sections: &sections,
+        ..module(APP, &program, &data)
+    }];
+    let top = (APP + 0x90, 0x1000, Way::Top, false);
+    let in_data = (APP + 0xD5, 0x1008, Way::Leaf, true);
+    expect_guesses(
+        &rt,
+        alloc,
+        &modules,
+        &[APP + 0xD5, 7],
+        &[top, in_data],
+        WalkEnd::NoFunction,
+    )?;
+    let top = (APP + 0xC8, 0x1000, Way::Top, false);
+    let frames = [top, at_the_call(0x1008, Way::Leaf)];
+    expect_guesses(&rt, alloc, &modules, &OUTERMOST, &frames, WalkEnd::Zero)
 }
 
 /// The word at 0x1008 is after bytes that are a call, in a section that is not executable.
