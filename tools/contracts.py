@@ -399,10 +399,9 @@ class Contracts:
         own = function.type.split("+")[0] if function.type else function.name
         return contract.is_public() and bool({own, path.split("::")[0]} & self.exported)
 
-    def shown(self, has_private=True):
-        """The functions that show it, of those whose contract has one answer by its form, perhaps of those alone that others call."""
-        wanted = [it for path, it in self.all.items() if has_private or self.is_called_from_outside(path)]
-        found = [it.shown(self.copied) for it in wanted if not it.missing()]
+    def shown(self):
+        """The functions that show it, of those whose contract has one answer by its form."""
+        found = [it.shown(self.copied) for it in self.all.values() if not it.missing()]
         return [it for it in found if it]
 
     def with_shown(self, texts, shown):
