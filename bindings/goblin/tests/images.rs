@@ -801,6 +801,8 @@ fn a_file_is_what_its_first_bytes_say() {
     assert!(matches!(Object::parse(&te_image()), Ok(Object::TE(te)) if te.header.entry_point == 0x1000));
     assert!(matches!(Object::parse(object), Ok(Object::COFF(coff)) if coff.header.machine == COFF_MACHINE_X86_64));
     assert!(matches!(Object::parse(b"sixteen bytes of"), Ok(Object::Unknown(0x206e_6565_7478_6973))));
+    #[cfg(not(feature = "rest"))]
+    assert!(matches!(Object::parse(b"\x7fELF\x02\x01\x01\x00 and more"), Ok(Object::Unknown(0x1_0102_464c_457f))));
     assert!(matches!(Object::parse(&IMAGE[..15]), Err(Error::Malformed(_))));
     let mut file = std::io::Cursor::new(te_image());
     file.set_position(100);
