@@ -782,15 +782,14 @@ fn string_tables_end_their_texts_by_any_byte() {
     assert_eq!(Strtab::new(b"ab\0\xff\0", 0).get_at(3), None);
 }
 
-/// A TE image of the image: forty bytes stand for the headers up to the section headers.
+/// A TE image of the image, without base relocations and debug data: forty bytes stand for the headers up to the section headers.
 fn te_image() -> Vec<u8> {
     let pe = pe_offset();
     let sections = pe + 24 + usize::from(IMAGE.pread_with::<u16>(pe + 20, scroll::LE).unwrap());
-    let (entry, directories) = (pe + 40..pe + 56, directory_offset(5)..directory_offset(7));
     let mut bytes = b"VZ".to_vec();
-    // Machine, number of sections, subsystem, what is stripped; entry, base of code and image; base relocations, debug data.
+    // Machine, number of sections, subsystem, what is stripped; entry, base of code and image; two directories.
     bytes.extend([&IMAGE[pe + 4..pe + 7], &[10], &(sections as u16).to_le_bytes()].concat());
-    bytes.extend([&IMAGE[entry], &IMAGE[directories], &IMAGE[sections..]].concat());
+    bytes.extend([&IMAGE[pe + 40..pe + 56], &[0; 16], &IMAGE[sections..]].concat());
     bytes
 }
 
@@ -798,7 +797,7 @@ fn te_image() -> Vec<u8> {
 fn a_file_is_what_its_first_bytes_say() {
     let object = &IMAGE[pe_offset() + 4..];
     assert!(matches!(Object::parse(IMAGE), Ok(Object::PE(pe)) if pe.entry == 0x1000));
-    assert!(matches!(Object::parse(&te_image()), Ok(Object::TE(te)) if te.header.entry_point == 0x1000));
+    assert!(matches!(Object::parse(&te_image()), Ok(Object::TE(te)) if te.header.image_base == 0x1_4000_0000));
     assert!(matches!(Object::parse(object), Ok(Object::COFF(coff)) if coff.header.machine == COFF_MACHINE_X86_64));
     assert!(matches!(Object::parse(b"sixteen bytes of"), Ok(Object::Unknown(0x206e_6565_7478_6973))));
     #[cfg(not(feature = "rest"))]
