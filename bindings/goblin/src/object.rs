@@ -1,5 +1,7 @@
-//! What a file is, by its first bytes. Images, TE images and objects are this crate's; ELF files, Mach-O files and archives
-//! goblin's own, with the feature `rest`. Without it they are `Unknown`.
+//! What a file is, by its first bytes.
+//!
+//! Images, TE images and objects are this crate's; ELF files, Mach-O files and archives goblin's own, with the feature `rest`.
+//! Without it they are `Unknown`.
 
 use crate::pe::{self, header};
 use crate::{error, raw};
