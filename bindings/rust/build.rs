@@ -1,16 +1,30 @@
 //! Finds libpe_c.a: in the folder that PE_C_FOLDER names; without that variable in crates/pe_c/out, where `rt lib` puts
 //! it, or in the folder there that `make -C bindings TARGET=..` builds for another target, else where pkg-config finds pe_c.
-//! Refuses an archive of another ABI or version, and targets that none is for.
+//! Takes no archive of another ABI or version. Without one the crate compiles, so `cargo check`, `cargo doc` and editors need
+//! none; a build ends with an error that says why.
 
 use std::path::{Path, PathBuf};
 use std::{env, fs, process};
 
 /// The name that an archive of this ABI defines.
 const ABI: &[u8] = b"pe_c_abi_5\0";
+/// What a build looks at beside files.
+const VARIABLES: [&str; 6] =
+    ["PE_C_FOLDER", "PKG_CONFIG", "PKG_CONFIG_PATH", "PKG_CONFIG_LIBDIR", "PKG_CONFIG_SYSROOT_DIR", "DOCS_RS"];
+const NO_ARCHIVE: &str = "there is no libpe_c.a: PE_C_FOLDER names its folder, or PKG_CONFIG_PATH that of pe_c.pc";
+const NO_TARGET: &str = "there are archives for Linux on x86-64 and ARM64 and for Windows on x64";
 
-fn refuse(why: &str) -> ! {
-    eprintln!("pe-c: {why}");
-    process::exit(1);
+/// The folder of an archive of this crate's version, or why there is none.
+type Found = Result<PathBuf, String>;
+
+/// Says why a build will end with an error, and has rustc say it there: as the name of a library that it does not find. A
+/// warning alone is not shown of a crate that is not the user's own, and other ways end `cargo check` too.
+fn refuse_to_link(why: &str) {
+    println!("cargo:warning={why}");
+    // In a name a colon stands before another name.
+    println!("cargo:rustc-link-lib=static=pe_c ({})", why.replace(':', ","));
+    // An archive may come wherever it is looked for: a file that never is there has this run again.
+    println!("cargo:rerun-if-changed=no-archive");
 }
 
 /// What pkg-config says of the installed archive.
@@ -22,15 +36,15 @@ fn installed(question: &str) -> Option<String> {
 }
 
 /// The folder of the installed archive, whose version is this crate's.
-fn installed_folder() -> Option<PathBuf> {
-    let folder = PathBuf::from(installed("--variable=libdir")?);
-    let (version, ours) = (installed("--modversion")?, env!("CARGO_PKG_VERSION"));
-    if version != ours {
-        refuse(&format!(
-            "pkg-config finds version {version} of pe_c, and this crate is version {ours}: install it anew"
-        ));
+fn installed_folder() -> Found {
+    let (Some(folder), Some(version)) = (installed("--variable=libdir"), installed("--modversion")) else {
+        return Err(NO_ARCHIVE.to_owned());
+    };
+    let ours = env!("CARGO_PKG_VERSION");
+    match version == ours {
+        true => Ok(PathBuf::from(folder)),
+        false => Err(format!("pkg-config finds version {version} of pe_c, and this crate is {ours}: install it anew")),
     }
-    Some(folder)
 }
 
 fn archive_of(folder: &Path) -> PathBuf {
@@ -48,14 +62,14 @@ fn folder_of(arch: &str, os: &str) -> Option<&'static str> {
 }
 
 /// Looks where an archive may be, in this order.
-fn found(folder: &str) -> Option<PathBuf> {
+fn found(folder: &str) -> Found {
     if let Some(named) = env::var_os("PE_C_FOLDER") {
-        return Some(PathBuf::from(named));
+        return Ok(PathBuf::from(named));
     }
     let here = env::var("CARGO_MANIFEST_DIR").expect("cargo names the crate's folder");
     let built = Path::new(&here).join("../../crates/pe_c/out").join(folder);
     if archive_of(&built).is_file() {
-        return Some(built);
+        return Ok(built);
     }
     // An archive that is built later comes first.
     if let Some(above) = built.parent().filter(|it| it.is_dir()) {
@@ -64,23 +78,31 @@ fn found(folder: &str) -> Option<PathBuf> {
     installed_folder()
 }
 
+/// The archive for the target, of this crate's ABI.
+fn archive(arch: &str, os: &str) -> Found {
+    let archive = archive_of(&found(folder_of(arch, os).ok_or(NO_TARGET)?)?);
+    let unread = |why| format!("{} is not read ({why}): PE_C_FOLDER names its folder", archive.display());
+    let content = fs::read(&archive).map_err(unread)?;
+    match content.windows(ABI.len()).any(|it| it == ABI) {
+        true => Ok(archive),
+        false => Err(format!("{} is of another ABI than this crate: build it anew", archive.display())),
+    }
+}
+
 fn main() {
-    for name in ["PE_C_FOLDER", "PKG_CONFIG", "PKG_CONFIG_PATH", "PKG_CONFIG_LIBDIR", "PKG_CONFIG_SYSROOT_DIR"] {
+    for name in VARIABLES {
         println!("cargo:rerun-if-env-changed={name}");
+    }
+    // docs.rs builds documents alone.
+    if env::var_os("DOCS_RS").is_some() {
+        return;
     }
     let target = |part: &str| env::var(format!("CARGO_CFG_TARGET_{part}")).unwrap_or_default();
     let os = target("OS");
-    let Some(folder) = folder_of(&target("ARCH"), &os) else {
-        refuse("there are archives for Linux on x86-64 and ARM64 and for Windows on x64");
+    let archive = match archive(&target("ARCH"), &os) {
+        Ok(archive) => archive,
+        Err(why) => return refuse_to_link(&why),
     };
-    let archive = found(folder).map(|folder| archive_of(&folder));
-    let Some(content) = archive.as_ref().and_then(|it| fs::read(it).ok()) else {
-        refuse("there is no libpe_c.a: PE_C_FOLDER names its folder, or PKG_CONFIG_PATH that of pe_c.pc");
-    };
-    let archive = archive.expect("it was read");
-    if !content.windows(ABI.len()).any(|it| it == ABI) {
-        refuse(&format!("{} is of another ABI than this crate: build it anew", archive.display()));
-    }
     println!("cargo:rerun-if-changed={}", archive.display());
     println!("cargo:rustc-link-search=native={}", archive.parent().expect("it is in a folder").display());
     // An import library for MSVC may stand beside it, under the name that is looked for first.

@@ -27,6 +27,9 @@ fn show(bytes: &[u8]) -> error::Result<()> {
         Object::Mach(mach) => println!("{mach:#?}"),
         Object::Archive(archive) => println!("{archive:#?}"),
         Object::Unknown(magic) => println!("unknown, {magic:#x}"),
+        // TE images and objects, which 0.2.1 does not know.
+        #[allow(unreachable_patterns)]
+        other => println!("{other:#?}"),
     }
     Ok(())
 }

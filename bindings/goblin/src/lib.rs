@@ -1,9 +1,10 @@
 //! goblin's module `pe`, with goblin's names and types, over the proved library for C.
 //!
-//! A program that uses `goblin::pe` changes one line of its `Cargo.toml`, and no source:
+//! A program that uses `goblin::pe`, itself or by another crate, has two lines more in its `Cargo.toml`, and no other source:
 //!
 //! ```toml
-//! goblin = { package = "pe-goblin", path = "../bindings/goblin" }
+//! [patch.crates-io]
+//! goblin = { path = "../bindings/goblin" }
 //! ```
 //!
 //! Each number, range and text of an image is what a call of the library returns, which is proved to be what its definition
@@ -16,7 +17,9 @@
 //! | [`pe`] | images, TE images, COFF objects |
 //! | [`strtab`] | string tables |
 //! | [`error`] | [`error::Error`] |
-//! | `elf`, `mach`, `archive`, `Object` | goblin's own, with the feature `rest` |
+//! | [`container`] | the width of a binary, and the order of its bytes |
+//! | [`Object`] | what a file is: an image, a TE image, an object; of another format with the feature `rest` |
+//! | `elf`, `elf32`, `elf64`, `mach`, `archive` | those of goblin 0.2.1, with the feature `rest` |
 //!
 //! - No input makes a call panic or loop for ever, but where an interface has no error: `Strtab`'s index, and scroll's `IntoCtx`
 //!   into a buffer that is too short. They panic, as in goblin.
@@ -40,17 +43,16 @@
 // scroll derives such units.
 #![allow(clippy::unused_unit)]
 
-pub mod container;
+mod object;
 pub mod options;
 pub mod pe;
 mod raw;
 pub mod strtab;
 
 #[cfg(not(feature = "rest"))]
+pub mod container;
+#[cfg(not(feature = "rest"))]
 pub mod error;
+pub use object::{peek, peek_bytes, Hint, Object};
 #[cfg(feature = "rest")]
-mod object;
-#[cfg(feature = "rest")]
-pub use object::Object;
-#[cfg(feature = "rest")]
-pub use rest::{archive, elf, error, mach, peek, peek_bytes, Hint, HintData};
+pub use rest::{archive, container, elf, elf32, elf64, error, mach, HintData};

@@ -1,6 +1,7 @@
 //! What this crate adds to goblin's own tests, which `tools/try_goblin` runs: limits, errors, writing, numbers that no other
 //! reader of goblin's has.
 
+use goblin::container::{Container, Ctx, Endian};
 use goblin::error::Error;
 use goblin::pe::certificate_table::{AttributeCertificate, AttributeCertificateRevision, AttributeCertificateType};
 use goblin::pe::data_directories::DataDirectory;
@@ -18,6 +19,7 @@ use goblin::pe::section_table::SectionTable;
 use goblin::pe::utils::find_offset;
 use goblin::pe::{Coff, PE};
 use goblin::strtab::Strtab;
+use goblin::{peek, Hint, Object};
 use scroll::{Pread, Pwrite};
 
 /// An x64 image of a DLL: some code, exception data, a debug record.
@@ -778,4 +780,40 @@ fn string_tables_end_their_texts_by_any_byte() {
     assert_eq!(Strtab::new(b"ab|c", b'|').to_vec().unwrap(), ["ab", "c"]);
     assert_eq!(Strtab::new(b"ab\0c", 0).to_vec().unwrap(), ["ab", "c"]);
     assert_eq!(Strtab::new(b"ab\0\xff\0", 0).get_at(3), None);
+}
+
+/// A TE image of the image, without base relocations and debug data: forty bytes stand for the headers up to the section headers.
+fn te_image() -> Vec<u8> {
+    let pe = pe_offset();
+    let sections = pe + 24 + usize::from(IMAGE.pread_with::<u16>(pe + 20, scroll::LE).unwrap());
+    let mut bytes = b"VZ".to_vec();
+    // Machine, number of sections, subsystem, what is stripped; entry, base of code and image; two directories.
+    bytes.extend([&IMAGE[pe + 4..pe + 7], &[10], &(sections as u16).to_le_bytes()].concat());
+    bytes.extend([&IMAGE[pe + 40..pe + 56], &[0; 16], &IMAGE[sections..]].concat());
+    bytes
+}
+
+#[test]
+fn a_file_is_what_its_first_bytes_say() {
+    let object = &IMAGE[pe_offset() + 4..];
+    assert!(matches!(Object::parse(IMAGE), Ok(Object::PE(pe)) if pe.entry == 0x1000));
+    assert!(matches!(Object::parse(&te_image()), Ok(Object::TE(te)) if te.header.image_base == 0x1_4000_0000));
+    assert!(matches!(Object::parse(object), Ok(Object::COFF(coff)) if coff.header.machine == COFF_MACHINE_X86_64));
+    assert!(matches!(Object::parse(b"sixteen bytes of"), Ok(Object::Unknown(0x206e_6565_7478_6973))));
+    #[cfg(not(feature = "rest"))]
+    assert!(matches!(Object::parse(b"\x7fELF\x02\x01\x01\x00 and more"), Ok(Object::Unknown(0x1_0102_464c_457f))));
+    assert!(matches!(Object::parse(&IMAGE[..15]), Err(Error::Malformed(_))));
+    let mut file = std::io::Cursor::new(te_image());
+    file.set_position(100);
+    assert!(matches!(peek(&mut file), Ok(Hint::TE)));
+    assert_eq!(file.position(), 0);
+}
+
+#[test]
+fn a_context_has_a_width_and_an_order() {
+    let context = Ctx::new(Container::Little, Endian::Big);
+    assert_eq!((context.size(), context.is_big(), context.is_little_endian()), (4, false, false));
+    assert_eq!(Ctx::from(Container::Big).size(), 8);
+    assert!(!Ctx::from(Endian::Big).is_little_endian());
+    assert_eq!(Ctx::default(), Ctx::from(Container::default()));
 }

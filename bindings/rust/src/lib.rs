@@ -81,7 +81,7 @@
 //! The library is `libpe_c.a`, for Linux on x86-64 (or on ARM64, or for Windows on x64): for every such processor if `make`
 //! or `rt lib --cpu x86-64` built it, by `rt lib` alone for those with SSE4.2 and POPCNT. `build.rs` takes it from the folder
 //! that `PE_C_FOLDER` names; without that variable from `crates/pe_c/out` of the repository, else from where pkg-config finds
-//! `pe_c`.
+//! `pe_c`. Without it the crate compiles, and does not link.
 #![no_std]
 #![deny(missing_docs)]
 #![warn(unsafe_op_in_unsafe_fn)]
