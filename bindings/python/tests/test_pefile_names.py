@@ -7,6 +7,7 @@ import importlib.util
 import os
 import re
 import struct
+import tempfile
 import unittest
 
 from pe_c import pefile as ours
@@ -109,7 +110,7 @@ class Gaps(unittest.TestCase):
 
     def test_missing_methods_and_names(self):
         pe = opened("exports")
-        for name in ("write", "dump_info", "relocate_image", "parse_imports"):
+        for name in ("print_info", "dump_info", "relocate_image", "parse_imports"):
             with self.assertRaises(NotInPeC):
                 getattr(pe, name)
         with self.assertRaises(NotInPeC):
@@ -137,6 +138,43 @@ class Gaps(unittest.TestCase):
         if SPEC:
             theirs = importlib.import_module("pefile").PE(path, max_symbol_exports=1)
             self.assertEqual([(it.name, it.ordinal) for it in theirs.DIRECTORY_ENTRY_EXPORT.symbols], listed(max_symbol_exports=1)[0])
+
+    def test_what_is_written(self):
+        """Fields of headers and bytes are changed, and nothing else of the file; what is not written is an error."""
+        path = os.path.join(IMAGES, "resources.bin")
+        with open(path, "rb") as file:
+            before = file.read()
+        pe = ours.PE(path)
+        self.assertEqual(bytes(pe.write()), before)
+        pe.FILE_HEADER.TimeDateStamp, pe.sections[0].Misc = 0x01020304, 0x500
+        stamp, size = pe.FILE_HEADER.get_field_absolute_offset("TimeDateStamp"), pe.sections[0].get_field_absolute_offset("Misc_VirtualSize")
+        self.assertTrue(pe.set_dword_at_offset(size + 28, 0x11223344))
+        expected = bytearray(before)
+        for offset, number in ((stamp, 0x01020304), (size, 0x500)):
+            struct.pack_into("<I", expected, offset, number)
+        # The bytes of a header that was assigned to are those of its fields.
+        data = pe.write()
+        self.assertEqual(data, expected)
+        self.assertEqual(pe.generate_checksum(), ours.PE(data=bytes(data)).generate_checksum())
+        with tempfile.TemporaryDirectory() as room:
+            self.assertIsNone(pe.write(os.path.join(room, "a.dll")))
+            with open(os.path.join(room, "a.dll"), "rb") as file:
+                self.assertEqual(file.read(), bytes(data))
+        with self.assertRaises(struct.error):
+            pe.FILE_HEADER.Machine = 1 << 16
+            pe.write()
+        with self.assertRaises(TypeError):
+            pe.set_bytes_at_offset(0, "MZ")
+
+    def test_what_is_not_written(self):
+        for change in (lambda pe: setattr(pe.DIRECTORY_ENTRY_RESOURCE.struct, "TimeDateStamp", 1),
+                       lambda pe: pe.FileInfo[0][0].StringTable[0].entries.__setitem__(b"CompanyName", b"Example"),
+                       lambda pe: setattr(pe.VS_FIXEDFILEINFO[0], "FileVersionMS", 1)):
+            pe = opened("resources")
+            pe.write()
+            change(pe)
+            with self.assertRaises(NotInPeC):
+                pe.write()
 
     def test_a_closed_image(self):
         pe = opened("exports")
