@@ -1125,6 +1125,11 @@ test('texts with a final zero', () => {
 const beside = dirname(createRequire(import.meta.url).resolve('pe-c/facts'));
 const { dotted } = await import(pathToFileURL(join(beside, 'signatures.mjs')));
 
+test('the package says which version it is', () => {
+  const { name, version: own } = JSON.parse(readFileSync(createRequire(import.meta.url).resolve('pe-c/package.json'), 'utf8'));
+  assert.deepEqual([name, own], ['pe-c', version]);
+});
+
 test('a number of many octets in an object identifier', () => {
   const octets = new Uint8Array(400_000).fill(0xFF);
   octets[octets.length - 1] = 0x7F;
