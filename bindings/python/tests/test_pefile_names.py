@@ -10,6 +10,7 @@ import struct
 import tempfile
 import unittest
 
+import pe_c
 from pe_c import pefile as ours
 from pe_c._pefile_gaps import GAPS, NotInPeC
 
@@ -78,6 +79,11 @@ def opened(name):
     return ours.PE(os.path.join(IMAGES, f"{name}.bin"))
 
 
+def open_bytes(name):
+    with open(os.path.join(IMAGES, name), "rb") as file:
+        return file.read()
+
+
 class Gaps(unittest.TestCase):
     """Without pefile: what the table names is missing, and says why."""
 
@@ -110,7 +116,7 @@ class Gaps(unittest.TestCase):
 
     def test_missing_methods_and_names(self):
         pe = opened("exports")
-        for name in ("print_info", "dump_info", "relocate_image", "parse_imports"):
+        for name in ("print_info", "dump_info", "dump_dict", "parse_imports"):
             with self.assertRaises(NotInPeC):
                 getattr(pe, name)
         with self.assertRaises(NotInPeC):
@@ -175,6 +181,43 @@ class Gaps(unittest.TestCase):
             change(pe)
             with self.assertRaises(NotInPeC):
                 pe.write()
+
+    def test_another_base(self):
+        """What is written maps as the library maps the image at that base."""
+        with open(os.path.join(IMAGES, "relocations.bin"), "rb") as file:
+            data = bytearray(file.read())
+        # The sizes of the image and of its headers, and base relocations of one block, of types that are applied.
+        for offset, number in ((0x90, 0x2010), (0x94, 0x200), (0xF4, 12)):
+            struct.pack_into("<I", data, offset, number)
+        image = pe_c.Image(bytes(data))
+        second = image.offset_of(image.headers.directories[5].virtual_address) + 10
+        # The second is outside of the file: nothing is changed.
+        pe, base = ours.PE(data=bytes(data)), image.headers.base + 0x10000
+        with self.assertRaises(ours.PEFormatError):
+            pe.relocate_image(base)
+        self.assertEqual(bytes(pe.write()), bytes(data))
+        for entry, is_applied in ((0, True), (0x3010, True), (0xA010, True), (0x4010, False), (0x5010, False)):
+            struct.pack_into("<H", data, second, entry)
+            pe, image = ours.PE(data=bytes(data)), pe_c.Image(bytes(data))
+            if is_applied:
+                pe.relocate_image(base)
+                self.assertEqual((pe_c.Image(bytes(pe.write())).map(), pe.OPTIONAL_HEADER.ImageBase), (image.map(base), base))
+            else:
+                with self.assertRaises(ours.PEFormatError):
+                    pe.relocate_image(base)
+
+    def test_string_tables(self):
+        texts = ["", "one", "\u20ac", *[""] * 13]
+        content = b"".join(struct.pack("<H", len(it)) + it.encode("utf-16-le") for it in texts)
+        editor = pe_c.ResourceEditor(pe_c.Image(open_bytes("editable.exe")))
+        editor.set(6, 3, 0x409, content)
+        editor.set(6, 4, 0x409, struct.pack("<HHHHHHH", 1, 0xD800, 1, 0xD800, 1, 0xD800, 1) + b"a\0")
+        pe = ours.PE(data=editor.write())
+        self.assertEqual(pe.get_resources_strings(), ["one", "\u20ac"])
+        tables = next(it for it in pe.DIRECTORY_ENTRY_RESOURCE.entries if it.id == 6).directory.entries
+        self.assertEqual([it.directory.strings for it in tables], [{33: "one", 34: "\u20ac"}, {}])
+        if SPEC:
+            self.assertEqual(importlib.import_module("pefile").PE(data=editor.write()).get_resources_strings(), ["one", "\u20ac"])
 
     def test_a_closed_image(self):
         pe = opened("exports")

@@ -11,14 +11,12 @@ CONFIG = "pefile joins the names of two fields of PE32; each has its own here"
 RESERVED = "the library for C does not return what is reserved"
 DYNAMIC = "the library for C does not read dynamic relocations"
 WRITER = "the module writes certificates and resources alone: Image.attach, Image.detach, ResourceEditor"
-LOADED = "get_memory_mapped_image() returns the image at another base; the file's bytes stay as they are"
 DUMP = "pe_c.Image.to_dict() has all values"
 PARTS = "each directory is read when its attribute is asked for"
 UNWIND = "pe_c.Image.unwind() has the records and codes"
 INSIDE = "it is a part of how pefile reads"
 BOUND = "the library for C does not compare the two tables"
 NAMES = "the library for C resolves the name, and does not return where it stands"
-STRINGS = "the library for C does not split string tables (RT_STRING)"
 MISC = "the library for C does not read this record"
 
 
@@ -33,7 +31,6 @@ GAPS: dict[str, str] = {
     **_all(TREE, "OffsetToData NameOffset OffsetToDirectory", "IMAGE_RESOURCE_DIRECTORY_ENTRY."),
     **_all(TREE, "Name Id OffsetToData NameOffset OffsetToDirectory", "IMAGE_RESOURCE_DIRECTORY_ENTRY of a name."),
     **_all(TREE, "Reserved", "IMAGE_RESOURCE_DATA_ENTRY."),
-    **_all(STRINGS, "strings", "ResourceDirData."),
     **_all(LENGTHS, "Length ValueLength Type", "VS_VERSIONINFO."),
     **_all(LENGTHS, "Length ValueLength Type", "StringFileInfo."),
     **_all(LENGTHS, "Length ValueLength Type entries_offsets", "StringTable."),
@@ -65,7 +62,6 @@ GAPS: dict[str, str] = {
                    "PrologEpilogOpSaveXMMFar PrologEpilogOpPushFrame PrologEpilogOpEpilogMarker PrologEpilogOpsFactory"),
     **_all(MISC, "DataType Length Unicode Reserved1 Reserved2 Data", "IMAGE_DEBUG_MISC."),
     **_all(WRITER, "AddressSet set_flags set_format set_bitfields_format"),
-    **_all(LOADED, "relocate_image", "PE."),
     **_all(DUMP, "print_info dump_info dump_dict", "PE."),
     **_all(DUMP, "dump dump_dict", "StructureWithBitfields."),
     **_all(DUMP, "Dump main"),
@@ -82,7 +78,6 @@ GAPS: dict[str, str] = {
                    "allowed_function_name is_valid_function_name parse_strings b"),
     **_all(INSIDE, "invalidate render_pascal_16 get_pascal_16_length ask_unicode_16 render_unicode_16 get_rva",
            "UnicodeStringWrapperPostProcessor."),
-    **_all(STRINGS, "get_resources_strings", "PE."),
 }
 
 

@@ -381,7 +381,9 @@ class ExportData(DataContainer):
 
 
 class ResourceDirData(DataContainer):
-    """A resource directory: struct, entries."""
+    """A resource directory: struct, entries; of a string table its texts by their ids as strings."""
+
+    strings: dict[int, str]
 
 
 class ResourceDirEntryData(DataContainer):
@@ -632,9 +634,36 @@ def _first_directory(pe: PE) -> ResourceDirData | None:
         NumberOfIdEntries=it.number_of_id_entries), entries=[])
 
 
+def _strings(content: memoryview, first: int) -> dict[int, str]:
+    """The texts of a string table by their ids. A text that is none is left out, and at the third the rest."""
+    found: dict[int, str] = {}
+    wrong = at = 0
+    while at + 2 <= len(content) and wrong < 3:
+        count, = struct.unpack_from("<h", content, at)
+        at, first = at + 2, first + 1
+        if 0 < count <= len(content) // 2:
+            try:
+                found[first - 1] = bytes(content[at:at + 2 * count]).decode("utf-16-le")
+            except UnicodeDecodeError:
+                wrong += 1
+            at += 2 * count
+    return found
+
+
+def _read_strings(pe: PE, leaf: _rows.Resource, directory: ResourceDirData, left: int) -> int:
+    """Adds the texts of a string table to its directory, and returns how many bytes further ones may have: those of a hostile image may all
+    be the same."""
+    size = len(leaf.content or b"")
+    if left >= 0 and left < size:
+        pe._limits.append("String tables have more bytes than the file. Those after them are left out.")
+    if left >= size and leaf.content is not None and isinstance(leaf.name, int):
+        directory.strings.update(_strings(leaf.content, (leaf.name - 1) * 16))
+    return left - size if left >= size else -1
+
+
 def _read_resources(pe: PE) -> ResourceDirData | None:
     """The tree of the leaves: types, names, languages."""
-    root = _first_directory(pe)
+    root, left = _first_directory(pe), len(pe.__data__)
     if root is None:
         return None
     types: dict[int | str, tuple[ResourceDirData, dict[int | str, ResourceDirData]]] = {}
@@ -646,6 +675,10 @@ def _read_resources(pe: PE) -> ResourceDirData | None:
         if leaf.name not in names:
             names[leaf.name] = _directory()
             its.entries.append(_named(leaf.name, directory=names[leaf.name]))
+            if leaf.type == RESOURCE_TYPE["RT_STRING"]:
+                names[leaf.name].strings = {}
+        if leaf.type == RESOURCE_TYPE["RT_STRING"]:
+            left = _read_strings(pe, leaf, names[leaf.name], left)
         language = leaf.language if isinstance(leaf.language, int) else 0
         data = Structure("IMAGE_RESOURCE_DATA_ENTRY", None, OffsetToData=leaf.rva, Size=leaf.size, CodePage=leaf.code_page)
         names[leaf.name].entries.append(_named(leaf.language, data=ResourceDataEntryData(
@@ -799,6 +832,16 @@ _READ = {"DIRECTORY_ENTRY_IMPORT": _read_imports, "DIRECTORY_ENTRY_DELAY_IMPORT"
          "FileInfo": _read_file_info, "VS_VERSIONINFO": _read_version_info, "VS_FIXEDFILEINFO": _read_fixed_info}
 
 
+# Fields of these directories that are addresses.
+_ADDRESSES = {
+    "DIRECTORY_ENTRY_TLS": ("StartAddressOfRawData", "EndAddressOfRawData", "AddressOfIndex", "AddressOfCallBacks"),
+    "DIRECTORY_ENTRY_LOAD_CONFIG": (
+        "LockPrefixTable", "EditList", "SecurityCookie", "SEHandlerTable", "GuardCFCheckFunctionPointer", "GuardCFDispatchFunctionPointer",
+        "GuardCFFunctionTable", "GuardAddressTakenIatEntryTable", "GuardLongJumpTargetTable", "DynamicValueRelocTable",
+        "CHPEMetadataPointer", "GuardRFFailureRoutine", "GuardRFFailureRoutineFunctionPointer",
+        "GuardRFVerifyStackPointerFunctionPointer", "EnclaveConfigurationPointer")}
+
+
 class PE:
     """An image, by pefile's names. It takes the name of a file, or its bytes as `data`."""
 
@@ -906,6 +949,12 @@ class PE:
         for it in self.get_warnings():
             print(">", it)
 
+    def get_resources_strings(self) -> list[str]:
+        """The texts of all string tables."""
+        root = getattr(self, "DIRECTORY_ENTRY_RESOURCE", None)
+        names = [it for kind in (root.entries if root else []) for it in kind.directory.entries]
+        return [text for it in names for text in it.directory.__dict__.get("strings", {}).values()]
+
     # ---- hashes
 
     def get_imphash(self) -> str:
@@ -975,6 +1024,44 @@ class PE:
 
     def set_qword_at_rva(self, rva: int, qword: int) -> bool:
         return self.set_bytes_at_rva(rva, self.get_data_from_qword(qword))
+
+    def relocate_image(self, new_ImageBase: int) -> None:
+        """Moves the addresses in the file to another base, by the base relocations. Raises PEFormatError, and changes nothing, where one is
+        damaged, outside of the file, or of a type that few machines have. Without a directory of relocations it does nothing."""
+        directories, difference = self.OPTIONAL_HEADER.DATA_DIRECTORY, new_ImageBase - self.OPTIONAL_HEADER.ImageBase
+        if len(directories) <= _image.IMAGE_DIRECTORY_ENTRY_BASERELOC or not directories[_image.IMAGE_DIRECTORY_ENTRY_BASERELOC].Size:
+            return
+        moves = list(self._moves(difference))
+        for name in ("DIRECTORY_ENTRY_IMPORT", "DIRECTORY_ENTRY_TLS", "DIRECTORY_ENTRY_LOAD_CONFIG"):
+            getattr(self, name, None)
+        for form, offset, move in moves:
+            number, = struct.unpack_from(form, self.__data__, offset)
+            self.set_data_bytes(offset, struct.pack(form, (number + move) % (1 << 8 * struct.calcsize(form))))
+        self.OPTIONAL_HEADER.ImageBase = new_ImageBase
+        self._move_fields(difference)
+
+    def _moves(self, difference: int) -> typing.Iterator[tuple[str, int, int]]:
+        """What the base relocations change: the format of a number, its offset, and what is added to it."""
+        if self._image.relocations.error or self._image.relocations.is_limited:
+            raise PEFormatError(f"base relocations that are not whole: {self._image.relocations.error or 'limited'}")
+        forms = {1: ("<H", difference >> 16), 2: ("<H", difference), 3: ("<I", difference), 10: ("<Q", difference)}
+        for it in (it for row in self._image.relocations for it in row.entries if it.kind):
+            if it.kind not in forms:
+                raise PEFormatError(f"base relocation of type {it.kind} at RVA 0x{it.rva:x}")
+            form, move = forms[it.kind]
+            offset = self._image.offset_of(it.rva)
+            if offset is None or offset + struct.calcsize(form) > len(self.__data__):
+                raise PEFormatError(f"base relocation outside of the file, at RVA 0x{it.rva:x}")
+            yield form, offset, move
+
+    def _move_fields(self, difference: int) -> None:
+        """Moves the addresses that were read. What the file has there its relocations moved."""
+        for dll in self.__dict__.get("DIRECTORY_ENTRY_IMPORT", ()):
+            for it in dll.imports:
+                it.address += difference
+        for name, fields in _ADDRESSES.items():
+            there = getattr(self.__dict__.get(name), "struct", Structure("")).__dict__
+            there.update({it: there[it] + difference for it in fields if there.get(it)})
 
     def merge_modified_section_data(self) -> None:
         """Does nothing: the data of sections are those of the file."""
