@@ -88,11 +88,11 @@ class Gaps(unittest.TestCase):
     """Without pefile: what the table names is missing, and says why."""
 
     def test_a_missing_field_has_no_value(self):
-        directory = opened("resources").DIRECTORY_ENTRY_RESOURCE.entries[0].directory.struct
-        self.assertFalse(hasattr(directory, "TimeDateStamp"))
+        config = opened("guards").DIRECTORY_ENTRY_LOAD_CONFIG.struct
+        self.assertFalse(hasattr(config, "Reserved2"))
         with self.assertRaises(NotInPeC) as caught:
-            directory.TimeDateStamp
-        self.assertEqual(caught.exception.reason, GAPS["IMAGE_RESOURCE_DIRECTORY below the first.TimeDateStamp"])
+            config.Reserved2
+        self.assertEqual(caught.exception.reason, GAPS["IMAGE_LOAD_CONFIG_DIRECTORY.Reserved2"])
 
     def test_the_first_resource_directory_has_each_field_of_the_file(self):
         with open(os.path.join(IMAGES, "resources.bin"), "rb") as file:
@@ -173,7 +173,7 @@ class Gaps(unittest.TestCase):
             pe.set_bytes_at_offset(0, "MZ")
 
     def test_what_is_not_written(self):
-        for change in (lambda pe: setattr(pe.DIRECTORY_ENTRY_RESOURCE.struct, "TimeDateStamp", 1),
+        for change in (lambda pe: setattr(pe.FileInfo[0][0], "Key", b"other"),
                        lambda pe: pe.FileInfo[0][0].StringTable[0].entries.__setitem__(b"CompanyName", b"Example"),
                        lambda pe: setattr(pe.VS_FIXEDFILEINFO[0], "FileVersionMS", 1)):
             pe = opened("resources")

@@ -900,6 +900,55 @@ static int range_and(PyObject *arguments, pe_c_range *out, unsigned int *id)
 }
 #define range_of(arguments, out) range_and(arguments, out, NULL)
 
+/* ---- the directories of resources, by their offsets in the tree */
+
+/* The tree, and a directory in it. */
+static uint32_t directory_of(Image *self, uint32_t offset, pe_c_range *tree, pe_c_resource_directory *out)
+{
+    pe_c_resource_walk walk = PE_C_EMPTY;
+    uint32_t result = pe_c_resource_leaves(VIEW, &walk);
+    *tree = walk.tree;
+    return result == PE_C_DONE ? pe_c_resource_directory_at(BYTES, tree, offset, out) : result;
+}
+
+/* resource_directory_at(offset): the directory, and the file offsets of the tree and of its entries. */
+static PyObject *resource_directory_at(Image *self, PyObject *argument)
+{
+    pe_c_range tree = PE_C_EMPTY;
+    pe_c_resource_directory item = PE_C_EMPTY;
+    uint32_t offset, result;
+    if (!rva_of(argument, &offset, &result))
+        return NULL;
+    OPEN_OWN
+    rows.result = result == PE_C_DONE ? directory_of(self, offset, &tree, &item) : result;
+    return answer(rows.result == PE_C_DONE ? Py_BuildValue("(NKK)", ROW_OF(resource_directory), (unsigned long long)tree.offset,
+                                                           (unsigned long long)item.entries.offset) : NULL, &rows);
+}
+
+/* An entry: the id or the name, the file offset of the name, the offset to which it leads, and whether a directory is there. */
+static PyObject *resource_item(Image *self, const pe_c_resource_item *it)
+{
+    return Py_BuildValue("(NKkN)", resource_name(self, it->name), (unsigned long long)it->name.name.offset, (unsigned long)it->offset,
+                         B(it->is_directory));
+}
+
+/* resource_items(offset): the entries of a directory. */
+static PyObject *resource_items(Image *self, PyObject *argument)
+{
+    pe_c_range tree = PE_C_EMPTY;
+    pe_c_resource_directory directory = PE_C_EMPTY;
+    pe_c_resource_item item = PE_C_EMPTY;
+    uint32_t offset, result;
+    if (!rva_of(argument, &offset, &result))
+        return NULL;
+    OPEN
+    rows = rows_of(self, &budget);
+    starts(&rows, result == PE_C_DONE ? directory_of(self, offset, &tree, &directory) : result);
+    EACH(&rows, pe_c_next_resource_item(BYTES, &tree, &directory.entries, &item),
+         takes(&rows, item.name.name.length) ? resource_item(self, &item) : NULL);
+    return finished(&rows);
+}
+
 static PyObject *version_blocks(Image *self, PyObject *arguments)
 {
     pe_c_range content;
@@ -1426,6 +1475,7 @@ static PyMethodDef methods[] = {
     WITHOUT(coff_header), WITHOUT(coff_strings), WITHOUT(symbols), WITHOUT(te_header), WITHOUT(te_symbol_key),
     WITHOUT(dump_memory64), WITHOUT(dump_runs), WITHOUT(checksum), WITHOUT(digest_ranges), WITHOUT(detach),
     WITH_ONE(offset_of), WITH_ONE(load_config_field), WITH_ONE(find_function), WITH_ONE(find_arm64_function), WITH_ONE(unwind_records),
+    WITH_ONE(resource_directory_at), WITH_ONE(resource_items),
     WITH_SOME(arm64_unwind), WITH_SOME(version_blocks), WITH_SOME(elements), WITH_SOME(name_attributes), WITH_SOME(attributes),
     WITH_SOME(frames), WITH_SOME(arm64_frames), WITH_SOME(histogram), WITH_SOME(attach), WITH_SOME(edited), WITH_ONE(mapped),
     {NULL, NULL, 0, NULL}};

@@ -5,7 +5,6 @@ Such a name is an attribute that is missing: hasattr() is False, and the error s
 from __future__ import annotations
 
 EXPORT = "the module has no offsets of the parts of an export"
-TREE = "the module lists resources, and of their directories has the first alone"
 LENGTHS = "the library for C returns version blocks without their lengths and offsets"
 CONFIG = "pefile joins the names of two fields of PE32; each has its own here"
 RESERVED = "the library for C does not return what is reserved"
@@ -26,11 +25,6 @@ def _all(reason: str, names: str, of: str = "") -> dict[str, str]:
 
 GAPS: dict[str, str] = {
     **_all(EXPORT, "ordinal_offset address_offset name_offset forwarder_offset", "ExportData."),
-    **_all(TREE, "Characteristics TimeDateStamp MajorVersion MinorVersion NumberOfNamedEntries NumberOfIdEntries",
-           "IMAGE_RESOURCE_DIRECTORY below the first."),
-    **_all(TREE, "OffsetToData NameOffset OffsetToDirectory", "IMAGE_RESOURCE_DIRECTORY_ENTRY."),
-    **_all(TREE, "Name Id OffsetToData NameOffset OffsetToDirectory", "IMAGE_RESOURCE_DIRECTORY_ENTRY of a name."),
-    **_all(TREE, "Reserved", "IMAGE_RESOURCE_DATA_ENTRY."),
     **_all(LENGTHS, "Length ValueLength Type", "VS_VERSIONINFO."),
     **_all(LENGTHS, "Length ValueLength Type", "StringFileInfo."),
     **_all(LENGTHS, "Length ValueLength Type entries_offsets", "StringTable."),

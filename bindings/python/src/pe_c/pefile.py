@@ -4,7 +4,7 @@ Names and values are those of pefile 2023.2.7, so names of DLLs and functions ar
 its attribute is asked for first, so fast_load makes no difference, and an image without one has no such attribute, as
 in pefile. A name that is not here is in the table of _pefile_gaps.py with why, and asking for it raises NotInPeC, an
 AttributeError: there are no values that stand for what was not read. An image is changed by `set_..` and by what is
-assigned to fields of headers, and `write` returns it; what was read before stays as it is.
+assigned to fields of headers and of resource directories, and `write` returns it; what was read before stays as it is.
 
 PE(..) raises PEFormatError where the headers are refused. After that methods raise PEFormatError alone, and no
 attribute raises but AttributeError. """
@@ -137,6 +137,10 @@ _LAYOUTS = {
         ("H", "SizeOfOptionalHeader Characteristics")),
     "IMAGE_OPTIONAL_HEADER": _optional("I", "BaseOfData"), "IMAGE_OPTIONAL_HEADER64": _optional("Q", ""),
     "IMAGE_DATA_DIRECTORY": _layout(("I", "VirtualAddress Size")),
+    "IMAGE_RESOURCE_DIRECTORY": _layout(
+        ("I", "Characteristics TimeDateStamp"), ("H", "MajorVersion MinorVersion NumberOfNamedEntries NumberOfIdEntries")),
+    "IMAGE_RESOURCE_DIRECTORY_ENTRY": _layout(("I", "Name OffsetToData")),
+    "IMAGE_RESOURCE_DATA_ENTRY": _layout(("I", "OffsetToData Size CodePage Reserved")),
     "IMAGE_SECTION_HEADER": _layout(
         ("8s", "Name"), ("I", "Misc,Misc_PhysicalAddress,Misc_VirtualSize VirtualAddress SizeOfRawData PointerToRawData "
                               "PointerToRelocations PointerToLinenumbers"),
@@ -600,38 +604,31 @@ def _read_debug(pe: PE) -> list[DebugData]:
                       entry=_read_record(pe, it)) for it in pe._image.debug_entries]
 
 
-def _named(value: int | str, **more: Any) -> ResourceDirEntryData:
-    """An entry of a directory. The upper two levels lead to directories, the last one to data: the library refuses
-    others."""
-    is_directory = int("directory" in more)
-    if isinstance(value, int):
-        entry = Structure(_ENTRY, None, Name=value, Id=value, DataIsDirectory=is_directory)
-    else:
-        entry = Structure(f"{_ENTRY} of a name", None, DataIsDirectory=is_directory)
-        entry.name = _ENTRY
-    is_name = isinstance(value, str)
-    return ResourceDirEntryData(struct=entry, name=UnicodeStringWrapperPostProcessor(value) if is_name else None,
-                                id=None if is_name else value, **more)
+_TOP_BIT = 0x80000000
 
 
-_ENTRY = "IMAGE_RESOURCE_DIRECTORY_ENTRY"
+def _entry(item: tuple[int | str, int, int, bool], tree: int, offset: int, **more: Any) -> ResourceDirEntryData:
+    """An entry of a directory, at a file offset. That of its name counts from the tree, and has the length first."""
+    name, name_offset, leads_to, is_directory = item
+    number = name if isinstance(name, int) else _TOP_BIT | (name_offset - 2 - tree)
+    entry = Structure("IMAGE_RESOURCE_DIRECTORY_ENTRY", offset, Name=number, OffsetToData=leads_to | (_TOP_BIT if is_directory else 0))
+    entry.__dict__.update(NameOffset=number & ~_TOP_BIT, Id=number & 0xFFFF, DataIsDirectory=int(is_directory), OffsetToDirectory=leads_to)
+    return ResourceDirEntryData(struct=entry, name=UnicodeStringWrapperPostProcessor(name) if isinstance(name, str) else None,
+                                id=name if isinstance(name, int) else None, **more)
 
 
-_TREE = "IMAGE_RESOURCE_DIRECTORY"
-
-
-def _directory() -> ResourceDirData:
-    directory = Structure(f"{_TREE} below the first")
-    directory.name = _TREE
-    return ResourceDirData(struct=directory, entries=[])
-
-
-def _first_directory(pe: PE) -> ResourceDirData | None:
-    it = pe._value("resource_root")
-    return None if it is None else ResourceDirData(struct=Structure(
-        _TREE, None, Characteristics=it.characteristics, TimeDateStamp=it.time_date_stamp, MajorVersion=it.major_version,
-        MinorVersion=it.minor_version, NumberOfNamedEntries=it.number_of_named_entries,
-        NumberOfIdEntries=it.number_of_id_entries), entries=[])
+def _directory(pe: PE, offset: int) -> tuple[ResourceDirData, int, list[tuple[int, tuple[int | str, int, int, bool]]]] | None:
+    """The directory at an offset of the tree, the file offset of the tree, and of the entries each with its file offset."""
+    found, number, _ = pe._image._read("resource_directory_at", offset)
+    if number or found is None:
+        return None
+    it, tree, entries = found
+    directory = Structure(
+        "IMAGE_RESOURCE_DIRECTORY", tree + offset, Characteristics=it.characteristics, TimeDateStamp=it.time_date_stamp,
+        MajorVersion=it.major_version, MinorVersion=it.minor_version, NumberOfNamedEntries=it.number_of_named_entries,
+        NumberOfIdEntries=it.number_of_id_entries)
+    items = pe._image._read("resource_items", offset)[0] or ()
+    return ResourceDirData(struct=directory, entries=[]), tree, [(entries + 8 * i, item) for i, item in enumerate(items)]
 
 
 def _strings(content: memoryview, first: int) -> dict[int, str]:
@@ -662,28 +659,45 @@ def _read_strings(pe: PE, leaf: _rows.Resource, directory: ResourceDirData, left
 
 
 def _read_resources(pe: PE) -> ResourceDirData | None:
-    """The tree of the leaves: types, names, languages."""
-    root, left = _first_directory(pe), len(pe.__data__)
-    if root is None:
-        return None
-    types: dict[int | str, tuple[ResourceDirData, dict[int | str, ResourceDirData]]] = {}
-    for leaf in pe._image.resources:
-        if leaf.type not in types:
-            types[leaf.type] = (_directory(), {})
-            root.entries.append(_named(leaf.type, directory=types[leaf.type][0]))
-        its, names = types[leaf.type]
-        if leaf.name not in names:
-            names[leaf.name] = _directory()
-            its.entries.append(_named(leaf.name, directory=names[leaf.name]))
-            if leaf.type == RESOURCE_TYPE["RT_STRING"]:
-                names[leaf.name].strings = {}
+    """The tree: types, names, languages, as far as its leaves are read, which come in the order of the entries of directories."""
+    tree = _Tree(pe)
+    root = tree.below(0, 0)
+    return root if root and root.entries else None
+
+
+class _Tree:
+    """The tree of resources as it is read: which leaves are left, and how many bytes string tables may still have."""
+
+    def __init__(self, pe: PE) -> None:
+        self.pe, self.left = pe, len(pe.__data__)
+        self.leaves = collections.deque(pe._image.resources)
+
+    def below(self, offset: int, level: int) -> ResourceDirData | None:
+        """A directory with all below it, none where no leaf is left."""
+        found = _directory(self.pe, offset)
+        if found is None:
+            return None
+        directory, tree, items = found
+        for place, item in items:
+            if not self.leaves:
+                break
+            if level == 2:
+                directory.entries.append(_entry(item, tree, place, data=self.data(directory, tree + item[2])))
+            elif (inner := self.below(item[2], level + 1)) is not None:
+                directory.entries.append(_entry(item, tree, place, directory=inner))
+        return directory
+
+    def data(self, directory: ResourceDirData, offset: int) -> ResourceDataEntryData:
+        """The data entry of the next leaf, which stands at a file offset."""
+        leaf = self.leaves.popleft()
+        reserved = self.pe.get_dword_from_offset(offset + 12) or 0
+        entry = Structure("IMAGE_RESOURCE_DATA_ENTRY", offset, OffsetToData=leaf.rva, Size=leaf.size, CodePage=leaf.code_page,
+                          Reserved=reserved)
         if leaf.type == RESOURCE_TYPE["RT_STRING"]:
-            left = _read_strings(pe, leaf, names[leaf.name], left)
+            directory.__dict__.setdefault("strings", {})
+            self.left = _read_strings(self.pe, leaf, directory, self.left)
         language = leaf.language if isinstance(leaf.language, int) else 0
-        data = Structure("IMAGE_RESOURCE_DATA_ENTRY", None, OffsetToData=leaf.rva, Size=leaf.size, CodePage=leaf.code_page)
-        names[leaf.name].entries.append(_named(leaf.language, data=ResourceDataEntryData(
-            struct=data, lang=language & 0x3FF, sublang=language >> 10)))
-    return root if root.entries else None
+        return ResourceDataEntryData(struct=entry, lang=language & 0x3FF, sublang=language >> 10)
 
 
 def _read_relocations(pe: PE) -> list[BaseRelocationData]:
@@ -1067,18 +1081,17 @@ class PE:
         """Does nothing: the data of sections are those of the file."""
 
     def write(self, filename: str | os.PathLike[str] | None = None) -> bytearray | None:
-        """The file with what was set in its bytes, and assigned to fields of its headers; into a file where that is named. Raises NotInPeC
-        where a field of another structure was assigned, whose place the library for C does not return, or a string of a version."""
+        """The file with what was set in its bytes, and assigned to fields of headers and of resource directories; into a file where that is
+        named. Raises NotInPeC where a field of another structure was assigned, whose place the library for C does not return, or a
+        string of a version."""
+        data = bytearray(self.__data__)
         headers = [self.DOS_HEADER, self.NT_HEADERS, self.FILE_HEADER, self.OPTIONAL_HEADER, *self.OPTIONAL_HEADER.DATA_DIRECTORY,
                    *self.sections]
-        known, data = {id(it) for it in headers}, bytearray(self.__data__)
-        for it in _structures([self.__dict__.get(name) for name in _READ]):
-            if it._changed - {"name"} and id(it) not in known:
+        for it in (it for it in [*headers, *_structures([self.__dict__.get(name) for name in _READ])] if it._changed):
+            if isinstance(it, _Texts) or it._offset is None or it._structure not in _LAYOUTS:
                 raise NotInPeC(f"{it.name}.{min(it._changed)} as it was assigned", _LOST)
-        for it in headers:
-            if it._changed:
-                packed, start = it.__pack__(), it.get_file_offset()
-                data[start:start + len(packed)] = packed
+            packed = it.__pack__()
+            data[it._offset:it._offset + len(packed)] = packed
         if not filename:
             return data
         with open(filename, "wb") as file:
