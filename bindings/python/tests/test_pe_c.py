@@ -493,6 +493,8 @@ class Allocations(unittest.TestCase):
         self.fails_in_turn(lambda: memory.frames((image,), base, bytes(4), piece, registers, 8))
         self.fails_in_turn(lambda: pe_c._core.write_version(bytes(52), b"", b"", b"", b""))
         core = pe_c._core.image(hostile.resources(1, 1, 1), 1, True, 0, True)[0]
+        self.fails_in_turn(lambda: core.resource_items(0))
+        self.fails_in_turn(lambda: core.resource_directory_at(0))
         self.fails_in_turn(lambda: core.edited(b"", b""))
 
 
