@@ -135,9 +135,11 @@ export class Caller {
     for (let count = FIRST; ; count = Math.min(MORE * count, most)) yield count;
   }
 
-  /** The items of a walk by a call that lists many of them, from where it is, with so many runs for each where the call reads names
-   * together. `cut` returns the walk with its next so many entries alone, or null at its end, for one that may skip entries. */
-  *many(name, walk, { runs = 0, cut, given = {} } = {}) {
+  /** The items of a walk by a call that lists many of them, from where it is, or of what starts one, with so many runs for each where the
+   * call reads names together. `cut` returns the walk with its next so many entries alone, or null at its end, for one that may skip entries. */
+  *many(name, start, { runs = 0, cut, given = {} } = {}) {
+    const walk = typeof start === 'function' ? start() : start;
+    if (!walk) return;
     for (const count of this.#counts()) {
       const part = cut ? cut(walk, count) : walk;
       if (!part) return;
@@ -159,9 +161,10 @@ export class Caller {
     }
   }
 
-  /** The items of a walk, from where it is. */
-  *items(name, walk, given = {}) {
-    for (;;) {
+  /** The items of a walk, from where it is, or of what starts one. */
+  *items(name, start, given = {}) {
+    const walk = typeof start === 'function' ? start() : start;
+    while (walk) {
       const item = this.call(name, { ...given, walk });
       if (item === null) return;
       yield item;

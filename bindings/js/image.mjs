@@ -65,12 +65,8 @@ export class Image extends File {
 
   /** The items of a list of the image, none where it is absent: see index.d.ts for the names. */
   list(name) {
-    return this.#items(...listOf(LISTS, name));
-  }
-
-  *#items(start, next, options) {
-    const walk = this.call(start);
-    if (walk) yield* options ? this.many(next, walk, options) : this.items(next, walk);
+    const [start, next, options] = listOf(LISTS, name), walk = () => this.call(start);
+    return options ? this.many(next, walk, options) : this.items(next, walk);
   }
 
   /** Makes an index of the sections, by which calls find one among many from then on: pe_c_index. */
