@@ -439,6 +439,20 @@ test('a stack walk comes to its end, and says which', () => {
   assert.equal(refused(() => library.process({ ...outside, modules: [{ bytes: new Uint8Array(9), base: 0n }] })).constant, 'PE_C_SHORT');
 });
 
+test('of a damaged function table the whole entries serve, and the process says so', () => {
+  const bytes = imageOfCalls(), image = library.open(bytes), size = image.headers().directories_offset + 8n * 3n + 4n;
+  const parts = { memory: stackBytes(), pieces: [{ start: ENTRY - 8n, offset: 0, length: stackBytes().length }] };
+  const rips = (process) => [...process.frames({ registers: frameRegisters(), remaining: 9n })].map((it) => it.registers.rip);
+  const whole = library.process({ ...parts, modules: [{ bytes, base: BASE }] });
+  new DataView(bytes.buffer).setUint32(Number(size), 47, true);
+  const damaged = library.process({ ...parts, modules: [{ bytes, base: BASE }, { size: 0x1000, base: 0x70000000n }] });
+  assert.deepEqual([whole.damaged, damaged.damaged[1], damaged.images[1]], [[null], null, null]);
+  assert.equal(damaged.damaged[0].call, 'pe_c_function_table');
+  // The last of four entries is not whole; the frames are of the others.
+  assert.deepEqual(rips(damaged), rips(whole));
+  assert.ok(refused(() => library.open(bytes).functionTable()));
+});
+
 test('a step returns the registers of the caller', () => {
   const image = opened('functions'), table = image.call('pe_c_function_table'), stack = stackBytes();
   const found = image.call('pe_c_find_function', { table, rva: 0x500C });
