@@ -9,9 +9,11 @@ SCHEMA = os.path.join(TOP, "docs", "pe.schema.json")
 ABOVE_DOUBLES = 1 << 53
 # What the JavaScript does not say, by the definitions of the schema; of an image whole parts that it has not.
 LACKING = {
-    "image": ["json_version", "file_hex", "file_kind", "hashes", "functions", "functions_error", "functions_is_limited", "bound_imports",
-              "bound_imports_error", "bound_imports_is_limited", "symbols", "symbols_error", "symbols_is_limited"],
-    "refused_file": ["json_version", "file_hex"], "headers": ["overlay", "symbol_server_path"], "section": ["entropy", "sha256_hex"],
+    "image": ["json_version", "file_hex", "file_kind", "hashes", "functions", "functions_error", "functions_is_limited",
+              "bound_imports", "bound_imports_error", "bound_imports_is_limited", "symbols", "symbols_error",
+              "symbols_is_limited"],
+    "refused_file": ["json_version", "file_hex"], "headers": ["overlay", "symbol_server_path"],
+    "section": ["entropy", "sha256_hex"],
     "debug": ["pdb20", "pdb20_error", "pogo", "pogo_error", "vc_features", "vc_features_error"], "pdb": ["symbol_server_path"],
     "version": ["fixed_language", "language", "strings", "languages", "languages_error", "languages_is_limited", "manifest",
                 "manifest_error"],
@@ -89,7 +91,8 @@ class Types:
                 parts.append(f"{about}export type {type_name(name)} = {self.of(schema)};")
                 continue
             fields = self.fields(schema, LACKING.get(name, ()), OWN.get(name, {}), needed)
-            lines = "".join(f"  {it};\n" for it in fields) if fields else f"  [name: string]: {self.of(schema['additionalProperties'])};\n"
+            fields = fields or [f"[name: string]: {self.of(schema['additionalProperties'])}"]
+            lines = "".join(f"  {it};\n" for it in fields)
             parts.append(f"{about}export interface {type_name(name)} {{\n{lines}}}")
         return parts
 

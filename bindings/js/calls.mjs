@@ -25,8 +25,8 @@ class Room {
   }
 }
 
-// How many items the first call of a list takes, and how many times as many the next one, up to most of these bytes: each may read a
-// text that is as long as the file, so calls stay few, and their room is of the file's size.
+// How many items the first call of a list takes, and how many times as many the next one, up to most of these bytes: each may
+// read a text that is as long as the file, so calls stay few, and their room is of the file's size.
 const FIRST = 16, MORE = 8, MOST = 1 << 16, BYTES_AN_ITEM = 64;
 
 let memoryIn, ownIn;
@@ -121,8 +121,8 @@ export class Caller {
     return BigInt(at);
   }
 
-  /** What a list call writes of so many items, with so many runs for each where it takes runs, and the index after them of a list by
-   * index. */
+  /** What a list call writes of so many items, with so many runs for each where it takes runs, and the index after them of a
+   * list by index. */
   #listed(name, given, count, runs) {
     const entries = new Room(count), [, type] = calls[name].find(([it]) => it === 'entries');
     const said = this.call(name, { ...given, entries, ...(runs && { runs: new Room(runs * count) }) });
@@ -135,8 +135,9 @@ export class Caller {
     for (let count = FIRST; ; count = Math.min(MORE * count, most)) yield count;
   }
 
-  /** The items of a walk by a call that lists many of them, from where it is, or of what starts one, with so many runs for each where the
-   * call reads names together. `cut` returns the walk with its next so many entries alone, or null at its end, for one that may skip entries. */
+  /** The items of a walk by a call that lists many of them, from where it is, or of what starts one, with so many runs for each
+   * where the call reads names together. `cut` returns the walk with its next so many entries alone, or null at its end, for
+   * one that may skip entries. */
   *many(name, start, { runs = 0, cut, given = {} } = {}) {
     const walk = typeof start === 'function' ? start() : start;
     if (!walk) return;

@@ -8,8 +8,9 @@ import { symbolsOf } from './symbols.mjs';
 
 const ARM64 = 0xAA64;
 
-// The lists of an image: the call that starts each, the one that returns its next item or many, and for calls that read names together
-// how many runs they take for each. The walk over exports skips names that are no text, so that it is cut in place of its end.
+// The lists of an image: the call that starts each, the one that returns its next item or many, and for calls that read names
+// together how many runs they take for each. The walk over exports skips names that are no text, so that it is cut in place of
+// its end.
 const LISTS = {
   debugEntries: ['pe_c_debug_entries', 'pe_c_next_debug_entry'],
   exports: ['pe_c_export_tables', 'pe_c_list_exports_together', { runs: 2, cut: nextNames }],
@@ -169,7 +170,8 @@ export class Image extends File {
     if (!table) return;
     const options = { runs: 1, given: { table } }, each = this.many('pe_c_list_bound_forwarders', copied(table), options);
     for (const found of this.many('pe_c_list_bound_imports', copied(table), options)) {
-      // The entries of all, of which the first is the DLL's own: lists of the forwarders of each would read a text that they share each.
+      // The entries of all, of which the first is the DLL's own: lists of the forwarders of each would read a text that they
+      // share each.
       each.next();
       yield { ...found, forwarders: Array.from({ length: Number(found.forwarders.length) / 8 }, () => each.next().value) };
     }

@@ -1,5 +1,5 @@
-// The parts of an image as values: what its lists and records say, with texts in place of ranges. A hostile image may have as many rows
-// as it likes, so each list ends where its rows are more than the bytes of the file account for, and says so.
+// The parts of an image as values: what its lists and records say, with texts in place of ranges. A hostile image may have as
+// many rows as it likes, so each list ends where its rows are more than the bytes of the file account for, and says so.
 import { constants } from './layouts.mjs';
 import { PeError } from './memory.mjs';
 import { algorithmOf, signerOf } from './signatures.mjs';
@@ -41,7 +41,8 @@ function attempt(read) {
   }
 }
 
-/** The rows that `of` makes of items, up to the error that ends them, or to an item of which it makes null: what is left is too much. */
+/** The rows that `of` makes of items, up to the error that ends them, or to an item of which it makes null: what is left is too
+ * much. */
 function rows(items, of) {
   const found = [];
   let isLimited = false;
@@ -60,7 +61,8 @@ function rows(items, of) {
 
 function functionsOf(image, items, budget) {
   const found = rows(items, (it) => (budget.takes(ITEM + (it.has_name ? Number(it.name.length) : 0)) ? {
-    name: it.has_name ? image.utf8(it.name) : null, ordinal: it.has_name ? null : it.ordinal, hint: it.has_name ? it.ordinal : null,
+    name: it.has_name ? image.utf8(it.name) : null,
+    ordinal: it.has_name ? null : it.ordinal, hint: it.has_name ? it.ordinal : null,
   } : null));
   return budget.inside(found, found.error);
 }
@@ -80,7 +82,8 @@ export function importsOf(image) {
 export function delayImportsOf(image) {
   const budget = new Budget(image);
   return rows(image.list('delayImports'), (library) => (budget.takes(ITEM + Number(library.name.length)) ? {
-    name: image.utf8(library.name), functions: functionsOf(image, image.delayedFunctions(library), budget), hasUnmappedList: false,
+    name: image.utf8(library.name), hasUnmappedList: false,
+    functions: functionsOf(image, image.delayedFunctions(library), budget),
   } : null));
 }
 
@@ -105,7 +108,8 @@ export function exportsOf(image) {
   if (!table.value) return Object.assign([], { error: table.error, isLimited: false });
   const text = (range) => (range ? image.utf8(range) : null), length = (range) => Number(range?.length ?? 0);
   return rows(exportedOf(image, table.value), ({ name, ordinal, rva, forwarder }) => (
-    budget.takes(ITEM + length(name) + length(forwarder)) ? { name: text(name), ordinal, rva, forwarder: text(forwarder) } : null));
+    budget.takes(ITEM + length(name) + length(forwarder))
+      ? { name: text(name), ordinal, rva, forwarder: text(forwarder) } : null));
 }
 
 // ---- version information and manifest
@@ -140,7 +144,8 @@ function versionOf(image, { language, content }) {
 /** Version information in each language. In a hostile image all may be the same bytes. */
 export function versionsOf(image) {
   let left = image.length;
-  const isVersion = (it) => !it.resource_type.has_name && it.resource_type.id === RT_VERSION && it.content_result === constants.PE_C_DONE;
+  const isVersion = ({ resource_type: type, content_result: result }) => (
+    !type.has_name && type.id === RT_VERSION && result === constants.PE_C_DONE);
   const found = rows(image.list('resourceLeaves'), (leaf) => {
     if (!isVersion(leaf)) return {};
     left -= Number(leaf.content.length) + FIXED;

@@ -15,14 +15,15 @@ function array(memory, type, values) {
 
 /** The whole entries of a function table that is damaged, as Windows divides its size: those that the bytes have. */
 function wholeEntries(image) {
-  const { virtual_address: rva, size } = image.info.directories[constants.PE_C_DIRECTORY_EXCEPTION], entry = image.info.machine === ARM64 ? 8 : 12;
-  const offset = image.call('pe_c_offset', { rva });
+  const { virtual_address: rva, size } = image.info.directories[constants.PE_C_DIRECTORY_EXCEPTION];
+  const entry = image.info.machine === ARM64 ? 8 : 12, offset = image.call('pe_c_offset', { rva });
   if (offset === null || offset > image.length) return {};
   const length = Math.min(size, image.length - Number(offset));
   return { offset, length: length - length % entry };
 }
 
-/** A module as calls take it: its image, its function table, and the address where it is loaded; and why the table is damaged, or null. */
+/** A module as calls take it: its image, its function table, and the address where it is loaded; and why the table is damaged,
+ * or null. */
 function moduleOf(image, base) {
   try {
     return [{ image: ownOf(image), table: image.functionTable() ?? {}, base }, null];
@@ -34,7 +35,8 @@ function moduleOf(image, base) {
 
 /** One whose image is not at hand, by its size. */
 function withoutImage(memory, { size, base }) {
-  const info = memory.reserve(width('pe_c_image_info')), none = { bytes: 0n, length: 0n, sections: 0n, count: 0n, index: 0n, entries: 0n };
+  const info = memory.reserve(width('pe_c_image_info'));
+  const none = { bytes: 0n, length: 0n, sections: 0n, count: 0n, index: 0n, entries: 0n };
   memory.write('pe_c_image_info', info, { size_of_image: size });
   return [{ image: { ...none, image: BigInt(info) }, table: {}, base }, null];
 }

@@ -972,8 +972,9 @@ test('bytes are an ArrayBuffer, any view, or those of another realm', () => {
   inside.set(bytes, 2);
   const shared = new SharedArrayBuffer(bytes.length);
   new Uint8Array(shared).set(bytes);
-  for (const it of [buffer, Buffer.from(bytes), new DataView(inside.buffer, 2, bytes.length), new Uint16Array(inside.buffer, 2, bytes.length / 2),
-    shared, runInNewContext('new Uint8Array(bytes).buffer', { bytes: [...bytes] })]) {
+  const views = [new DataView(inside.buffer, 2, bytes.length), new Uint16Array(inside.buffer, 2, bytes.length / 2)];
+  for (const it of [buffer, Buffer.from(bytes), ...views, shared,
+    runInNewContext('new Uint8Array(bytes).buffer', { bytes: [...bytes] })]) {
     const image = library.open(it);
     assert.deepEqual([image.length, image.sections.length, [...image.list('libraries')].length], [bytes.length, 1, 2]);
   }
@@ -1194,13 +1195,17 @@ test('lists return what steps do', () => {
     assert.deepEqual([...image.list(list)], found);
   }
   const of = (image, call, walk, given) => [...image.items(call, structuredClone(walk), given)];
-  const imports = opened('imports'), delayed = opened('delay_imports'), relocated = opened('relocations'), bound = opened('bound_imports');
-  for (const it of imports.list('libraries')) assert.deepEqual([...imports.imports(it)], of(imports, 'pe_c_next_import', { imports: it.imports }));
+  const imports = opened('imports'), delayed = opened('delay_imports');
+  const relocated = opened('relocations'), bound = opened('bound_imports');
+  for (const it of imports.list('libraries')) {
+    assert.deepEqual([...imports.imports(it)], of(imports, 'pe_c_next_import', { imports: it.imports }));
+  }
   for (const it of delayed.list('delayImports')) {
     assert.deepEqual([...delayed.delayedFunctions(it)], of(delayed, 'pe_c_next_delayed_function', { functions: it.functions }));
   }
   for (const it of relocated.list('relocationBlocks')) {
-    assert.deepEqual([...relocated.relocations(it)], of(relocated, 'pe_c_next_relocation', it.entries, { page_rva: it.page_rva }));
+    const found = of(relocated, 'pe_c_next_relocation', it.entries, { page_rva: it.page_rva });
+    assert.deepEqual([...relocated.relocations(it)], found);
   }
   const table = bound.call('pe_c_bound_imports'), each = of(bound, 'pe_c_next_bound_import', table, { table });
   assert.deepEqual([...bound.boundImports()],
@@ -1209,8 +1214,8 @@ test('lists return what steps do', () => {
 });
 
 test('tables return what their entries do', () => {
-  for (const [name, call, list] of [['functions', 'pe_c_function_at', 'functions'], ['arm64_functions', 'pe_c_arm64_function_at', 'functions'],
-    ['exports', 'pe_c_export_at', 'exportAddresses']]) {
+  for (const [name, call, list] of [['functions', 'pe_c_function_at', 'functions'],
+    ['arm64_functions', 'pe_c_arm64_function_at', 'functions'], ['exports', 'pe_c_export_at', 'exportAddresses']]) {
     const image = opened(name), table = name === 'exports' ? image.call('pe_c_export_addresses') : image.functionTable();
     const found = [...image[list]()];
     assert.ok(found.length);
@@ -1227,11 +1232,13 @@ test('tables return what their entries do', () => {
 /** An image with so many names of exports, which start in one text of so many bytes, each one later than the one before. */
 function namesInOneText(count, length) {
   const from = file('exports'), image = library.open(from), { virtual_address: rva } = image.info.directories[0];
-  const start = from.length + length, bytes = new Uint8Array(start + 6 * count).fill(0x41, from.length, start - 1), view = new DataView(bytes.buffer);
+  const start = from.length + length, bytes = new Uint8Array(start + 6 * count).fill(0x41, from.length, start - 1);
   bytes.set(from);
-  const at = Number(image.call('pe_c_offset', { rva })), [section] = image.sections, shift = section.virtual_address - section.pointer_to_raw_data;
+  const view = new DataView(bytes.buffer), at = Number(image.call('pe_c_offset', { rva })), [section] = image.sections;
+  const shift = section.virtual_address - section.pointer_to_raw_data;
   for (const field of [0x150, 0x158]) view.setUint32(field, bytes.length - section.pointer_to_raw_data, true);
-  for (const [field, value] of [[24, count], [32, start + shift], [36, start + 4 * count + shift]]) view.setUint32(at + field, value, true);
+  const tables = [[24, count], [32, start + shift], [36, start + 4 * count + shift]];
+  for (const [field, value] of tables) view.setUint32(at + field, value, true);
   for (let i = 0; i < count; i++) view.setUint32(start + 4 * i, from.length + shift + i, true);
   return library.open(bytes, { mode: constants.PE_C_PERMISSIVE });
 }
@@ -1254,30 +1261,35 @@ test('imports and exports as values', () => {
     ['KERNEL32.dll', [['Sleep', null, 42], [null, 17, null]], 'a.dll', [['f', null, 0]], []]);
   const { exports } = factsOf(library, file('exports'), 'a.dll'), found = opened('exports').exports();
   assert.deepEqual([found.error, found.isLimited], [null, false]);
-  assert.deepEqual(found.map((it) => it.ordinal).sort(), exports.entries.flatMap((it) => (it.names.length ? it.names : [0]).map(() => it.ordinal)).sort());
-  for (const it of exports.entries) for (const name of it.names.length ? it.names : [null]) {
-    assert.ok(found.some((one) => one.name === name && one.ordinal === it.ordinal && one.rva === it.rva && one.forwarder === it.forwarder));
-  }
+  const said = exports.entries.flatMap(({ names, ordinal, rva, forwarder }) => (
+    (names.length ? names : [null]).map((name) => ({ name, ordinal, rva, forwarder }))));
+  const order = (one, other) => one.ordinal - other.ordinal || String(one.name).localeCompare(String(other.name));
+  const ordered = (rows) => [...rows].sort(order);
+  assert.deepEqual(ordered(found), ordered(said));
   assert.deepEqual([...opened('tls').exports(), ...opened('tls').imports(), ...opened('tls').delayImports()], []);
-  const delayed = opened('delay_imports').delayImports(), said = factsOf(library, file('delay_imports'), 'a.dll').delay_imports;
-  assert.deepEqual(delayed.map((it) => [it.name, functions(it)]), said.map((it) => [it.name, functions(it)]));
+  const delayed = opened('delay_imports').delayImports(), others = factsOf(library, file('delay_imports'), 'a.dll').delay_imports;
+  assert.deepEqual(delayed.map((it) => [it.name, functions(it)]), others.map((it) => [it.name, functions(it)]));
   const damaged = opened('refused_import').imports();
   assert.ok(damaged.error instanceof PeError || damaged.some((it) => it.functions.error instanceof PeError));
 });
 
 test('version information and the manifest as values', () => {
-  const image = opened('resources'), [version] = image.versions(), { version: said } = factsOf(library, file('resources'), 'a.dll');
+  const image = opened('resources'), [version] = image.versions();
+  const { version: said } = factsOf(library, file('resources'), 'a.dll');
   assert.equal(version.fileVersion.join('.'), said.fixed.file_version);
   assert.equal(version.productVersion.join('.'), said.fixed.product_version);
   assert.equal(version.error, null);
-  for (const [name, text] of Object.entries(said.texts)) assert.ok(Object.values(version.strings).some((it) => it[name] === text), name);
+  for (const [name, text] of Object.entries(said.texts)) {
+    assert.ok(Object.values(version.strings).some((it) => it[name] === text), name);
+  }
   assert.ok(image.manifest() === null || image.manifest().startsWith('<'));
   assert.deepEqual([...opened('imports').versions(), opened('imports').manifest()], [null]);
 });
 
 const pending = [];
 test('signatures as values, and the digest that they are of', () => {
-  const image = opened('signature'), [signature] = image.signatures(), [said] = factsOf(library, file('signature'), 'a.dll').certificates;
+  const image = opened('signature'), [signature] = image.signatures();
+  const [said] = factsOf(library, file('signature'), 'a.dll').certificates;
   assert.deepEqual([signature.signer, signature.error], [said.signer, null]);
   assert.equal(signature.digest.length > 0, true);
   assert.deepEqual([...opened('imports').signatures()], []);

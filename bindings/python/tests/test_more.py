@@ -294,8 +294,8 @@ class Stacks(unittest.TestCase):
         image, other = pe_c.Image(bytes(data)), 0x70000000
         rva = next(it for it in range(0x5000, 0x5200) if image.unwind(it) is None)
         memory, registers = struct.pack("<2Q", other + 0x123, 0), self.registers(BASE + rva, 0x20000)
-        for modules, frames in (([(image, BASE)], 1), ([(image, BASE), (0x1000, other)], 2), ([(0x1000, other), (image, BASE)], 2),
-                                ([(image, BASE), (0x100, other)], 1)):
+        for modules, frames in (([(image, BASE)], 1), ([(image, BASE), (0x1000, other)], 2),
+                                ([(0x1000, other), (image, BASE)], 2), ([(image, BASE), (0x100, other)], 1)):
             stack = pe_c.walk(registers, modules, memory, [(0x20000, 0, 16)], 10)
             self.assertEqual([it.registers.rip for it in stack.frames], [BASE + rva, other + 0x123][:frames], modules)
         with self.assertRaises(struct.error):

@@ -153,7 +153,8 @@ class Gaps(unittest.TestCase):
         pe = ours.PE(path)
         self.assertEqual(bytes(pe.write()), before)
         pe.FILE_HEADER.TimeDateStamp, pe.sections[0].Misc = 0x01020304, 0x500
-        stamp, size = pe.FILE_HEADER.get_field_absolute_offset("TimeDateStamp"), pe.sections[0].get_field_absolute_offset("Misc_VirtualSize")
+        stamp = pe.FILE_HEADER.get_field_absolute_offset("TimeDateStamp")
+        size = pe.sections[0].get_field_absolute_offset("Misc_VirtualSize")
         self.assertTrue(pe.set_dword_at_offset(size + 28, 0x11223344))
         expected = bytearray(before)
         for offset, number in ((stamp, 0x01020304), (size, 0x500)):

@@ -1,4 +1,5 @@
-"""What some rows and headers say beside the fields of their records: versions as four numbers, paths on a symbol server, machines."""
+"""What some rows and headers say beside the fields of their records: versions as four numbers, paths on a symbol server,
+machines."""
 from __future__ import annotations
 
 import enum
@@ -91,11 +92,12 @@ def _add() -> None:
     """Gives rows, which are types of the extension, these properties. tools/make_python has them in the stubs."""
     of_pdb = "where a symbol server has the PDB, NAME/KEY/NAME; None where its name is no file's"
     for row, name, of, doc in (
-            (_core.FixedVersion, "file_version", lambda it: four(it.file_version_ms, it.file_version_ls), "the version of the file"),
+            (_core.FixedVersion, "file_version", lambda it: four(it.file_version_ms, it.file_version_ls),
+             "the version of the file"),
             (_core.FixedVersion, "product_version", lambda it: four(it.product_version_ms, it.product_version_ls),
              "the version of the product"),
-            (_core.SymbolKey, "symbol_path", lambda it: _path(it.name, f"{_guid(it.guid)}{it.age:X}") if _is_text(it.raw_name) else None,
-             of_pdb),
+            (_core.SymbolKey, "symbol_path",
+             lambda it: _path(it.name, f"{_guid(it.guid)}{it.age:X}") if _is_text(it.raw_name) else None, of_pdb),
             (_core.Pdb20, "symbol_path", lambda it: _path(it.name, f"{it.signature:08X}{it.age:X}"), of_pdb)):
         setattr(row, name, property(of, doc=doc))
 

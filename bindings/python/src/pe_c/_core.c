@@ -19,11 +19,11 @@
 /* What the bytes of an Image are. */
 enum { KIND_IMAGE, KIND_OBJECT, KIND_TE, KIND_BYTES };
 
-/* What a row costs, in bytes of the budget; to how many sections one such byte is equal, where the row's RVAs are mapped; how many
- * rows lists have whose entries may be the same bytes: each, or all of an exact image; how many levels version blocks have below
- * the first, of which real ones have three; how many frames a stack has; from how many sections on there is an index of them; how
- * many names are read together; how many refused lists inside of rows count as the bytes of an exact image; how many items the first
- * call of a list takes, and how many each further one. */
+/* What a row costs, in bytes of the budget; to how many sections one such byte is equal, where the row's RVAs are mapped; how
+ * many rows lists have whose entries may be the same bytes: each, or all of an exact image; how many levels version blocks have
+ * below the first, of which real ones have three; how many frames a stack has; from how many sections on there is an index of
+ * them; how many names are read together; how many refused lists inside of rows count as the bytes of an exact image; how many
+ * items the first call of a list takes, and how many each further one. */
 enum { ROW_COST = 16, SECTIONS_A_BYTE = 2, MOST_ROWS = 1 << 17, MOST_DEPTH = 8, MOST_FRAMES = 1 << 14, MANY_SECTIONS = 32, NAMES = 16,
        REFUSED = 16, FEW = 16, MANY = 2048 };
 
@@ -255,8 +255,8 @@ typedef uint32_t Listed(Image *self, void *walk, pe_c_run *runs, size_t run_coun
         return call; \
     }
 
-/* What a call wrote. The first call takes few, since most lists are short; the others many, without the GIL, and read a text that names
- * share once a call. */
+/* What a call wrote. The first call takes few, since most lists are short; the others many, without the GIL, and read a text
+ * that names share once a call. */
 typedef struct {
     void *items;
     pe_c_run *runs;
@@ -703,8 +703,8 @@ static int pays_without_text(Image *self, Rows *rows, const pe_c_exported *it)
 /* A walk over so many names of exports from an index on. */
 static pe_c_exports names_from(const pe_c_exports *all, uint64_t first, uint64_t count)
 {
-    return (pe_c_exports){{all->names.offset + 4 * first, 4 * count}, {all->ordinals.offset + 2 * first, 2 * count}, all->addresses, 0,
-                          all->directory};
+    return (pe_c_exports){{all->names.offset + 4 * first, 4 * count}, {all->ordinals.offset + 2 * first, 2 * count},
+                          all->addresses, 0, all->directory};
 }
 
 /* An export with a name, whose index is marked. */
@@ -718,8 +718,8 @@ static void add_export(Rows *rows, const pe_c_address_table *table, const pe_c_e
     append(rows, takes(rows, named->name.length) ? row_exported(rows->image, rows, &item, named) : NULL);
 }
 
-/* The exports of so many names, of which the walk skips some, as it does with those that are no texts: each name is a walk of its own,
- * after which what was read of it is paid for. They share the sections that the walk keeps. */
+/* The exports of so many names, of which the walk skips some, as it does with those that are no texts: each name is a walk of
+ * its own, after which what was read of it is paid for. They share the sections that the walk keeps. */
 static void add_one_by_one(Rows *rows, const pe_c_exports *part, const pe_c_address_table *table, uint8_t *is_named)
 {
     Image *self = rows->image;
@@ -928,8 +928,8 @@ static PyObject *resource_directory_at(Image *self, PyObject *argument)
 /* An entry: the id or the name, the file offset of the name, the offset to which it leads, and whether a directory is there. */
 static PyObject *resource_item(Image *self, const pe_c_resource_item *it)
 {
-    return Py_BuildValue("(NKkN)", resource_name(self, it->name), (unsigned long long)it->name.name.offset, (unsigned long)it->offset,
-                         B(it->is_directory));
+    return Py_BuildValue("(NKkN)", resource_name(self, it->name), (unsigned long long)it->name.name.offset,
+                         (unsigned long)it->offset, B(it->is_directory));
 }
 
 /* resource_items(offset): the entries of a directory. */
@@ -1126,8 +1126,8 @@ static void uses(PyObject *images, int change)
             ((Image *)PyTuple_GetItem(images, i))->users += change;
 }
 
-/* The function table of a module. Of one that is damaged the whole entries serve, as Windows divides its size: those that the bytes
- * have. */
+/* The function table of a module. Of one that is damaged the whole entries serve, as Windows divides its size: those that the
+ * bytes have. */
 static pe_c_range functions_of(Image *self)
 {
     pe_c_range table = PE_C_EMPTY;
@@ -1152,8 +1152,8 @@ METHOD(function_table)
     return answer(rows.result == PE_C_DONE ? view_of(self, item) : NULL, &rows);
 }
 
-/* The modules, each an image or None, the address where it is loaded and the size of what has no image, in an array that the caller
- * frees. They stay valid as long as the images are open. The records of those without an image are after the modules. */
+/* The modules, each an image or None, the address where it is loaded and the size of what has no image, in an array that the
+ * caller frees. They stay valid as long as the images are open. The records of those without an image are after the modules. */
 static pe_c_module *modules_in(State *state, PyObject *images, PyObject *bases, PyObject *sizes)
 {
     size_t count = (size_t)PyTuple_Size(images);
@@ -1180,8 +1180,8 @@ static pe_c_module *modules_in(State *state, PyObject *images, PyObject *bases, 
     return modules;
 }
 
-/* frames(images, bases, sizes, pieces, registers, most) walks a stack in this memory, without the GIL: of each frame a row, and last one
- * of the walk as it ended. Bases, sizes, pieces and registers are the numbers of pe.h's records, in bytes. */
+/* frames(images, bases, sizes, pieces, registers, most) walks a stack in this memory, without the GIL: of each frame a row, and
+ * last one of the walk as it ended. Bases, sizes, pieces and registers are the numbers of pe.h's records, in bytes. */
 #define WALK(name, Walk, call, row) \
     static PyObject *name(Image *self, PyObject *arguments) \
     { \
@@ -1402,7 +1402,8 @@ static uint32_t sections_of(Image *self, size_t most)
     return result;
 }
 
-/* Reads the headers, without the GIL: no one else has the image yet. Returns the library's result, or PE_C_MEMORY with an exception. */
+/* Reads the headers, without the GIL: no one else has the image yet. Returns the library's result, or PE_C_MEMORY with an
+ * exception. */
 static uint32_t reads(Image *self, unsigned int mode)
 {
     uint32_t result;
@@ -1471,7 +1472,8 @@ static PyMethodDef methods[] = {
     MADE_METHODS
     {"sections", (PyCFunction)section_headers, METH_NOARGS, NULL}, {"close", (PyCFunction)close_image, METH_NOARGS, NULL},
     WITHOUT(headers), WITHOUT(clr_metadata), WITHOUT(embedded_pdb), WITHOUT(pdb_checksum), WITHOUT(bound_imports),
-    WITHOUT(relocations), WITHOUT(certificates), WITHOUT(exports), WITHOUT(functions), WITHOUT(arm64_functions), WITHOUT(function_table),
+    WITHOUT(relocations), WITHOUT(certificates), WITHOUT(exports), WITHOUT(functions), WITHOUT(arm64_functions),
+    WITHOUT(function_table),
     WITHOUT(coff_header), WITHOUT(coff_strings), WITHOUT(symbols), WITHOUT(te_header), WITHOUT(te_symbol_key),
     WITHOUT(dump_memory64), WITHOUT(dump_runs), WITHOUT(checksum), WITHOUT(digest_ranges), WITHOUT(detach),
     WITH_ONE(offset_of), WITH_ONE(load_config_field), WITH_ONE(find_function), WITH_ONE(find_arm64_function), WITH_ONE(unwind_records),

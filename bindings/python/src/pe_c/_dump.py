@@ -61,7 +61,8 @@ class Stack(typing.NamedTuple):
     address: int
     """what the error of a step speaks of"""
     warnings: tuple[ImageWarning, ...] = ()
-    """of modules whose function table is damaged: of these the whole entries serve, and frames of their code may be missing or wrong"""
+    """of modules whose function table is damaged: of these the whole entries serve, and frames of their code may be missing or
+    wrong"""
 
 
 def _named(number: int, table: dict[int, str]) -> str:
@@ -70,9 +71,9 @@ def _named(number: int, table: dict[int, str]) -> str:
 
 def walk(registers: Registers | Arm64Registers, modules: typing.Iterable[AnyModule], memory: _typeshed.ReadableBuffer,
          pieces: typing.Iterable[Piece], most: int = 1000) -> Stack:
-    """Walks a stack from the registers of a thread, x64's or ARM64's: through modules, each an image, or its size in memory where that is
-    not at hand, and the address where it is loaded, over pieces of memory, each an address, an offset in `memory` and a length. At most
-    `most` frames, 16,384 or fewer. An address is that of the first module that has it.
+    """Walks a stack from the registers of a thread, x64's or ARM64's: through modules, each an image, or its size in memory
+    where that is not at hand, and the address where it is loaded, over pieces of memory, each an address, an offset in `memory`
+    and a length. At most `most` frames, 16,384 or fewer. An address is that of the first module that has it.
 
     Raises Error where a piece is not inside the memory."""
     core, _ = _core.image(memory, 0, True, BYTES, False)
@@ -107,7 +108,8 @@ def _damaged_table(image: Image, base: int) -> list[ImageWarning]:
     return [ImageWarning(WarningKind.DAMAGED, part, f"{error.text}: its whole entries serve", error, image.path)]
 
 
-def _walk(core: _core.Image, registers: Registers | Arm64Registers, modules: _Packed, places: bytes, most: int, path: str | None) -> Stack:
+def _walk(core: _core.Image, registers: Registers | Arm64Registers, modules: _Packed, places: bytes, most: int,
+          path: str | None) -> Stack:
     numbers = [it for field in registers for it in (field if isinstance(field, tuple) else (field,))]
     call: Any = core.frames if isinstance(registers, Registers) else core.arm64_frames
     rows, number, is_limited = call(*modules[:3], places, struct.pack(f"<{len(numbers)}Q", *numbers), max(most, 0))
@@ -116,7 +118,8 @@ def _walk(core: _core.Image, registers: Registers | Arm64Registers, modules: _Pa
     frames: Part[AnyFrame] = Part(rows[:-1])
     frames.is_limited = is_limited
     last = rows[-1]
-    return Stack(frames, End(last.end), error_of(last.error, "stack walk", path) if last.error else None, last.address, modules.warnings)
+    error = error_of(last.error, "stack walk", path) if last.error else None
+    return Stack(frames, End(last.end), error, last.address, modules.warnings)
 
 
 class Dump(Reader):
@@ -325,9 +328,9 @@ class Dump(Reader):
         return walked
 
     def _images(self, look_up: typing.Callable[[DumpModule], Image | None] | None) -> tuple[list[AnyModule], bool]:
-        """The images of the modules, or the sizes of those that are not at hand, and their addresses, in the order of the dump; and whether
-        some were left out. In a hostile dump all modules may be the same bytes, with as many sections as there can be: further images
-        are not read where they have too many bytes or sections together."""
+        """The images of the modules, or the sizes of those that are not at hand, and their addresses, in the order of the dump;
+        and whether some were left out. In a hostile dump all modules may be the same bytes, with as many sections as there can
+        be: further images are not read where they have too many bytes or sections together."""
         found: list[AnyModule] = []
         left, sections = MOST_READINGS * len(self.memory), MOST_SECTIONS
         for it in self.modules[:MOST_IMAGES]:

@@ -266,8 +266,8 @@ class Image(Reader):
 
     @property
     def symbol_path(self) -> str | None:
-        """Where a symbol server has the PDB of the image, NAME/KEY/NAME: by PDB 7.0, else by PDB 2.0. None where there is neither, and
-        for a name that is no file's."""
+        """Where a symbol server has the PDB of the image, NAME/KEY/NAME: by PDB 7.0, else by PDB 2.0. None where there is
+        neither, and for a name that is no file's."""
         record: SymbolKey | Pdb20 | None = self.symbol_key or self.pdb20
         path: str | None = record and record.symbol_path
         return path
@@ -608,8 +608,8 @@ class Image(Reader):
 
 
 def open(path: AnyFile, mode: Mode = Mode.PERMISSIVE, *, limit: int = 1 << 32) -> Image:
-    """The image of a file, by its path or open in binary mode, which is read whole: a file that is mapped, and that another program
-    truncates, would end this one.
+    """The image of a file, by its path or open in binary mode, which is read whole: a file that is mapped, and that another
+    program truncates, would end this one.
 
     Raises Error where its headers are refused, and OSError where it can't be read or has more than `limit` bytes.
     """

@@ -22,8 +22,8 @@ AnyFile = typing.Union[str, "os.PathLike[str]", typing.BinaryIO]
 
 
 def content_of(file: AnyFile, limit: int) -> tuple[bytes, str | None]:
-    """A file whole, and its path: one that is mapped, and that another program truncates, would end this one. Of a file that is open what
-    follows its position."""
+    """A file whole, and its path: one that is mapped, and that another program truncates, would end this one. Of a file that is
+    open what follows its position."""
     if isinstance(file, (str, os.PathLike)):
         name = os.fspath(file)
         with io.open(name, "rb", buffering=0) as opened:

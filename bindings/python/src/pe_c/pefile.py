@@ -119,18 +119,20 @@ def _layout(*parts: tuple[str, str]) -> list[tuple[str, list[str]]]:
 
 def _optional(address: str, base_of_data: str) -> list[tuple[str, list[str]]]:
     return _layout(
-        ("H", "Magic"), ("B", "MajorLinkerVersion MinorLinkerVersion"), ("I", "SizeOfCode SizeOfInitializedData SizeOfUninitializedData "
-         f"AddressOfEntryPoint BaseOfCode {base_of_data}"), (address, "ImageBase"), ("I", "SectionAlignment FileAlignment"),
+        ("H", "Magic"), ("B", "MajorLinkerVersion MinorLinkerVersion"),
+        ("I", f"SizeOfCode SizeOfInitializedData SizeOfUninitializedData AddressOfEntryPoint BaseOfCode {base_of_data}"),
+        (address, "ImageBase"), ("I", "SectionAlignment FileAlignment"),
         ("H", "MajorOperatingSystemVersion MinorOperatingSystemVersion MajorImageVersion MinorImageVersion MajorSubsystemVersion "
          "MinorSubsystemVersion"), ("I", "Reserved1 SizeOfImage SizeOfHeaders CheckSum"), ("H", "Subsystem DllCharacteristics"),
-        (address, "SizeOfStackReserve SizeOfStackCommit SizeOfHeapReserve SizeOfHeapCommit"), ("I", "LoaderFlags NumberOfRvaAndSizes"))
+        (address, "SizeOfStackReserve SizeOfStackCommit SizeOfHeapReserve SizeOfHeapCommit"),
+        ("I", "LoaderFlags NumberOfRvaAndSizes"))
 
 
 # The fields of structures as they stand in the file, of those whose place is known.
 _LAYOUTS = {
     "IMAGE_DOS_HEADER": _layout(
-        ("H", "e_magic e_cblp e_cp e_crlc e_cparhdr e_minalloc e_maxalloc e_ss e_sp e_csum e_ip e_cs e_lfarlc e_ovno"), ("8s", "e_res"),
-        ("H", "e_oemid e_oeminfo"), ("20s", "e_res2"), ("I", "e_lfanew")),
+        ("H", "e_magic e_cblp e_cp e_crlc e_cparhdr e_minalloc e_maxalloc e_ss e_sp e_csum e_ip e_cs e_lfarlc e_ovno"),
+        ("8s", "e_res"), ("H", "e_oemid e_oeminfo"), ("20s", "e_res2"), ("I", "e_lfanew")),
     "IMAGE_NT_HEADERS": _layout(("I", "Signature")),
     "IMAGE_FILE_HEADER": _layout(
         ("H", "Machine NumberOfSections"), ("I", "TimeDateStamp PointerToSymbolTable NumberOfSymbols"),
@@ -611,8 +613,10 @@ def _entry(item: tuple[int | str, int, int, bool], tree: int, offset: int, **mor
     """An entry of a directory, at a file offset. That of its name counts from the tree, and has the length first."""
     name, name_offset, leads_to, is_directory = item
     number = name if isinstance(name, int) else _TOP_BIT | (name_offset - 2 - tree)
-    entry = Structure("IMAGE_RESOURCE_DIRECTORY_ENTRY", offset, Name=number, OffsetToData=leads_to | (_TOP_BIT if is_directory else 0))
-    entry.__dict__.update(NameOffset=number & ~_TOP_BIT, Id=number & 0xFFFF, DataIsDirectory=int(is_directory), OffsetToDirectory=leads_to)
+    data = leads_to | (_TOP_BIT if is_directory else 0)
+    entry = Structure("IMAGE_RESOURCE_DIRECTORY_ENTRY", offset, Name=number, OffsetToData=data)
+    entry.__dict__.update(NameOffset=number & ~_TOP_BIT, Id=number & 0xFFFF, DataIsDirectory=int(is_directory),
+                          OffsetToDirectory=leads_to)
     return ResourceDirEntryData(struct=entry, name=UnicodeStringWrapperPostProcessor(name) if isinstance(name, str) else None,
                                 id=name if isinstance(name, int) else None, **more)
 
@@ -648,8 +652,8 @@ def _strings(content: memoryview, first: int) -> dict[int, str]:
 
 
 def _read_strings(pe: PE, leaf: _rows.Resource, directory: ResourceDirData, left: int) -> int:
-    """Adds the texts of a string table to its directory, and returns how many bytes further ones may have: those of a hostile image may all
-    be the same."""
+    """Adds the texts of a string table to its directory, and returns how many bytes further ones may have: those of a hostile
+    image may all be the same."""
     size = len(leaf.content or b"")
     if left >= 0 and left < size:
         pe._limits.append("String tables have more bytes than the file. Those after them are left out.")
@@ -850,9 +854,10 @@ _READ = {"DIRECTORY_ENTRY_IMPORT": _read_imports, "DIRECTORY_ENTRY_DELAY_IMPORT"
 _ADDRESSES = {
     "DIRECTORY_ENTRY_TLS": ("StartAddressOfRawData", "EndAddressOfRawData", "AddressOfIndex", "AddressOfCallBacks"),
     "DIRECTORY_ENTRY_LOAD_CONFIG": (
-        "LockPrefixTable", "EditList", "SecurityCookie", "SEHandlerTable", "GuardCFCheckFunctionPointer", "GuardCFDispatchFunctionPointer",
-        "GuardCFFunctionTable", "GuardAddressTakenIatEntryTable", "GuardLongJumpTargetTable", "DynamicValueRelocTable",
-        "CHPEMetadataPointer", "GuardRFFailureRoutine", "GuardRFFailureRoutineFunctionPointer",
+        "LockPrefixTable", "EditList", "SecurityCookie", "SEHandlerTable", "GuardCFCheckFunctionPointer",
+        "GuardCFDispatchFunctionPointer", "GuardCFFunctionTable", "GuardAddressTakenIatEntryTable",
+        "GuardLongJumpTargetTable", "DynamicValueRelocTable", "CHPEMetadataPointer",
+        "GuardRFFailureRoutine", "GuardRFFailureRoutineFunctionPointer",
         "GuardRFVerifyStackPointerFunctionPointer", "EnclaveConfigurationPointer")}
 
 
@@ -871,7 +876,8 @@ class PE:
         self._limits: list[str] = []
         self._view = self._image.memory
         whole = self._view.obj
-        self.__data__: bytes | bytearray = whole if isinstance(whole, bytes) and len(whole) == len(self._view) else bytes(self._view)
+        self.__data__: bytes | bytearray = (
+            whole if isinstance(whole, bytes) and len(whole) == len(self._view) else bytes(self._view))
         self._read_headers()
 
     # ---- headers
@@ -1040,10 +1046,11 @@ class PE:
         return self.set_bytes_at_rva(rva, self.get_data_from_qword(qword))
 
     def relocate_image(self, new_ImageBase: int) -> None:
-        """Moves the addresses in the file to another base, by the base relocations. Raises PEFormatError, and changes nothing, where one is
-        damaged, outside of the file, or of a type that few machines have. Without a directory of relocations it does nothing."""
+        """Moves the addresses in the file to another base, by the base relocations. Raises PEFormatError, and changes nothing,
+        where one is damaged, outside of the file, or of a type that few machines have. Without a directory of relocations it
+        does nothing."""
         directories, difference = self.OPTIONAL_HEADER.DATA_DIRECTORY, new_ImageBase - self.OPTIONAL_HEADER.ImageBase
-        if len(directories) <= _image.IMAGE_DIRECTORY_ENTRY_BASERELOC or not directories[_image.IMAGE_DIRECTORY_ENTRY_BASERELOC].Size:
+        if not any(it.Size for it in directories[_image.IMAGE_DIRECTORY_ENTRY_BASERELOC:][:1]):
             return
         moves = list(self._moves(difference))
         for name in ("DIRECTORY_ENTRY_IMPORT", "DIRECTORY_ENTRY_TLS", "DIRECTORY_ENTRY_LOAD_CONFIG"):
@@ -1081,9 +1088,9 @@ class PE:
         """Does nothing: the data of sections are those of the file."""
 
     def write(self, filename: str | os.PathLike[str] | None = None) -> bytearray | None:
-        """The file with what was set in its bytes, and assigned to fields of headers and of resource directories; into a file where that is
-        named. Raises NotInPeC where a field of another structure was assigned, whose place the library for C does not return, or a
-        string of a version."""
+        """The file with what was set in its bytes, and assigned to fields of headers and of resource directories; into a file
+        where that is named. Raises NotInPeC where a field of another structure was assigned, whose place the library for C does
+        not return, or a string of a version."""
         data = bytearray(self.__data__)
         headers = [self.DOS_HEADER, self.NT_HEADERS, self.FILE_HEADER, self.OPTIONAL_HEADER, *self.OPTIONAL_HEADER.DATA_DIRECTORY,
                    *self.sections]
