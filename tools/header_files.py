@@ -5,6 +5,7 @@ import json
 import os
 import re
 
+from facts_types import facts_d_ts
 from header import TOP, WIDTHS, Unknown
 
 MADE = "/* tools/make_targets makes this file of bindings/pe.h. */\n"
@@ -174,6 +175,23 @@ def js_parameters(call):
     return rows
 
 
+# How a number of each type is read of a DataView.
+READ = {"uint8_t": "v.getUint8({})", "uint16_t": "v.getUint16({}, true)", "int16_t": "v.getInt16({}, true)",
+        "uint32_t": "v.getUint32({}, true)", "uint64_t": "v.getBigUint64({}, true)", "size_t": "v.getBigUint64({}, true)"}
+
+
+def reader(record, header):
+    """The function that reads a record: an object that has its fields from the first on, as engines make fast."""
+    fields = []
+    for name, kind, offset, count in fields_of(record):
+        size = WIDTHS.get(kind) or (header.records[kind].size if kind in header.records else 8)
+        read = READ.get(kind) or (f"read.{kind}(v, {{}})" if kind in header.records else READ["uint64_t"])
+        at = f"at + {offset}" if offset else "at"
+        one = read.format(f"{at} + {size} * i") if count else read.format(at)
+        fields.append(f"{name}: Array.from({{ length: {count} }}, (_, i) => {one})" if count else f"{name}: {one}")
+    return f"  {record.name}: (v, at) => ({{ {', '.join(fields)} }}),\n"
+
+
 def layouts_mjs(header):
     records = {name: [it.size, fields_of(it)] for name, it in header.records.items()}
     calls = {name: js_parameters(it) for name, it in header.calls.items() if is_in_js(name)}
@@ -183,7 +201,8 @@ def layouts_mjs(header):
     for name, value in (("records", records), ("constants", header.constants), ("results", results), ("calls", calls)):
         rows = "".join(f"  {json.dumps(key)}: {json.dumps(it)},\n" for key, it in value.items())
         lines.append(f"export const {name} = {{\n{rows}}};")
-    return "\n".join(lines) + "\n"
+    readers = "".join(reader(it, header) for it in header.records.values())
+    return "\n".join([*lines, f"export const read = {{\n{readers}}};"]) + "\n"
 
 
 def names_mjs(_header):
@@ -283,7 +302,7 @@ FILES = {"calls.h": calls_h, "names.h": names_h, "layouts.c": layouts_c, "pe_c.d
          "pe_portable.c": portable_c, "checked.h": checked_h, "checked.c": checked_c,
          "renames": lambda header: "".join(f"{name} sysv_{name}\n" for name in header.calls),
          "pe.json": lambda header: json.dumps(json_of(header), indent=1) + "\n",
-         "layouts.mjs": layouts_mjs, "names.mjs": names_mjs, "index.d.ts": index_d_ts}
+         "layouts.mjs": layouts_mjs, "names.mjs": names_mjs, "index.d.ts": index_d_ts, "facts.d.ts": facts_d_ts}
 
 
 def make(folder, header, names=tuple(FILES)):

@@ -11,7 +11,7 @@ from targets import BINDINGS, run
 SOURCES = os.path.join(BINDINGS, "js")
 # What of the sources is in the package; the rest makes it or tests it.
 FILES = ["index.mjs", "browser.mjs", "library.mjs", "memory.mjs", "calls.mjs", "image.mjs", "symbols.mjs", "objects.mjs",
-         "dump.mjs", "process.mjs", "resources.mjs", "signatures.mjs", "metadata.mjs", "facts.mjs", "facts.d.ts",
+         "dump.mjs", "process.mjs", "resources.mjs", "signatures.mjs", "metadata.mjs", "parts.mjs", "facts.mjs",
          "pe-js.mjs", "README.md"]
 
 
@@ -25,7 +25,7 @@ def write_package(wasm, folder, build):
     for name in ("pe_c.wasm", "pe_c64.wasm"):
         shutil.copyfile(os.path.join(wasm, name), os.path.join(folder, name))
     shutil.copyfile(os.path.join(TOP, "LICENSE"), os.path.join(folder, "LICENSE"))
-    header_files.make(folder, header, ["layouts.mjs", "names.mjs", "index.d.ts"])
+    header_files.make(folder, header, ["layouts.mjs", "names.mjs", "index.d.ts", "facts.d.ts"])
     with open(os.path.join(SOURCES, "package.json.in"), encoding="utf-8") as file:
         text = file.read().replace("@VERSION@", header.version)
     for name, content in (("package.json", text), ("BUILD", build)):

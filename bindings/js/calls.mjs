@@ -18,6 +18,17 @@ function expected(name, given, own) {
   return parameters;
 }
 
+/** Room for so many records that a call fills: `many` reads them before the next call. */
+class Room {
+  constructor(length) {
+    this.length = length;
+  }
+}
+
+// How many items the first call of a list takes, and how many times as many the next one, up to most of these bytes: each may
+// read a text that is as long as the file, so calls stay few, and their room is of the file's size.
+const FIRST = 16, MORE = 8, MOST = 1 << 16, BYTES_AN_ITEM = 64;
+
 let memoryIn, ownIn;
 /** The memory of what makes calls, and the arguments that it passes itself, for the files of this package. */
 export const memoryOf = (caller) => memoryIn(caller), ownOf = (caller) => ownIn(caller);
@@ -87,8 +98,10 @@ export class Caller {
   #array(filled, [own, type, way], given) {
     const values = given[own] ?? [], memory = this.#memory, size = width(type);
     const at = memory.reserve(values.length * size);
-    if (type === 'uint8_t') new Uint8Array(memory.exports.memory.buffer, at, values.length).set(values);
+    if (values instanceof Room) values.at = at;
+    else if (type === 'uint8_t') new Uint8Array(memory.exports.memory.buffer, at, values.length).set(values);
     else values.forEach((it, i) => memory.write(type, at + i * size, it));
+    if (values instanceof Room) return BigInt(at);
     if (way === 'out' && type === 'uint8_t') filled.push(() => values.set(memory.bytes(at, values.length)));
     else if (way === 'out') filled.push(() => values.forEach((_, i) => { values[i] = memory.read(type, at + i * size); }));
     return BigInt(at);
@@ -108,9 +121,51 @@ export class Caller {
     return BigInt(at);
   }
 
-  /** The items of a walk, from where it is. */
-  *items(name, walk, given = {}) {
-    for (;;) {
+  /** What a list call writes of so many items, with so many runs for each where it takes runs, and the index after them of a
+   * list by index. */
+  #listed(name, given, count, runs) {
+    const entries = new Room(count), [, type] = calls[name].find(([it]) => it === 'entries');
+    const said = this.call(name, { ...given, entries, ...(runs && { runs: new Room(runs * count) }) });
+    return { found: this.#memory.readAll(type, entries.at, Number(said.written ?? said)), next: said.next };
+  }
+
+  /** How many items the calls of a list take, one after the other. */
+  *#counts() {
+    const most = Math.max(MOST, Math.floor(Number(this.#own.length ?? 0n) / BYTES_AN_ITEM));
+    for (let count = FIRST; ; count = Math.min(MORE * count, most)) yield count;
+  }
+
+  /** The items of a walk by a call that lists many of them, from where it is, or of what starts one, with so many runs for each
+   * where the call reads names together. `cut` returns the walk with its next so many entries alone, or null at its end, for
+   * one that may skip entries. */
+  *many(name, start, { runs = 0, cut, given = {} } = {}) {
+    const walk = typeof start === 'function' ? start() : start;
+    if (!walk) return;
+    for (const count of this.#counts()) {
+      const part = cut ? cut(walk, count) : walk;
+      if (!part) return;
+      const { found } = this.#listed(name, { ...given, walk: part }, count, runs);
+      for (let i = 0; i < found.length; i++) yield found[i];
+      if (cut) walk.next = part.next;
+      else if (!found.length) return;
+    }
+  }
+
+  /** The same of a list by index. */
+  *indexed(name, given, runs = 0) {
+    let next = 0n;
+    for (const count of this.#counts()) {
+      const listed = this.#listed(name, { ...given, next }, count, runs), { found } = listed;
+      for (let i = 0; i < found.length; i++) yield found[i];
+      if (!found.length) return;
+      ({ next } = listed);
+    }
+  }
+
+  /** The items of a walk, from where it is, or of what starts one. */
+  *items(name, start, given = {}) {
+    const walk = typeof start === 'function' ? start() : start;
+    while (walk) {
       const item = this.call(name, { ...given, walk });
       if (item === null) return;
       yield item;
@@ -118,11 +173,13 @@ export class Caller {
   }
 }
 
-/** The bytes of a file. */
+/** The bytes of a file: an ArrayBuffer, or any view of one, as a Buffer. One of another realm is none of this realm's class. */
 function bytesOf(given) {
-  if (given instanceof Uint8Array) return given;
-  if (given instanceof ArrayBuffer) return new Uint8Array(given);
-  throw new TypeError(`bytes are a Uint8Array, and not a ${typeof given === 'object' ? given?.constructor?.name : typeof given}`);
+  if (ArrayBuffer.isView(given)) return new Uint8Array(given.buffer, given.byteOffset, given.byteLength);
+  if (/^\[object (Shared)?ArrayBuffer\]$/.test(Object.prototype.toString.call(given))) return new Uint8Array(given);
+  const kind = given && typeof given === 'object' ? given.constructor?.name ?? 'object' : given === null ? 'null' : typeof given;
+  const path = kind === 'string' ? ': a file is read first, as by readFileSync' : '';
+  throw new TypeError(`bytes are an ArrayBuffer or a view of one, as a Uint8Array or a Buffer, and not a ${kind}${path}`);
 }
 
 /** Puts a file into the memory of an instance: the arguments that it is for calls. */
@@ -156,7 +213,7 @@ export class File extends Caller {
 
   /** The text of a range, in UTF-8 or ASCII. */
   utf8(range) {
-    return utf8.decode(this.slice(range));
+    return this.#memory.textAt(this.#start + Number(range.offset), Number(range.length), utf8);
   }
 
   /** The text of a range, in UTF-16, up to the first zero unless it is whole. */

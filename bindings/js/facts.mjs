@@ -4,6 +4,8 @@
 import { PeError, constants } from './library.mjs';
 import { Tables } from './metadata.mjs';
 import * as names from './names.mjs';
+import { namedExports } from './image.mjs';
+import { Budget } from './parts.mjs';
 import { signerOf } from './signatures.mjs';
 
 const utf8 = new TextDecoder('utf-8', { ignoreBOM: true }), strict = new TextDecoder('utf-8', { fatal: true });
@@ -11,8 +13,6 @@ const CODE_AND_WRITABLE = 0xA0000000, PERMISSIONS = [[0x40000000, 'r'], [0x80000
 const X86 = 0x14C, X64 = 0x8664, PE32 = 0x10B, EMBEDDED_PDB = 17, PDB_CHECKSUM = 19;
 // What is shown in all is bounded by the file's length times this; each item counts as so many bytes.
 const READINGS = 16, ITEM = 8, LONG_NAMES = 96, LEAVES = 65536, TABLES = 4096;
-// How many lists inside of items count as the file's bytes, read once, if they are refused.
-const REFUSED = 4;
 
 const number = (value) => (typeof value === 'bigint' && value <= Number.MAX_SAFE_INTEGER ? Number(value) : value);
 const hex = (bytes) => Array.from(bytes, (it) => it.toString(16).padStart(2, '0')).join('');
@@ -82,26 +82,6 @@ function listAfter(key, image, call, items, of) {
   } catch (error) {
     if (!(error instanceof PeError)) throw error;
     return { ...none, [`${key}_error`]: refusal(error) };
-  }
-}
-
-class Budget {
-  constructor(image, sections = image.sections.length) {
-    this.left = image.length * READINGS;
-    this.sections = sections;
-    this.refused = Math.floor(image.length / REFUSED);
-  }
-
-  /** A list inside of an item. One that is refused is paid for: a name in it may have been read to the end of the file. */
-  inside(found, error) {
-    if (error) this.left = Math.max(0, this.left - this.refused);
-    return found;
-  }
-
-  takes(count) {
-    const left = this.left - count - this.sections;
-    if (left >= 0) this.left = left;
-    return left >= 0;
   }
 }
 
@@ -263,7 +243,7 @@ function exports(image) {
     const byIndex = new Map();
     // Without a directory no export is a forwarder, whose text is read below.
     const exports = { ...tables, directory: { virtual_address: 0, size: 0 } };
-    for (const it of image.items('pe_c_next_export', { exports })) {
+    for (const it of namedExports(image, exports)) {
       isLimited = !budget.takes(ITEM + Number(it.name.length));
       if (isLimited) break;
       byIndex.set(it.index, [...(byIndex.get(it.index) ?? []), image.utf8(it.name)]);

@@ -2,26 +2,47 @@
 import { File, listOf, memoryOf, ownOf, placed } from './calls.mjs';
 import { constants } from './layouts.mjs';
 import { width } from './memory.mjs';
+import { delayImportsOf, digestOf, exportsOf, importsOf, manifestOf, signaturesOf, versionsOf } from './parts.mjs';
 import { recordsOf, resourcesOf } from './resources.mjs';
 import { symbolsOf } from './symbols.mjs';
 
 const ARM64 = 0xAA64;
 
-// The lists of an image: the call that starts each, and the one that returns its next item; and of a walk that keeps sections the field
-// where it stands.
+// The lists of an image: the call that starts each, the one that returns its next item or many, and for calls that read names
+// together how many runs they take for each. The walk over exports skips names that are no text, so that it is cut in place of
+// its end.
 const LISTS = {
   debugEntries: ['pe_c_debug_entries', 'pe_c_next_debug_entry'],
-  exports: ['pe_c_export_tables', 'pe_c_next_export', 'exports'],
-  libraries: ['pe_c_import_libraries', 'pe_c_next_library', 'libraries'],
-  delayImports: ['pe_c_delay_imports', 'pe_c_next_delay_import', 'entries'],
+  exports: ['pe_c_export_tables', 'pe_c_list_exports_together', { runs: 2, cut: nextNames }],
+  libraries: ['pe_c_import_libraries', 'pe_c_list_libraries_together', { runs: 2 }],
+  delayImports: ['pe_c_delay_imports', 'pe_c_list_delay_imports_together', { runs: 1 }],
   versionBlocks: ['pe_c_version_blocks', 'pe_c_next_version_block'],
-  resourceLeaves: ['pe_c_resource_leaves', 'pe_c_next_resource_leaf', 'leaves'],
-  relocationBlocks: ['pe_c_relocation_blocks', 'pe_c_next_relocation_block'],
+  resourceLeaves: ['pe_c_resource_leaves', 'pe_c_list_resource_leaves', {}],
+  relocationBlocks: ['pe_c_relocation_blocks', 'pe_c_list_relocation_blocks', {}],
 };
+
+/** A walk over exports with the next so many entries of its name table, or null at its end. */
+function nextNames({ names: { offset, length }, ...walk }, count) {
+  const end = 4n * (walk.next + BigInt(count));
+  return 4n * walk.next < length ? { ...walk, names: { offset, length: end < length ? end : length } } : null;
+}
+
+/** The exports that have a name, from where a walk over them is. */
+export const namedExports = (image, walk) => image.many('pe_c_list_exports_together', walk, LISTS.exports[2]);
+
+/** A walk of its own, for a list that starts anew each time. */
+const copied = (walk) => structuredClone(walk);
+
+/** A mode that pe.h has: it takes others for one of these. */
+export function checkMode(mode) {
+  const { PE_C_STRICT, PE_C_PERMISSIVE, PE_C_MAPPED } = constants;
+  if ([PE_C_STRICT, PE_C_PERMISSIVE, PE_C_STRICT + PE_C_MAPPED, PE_C_PERMISSIVE + PE_C_MAPPED].includes(mode)) return mode;
+  throw new TypeError(`mode is PE_C_PERMISSIVE or PE_C_STRICT, or one of these + PE_C_MAPPED, and not ${String(mode)}`);
+}
 
 /** Reads the headers and the section headers: the arguments that the image is for calls, and both as objects. */
 function opened(memory, bytes, mode) {
-  if (!Number.isInteger(mode)) throw new TypeError('mode is a number, PE_C_PERMISSIVE, PE_C_STRICT or these with PE_C_MAPPED');
+  checkMode(mode);
   const own = placed(memory, bytes), info = memory.reserve(width('pe_c_image_info')), size = width('pe_c_section');
   memory.isDone('pe_c_image', memory.make('pe_c_image', [own.bytes, own.length, mode, BigInt(info)]));
   const found = memory.read('pe_c_image_info', info), count = found.number_of_sections, table = memory.reserve(count * size);
@@ -45,12 +66,8 @@ export class Image extends File {
 
   /** The items of a list of the image, none where it is absent: see index.d.ts for the names. */
   list(name) {
-    return this.#items(...listOf(LISTS, name));
-  }
-
-  *#items(start, next, place) {
-    const walk = this.call(start);
-    if (walk) yield* this.items(next, place ? { [place]: walk } : walk);
+    const [start, next, options] = listOf(LISTS, name), walk = () => this.call(start);
+    return options ? this.many(next, walk, options) : this.items(next, walk);
   }
 
   /** Makes an index of the sections, by which calls find one among many from then on: pe_c_index. */
@@ -76,11 +93,44 @@ export class Image extends File {
     return this.info.mode & constants.PE_C_MAPPED ? null : symbolsOf(this, this.headers().coff);
   }
 
+  // ---- parts as values
+
+  /** What is exported. */
+  exports() {
+    return exportsOf(this);
+  }
+
+  /** The libraries that are loaded when one of their functions is called first, as `imports` has others. */
+  delayImports() {
+    return delayImportsOf(this);
+  }
+
+  /** Version information in each language. */
+  versions() {
+    return versionsOf(this);
+  }
+
+  /** The text of the first manifest, or null. */
+  manifest() {
+    return manifestOf(this);
+  }
+
+  /** What the signatures say. Nothing is verified. */
+  signatures() {
+    return signaturesOf(this);
+  }
+
+  /** The Authenticode digest, which a signature of the image covers: a promise of its bytes. */
+  digest(algorithm = 'SHA-256') {
+    return digestOf(this, algorithm);
+  }
+
   // ---- walks whose start or whose next item needs more
 
-  /** The imports of a library. */
+  /** All libraries with what is imported of each, as values; or the imports of one library, as records. */
   imports(library) {
-    return this.items('pe_c_next_import', { imports: structuredClone(library.imports) });
+    if (!library) return importsOf(this);
+    return this.many('pe_c_list_imports_together', copied(library.imports), { runs: 1 });
   }
 
   /** Whether the RVA of a library's list is unmapped, so that `imports` has nothing. A list at the file offset 0 is not empty: the DOS
@@ -105,25 +155,25 @@ export class Image extends File {
 
   /** The functions of a DLL that is loaded when it is needed. */
   delayedFunctions(delayImport) {
-    return this.items('pe_c_next_delayed_function', { functions: structuredClone(delayImport.functions) });
+    return this.many('pe_c_list_delayed_functions_together', copied(delayImport.functions), { runs: 1 });
   }
 
   /** All exports by their index, with those that have no name. */
   *exportAddresses() {
     const table = this.call('pe_c_export_addresses');
-    for (let index = 0; table; index++) {
-      const found = this.call('pe_c_export_at', { table, index });
-      if (found === null) return;
-      yield found;
-    }
+    if (table) yield* this.indexed('pe_c_list_export_addresses_together', { table }, 1);
   }
 
   /** The bound imports, each with its forwarders. */
   *boundImports() {
     const table = this.call('pe_c_bound_imports');
     if (!table) return;
-    for (const found of this.items('pe_c_next_bound_import', { ...table }, { table })) {
-      yield { ...found, forwarders: [...this.items('pe_c_next_bound_forwarder', structuredClone(found.forwarders), { table })] };
+    const options = { runs: 1, given: { table } }, each = this.many('pe_c_list_bound_forwarders', copied(table), options);
+    for (const found of this.many('pe_c_list_bound_imports', copied(table), options)) {
+      // The entries of all, of which the first is the DLL's own: lists of the forwarders of each would read a text that they
+      // share each.
+      each.next();
+      yield { ...found, forwarders: Array.from({ length: Number(found.forwarders.length) / 8 }, () => each.next().value) };
     }
   }
 
@@ -141,7 +191,7 @@ export class Image extends File {
 
   /** The relocations of a block. */
   relocations(block) {
-    return this.items('pe_c_next_relocation', structuredClone(block.entries), { page_rva: block.page_rva });
+    return this.many('pe_c_list_relocations', copied(block.entries), { given: { page_rva: block.page_rva } });
   }
 
   /** The range of the function table of an x64 or ARM64 image, or null. */
@@ -151,10 +201,8 @@ export class Image extends File {
 
   /** The functions of an x64 or ARM64 image, in the order of their table. */
   *functions() {
-    const isArm64 = this.info.machine === ARM64, table = this.functionTable();
-    for (let index = 0n; table && index < table.length / (isArm64 ? 8n : 12n); index++) {
-      yield this.call(isArm64 ? 'pe_c_arm64_function_at' : 'pe_c_function_at', { table, index });
-    }
+    const table = this.functionTable(), isArm64 = this.info.machine === ARM64;
+    if (table) yield* this.indexed(isArm64 ? 'pe_c_list_arm64_functions' : 'pe_c_list_functions', { table });
   }
 
   /** The unwind records of an x64 function, up to the root of its chain. */

@@ -5,7 +5,7 @@
 // memory. That memory never shrinks, so drop the image, and with it the instance, when the file is done.
 import { Caller, File, placed } from './calls.mjs';
 import { Dump } from './dump.mjs';
-import { Image } from './image.mjs';
+import { Image, checkMode } from './image.mjs';
 import { abi, calls, constants, records, results, version } from './layouts.mjs';
 import { Memory, PeError } from './memory.mjs';
 import { Coff, TeImage } from './objects.mjs';
@@ -49,7 +49,7 @@ export class Library {
 
   /** Why `open` refuses bytes, pe_c_failure, or null where it reads their headers. */
   failure(bytes, { mode = constants.PE_C_STRICT } = {}) {
-    return this.file(bytes).call('pe_c_image_failure', { mode });
+    return this.file(bytes).call('pe_c_image_failure', { mode: checkMode(mode) });
   }
 
   /** Why `openTe` does. */

@@ -1,10 +1,18 @@
 // The memory of an instance of the module: records of pe.h as objects, and errors as PeError.
-import { abi, constants, records, results } from './layouts.mjs';
+import { abi, constants, read, records, results } from './layouts.mjs';
 
 const PAGE = 65536;
 const WIDTHS = { uint8_t: 1, uint16_t: 2, uint32_t: 4, uint64_t: 8, size_t: 8, int16_t: 2 };
 const LEAST = { int16_t: -0x8000 }, MOST = { uint8_t: 0xFF, uint16_t: 0xFFFF, int16_t: 0x7FFF, uint32_t: 0xFFFFFFFF };
 const MOST_64 = 0xFFFFFFFFFFFFFFFFn;
+// How numbers are read, as `read` has it for records.
+const NUMBERS = {
+  uint8_t: (view, at) => view.getUint8(at), uint16_t: (view, at) => view.getUint16(at, true),
+  int16_t: (view, at) => view.getInt16(at, true), uint32_t: (view, at) => view.getUint32(at, true),
+  uint64_t: (view, at) => view.getBigUint64(at, true), size_t: (view, at) => view.getBigUint64(at, true),
+};
+// How many bytes of a text are read one by one, which a decoder is slower for.
+const SHORT = 48;
 const utf8 = new TextDecoder('utf-8');
 const aligned = (at) => Math.ceil(at / 16) * 16;
 const isAddress = (type) => type.endsWith('*');
@@ -37,6 +45,8 @@ export class PeError extends Error {
  * would be taken for another. */
 export class Memory {
   #exports;
+  #bytes = new Uint8Array();
+  #view;
 
   constructor(module) {
     this.#exports = new WebAssembly.Instance(module).exports;
@@ -80,38 +90,53 @@ export class Memory {
     return new Uint8Array(this.exports.memory.buffer, at, length).slice();
   }
 
-  view(at, length) {
-    return new DataView(this.exports.memory.buffer, at, length);
+  /** All of the memory as it is: its bytes may move where the memory grows. */
+  get all() {
+    const { buffer } = this.exports.memory;
+    if (this.#bytes.buffer !== buffer) {
+      this.#bytes = new Uint8Array(buffer);
+      this.#view = new DataView(buffer);
+    }
+    return this.#bytes;
+  }
+
+  /** The text of some bytes: short ones are ASCII as a rule, and need no decoder. */
+  textAt(at, length, decoder) {
+    const { all } = this;
+    if (length > SHORT) return decoder.decode(all.subarray(at, at + length));
+    let text = '';
+    for (let i = at; i < at + length; i++) {
+      if (all[i] > 0x7F) return decoder.decode(all.subarray(at, at + length));
+      text += String.fromCharCode(all[i]);
+    }
+    return text;
   }
 
   read(type, at) {
-    const view = this.view(at, width(type));
-    switch (type) {
-      case 'uint8_t': return view.getUint8(0);
-      case 'uint16_t': return view.getUint16(0, true);
-      case 'int16_t': return view.getInt16(0, true);
-      case 'uint32_t': return view.getUint32(0, true);
-      case 'uint64_t': case 'size_t': return view.getBigUint64(0, true);
-    }
-    const found = {};
-    for (const [name, kind, offset, count] of records[type][1]) {
-      const size = width(kind);
-      const one = (i) => this.read(kind, at + offset + i * size);
-      found[name] = count ? Array.from({ length: count }, (_, i) => one(i)) : one(0);
-    }
+    return this.readerOf(type)(this.all && this.#view, at);
+  }
+
+  /** So many records side by side. */
+  readAll(type, at, count) {
+    const one = this.readerOf(type), size = width(type), view = this.all && this.#view, found = new Array(count);
+    for (let i = 0; i < count; i++) found[i] = one(view, at + i * size);
     return found;
+  }
+
+  readerOf(type) {
+    return read[type] ?? NUMBERS[type];
   }
 
   /** Writes a number, an address or a record. A field that the record lacks is 0. */
   write(type, at, value) {
-    const view = this.view(at, width(type));
-    if (isAddress(type)) return view.setBigUint64(0, value, true);
+    const view = this.all && this.#view;
+    if (isAddress(type)) return view.setBigUint64(at, value, true);
     switch (type) {
-      case 'uint8_t': return view.setUint8(0, whole(type, value));
-      case 'uint16_t': return view.setUint16(0, whole(type, value), true);
-      case 'int16_t': return view.setInt16(0, whole(type, value), true);
-      case 'uint32_t': return view.setUint32(0, whole(type, value), true);
-      case 'uint64_t': case 'size_t': return view.setBigUint64(0, whole(type, value), true);
+      case 'uint8_t': return view.setUint8(at, whole(type, value));
+      case 'uint16_t': return view.setUint16(at, whole(type, value), true);
+      case 'int16_t': return view.setInt16(at, whole(type, value), true);
+      case 'uint32_t': return view.setUint32(at, whole(type, value), true);
+      case 'uint64_t': case 'size_t': return view.setBigUint64(at, whole(type, value), true);
     }
     for (const [name, kind, offset, count] of records[type][1]) {
       const size = width(kind), own = value[name];

@@ -2,7 +2,9 @@
 import { Caller, ownOf } from './calls.mjs';
 import { Image } from './image.mjs';
 import { constants } from './layouts.mjs';
-import { width } from './memory.mjs';
+import { PeError, width } from './memory.mjs';
+
+const ARM64 = 0xAA64;
 
 /** Writes records side by side, and returns the address and the number of them. */
 function array(memory, type, values) {
@@ -11,21 +13,49 @@ function array(memory, type, values) {
   return [BigInt(at), BigInt(values.length)];
 }
 
-/** A module as calls take it: its image, its function table, and the address where it is loaded. */
-const moduleOf = (image, base) => ({ image: ownOf(image), table: image.functionTable() ?? {}, base });
+/** The whole entries of a function table that is damaged, as Windows divides its size: those that the bytes have. */
+function wholeEntries(image) {
+  const { virtual_address: rva, size } = image.info.directories[constants.PE_C_DIRECTORY_EXCEPTION];
+  const entry = image.info.machine === ARM64 ? 8 : 12, offset = image.call('pe_c_offset', { rva });
+  if (offset === null || offset > image.length) return {};
+  const length = Math.min(size, image.length - Number(offset));
+  return { offset, length: length - length % entry };
+}
+
+/** A module as calls take it: its image, its function table, and the address where it is loaded; and why the table is damaged,
+ * or null. */
+function moduleOf(image, base) {
+  try {
+    return [{ image: ownOf(image), table: image.functionTable() ?? {}, base }, null];
+  } catch (error) {
+    if (!(error instanceof PeError)) throw error;
+    return [{ image: ownOf(image), table: wholeEntries(image), base }, error];
+  }
+}
+
+/** One whose image is not at hand, by its size. */
+function withoutImage(memory, { size, base }) {
+  const info = memory.reserve(width('pe_c_image_info'));
+  const none = { bytes: 0n, length: 0n, sections: 0n, count: 0n, index: 0n, entries: 0n };
+  memory.write('pe_c_image_info', info, { size_of_image: size });
+  return [{ image: { ...none, image: BigInt(info) }, table: {}, base }, null];
+}
 
 /** The modules of a process and its memory, in one instance. */
 export class Process extends Caller {
   constructor(memory, { modules, memory: bytes, pieces }) {
-    const images = modules.map((it) => new Image(memory, it.bytes, it.mode ?? constants.PE_C_STRICT));
-    const [first, count] = array(memory, 'pe_c_module', images.map((it, i) => moduleOf(it, modules[i].base)));
+    const images = modules.map((it) => (it.bytes ? new Image(memory, it.bytes, it.mode ?? constants.PE_C_STRICT) : null));
+    const found = images.map((it, i) => (it ? moduleOf(it, modules[i].base) : withoutImage(memory, modules[i])));
+    const [first, count] = array(memory, 'pe_c_module', found.map(([it]) => it));
     const [piece, pieceCount] = array(memory, 'pe_c_memory_piece', pieces);
     super(memory, {
       modules: first, module_count: count,
       memory: BigInt(memory.put(bytes)), memory_length: BigInt(bytes.length), pieces: piece, piece_count: pieceCount,
     });
-    /** The images of the modules. */
+    /** The images of the modules, null for one that is not at hand. */
     this.images = images;
+    /** Why the function table of a module is damaged, of which the whole entries serve: null for each that is not. */
+    this.damaged = found.map(([, error]) => error);
   }
 
   /** The frames of a stack, from the top frame on: the walk, pe_c_stack_walk, as it is after each. The one that is given is moved,

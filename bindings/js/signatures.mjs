@@ -1,5 +1,6 @@
 // By whom a signature is, as it says: what `pe --json` has of it. Nothing is verified.
-import { PeError, constants } from './library.mjs';
+import { constants } from './layouts.mjs';
+import { PeError } from './memory.mjs';
 
 const hex = (bytes) => Array.from(bytes, (it) => it.toString(16).padStart(2, '0')).join('');
 const PKCS_SIGNED_DATA = 2, NAME = 4096;
@@ -30,7 +31,8 @@ export function dotted(octets) {
   }).join('.');
 }
 
-function algorithm(image, { oid }) {
+/** The name of an algorithm, or its object identifier. */
+export function algorithmOf(image, { oid }) {
   const known = OIDS[oid.id];
   return known ? DIGESTS[known] ?? known.replaceAll('_', ' ') : dotted(image.slice(oid.octets));
 }
@@ -173,7 +175,7 @@ export function signerOf(image, certificate) {
     const own = certificateOf(image, signature, signer);
     return {
       subject: own && name(image, own.subject), issuer: name(image, signer.issuer), serial_hex: hex(image.slice(signer.serial)),
-      digest_algorithm: algorithm(image, signer.digest_algorithm), time_stamp: orNull(() => stamp(image, signer)),
+      digest_algorithm: algorithmOf(image, signer.digest_algorithm), time_stamp: orNull(() => stamp(image, signer)),
     };
   });
 }

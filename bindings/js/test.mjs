@@ -1,10 +1,12 @@
 // node test.mjs FOLDER: tests the package pe-c as it is installed, over the images that the tests of the cargo crate
 // make. Each call that the package has is to be made by some test, and to succeed. The last line is 'N passed, M failed'.
 import { strict as assert } from 'node:assert';
+import { createHash } from 'node:crypto';
 import { readFileSync, readdirSync } from 'node:fs';
 import { createRequire } from 'node:module';
 import { dirname, join } from 'node:path';
 import { pathToFileURL } from 'node:url';
+import { runInNewContext } from 'node:vm';
 import { File, Image, Library, PeError, abi, calls, constants, load, results, version } from 'pe-c';
 import { factsOf } from 'pe-c/facts';
 
@@ -435,6 +437,20 @@ test('a stack walk comes to its end, and says which', () => {
   const outside = { modules: [], memory: new Uint8Array(8), pieces: [{ start: 0, offset: 1, length: 8 }] };
   assert.equal(refused(() => [...library.process(outside).frames({ remaining: 1 })]).constant, 'PE_C_SHORT');
   assert.equal(refused(() => library.process({ ...outside, modules: [{ bytes: new Uint8Array(9), base: 0n }] })).constant, 'PE_C_SHORT');
+});
+
+test('of a damaged function table the whole entries serve, and the process says so', () => {
+  const bytes = imageOfCalls(), image = library.open(bytes), size = image.headers().directories_offset + 8n * 3n + 4n;
+  const parts = { memory: stackBytes(), pieces: [{ start: ENTRY - 8n, offset: 0, length: stackBytes().length }] };
+  const rips = (process) => [...process.frames({ registers: frameRegisters(), remaining: 9n })].map((it) => it.registers.rip);
+  const whole = library.process({ ...parts, modules: [{ bytes, base: BASE }] });
+  new DataView(bytes.buffer).setUint32(Number(size), 47, true);
+  const damaged = library.process({ ...parts, modules: [{ bytes, base: BASE }, { size: 0x1000, base: 0x70000000n }] });
+  assert.deepEqual([whole.damaged, damaged.damaged[1], damaged.images[1]], [[null], null, null]);
+  assert.equal(damaged.damaged[0].call, 'pe_c_function_table');
+  // The last of four entries is not whole; the frames are of the others.
+  assert.deepEqual(rips(damaged), rips(whole));
+  assert.ok(refused(() => library.open(bytes).functionTable()));
 });
 
 test('a step returns the registers of the caller', () => {
@@ -940,12 +956,28 @@ test('the stack of a thread is memory without a list', () => {
 
 test('what no file, no mode and no list is, is said', () => {
   const bytes = file('imports'), says = (call, text) => assert.throws(call, (it) => it instanceof TypeError && it.message.includes(text));
-  says(() => library.open('a.dll'), 'bytes are a Uint8Array, and not a string');
-  says(() => library.open({}), 'bytes are a Uint8Array, and not a Object');
-  says(() => library.open(bytes, { mode: 'permissive' }), 'mode is a number, PE_C_PERMISSIVE, PE_C_STRICT or these with PE_C_MAPPED');
+  says(() => library.open('a.dll'), 'as a Uint8Array or a Buffer, and not a string: a file is read first, as by readFileSync');
+  for (const it of [{}, null, undefined, 42, [1]]) says(() => library.open(it), 'bytes are an ArrayBuffer or a view of one');
+  for (const mode of ['permissive', 1.5, 4, -1, null, 1n, NaN]) {
+    says(() => library.open(bytes, { mode }), 'mode is PE_C_PERMISSIVE or PE_C_STRICT, or one of these + PE_C_MAPPED, and not');
+    says(() => library.failure(bytes, { mode }), 'mode is PE_C_PERMISSIVE');
+  }
+  for (const mode of [0, 1, 2, 3]) assert.equal(library.failure(new Uint8Array(1), { mode }).result, 2);
   says(() => library.open(bytes).list('nope'), 'nope is no list: debugEntries, exports, libraries');
   says(() => library.openDump(readFileSync(join(folder, 'x64.dmp'))).list('nope'), 'nope is no list: threads, modules');
-  assert.equal(library.open(Uint8Array.from(bytes).buffer).sections.length, 1);
+});
+
+test('bytes are an ArrayBuffer, any view, or those of another realm', () => {
+  const bytes = Uint8Array.from(file('imports')), { buffer } = bytes, inside = new Uint8Array(bytes.length + 6);
+  inside.set(bytes, 2);
+  const shared = new SharedArrayBuffer(bytes.length);
+  new Uint8Array(shared).set(bytes);
+  const views = [new DataView(inside.buffer, 2, bytes.length), new Uint16Array(inside.buffer, 2, bytes.length / 2)];
+  for (const it of [buffer, Buffer.from(bytes), ...views, shared,
+    runInNewContext('new Uint8Array(bytes).buffer', { bytes: [...bytes] })]) {
+    const image = library.open(it);
+    assert.deepEqual([image.length, image.sections.length, [...image.list('libraries')].length], [bytes.length, 1, 2]);
+  }
 });
 
 test('the memory of a minidump in order, and what in it is an image', () => {
@@ -1108,6 +1140,11 @@ test('texts with a final zero', () => {
 const beside = dirname(createRequire(import.meta.url).resolve('pe-c/facts'));
 const { dotted } = await import(pathToFileURL(join(beside, 'signatures.mjs')));
 
+test('the package says which version it is', () => {
+  const { name, version: own } = JSON.parse(readFileSync(createRequire(import.meta.url).resolve('pe-c/package.json'), 'utf8'));
+  assert.deepEqual([name, own], ['pe-c', version]);
+});
+
 test('a number of many octets in an object identifier', () => {
   const octets = new Uint8Array(400_000).fill(0xFF);
   octets[octets.length - 1] = 0x7F;
@@ -1141,6 +1178,127 @@ test('the assembly of .NET metadata', () => {
     { ...other, version: '4.0.0.0', culture: null, public_key_token_hex: '0102030405060708' },
     { ...other, version: '5.6.0.0', culture: 'de', public_key_token_hex: null }]);
 });
+
+// ---- lists and parts
+
+test('lists return what steps do', () => {
+  const steps = {
+    exports: ['exports', 'pe_c_export_tables', 'pe_c_next_export', 'exports'],
+    libraries: ['imports', 'pe_c_import_libraries', 'pe_c_next_library', 'libraries'],
+    delayImports: ['delay_imports', 'pe_c_delay_imports', 'pe_c_next_delay_import', 'entries'],
+    resourceLeaves: ['resources', 'pe_c_resource_leaves', 'pe_c_next_resource_leaf', 'leaves'],
+    relocationBlocks: ['relocations', 'pe_c_relocation_blocks', 'pe_c_next_relocation_block'],
+  };
+  for (const [list, [name, start, next, place]] of Object.entries(steps)) {
+    const image = opened(name), walk = image.call(start), found = [...image.items(next, place ? { [place]: walk } : walk)];
+    assert.ok(found.length, list);
+    assert.deepEqual([...image.list(list)], found);
+  }
+  const of = (image, call, walk, given) => [...image.items(call, structuredClone(walk), given)];
+  const imports = opened('imports'), delayed = opened('delay_imports');
+  const relocated = opened('relocations'), bound = opened('bound_imports');
+  for (const it of imports.list('libraries')) {
+    assert.deepEqual([...imports.imports(it)], of(imports, 'pe_c_next_import', { imports: it.imports }));
+  }
+  for (const it of delayed.list('delayImports')) {
+    assert.deepEqual([...delayed.delayedFunctions(it)], of(delayed, 'pe_c_next_delayed_function', { functions: it.functions }));
+  }
+  for (const it of relocated.list('relocationBlocks')) {
+    const found = of(relocated, 'pe_c_next_relocation', it.entries, { page_rva: it.page_rva });
+    assert.deepEqual([...relocated.relocations(it)], found);
+  }
+  const table = bound.call('pe_c_bound_imports'), each = of(bound, 'pe_c_next_bound_import', table, { table });
+  assert.deepEqual([...bound.boundImports()],
+    each.map((it) => ({ ...it, forwarders: of(bound, 'pe_c_next_bound_forwarder', it.forwarders, { table }) })));
+  assert.ok(each.some((it) => it.forwarders.length > 0n));
+});
+
+test('tables return what their entries do', () => {
+  for (const [name, call, list] of [['functions', 'pe_c_function_at', 'functions'],
+    ['arm64_functions', 'pe_c_arm64_function_at', 'functions'], ['exports', 'pe_c_export_at', 'exportAddresses']]) {
+    const image = opened(name), table = name === 'exports' ? image.call('pe_c_export_addresses') : image.functionTable();
+    const found = [...image[list]()];
+    assert.ok(found.length);
+    assert.deepEqual(found, found.map((_, index) => image.call(call, { table, index })));
+    if (name === 'exports') assert.equal(image.call(call, { table, index: found.length }), null);
+    else assert.equal(refused(() => image.call(call, { table, index: found.length })).call, call);
+  }
+  const object = library.openObject(readFileSync(join(folder, 'object.obj'))), symbols = object.symbols(), { table } = symbols;
+  const one = (it) => symbols.name(structuredClone(it));
+  assert.deepEqual([...symbols], [...object.items('pe_c_next_symbol', { table, next: 0n })]);
+  assert.deepEqual([...symbols].map((it) => symbols.name(it)), [...symbols].map(one));
+});
+
+/** An image with so many names of exports, which start in one text of so many bytes, each one later than the one before. */
+function namesInOneText(count, length) {
+  const from = file('exports'), image = library.open(from), { virtual_address: rva } = image.info.directories[0];
+  const start = from.length + length, bytes = new Uint8Array(start + 6 * count).fill(0x41, from.length, start - 1);
+  bytes.set(from);
+  const view = new DataView(bytes.buffer), at = Number(image.call('pe_c_offset', { rva })), [section] = image.sections;
+  const shift = section.virtual_address - section.pointer_to_raw_data;
+  for (const field of [0x150, 0x158]) view.setUint32(field, bytes.length - section.pointer_to_raw_data, true);
+  const tables = [[24, count], [32, start + shift], [36, start + 4 * count + shift]];
+  for (const [field, value] of tables) view.setUint32(at + field, value, true);
+  for (let i = 0; i < count; i++) view.setUint32(start + 4 * i, from.length + shift + i, true);
+  return library.open(bytes, { mode: constants.PE_C_PERMISSIVE });
+}
+
+test('names in one text cost no more than to read it a few times, and a list as values is limited', () => {
+  const image = namesInOneText(60_000, 300_000), started = performance.now();
+  const lengths = [...image.list('exports')].map((it) => Number(it.name.length));
+  assert.deepEqual([lengths.length, lengths[0], lengths.at(-1)], [60_000, 299_999, 240_000]);
+  const exports = image.exports();
+  assert.deepEqual([exports.isLimited, exports.error, exports[0].name.length], [true, null, 299_999]);
+  assert.ok(exports.length < 60);
+  assert.equal(factsOf(library, image.slice({ offset: 0n, length: BigInt(image.length) }), 'a.dll').exports.is_limited, true);
+  assert.ok(performance.now() - started < 10_000);
+});
+
+test('imports and exports as values', () => {
+  const functions = (it) => it.functions.map((one) => [one.name, one.ordinal, one.hint]);
+  const [first, second, ...more] = opened('imports').imports();
+  assert.deepEqual([first.name, functions(first), second.name, functions(second), more],
+    ['KERNEL32.dll', [['Sleep', null, 42], [null, 17, null]], 'a.dll', [['f', null, 0]], []]);
+  const { exports } = factsOf(library, file('exports'), 'a.dll'), found = opened('exports').exports();
+  assert.deepEqual([found.error, found.isLimited], [null, false]);
+  const said = exports.entries.flatMap(({ names, ordinal, rva, forwarder }) => (
+    (names.length ? names : [null]).map((name) => ({ name, ordinal, rva, forwarder }))));
+  const order = (one, other) => one.ordinal - other.ordinal || String(one.name).localeCompare(String(other.name));
+  const ordered = (rows) => [...rows].sort(order);
+  assert.deepEqual(ordered(found), ordered(said));
+  assert.deepEqual([...opened('tls').exports(), ...opened('tls').imports(), ...opened('tls').delayImports()], []);
+  const delayed = opened('delay_imports').delayImports(), others = factsOf(library, file('delay_imports'), 'a.dll').delay_imports;
+  assert.deepEqual(delayed.map((it) => [it.name, functions(it)]), others.map((it) => [it.name, functions(it)]));
+  const damaged = opened('refused_import').imports();
+  assert.ok(damaged.error instanceof PeError || damaged.some((it) => it.functions.error instanceof PeError));
+});
+
+test('version information and the manifest as values', () => {
+  const image = opened('resources'), [version] = image.versions();
+  const { version: said } = factsOf(library, file('resources'), 'a.dll');
+  assert.equal(version.fileVersion.join('.'), said.fixed.file_version);
+  assert.equal(version.productVersion.join('.'), said.fixed.product_version);
+  assert.equal(version.error, null);
+  for (const [name, text] of Object.entries(said.texts)) {
+    assert.ok(Object.values(version.strings).some((it) => it[name] === text), name);
+  }
+  assert.ok(image.manifest() === null || image.manifest().startsWith('<'));
+  assert.deepEqual([...opened('imports').versions(), opened('imports').manifest()], [null]);
+});
+
+const pending = [];
+test('signatures as values, and the digest that they are of', () => {
+  const image = opened('signature'), [signature] = image.signatures();
+  const [said] = factsOf(library, file('signature'), 'a.dll').certificates;
+  assert.deepEqual([signature.signer, signature.error], [said.signer, null]);
+  assert.equal(signature.digest.length > 0, true);
+  assert.deepEqual([...opened('imports').signatures()], []);
+  const { ranges, zeros } = image.call('pe_c_digest_ranges'), hash = createHash('sha256');
+  for (const it of ranges) hash.update(image.slice(it));
+  const right = hash.update(new Uint8Array(Number(zeros))).digest('hex');
+  pending.push(image.digest().then((it) => test('a digest', () => assert.equal(Buffer.from(it).toString('hex'), right))));
+});
+await Promise.all(pending);
 
 test('every call of pe.h succeeds in some test', () => {
   assert.deepEqual(Object.keys(calls).filter((name) => !done.has(name)), []);

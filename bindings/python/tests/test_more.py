@@ -2,13 +2,17 @@
 
 What is expected stands in how the files are made (bindings/rust/tests/made), or is what other programs print of them: of the signature
 what osslsigncode and openssl do."""
+import copy
 import datetime
 import gc
+import io
 import os
+import pathlib
 import random
 import struct
 import subprocess
 import sys
+import threading
 import time
 import types
 import unittest
@@ -281,10 +285,131 @@ class Stacks(unittest.TestCase):
         stack = pe_c.walk(registers, [below, (functions, BASE)], memory, [(0x20000, 0, len(memory))], 10)
         self.assertEqual((len(stack.frames), stack.end), (1, End.NO_RETURN_ADDRESS))
 
+    def test_a_caller_in_a_module_without_an_image(self):
+        """A leaf function that was jumped to returns to the module."""
+        data = bytearray(bytes_of("functions.bin"))
+        headers = pe_c.Image(bytes(data)).all_headers
+        # The section has code: IMAGE_SCN_CNT_CODE, IMAGE_SCN_MEM_EXECUTE, IMAGE_SCN_MEM_READ.
+        struct.pack_into("<I", data, headers.optional_offset + headers.coff.size_of_optional_header + 36, 0x60000020)
+        image, other = pe_c.Image(bytes(data)), 0x70000000
+        rva = next(it for it in range(0x5000, 0x5200) if image.unwind(it) is None)
+        memory, registers = struct.pack("<2Q", other + 0x123, 0), self.registers(BASE + rva, 0x20000)
+        for modules, frames in (([(image, BASE)], 1), ([(image, BASE), (0x1000, other)], 2),
+                                ([(0x1000, other), (image, BASE)], 2), ([(image, BASE), (0x100, other)], 1)):
+            stack = pe_c.walk(registers, modules, memory, [(0x20000, 0, 16)], 10)
+            self.assertEqual([it.registers.rip for it in stack.frames], [BASE + rva, other + 0x123][:frames], modules)
+        with self.assertRaises(struct.error):
+            pe_c.walk(registers, [(1 << 32, other)], memory, [(0x20000, 0, 16)], 10)
+
+    def test_a_damaged_function_table(self):
+        """Of a table of 30 bytes and a half the whole entries serve, and the stack says so."""
+        data = bytearray(bytes_of("functions.bin"))
+        whole, place = pe_c.Image(bytes(data)), None
+        headers = whole.all_headers
+        place = headers.directories_offset + 8 * 3
+        rva, size = struct.unpack_from("<II", data, place)
+        struct.pack_into("<II", data, place, rva, size - 1)
+        image = pe_c.Image(bytes(data))
+        self.assertIsNotNone(image.functions.error)
+        words = [1, 2, 3, 4, 0x5555, 0x7000]
+        memory, registers = struct.pack("<6Q", *words), self.registers(BASE + 0x5008, 0x20000, rbp=0x20040)
+        stacks = [pe_c.walk(registers, [(it, BASE)], memory, [(0x20000, 0, len(memory))], 10) for it in (whole, image)]
+        self.assertEqual([[it.registers.rip for it in stack.frames] for stack in stacks], [[BASE + 0x5008, 0x7000]] * 2)
+        self.assertEqual([len(it.warnings) for it in stacks], [0, 1])
+        warning, = stacks[1].warnings
+        self.assertEqual((warning.kind, warning.error.number), (pe_c.WarningKind.DAMAGED, image.functions.error.number))
+        self.assertIn(f"function table of the module at 0x{BASE:x}: ", str(warning))
+        # As large as the rest of the file, and unmapped, it is read as far as there is one.
+        for at in ((rva, 0xFFFFFFFF), (0x7FFFFFFF, size)):
+            struct.pack_into("<II", data, place, *at)
+            stack = pe_c.walk(registers, [(pe_c.Image(bytes(data)), BASE)], memory, [(0x20000, 0, len(memory))], 10)
+            self.assertGreaterEqual(len(stack.frames), 1)
+            self.assertEqual(len(stack.warnings), 1)
+
+    def test_threads(self):
+        """The GIL is released in walks and lists: no image is closed meanwhile."""
+        image, memory = pe_c.Image(bytes_of("functions.bin")), struct.pack("<12Q", *[0] * 4, 0x20070, BASE + 0x500A, *[0] * 6)
+        registers, told, wrong = self.registers(BASE + 0x5008, 0x20000, rbp=0x20040), [], []
+
+        def reads():
+            try:
+                for _ in range(200):
+                    found = pe_c.walk(registers, [(image, BASE)], memory, [(0x20000, 0, len(memory))], 10)
+                    told.append([it.registers.rip - BASE for it in found.frames])
+                    list(copy.copy(image).functions)
+            except ValueError as error:
+                wrong.append(str(error))
+        threads = [threading.Thread(target=reads) for _ in range(4)]
+        for it in threads:
+            it.start()
+        while any(it.is_alive() for it in threads):
+            try:
+                if len(told) > 100:
+                    image.close()
+            except BufferError:
+                pass
+        self.assertEqual(([it for it in told if it != [0x5008, 0x500A]], len(told) > 100), ([], True))
+        self.assertLessEqual(set(wrong), {"a module without an address, or that is no open image", "operation on a closed image"})
+
     def test_on_arm64(self):
         registers = pe_c.Arm64Registers((tuple(range(31)), tuple(range(8)), 0x20000, 0x1234))
         stack = pe_c.walk(registers, [(pe_c.Image(bytes_of("arm64_functions.bin")), BASE)], bytes(64), [(0x20000, 0, 64)])
         self.assertEqual((stack.frames[0].registers, stack.end), (registers, End.NO_MODULE))
+
+
+class Files(unittest.TestCase):
+    """What is opened, and what is said of it beside its records."""
+
+    def test_what_is_opened(self):
+        path, content = os.path.join(IMAGES, "debug.bin"), bytes_of("debug.bin")
+        with open(path, "rb") as file:
+            by_file = pe_c.open(file)
+        with open(path, "rb", buffering=0) as file:
+            file.seek(0)
+            self.assertEqual(pe_c.open(file).path, path)
+        for image, name in ((pe_c.open(path), path), (pe_c.open(pathlib.Path(path)), path), (by_file, path),
+                            (pe_c.open(io.BytesIO(content)), None)):
+            self.assertEqual((bytes(image.memory), image.path), (content, name))
+        self.assertEqual(pe_c.Dump.open(io.BytesIO(bytes_of("x64.dmp"))).header.number_of_streams, 12)
+        with open(os.path.join(IMAGES, "object.obj"), "rb") as file:
+            self.assertEqual(pe_c.Coff.open(file).machine, pe_c.Coff.open(file.name).machine)
+        for given, said in ((3, "and not int"), (None, "and not NoneType"), (io.StringIO("x"), "it reads str")):
+            with self.assertRaisesRegex(TypeError, said):
+                pe_c.open(given)
+        with self.assertRaises(OSError):
+            pe_c.open(io.BytesIO(content), limit=len(content) - 1)
+        self.assertEqual(len(pe_c.open(io.BytesIO(content), limit=len(content)).memory), len(content))
+
+    def test_copies(self):
+        image = pe_c.open(os.path.join(IMAGES, "debug.bin"))
+        one, other = copy.copy(image), copy.deepcopy(image)
+        image.close()
+        self.assertEqual((one.headers, one.path, one.symbol_key), (other.headers, other.path, other.symbol_key))
+        one.close()
+        self.assertEqual((one.closed, other.closed, other.sections[0].name), (True, False, ".rdata"))
+        with self.assertRaises(ValueError):
+            copy.copy(image)
+        dump = copy.copy(pe_c.Dump(bytes_of("x64.dmp")))
+        self.assertEqual((len(dump.modules), len(copy.copy(pe_c.Te(bytes_of("te_image.te"))).sections)), (1, 1))
+
+    def test_machines_versions_and_paths(self):
+        image = pe_c.open(os.path.join(IMAGES, "debug.bin"))
+        self.assertEqual((image.machine, image.machine.name, isinstance(image.machine, int)), (0x8664, "AMD64", True))
+        self.assertEqual((pe_c.Machine(0x1234).name, pe_c.Machine(0x1234)), ("0x1234", 0x1234))
+        with self.assertRaises(ValueError):
+            pe_c.Machine(1 << 16)
+        # The path of the GUID 497B72F6-390A-44FC-878E-5A2D63B6CC4B, age 1, as README has it.
+        self.assertEqual(image.symbol_path, "a.pdb/497B72F6390A44FC878E5A2D63B6CC4B1/a.pdb")
+        self.assertEqual(image.symbol_key.symbol_path, image.symbol_path)
+        stamp, size = image.headers.time_date_stamp, image.headers.size_of_image
+        self.assertEqual(image.image_path("C:\\b\\a.dll"), f"a.dll/{stamp:08X}{size:x}/a.dll")
+        self.assertEqual([image.image_path(it) for it in ("..", "a/", "", "a:b", "a\x85b", "\x01")], [None] * 6)
+        self.assertEqual(pe_c.Image(bytes_of("exports.bin")).symbol_path, None)
+        older = pe_c.Image(bytes_of("old_debug.bin"))
+        if older.pdb20 and not older.symbol_key:
+            self.assertEqual(older.symbol_path.split("/")[1], f"{older.pdb20.signature:08X}{older.pdb20.age:X}")
+        fixed = pe_c.Image(bytes_of("resources.bin")).versions[0].fixed
+        self.assertEqual((fixed.file_version, len(fixed.product_version)), ((3, 11, 3150, 1013), 4))
 
 
 class Dumps(unittest.TestCase):
@@ -355,7 +480,7 @@ class Dumps(unittest.TestCase):
         crashed = dump.threads[0]
         self.assertEqual((len(dump._images(lambda module: image)[0]), dump.stack(crashed, lambda module: image).frames.is_limited), (40, False))
         with mock.patch.object(_dump, "MOST_SECTIONS", 7 * image.headers.number_of_sections):
-            self.assertEqual(len(dump._images(lambda module: image)[0]), 7)
+            self.assertEqual([it for it, _ in dump._images(lambda module: image)[0]], [image] * 7 + [0x6000] * 33)
             walked = dump.stack(crashed, lambda module: image)
             self.assertEqual((walked.end, walked.frames.is_limited), (End.BOTTOM, True))
         self.assertEqual(_dump.MOST_SECTIONS, 1 << 20)
@@ -367,8 +492,9 @@ class Dumps(unittest.TestCase):
             if kind == 5:
                 struct.pack_into("<QII", data, at + 4, BASE, len(loaded), start)
         found, is_limited = pe_c.Dump(bytes(data))._images(None)
-        self.assertEqual((len(found), is_limited), (2 * len(data) // len(loaded), True))
-        self.assertLess(len(found), 4000)
+        images = [it for it, _ in found if isinstance(it, pe_c.Image)]
+        self.assertEqual((len(images), len(found), is_limited), (2 * len(data) // len(loaded), 4000, True))
+        self.assertLess(len(images), 4000)
 
     def in_pieces(self, count, is_listed=True):
         """The dump with its stack in so many pieces, each of which overlaps the next, after so many elsewhere; or in no list."""

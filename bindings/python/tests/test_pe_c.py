@@ -490,9 +490,11 @@ class Allocations(unittest.TestCase):
         registers = struct.pack("<49Q", *[0] * 4, 0x20000, 0x20040, *[0] * 42, 0x180005008)
         memory = pe_c._core.image(struct.pack("<6Q", 0, 0, 0, 0, 1, 2), 1, True, 3, False)[0]
         base, piece = struct.pack("<Q", 0x180000000), struct.pack("<3Q", 0x20000, 0, 48)
-        self.fails_in_turn(lambda: memory.frames((image,), base, piece, registers, 8))
+        self.fails_in_turn(lambda: memory.frames((image,), base, bytes(4), piece, registers, 8))
         self.fails_in_turn(lambda: pe_c._core.write_version(bytes(52), b"", b"", b"", b""))
         core = pe_c._core.image(hostile.resources(1, 1, 1), 1, True, 0, True)[0]
+        self.fails_in_turn(lambda: core.resource_items(0))
+        self.fails_in_turn(lambda: core.resource_directory_at(0))
         self.fails_in_turn(lambda: core.edited(b"", b""))
 
 

@@ -7,8 +7,10 @@ import importlib.util
 import os
 import re
 import struct
+import tempfile
 import unittest
 
+import pe_c
 from pe_c import pefile as ours
 from pe_c._pefile_gaps import GAPS, NotInPeC
 
@@ -77,15 +79,20 @@ def opened(name):
     return ours.PE(os.path.join(IMAGES, f"{name}.bin"))
 
 
+def open_bytes(name):
+    with open(os.path.join(IMAGES, name), "rb") as file:
+        return file.read()
+
+
 class Gaps(unittest.TestCase):
     """Without pefile: what the table names is missing, and says why."""
 
     def test_a_missing_field_has_no_value(self):
-        directory = opened("resources").DIRECTORY_ENTRY_RESOURCE.entries[0].directory.struct
-        self.assertFalse(hasattr(directory, "TimeDateStamp"))
+        config = opened("guards").DIRECTORY_ENTRY_LOAD_CONFIG.struct
+        self.assertFalse(hasattr(config, "Reserved2"))
         with self.assertRaises(NotInPeC) as caught:
-            directory.TimeDateStamp
-        self.assertEqual(caught.exception.reason, GAPS["IMAGE_RESOURCE_DIRECTORY below the first.TimeDateStamp"])
+            config.Reserved2
+        self.assertEqual(caught.exception.reason, GAPS["IMAGE_LOAD_CONFIG_DIRECTORY.Reserved2"])
 
     def test_the_first_resource_directory_has_each_field_of_the_file(self):
         with open(os.path.join(IMAGES, "resources.bin"), "rb") as file:
@@ -109,7 +116,7 @@ class Gaps(unittest.TestCase):
 
     def test_missing_methods_and_names(self):
         pe = opened("exports")
-        for name in ("write", "dump_info", "relocate_image", "parse_imports"):
+        for name in ("print_info", "dump_info", "dump_dict", "parse_imports"):
             with self.assertRaises(NotInPeC):
                 getattr(pe, name)
         with self.assertRaises(NotInPeC):
@@ -137,6 +144,81 @@ class Gaps(unittest.TestCase):
         if SPEC:
             theirs = importlib.import_module("pefile").PE(path, max_symbol_exports=1)
             self.assertEqual([(it.name, it.ordinal) for it in theirs.DIRECTORY_ENTRY_EXPORT.symbols], listed(max_symbol_exports=1)[0])
+
+    def test_what_is_written(self):
+        """Fields of headers and bytes are changed, and nothing else of the file; what is not written is an error."""
+        path = os.path.join(IMAGES, "resources.bin")
+        with open(path, "rb") as file:
+            before = file.read()
+        pe = ours.PE(path)
+        self.assertEqual(bytes(pe.write()), before)
+        pe.FILE_HEADER.TimeDateStamp, pe.sections[0].Misc = 0x01020304, 0x500
+        stamp = pe.FILE_HEADER.get_field_absolute_offset("TimeDateStamp")
+        size = pe.sections[0].get_field_absolute_offset("Misc_VirtualSize")
+        self.assertTrue(pe.set_dword_at_offset(size + 28, 0x11223344))
+        expected = bytearray(before)
+        for offset, number in ((stamp, 0x01020304), (size, 0x500)):
+            struct.pack_into("<I", expected, offset, number)
+        # The bytes of a header that was assigned to are those of its fields.
+        data = pe.write()
+        self.assertEqual(data, expected)
+        self.assertEqual(pe.generate_checksum(), ours.PE(data=bytes(data)).generate_checksum())
+        with tempfile.TemporaryDirectory() as room:
+            self.assertIsNone(pe.write(os.path.join(room, "a.dll")))
+            with open(os.path.join(room, "a.dll"), "rb") as file:
+                self.assertEqual(file.read(), bytes(data))
+        with self.assertRaises(struct.error):
+            pe.FILE_HEADER.Machine = 1 << 16
+            pe.write()
+        with self.assertRaises(TypeError):
+            pe.set_bytes_at_offset(0, "MZ")
+
+    def test_what_is_not_written(self):
+        for change in (lambda pe: setattr(pe.FileInfo[0][0], "Key", b"other"),
+                       lambda pe: pe.FileInfo[0][0].StringTable[0].entries.__setitem__(b"CompanyName", b"Example"),
+                       lambda pe: setattr(pe.VS_FIXEDFILEINFO[0], "FileVersionMS", 1)):
+            pe = opened("resources")
+            pe.write()
+            change(pe)
+            with self.assertRaises(NotInPeC):
+                pe.write()
+
+    def test_another_base(self):
+        """What is written maps as the library maps the image at that base."""
+        with open(os.path.join(IMAGES, "relocations.bin"), "rb") as file:
+            data = bytearray(file.read())
+        # The sizes of the image and of its headers, and base relocations of one block, of types that are applied.
+        for offset, number in ((0x90, 0x2010), (0x94, 0x200), (0xF4, 12)):
+            struct.pack_into("<I", data, offset, number)
+        image = pe_c.Image(bytes(data))
+        second = image.offset_of(image.headers.directories[5].virtual_address) + 10
+        # The second is outside of the file: nothing is changed.
+        pe, base = ours.PE(data=bytes(data)), image.headers.base + 0x10000
+        with self.assertRaises(ours.PEFormatError):
+            pe.relocate_image(base)
+        self.assertEqual(bytes(pe.write()), bytes(data))
+        for entry, is_applied in ((0, True), (0x3010, True), (0xA010, True), (0x4010, False), (0x5010, False)):
+            struct.pack_into("<H", data, second, entry)
+            pe, image = ours.PE(data=bytes(data)), pe_c.Image(bytes(data))
+            if is_applied:
+                pe.relocate_image(base)
+                self.assertEqual((pe_c.Image(bytes(pe.write())).map(), pe.OPTIONAL_HEADER.ImageBase), (image.map(base), base))
+            else:
+                with self.assertRaises(ours.PEFormatError):
+                    pe.relocate_image(base)
+
+    def test_string_tables(self):
+        texts = ["", "one", "\u20ac", *[""] * 13]
+        content = b"".join(struct.pack("<H", len(it)) + it.encode("utf-16-le") for it in texts)
+        editor = pe_c.ResourceEditor(pe_c.Image(open_bytes("editable.exe")))
+        editor.set(6, 3, 0x409, content)
+        editor.set(6, 4, 0x409, struct.pack("<HHHHHHH", 1, 0xD800, 1, 0xD800, 1, 0xD800, 1) + b"a\0")
+        pe = ours.PE(data=editor.write())
+        self.assertEqual(pe.get_resources_strings(), ["one", "\u20ac"])
+        tables = next(it for it in pe.DIRECTORY_ENTRY_RESOURCE.entries if it.id == 6).directory.entries
+        self.assertEqual([it.directory.strings for it in tables], [{33: "one", 34: "\u20ac"}, {}])
+        if SPEC:
+            self.assertEqual(importlib.import_module("pefile").PE(data=editor.write()).get_resources_strings(), ["one", "\u20ac"])
 
     def test_a_closed_image(self):
         pe = opened("exports")

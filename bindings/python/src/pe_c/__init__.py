@@ -9,6 +9,7 @@
 
 Offsets are in bytes from the start of the file, RVAs and sizes in bytes. A row, as a section, is a tuple whose fields
 have names; help(pe_c.Section) shows them. `from pe_c import pefile` has the names of the module pefile. """
+from ._added import Machine as Machine
 from ._dump import Dump as Dump, Stack as Stack, walk as walk
 from ._edit import ResourceEditor as ResourceEditor, version_info as version_info
 from ._image import Image as Image, Mode as Mode, Unwind as Unwind, Version as Version, open as open

@@ -19,12 +19,13 @@
 /* What the bytes of an Image are. */
 enum { KIND_IMAGE, KIND_OBJECT, KIND_TE, KIND_BYTES };
 
-/* What a row costs, in bytes of the budget; to how many sections one such byte is equal, where the row's RVAs are mapped; how many
- * rows lists have whose entries may be the same bytes: each, or all of an exact image; how many levels version blocks have below
- * the first, of which real ones have three; how many frames a stack has; from how many sections on there is an index of them; how
- * many names are read together; how many refused lists inside of rows count as the bytes of an exact image. */
+/* What a row costs, in bytes of the budget; to how many sections one such byte is equal, where the row's RVAs are mapped; how
+ * many rows lists have whose entries may be the same bytes: each, or all of an exact image; how many levels version blocks have
+ * below the first, of which real ones have three; how many frames a stack has; from how many sections on there is an index of
+ * them; how many names are read together; how many refused lists inside of rows count as the bytes of an exact image; how many
+ * items the first call of a list takes, and how many each further one. */
 enum { ROW_COST = 16, SECTIONS_A_BYTE = 2, MOST_ROWS = 1 << 17, MOST_DEPTH = 8, MOST_FRAMES = 1 << 14, MANY_SECTIONS = 32, NAMES = 16,
-       REFUSED = 16 };
+       REFUSED = 16, FEW = 16, MANY = 2048 };
 
 typedef struct {
     PyTypeObject *image;
@@ -243,6 +244,88 @@ static void append(Rows *rows, PyObject *row)
     while (goes_on(rows) && ((rows)->result = (call)) == PE_C_DONE) \
         append(rows, row)
 
+/* ---- many items a call */
+
+/* A list call of pe.h, by which a walk goes on. Calls that read names together take runs for these. */
+typedef uint32_t Listed(Image *self, void *walk, pe_c_run *runs, size_t run_count, void *items, size_t most, uint64_t *count);
+#define LISTED(name, call) \
+    static uint32_t name(Image *self, void *walk, pe_c_run *runs, size_t run_count, void *items, size_t most, uint64_t *count) \
+    { \
+        (void)runs, (void)run_count; \
+        return call; \
+    }
+
+/* What a call wrote. The first call takes few, since most lists are short; the others many, without the GIL, and read a text
+ * that names share once a call. */
+typedef struct {
+    void *items;
+    pe_c_run *runs;
+    size_t most;
+    uint64_t count;
+} Chunk;
+
+static void ends(Chunk *chunk)
+{
+    PyMem_Free(chunk->items);
+    PyMem_Free(chunk->runs);
+    *chunk = (Chunk){NULL, NULL, 0, 0};
+}
+
+/* Makes room for the items of the next call. An export has two texts. */
+static int makes_room(Rows *rows, Chunk *chunk, size_t size)
+{
+    size_t most = chunk->most ? MANY : FEW;
+    if (chunk->most == MANY)
+        return 1;
+    ends(chunk);
+    chunk->items = PyMem_Calloc(most, size);
+    chunk->runs = most == MANY ? PyMem_Malloc(2 * most * sizeof *chunk->runs) : NULL;
+    chunk->most = most;
+    if (chunk->items && (chunk->runs || most == FEW))
+        return 1;
+    ends(chunk);
+    Py_CLEAR(rows->list);
+    PyErr_NoMemory();
+    return 0;
+}
+
+/* Makes such a call, for so many items at most. */
+static void takes_items(Rows *rows, Chunk *chunk, Listed listed, void *walk, size_t most)
+{
+    Image *self = rows->image;
+    chunk->count = 0;
+    if (!chunk->runs) {
+        rows->result = listed(self, walk, NULL, 0, chunk->items, most, &chunk->count);
+        return;
+    }
+    Py_BEGIN_ALLOW_THREADS
+    rows->result = listed(self, walk, chunk->runs, 2 * most, chunk->items, most, &chunk->count);
+    Py_END_ALLOW_THREADS
+}
+
+/* Whether the list goes on by further items. */
+static int next_items(Rows *rows, Chunk *chunk, size_t size, Listed listed, void *walk)
+{
+    if (goes_on(rows) && makes_room(rows, chunk, size)) {
+        takes_items(rows, chunk, listed, walk, chunk->most);
+        if (rows->result == PE_C_DONE && chunk->count)
+            return 1;
+    }
+    ends(chunk);
+    return 0;
+}
+
+/* Goes on with a walk by such calls. */
+#define EACH_OF(rows, Item, listed, walk, row) \
+    do { \
+        Chunk chunk = {NULL, NULL, 0, 0}; \
+        while (next_items(rows, &chunk, sizeof(Item), listed, walk)) \
+            for (uint64_t i = 0; i < chunk.count && goes_on(rows); i++) { \
+                Item item = ((const Item *)chunk.items)[i]; \
+                append(rows, row); \
+            } \
+    } while (0)
+
 static PyObject *tuple_of(Rows *rows)
 {
     PyObject *tuple = rows->list ? PyList_AsTuple(rows->list) : NULL;
@@ -314,6 +397,16 @@ static PyObject *filled(Image *self, int kind, PyObject **items, Py_ssize_t coun
         EACH(&rows, call, row); \
         return inside(outer, &rows); \
     }
+/* The same by a list call. */
+#define INNER_OF(name, Record, Walk, start, Item, call, row) \
+    LISTED(name##_listed, call) \
+    static PyObject *name(Image *self, Rows *outer, const Record *it) \
+    { \
+        Walk walk = start; \
+        Rows rows = rows_of(self, outer->budget); \
+        EACH_OF(&rows, Item, name##_listed, &walk, row); \
+        return inside(outer, &rows); \
+    }
 #define ROW_OF(name) row_##name(self, &rows, &item)
 
 static PyObject *directories_of(Image *self, Rows *rows, const pe_c_directory *it, uint32_t count);
@@ -347,6 +440,8 @@ static uint32_t next_of_table(Image *self, pe_c_import_walk *walk, pe_c_import *
     return entry ? pe_c_next_import(VIEW, walk, item) : PE_C_NOTHING;
 }
 
+LISTED(list_imports, pe_c_list_imports_together(VIEW, walk, runs, run_count, items, most, count))
+
 /* The imports of a library: those that its address table names where its lookup table is unmapped. */
 static PyObject *imports_of(Image *self, Rows *outer, const pe_c_library *it)
 {
@@ -354,7 +449,7 @@ static PyObject *imports_of(Image *self, Rows *outer, const pe_c_library *it)
     pe_c_import item = PE_C_EMPTY;
     Rows rows = rows_of(self, outer->budget);
     if (!has_unmapped_list(it)) {
-        EACH(&rows, pe_c_next_import(VIEW, &walk, &item), ROW_OF(import));
+        EACH_OF(&rows, pe_c_import, list_imports, &walk.imports, ROW_OF(import));
         return inside(outer, &rows);
     }
     rows.result = starts_table(self, it, &walk.imports);
@@ -475,6 +570,18 @@ static int is_open(Image *self)
         return finished(&rows); \
     }
 #define LIST(...) LIST_BY(OPEN, __VA_ARGS__)
+/* The same by a list call. */
+#define LIST_OF(name, Walk, start, Item, call, row) \
+    LISTED(name##_listed, call) \
+    METHOD(name) \
+    { \
+        OPEN \
+        Walk walk = PE_C_EMPTY; \
+        rows = rows_of(self, &budget); \
+        starts(&rows, start); \
+        EACH_OF(&rows, Item, name##_listed, &walk, row); \
+        return finished(&rows); \
+    }
 
 /* What was read with the headers. */
 #define OWN(name, row) METHOD(name) { OPEN_OWN return answer(row, &rows); }
@@ -517,23 +624,23 @@ static uint32_t first_te_key(Image *self, pe_c_key *out)
 }
 
 ONE(te_symbol_key, pe_c_key, first_te_key(self, &item), ROW_OF(key))
-/* The COFF symbols, several a call, whose names are read together. A name that is refused ends the list before its symbol. */
+LISTED(list_symbols, pe_c_list_symbols(BYTES, walk, runs, run_count, items, most, count))
+
+/* The COFF symbols, whose names are read together. A name that is refused ends the list before its symbol. */
 METHOD(symbols)
 {
     OPEN_OWN
     pe_c_named_symbol_walk walk = PE_C_EMPTY;
-    pe_c_named_symbol found[NAMES];
-    pe_c_run runs[NAMES];
-    uint64_t count = 0;
+    Chunk chunk = {NULL, NULL, 0, 0};
     walk.strings = self->strings;
     rows = rows_of(self, &budget);
     starts(&rows, pe_c_coff_symbols(BYTES, &self->coff, &walk.symbols));
-    while (goes_on(&rows) && (rows.result = pe_c_list_symbols(BYTES, &walk, runs, NAMES, found, NAMES, &count)) == PE_C_DONE && count)
-        for (uint64_t i = 0; i < count && goes_on(&rows); i++)
-            if ((rows.result = found[i].name_result) == PE_C_DONE) {
-                pe_c_range name = found[i].name;
-                append(&rows, takes(&rows, name.length) ? row_symbol_entry(self, &rows, &found[i].symbol, name) : NULL);
-            }
+    while (next_items(&rows, &chunk, sizeof(pe_c_named_symbol), list_symbols, &walk))
+        for (uint64_t i = 0; i < chunk.count && goes_on(&rows); i++) {
+            const pe_c_named_symbol *it = (const pe_c_named_symbol *)chunk.items + i;
+            if ((rows.result = it->name_result) == PE_C_DONE)
+                append(&rows, takes(&rows, it->name.length) ? row_symbol_entry(self, &rows, &it->symbol, it->name) : NULL);
+        }
     return finished(&rows);
 }
 
@@ -593,30 +700,64 @@ static int pays_without_text(Image *self, Rows *rows, const pe_c_exported *it)
     return !it->is_forwarder || it->forwarder.length || pays(rows->budget, unread(self, it->rva));
 }
 
-/* The exports with a name, in the order of the names. The walk skips names that are no texts, as often as it has names: so
- * each name is a walk of its own, after which what was read of it is paid for. They share the sections that the walk keeps. */
-static void add_named(Image *self, Rows *rows, const pe_c_exports *all, const pe_c_address_table *table, uint8_t *is_named)
+/* A walk over so many names of exports from an index on. */
+static pe_c_exports names_from(const pe_c_exports *all, uint64_t first, uint64_t count)
 {
+    return (pe_c_exports){{all->names.offset + 4 * first, 4 * count}, {all->ordinals.offset + 2 * first, 2 * count},
+                          all->addresses, 0, all->directory};
+}
+
+/* An export with a name, whose index is marked. */
+static void add_export(Rows *rows, const pe_c_address_table *table, const pe_c_export *named, uint8_t *is_named)
+{
+    pe_c_exported item = {.forwarder = named->forwarder, .ordinal = (uint64_t)table->ordinal_base + named->index,
+                          .rva = named->rva, .is_forwarder = named->is_forwarder};
+    if (!pays_without_text(rows->image, rows, &item))
+        return;
+    is_named[named->index] = 1;
+    append(rows, takes(rows, named->name.length) ? row_exported(rows->image, rows, &item, named) : NULL);
+}
+
+/* The exports of so many names, of which the walk skips some, as it does with those that are no texts: each name is a walk of
+ * its own, after which what was read of it is paid for. They share the sections that the walk keeps. */
+static void add_one_by_one(Rows *rows, const pe_c_exports *part, const pe_c_address_table *table, uint8_t *is_named)
+{
+    Image *self = rows->image;
     pe_c_export_walk walk = PE_C_EMPTY;
     pe_c_export named = PE_C_EMPTY;
-    for (uint64_t i = 0; goes_on(rows) && i < all->names.length / 4; i++) {
-        walk.exports = (pe_c_exports){{all->names.offset + 4 * i, 4}, {all->ordinals.offset + 2 * i, 2}, all->addresses, 0,
-                                      all->directory};
+    for (uint64_t i = 0; goes_on(rows) && i < part->names.length / 4; i++) {
+        walk.exports = names_from(part, i, 1);
         uint32_t result = pe_c_next_export(VIEW, &walk, &named);
         if (result != PE_C_DONE && result != PE_C_NOTHING)
             rows->result = result;
-        const uint8_t *rva = (const uint8_t *)self->view.buf + all->names.offset + 4 * i;
+        const uint8_t *rva = (const uint8_t *)self->view.buf + part->names.offset + 4 * i;
         if (result == PE_C_NOTHING)
             pays(rows->budget, rows->budget->each + unread(self, rva[0] | rva[1] << 8 | rva[2] << 16 | (uint32_t)rva[3] << 24));
-        if (result != PE_C_DONE)
-            continue;
-        pe_c_exported item = {.forwarder = named.forwarder, .ordinal = (uint64_t)table->ordinal_base + named.index,
-                              .rva = named.rva, .is_forwarder = named.is_forwarder};
-        if (!pays_without_text(self, rows, &item))
-            continue;
-        is_named[named.index] = 1;
-        append(rows, takes(rows, named.name.length) ? row_exported(self, rows, &item, &named) : NULL);
+        if (result == PE_C_DONE)
+            add_export(rows, table, &named, is_named);
     }
+}
+
+LISTED(list_exports, pe_c_list_exports_together(VIEW, walk, runs, run_count, items, most, count))
+
+/* The exports with a name, in the order of the names. */
+static void add_named(Rows *rows, const pe_c_exports *all, const pe_c_address_table *table, uint8_t *is_named)
+{
+    Chunk chunk = {NULL, NULL, 0, 0};
+    uint64_t count, total = all->names.length / 4;
+    for (uint64_t i = 0; i < total && goes_on(rows) && makes_room(rows, &chunk, sizeof(pe_c_export)); i += count) {
+        count = total - i < chunk.most ? total - i : chunk.most;
+        pe_c_exports part = names_from(all, i, count), walk = part;
+        takes_items(rows, &chunk, list_exports, &walk, count);
+        if (rows->result != PE_C_DONE || chunk.count < count) {
+            rows->result = PE_C_DONE;
+            add_one_by_one(rows, &part, table, is_named);
+            continue;
+        }
+        for (uint64_t it = 0; it < count && goes_on(rows); it++)
+            add_export(rows, table, (const pe_c_export *)chunk.items + it, is_named);
+    }
+    ends(&chunk);
 }
 
 /* Those without, in the order of their ordinals. An RVA of 0 is that of an unused ordinal. */
@@ -640,7 +781,7 @@ METHOD(exports)
     if (rows.list && rows.result == PE_C_DONE) {
         uint8_t *is_named = PyMem_Calloc(table.addresses.length / 4 + 1, 1);
         if (is_named) {
-            add_named(self, &rows, &walk, &table, is_named);
+            add_named(&rows, &walk, &table, is_named);
             add_unnamed(self, &rows, &table, is_named);
         } else {
             Py_CLEAR(rows.list);
@@ -758,6 +899,55 @@ static int range_and(PyObject *arguments, pe_c_range *out, unsigned int *id)
     return 1;
 }
 #define range_of(arguments, out) range_and(arguments, out, NULL)
+
+/* ---- the directories of resources, by their offsets in the tree */
+
+/* The tree, and a directory in it. */
+static uint32_t directory_of(Image *self, uint32_t offset, pe_c_range *tree, pe_c_resource_directory *out)
+{
+    pe_c_resource_walk walk = PE_C_EMPTY;
+    uint32_t result = pe_c_resource_leaves(VIEW, &walk);
+    *tree = walk.tree;
+    return result == PE_C_DONE ? pe_c_resource_directory_at(BYTES, tree, offset, out) : result;
+}
+
+/* resource_directory_at(offset): the directory, and the file offsets of the tree and of its entries. */
+static PyObject *resource_directory_at(Image *self, PyObject *argument)
+{
+    pe_c_range tree = PE_C_EMPTY;
+    pe_c_resource_directory item = PE_C_EMPTY;
+    uint32_t offset, result;
+    if (!rva_of(argument, &offset, &result))
+        return NULL;
+    OPEN_OWN
+    rows.result = result == PE_C_DONE ? directory_of(self, offset, &tree, &item) : result;
+    return answer(rows.result == PE_C_DONE ? Py_BuildValue("(NKK)", ROW_OF(resource_directory), (unsigned long long)tree.offset,
+                                                           (unsigned long long)item.entries.offset) : NULL, &rows);
+}
+
+/* An entry: the id or the name, the file offset of the name, the offset to which it leads, and whether a directory is there. */
+static PyObject *resource_item(Image *self, const pe_c_resource_item *it)
+{
+    return Py_BuildValue("(NKkN)", resource_name(self, it->name), (unsigned long long)it->name.name.offset,
+                         (unsigned long)it->offset, B(it->is_directory));
+}
+
+/* resource_items(offset): the entries of a directory. */
+static PyObject *resource_items(Image *self, PyObject *argument)
+{
+    pe_c_range tree = PE_C_EMPTY;
+    pe_c_resource_directory directory = PE_C_EMPTY;
+    pe_c_resource_item item = PE_C_EMPTY;
+    uint32_t offset, result;
+    if (!rva_of(argument, &offset, &result))
+        return NULL;
+    OPEN
+    rows = rows_of(self, &budget);
+    starts(&rows, result == PE_C_DONE ? directory_of(self, offset, &tree, &directory) : result);
+    EACH(&rows, pe_c_next_resource_item(BYTES, &tree, &directory.entries, &item),
+         takes(&rows, item.name.name.length) ? resource_item(self, &item) : NULL);
+    return finished(&rows);
+}
 
 static PyObject *version_blocks(Image *self, PyObject *arguments)
 {
@@ -883,7 +1073,7 @@ static void add_pieces(Image *self, Pieces *to, const pe_c_range *list, pe_c_mem
         add_piece(self, to, (pe_c_memory_piece){thread.stack.start_of_memory_range, thread.stack.memory.rva, thread.stack.memory.size});
 }
 
-/* The records of pe_c_memory_runs, in bytes. No Python code runs meanwhile. */
+/* The records of pe_c_memory_runs, in bytes. */
 METHOD(dump_runs)
 {
     OPEN_OWN
@@ -899,8 +1089,10 @@ METHOD(dump_runs)
     pe_c_memory_piece *runs = PyMem_Malloc(2 * most * sizeof *runs);
     PyObject *found = NULL;
     if (pieces.all && entries && runs) {
+        Py_BEGIN_ALLOW_THREADS
         add_pieces(self, &pieces, &list, &full, &threads);
         rows.result = pe_c_memory_runs(pieces.all, pieces.count, entries, 4 * most, runs, 2 * most, &written);
+        Py_END_ALLOW_THREADS
         found = bytes_of((const uint8_t *)runs, written * sizeof *runs);
     } else {
         PyErr_NoMemory();
@@ -926,44 +1118,83 @@ METHOD(dump_runs)
 
 /* ---- stack walks */
 
-/* The modules, each an image and the address where it is loaded, in an array that the caller frees. They stay valid as long as no
- * other code runs. */
-static pe_c_module *modules_in(State *state, PyObject *images, PyObject *bases)
+/* Of the images of modules, which none closes while they are in use. A module without an image has None. */
+static void uses(PyObject *images, int change)
 {
-    Py_ssize_t count = PyTuple_Size(images);
-    pe_c_module *modules = PyMem_Calloc((size_t)count + 1, sizeof *modules);
+    for (Py_ssize_t i = 0; i < PyTuple_Size(images); i++)
+        if (PyTuple_GetItem(images, i) != Py_None)
+            ((Image *)PyTuple_GetItem(images, i))->users += change;
+}
+
+/* The function table of a module. Of one that is damaged the whole entries serve, as Windows divides its size: those that the
+ * bytes have. */
+static pe_c_range functions_of(Image *self)
+{
+    pe_c_range table = PE_C_EMPTY;
+    int is_arm64 = self->info.machine == 0xAA64;
+    uint32_t result = is_arm64 ? pe_c_arm64_table(VIEW, &table) : pe_c_function_table(VIEW, &table);
+    if (result == PE_C_DONE || result == PE_C_NOTHING)
+        return result == PE_C_DONE ? table : (pe_c_range)PE_C_EMPTY;
+    pe_c_directory at = self->info.directories[PE_C_DIRECTORY_EXCEPTION];
+    uint64_t offset = 0, length = (uint64_t)self->view.len, entry = is_arm64 ? 8 : 12;
+    if (pe_c_offset(VIEW, at.virtual_address, &offset) != PE_C_DONE || offset > length)
+        return (pe_c_range)PE_C_EMPTY;
+    uint64_t size = at.size < length - offset ? at.size : length - offset;
+    return (pe_c_range){offset, size / entry * entry};
+}
+
+/* The bytes of the function table, or why it is damaged. */
+METHOD(function_table)
+{
+    OPEN_OWN
+    pe_c_range item = PE_C_EMPTY;
+    rows.result = self->info.machine == 0xAA64 ? pe_c_arm64_table(VIEW, &item) : pe_c_function_table(VIEW, &item);
+    return answer(rows.result == PE_C_DONE ? view_of(self, item) : NULL, &rows);
+}
+
+/* The modules, each an image or None, the address where it is loaded and the size of what has no image, in an array that the
+ * caller frees. They stay valid as long as the images are open. The records of those without an image are after the modules. */
+static pe_c_module *modules_in(State *state, PyObject *images, PyObject *bases, PyObject *sizes)
+{
+    size_t count = (size_t)PyTuple_Size(images);
+    pe_c_module *modules = PyMem_Calloc(count + 1, sizeof *modules + sizeof(pe_c_image_info));
+    pe_c_image_info *missing = (pe_c_image_info *)(modules + count + 1);
+    int is_well = (size_t)PyBytes_Size(bases) == 8 * count && (size_t)PyBytes_Size(sizes) == 4 * count;
     if (!modules)
         PyErr_NoMemory();
-    for (Py_ssize_t i = 0; modules && i < count; i++) {
-        Image *self = (Image *)PyTuple_GetItem(images, i);
-        if (PyBytes_Size(bases) != 8 * count || !PyObject_TypeCheck((PyObject *)self, state->image) || !self->memory) {
+    for (size_t i = 0; modules && i < count; i++) {
+        Image *self = (Image *)PyTuple_GetItem(images, (Py_ssize_t)i);
+        int is_missing = (PyObject *)self == Py_None;
+        if (!is_well || (!is_missing && (!PyObject_TypeCheck((PyObject *)self, state->image) || !self->memory))) {
             PyErr_SetString(PyExc_ValueError, "a module without an address, or that is no open image");
             PyMem_Free(modules);
             return NULL;
         }
-        pe_c_range table = PE_C_EMPTY;
-        uint32_t result = self->info.machine == 0xAA64 ? pe_c_arm64_table(VIEW, &table) : pe_c_function_table(VIEW, &table);
-        modules[i] = (pe_c_module){*VIEW, result == PE_C_DONE ? table : (pe_c_range)PE_C_EMPTY, 0};
+        memcpy(&missing[i].size_of_image, PyBytes_AsString(sizes) + 4 * i, 4);
+        if (is_missing)
+            modules[i].image.image = &missing[i];
+        else
+            modules[i] = (pe_c_module){*VIEW, functions_of(self), 0};
         memcpy(&modules[i].base, PyBytes_AsString(bases) + 8 * i, 8);
     }
     return modules;
 }
 
-/* frames(images, bases, pieces, registers, most) walks a stack in this memory: of each frame a row, and last one of the walk as it
- * ended. The last four are the numbers of pe.h's records, in bytes. No Python code runs while it walks. */
+/* frames(images, bases, sizes, pieces, registers, most) walks a stack in this memory, without the GIL: of each frame a row, and
+ * last one of the walk as it ended. Bases, sizes, pieces and registers are the numbers of pe.h's records, in bytes. */
 #define WALK(name, Walk, call, row) \
     static PyObject *name(Image *self, PyObject *arguments) \
     { \
-        PyObject *images, *bases, *pieces, *registers; \
+        PyObject *images, *bases, *sizes, *pieces, *registers; \
         Walk walk = PE_C_EMPTY; \
         uint64_t count = 0; \
         unsigned int most; \
-        if (!PyArg_ParseTuple(arguments, "O!SSSI", &PyTuple_Type, &images, &bases, &pieces, &registers, &most)) \
+        if (!PyArg_ParseTuple(arguments, "O!SSSSI", &PyTuple_Type, &images, &bases, &sizes, &pieces, &registers, &most)) \
             return NULL; \
         most = most < MOST_FRAMES ? most : MOST_FRAMES; \
         OPEN_OWN \
         budget.bytes += (uint64_t)(most + 1) * sizeof walk * ROW_COST; \
-        pe_c_module *modules = modules_in(self->state, images, bases); \
+        pe_c_module *modules = modules_in(self->state, images, bases, sizes); \
         Walk *frames = modules ? PyMem_Calloc(most + 1u, sizeof walk) : NULL; \
         if (modules && !frames) \
             PyErr_NoMemory(); \
@@ -971,8 +1202,13 @@ static pe_c_module *modules_in(State *state, PyObject *images, PyObject *bases)
             size_t length = (size_t)PyBytes_Size(registers), own = sizeof walk.registers; \
             memcpy(&walk.registers, PyBytes_AsString(registers), length < own ? length : own); \
             walk.remaining = most; \
-            rows.result = call(modules, (size_t)PyTuple_Size(images), BYTES, (const pe_c_memory_piece *)PyBytes_AsString(pieces), \
-                               (size_t)PyBytes_Size(pieces) / sizeof(pe_c_memory_piece), &walk, frames, most + 1u, &count); \
+            const pe_c_memory_piece *all = (const pe_c_memory_piece *)PyBytes_AsString(pieces); \
+            size_t module_count = (size_t)PyTuple_Size(images), piece_count = (size_t)PyBytes_Size(pieces) / sizeof *all; \
+            uses(images, 1); \
+            Py_BEGIN_ALLOW_THREADS \
+            rows.result = call(modules, module_count, BYTES, all, piece_count, &walk, frames, most + 1u, &count); \
+            Py_END_ALLOW_THREADS \
+            uses(images, -1); \
             rows.result = rows.result == PE_C_NOTHING ? PE_C_DONE : rows.result; \
             frames[count] = walk; \
             rows.list = PyList_New(0); \
@@ -1151,10 +1387,29 @@ static uint32_t headers_of(Image *self, unsigned int mode)
     return result;
 }
 
-/* Reads the headers. Returns the library's result, or PE_C_MEMORY with an exception. */
+/* Reads the section headers, and makes an index of many. */
+static uint32_t sections_of(Image *self, size_t most)
+{
+    uint32_t result = self->kind == KIND_OBJECT ? pe_c_coff_sections(BYTES, &self->coff, SECTIONS)
+                      : self->kind == KIND_TE   ? pe_c_te_sections(BYTES, &self->te, SECTIONS)
+                                                : pe_c_sections(BYTES, &self->info, SECTIONS);
+    if (self->index && result == PE_C_DONE)
+        result = pe_c_index(VIEW, self->index, most, &self->entries);
+    uint32_t strings = self->kind == KIND_OBJECT ? pe_c_coff_strings(BYTES, &self->coff, &self->strings)
+                                                 : pe_c_string_table(VIEW, &self->strings);
+    if (self->kind == KIND_TE || self->kind == KIND_BYTES || strings != PE_C_DONE)
+        self->strings = (pe_c_range)PE_C_EMPTY;
+    return result;
+}
+
+/* Reads the headers, without the GIL: no one else has the image yet. Returns the library's result, or PE_C_MEMORY with an
+ * exception. */
 static uint32_t reads(Image *self, unsigned int mode)
 {
-    uint32_t result = headers_of(self, mode);
+    uint32_t result;
+    Py_BEGIN_ALLOW_THREADS
+    result = headers_of(self, mode);
+    Py_END_ALLOW_THREADS
     if (result != PE_C_DONE)
         return result;
     size_t count = self->info.number_of_sections, most = self->kind == KIND_IMAGE && count >= MANY_SECTIONS ? 4 * count : 0;
@@ -1164,15 +1419,9 @@ static uint32_t reads(Image *self, unsigned int mode)
         PyErr_NoMemory();
         return PE_C_MEMORY;
     }
-    result = self->kind == KIND_OBJECT ? pe_c_coff_sections(BYTES, &self->coff, SECTIONS)
-             : self->kind == KIND_TE   ? pe_c_te_sections(BYTES, &self->te, SECTIONS)
-                                       : pe_c_sections(BYTES, &self->info, SECTIONS);
-    if (self->index && result == PE_C_DONE)
-        result = pe_c_index(VIEW, self->index, most, &self->entries);
-    uint32_t strings = self->kind == KIND_OBJECT ? pe_c_coff_strings(BYTES, &self->coff, &self->strings)
-                                                 : pe_c_string_table(VIEW, &self->strings);
-    if (self->kind == KIND_TE || self->kind == KIND_BYTES || strings != PE_C_DONE)
-        self->strings = (pe_c_range)PE_C_EMPTY;
+    Py_BEGIN_ALLOW_THREADS
+    result = sections_of(self, most);
+    Py_END_ALLOW_THREADS
     return result;
 }
 
@@ -1224,9 +1473,11 @@ static PyMethodDef methods[] = {
     {"sections", (PyCFunction)section_headers, METH_NOARGS, NULL}, {"close", (PyCFunction)close_image, METH_NOARGS, NULL},
     WITHOUT(headers), WITHOUT(clr_metadata), WITHOUT(embedded_pdb), WITHOUT(pdb_checksum), WITHOUT(bound_imports),
     WITHOUT(relocations), WITHOUT(certificates), WITHOUT(exports), WITHOUT(functions), WITHOUT(arm64_functions),
+    WITHOUT(function_table),
     WITHOUT(coff_header), WITHOUT(coff_strings), WITHOUT(symbols), WITHOUT(te_header), WITHOUT(te_symbol_key),
     WITHOUT(dump_memory64), WITHOUT(dump_runs), WITHOUT(checksum), WITHOUT(digest_ranges), WITHOUT(detach),
     WITH_ONE(offset_of), WITH_ONE(load_config_field), WITH_ONE(find_function), WITH_ONE(find_arm64_function), WITH_ONE(unwind_records),
+    WITH_ONE(resource_directory_at), WITH_ONE(resource_items),
     WITH_SOME(arm64_unwind), WITH_SOME(version_blocks), WITH_SOME(elements), WITH_SOME(name_attributes), WITH_SOME(attributes),
     WITH_SOME(frames), WITH_SOME(arm64_frames), WITH_SOME(histogram), WITH_SOME(attach), WITH_SOME(edited), WITH_ONE(mapped),
     {NULL, NULL, 0, NULL}};

@@ -2,7 +2,6 @@
 from __future__ import annotations
 
 import bisect
-import os
 import struct
 import typing
 from typing import TYPE_CHECKING, Any
@@ -13,8 +12,8 @@ from ._core import (Arm64Context, Arm64Registers, Arm64StackFrame, Context, Dump
                     DumpUnloadedModule, Registers, StackFrame, SymbolKey)
 from ._image import Image, Mode
 from ._kinds import End, Kind
-from ._part import Error, Part, error_of
-from ._reader import BYTES, Reader, content_of
+from ._part import Error, ImageWarning, Part, WarningKind, error_of
+from ._reader import BYTES, AnyFile, Reader, content_of
 
 if TYPE_CHECKING:
     import _typeshed
@@ -36,6 +35,17 @@ ACCESSES = {0: "read", 1: "write", 8: "execution"}
 
 Piece = tuple[int, int, int]
 AnyFrame = StackFrame | Arm64StackFrame
+# A module: its image, or its size where that is not at hand, and the address where it is loaded.
+AnyModule = tuple[Image | int, int]
+
+
+class _Packed(typing.NamedTuple):
+    """Modules as walks take them: the images, and of each its address and the size of one that is not at hand."""
+
+    images: tuple[_core.Image | None, ...]
+    bases: bytes
+    sizes: bytes
+    warnings: tuple[ImageWarning, ...]
 
 
 class Stack(typing.NamedTuple):
@@ -50,17 +60,20 @@ class Stack(typing.NamedTuple):
     """of a record or a step that is refused"""
     address: int
     """what the error of a step speaks of"""
+    warnings: tuple[ImageWarning, ...] = ()
+    """of modules whose function table is damaged: of these the whole entries serve, and frames of their code may be missing or
+    wrong"""
 
 
 def _named(number: int, table: dict[int, str]) -> str:
     return f"{table[number]} (0x{number:08x})" if number in table else f"0x{number:08x}"
 
 
-def walk(registers: Registers | Arm64Registers, modules: typing.Iterable[tuple[Image, int]], memory: _typeshed.ReadableBuffer,
+def walk(registers: Registers | Arm64Registers, modules: typing.Iterable[AnyModule], memory: _typeshed.ReadableBuffer,
          pieces: typing.Iterable[Piece], most: int = 1000) -> Stack:
-    """Walks a stack from the registers of a thread, x64's or ARM64's: through modules, each an image and the address where it is
-    loaded, over pieces of memory, each an address, an offset in `memory` and a length. At most `most` frames, 16,384 or fewer. An
-    address is that of the first module that has it.
+    """Walks a stack from the registers of a thread, x64's or ARM64's: through modules, each an image, or its size in memory
+    where that is not at hand, and the address where it is loaded, over pieces of memory, each an address, an offset in `memory`
+    and a length. At most `most` frames, 16,384 or fewer. An address is that of the first module that has it.
 
     Raises Error where a piece is not inside the memory."""
     core, _ = _core.image(memory, 0, True, BYTES, False)
@@ -69,25 +82,44 @@ def walk(registers: Registers | Arm64Registers, modules: typing.Iterable[tuple[I
     return _walk(core, registers, _packed(list(modules)), places, most, None)
 
 
-def _packed(modules: list[tuple[Image, int]]) -> tuple[tuple[_core.Image, ...], bytes]:
-    """Modules as walks take them: in the order of their addresses, if none overlap."""
+def _size(module: AnyModule) -> int:
+    image = module[0]
+    return image if isinstance(image, int) else image.headers.size_of_image
+
+
+def _packed(modules: list[AnyModule]) -> _Packed:
+    """Modules in the order of their addresses, if none overlap."""
     ordered = sorted(modules, key=lambda it: it[1])
-    if all(one[1] + one[0].headers.size_of_image <= other[1] for one, other in zip(ordered, ordered[1:])):
+    if all(one[1] + _size(one) <= other[1] for one, other in zip(ordered, ordered[1:])):
         modules = ordered
-    return tuple(it[0]._core for it in modules), struct.pack(f"<{len(modules)}Q", *(it[1] for it in modules))
+    count, missing = len(modules), [it[0] if isinstance(it[0], int) else 0 for it in modules]
+    return _Packed(tuple(None if isinstance(it[0], int) else it[0]._core for it in modules),
+                   struct.pack(f"<{count}Q", *(it[1] for it in modules)), struct.pack(f"<{count}I", *missing),
+                   tuple(it for image, base in modules if not isinstance(image, int) for it in _damaged_table(image, base)))
 
 
-def _walk(core: _core.Image, registers: Registers | Arm64Registers, modules: tuple[tuple[_core.Image, ...], bytes], places: bytes,
-          most: int, path: str | None) -> Stack:
+def _damaged_table(image: Image, base: int) -> list[ImageWarning]:
+    """What is to be said of a module's function table."""
+    _, number, _ = image._kept_answer("function_table")
+    if not number:
+        return []
+    part = f"function table of the module at 0x{base:x}"
+    error = error_of(number, part, image.path)
+    return [ImageWarning(WarningKind.DAMAGED, part, f"{error.text}: its whole entries serve", error, image.path)]
+
+
+def _walk(core: _core.Image, registers: Registers | Arm64Registers, modules: _Packed, places: bytes, most: int,
+          path: str | None) -> Stack:
     numbers = [it for field in registers for it in (field if isinstance(field, tuple) else (field,))]
     call: Any = core.frames if isinstance(registers, Registers) else core.arm64_frames
-    rows, number, is_limited = call(*modules, places, struct.pack(f"<{len(numbers)}Q", *numbers), max(most, 0))
+    rows, number, is_limited = call(*modules[:3], places, struct.pack(f"<{len(numbers)}Q", *numbers), max(most, 0))
     if number or not rows:
         raise error_of(number or Kind.SHORT, "stack walk", path)
     frames: Part[AnyFrame] = Part(rows[:-1])
     frames.is_limited = is_limited
     last = rows[-1]
-    return Stack(frames, End(last.end), error_of(last.error, "stack walk", path) if last.error else None, last.address)
+    error = error_of(last.error, "stack walk", path) if last.error else None
+    return Stack(frames, End(last.end), error, last.address, modules.warnings)
 
 
 class Dump(Reader):
@@ -100,10 +132,10 @@ class Dump(Reader):
         self._left = MOST_FRAMES
 
     @classmethod
-    def open(cls, path: str | os.PathLike[str], *, limit: int = 1 << 34) -> Dump:
-        """That of a file, which is read whole."""
-        name = os.fspath(path)
-        return cls(content_of(name, limit), path=name)
+    def open(cls, path: AnyFile, *, limit: int = 1 << 34) -> Dump:
+        """That of a file, by its path or open, which is read whole."""
+        content, name = content_of(path, limit)
+        return cls(content, path=name)
 
     @property
     def header(self) -> DumpHeader:
@@ -268,7 +300,7 @@ class Dump(Reader):
         kept = self._kept.get("loaded")
         if kept is None or kept[0] is not look_up:
             images, is_limited = self._images(look_up)
-            sections = max((it[0].headers.number_of_sections for it in images), default=0)
+            sections = max((it[0].headers.number_of_sections for it in images if isinstance(it[0], Image)), default=0)
             kept = self._kept["loaded"] = (look_up, _packed(images), sections, is_limited)
             self._left -= len(self.modules) // PACKED_A_FRAME
         _, packed, sections, is_limited = kept
@@ -283,9 +315,9 @@ class Dump(Reader):
         empty.is_limited = True
         return Stack(empty, End.BOUND, None, 0)
 
-    def _walked(self, registers: Registers | Arm64Registers, packed: tuple[tuple[_core.Image, ...], bytes], cost: int, most: int) -> Stack:
+    def _walked(self, registers: Registers | Arm64Registers, packed: _Packed, cost: int, most: int) -> Stack:
         """A walk, as long as all walks of the dump have not cost too much."""
-        tests = len(packed[0]) // MODULES_A_FRAME + len(self._runs) // 24 // PIECES_A_FRAME
+        tests = len(packed.images) // MODULES_A_FRAME + len(self._runs) // 24 // PIECES_A_FRAME
         self._left -= tests
         wanted, most = min(max(most, 0), 1 << 14), max(min(most, self._left // cost), 0)
         if most < wanted and most == 0:
@@ -295,27 +327,31 @@ class Dump(Reader):
         walked.frames.is_limited = walked.frames.is_limited or (walked.end == End.BOUND and most < wanted)
         return walked
 
-    def _images(self, look_up: typing.Callable[[DumpModule], Image | None] | None) -> tuple[list[tuple[Image, int]], bool]:
-        """The images of the modules and their addresses, in the order of the dump, and whether some were left out. In a hostile dump all
-        modules may be the same bytes, with as many sections as there can be: the images end where they have too many bytes or sections
-        together."""
-        found: list[tuple[Image, int]] = []
+    def _images(self, look_up: typing.Callable[[DumpModule], Image | None] | None) -> tuple[list[AnyModule], bool]:
+        """The images of the modules, or the sizes of those that are not at hand, and their addresses, in the order of the dump;
+        and whether some were left out. In a hostile dump all modules may be the same bytes, with as many sections as there can
+        be: further images are not read where they have too many bytes or sections together."""
+        found: list[AnyModule] = []
         left, sections = MOST_READINGS * len(self.memory), MOST_SECTIONS
         for it in self.modules[:MOST_IMAGES]:
-            name = f"image of {it.base_of_image:x}, {it.size_of_image:x}, {it.time_date_stamp:x}"
-            image, size = self._once(name, lambda: self._image_and_size(it))
-            left -= size
-            if left < 0:
-                return found, True
-            if image is None and look_up is not None:
-                image = look_up(it)
-                image = image if image is not None and self._is_of(image, it) else None
-            if image is not None:
-                sections -= image.headers.number_of_sections
-                if sections < 0:
-                    return found, True
-                found.append((image, it.base_of_image))
-        return found, len(self.modules) > MOST_IMAGES
+            image = None
+            if left >= 0 and sections >= 0:
+                image, size = self._image_or_looked_up(it, look_up)
+                left -= size
+                sections -= image.headers.number_of_sections if image else 0
+            is_taken = image is not None and left >= 0 and sections >= 0
+            found.append((image if image is not None and is_taken else it.size_of_image, it.base_of_image))
+        return found, left < 0 or sections < 0 or len(self.modules) > MOST_IMAGES
+
+    def _image_or_looked_up(self, module: DumpModule,
+                            look_up: typing.Callable[[DumpModule], Image | None] | None) -> tuple[Image | None, int]:
+        """The image of a module in the memory, or that which is looked up, and how many bytes were read of the memory."""
+        name = f"image of {module.base_of_image:x}, {module.size_of_image:x}, {module.time_date_stamp:x}"
+        image, size = self._once(name, lambda: self._image_and_size(module))
+        if image is None and look_up is not None:
+            image = look_up(module)
+            image = image if image is not None and self._is_of(image, module) else None
+        return image, size
 
     def module_at(self, address: int) -> DumpModule | None:
         """The first module that has an address."""

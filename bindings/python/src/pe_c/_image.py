@@ -3,12 +3,12 @@ from __future__ import annotations
 
 import enum
 import hashlib
-import os
 import struct
 import typing
 from typing import TYPE_CHECKING, Any
 
 from . import _core
+from ._added import Machine, image_path
 from ._core import (AllHeaders, Arm64Function, Arm64Packed, Arm64Record, BoundLibrary, Certificate, Checksum, ClrHeader, DebugEntry,
                     DelayLibrary, EmbeddedPdb, Export, ExportDirectory, ExportTable, FixedVersion, Function, Headers, Library,
                     LoadConfig, Metadata, Pdb20, PdbChecksum, Pogo, RelocationBlock, Repro, Resource, ResourceDirectory, RichHeader,
@@ -16,7 +16,7 @@ from ._core import (AllHeaders, Arm64Function, Arm64Packed, Arm64Record, BoundLi
 from ._kinds import Kind
 from ._ordinals import ORDINALS
 from ._part import SHOWN, Error, ImageWarning, Part, WarningKind, entropy_of, error_of, plain, shown
-from ._reader import IMAGE, Reader, content_of
+from ._reader import IMAGE, AnyFile, Reader, content_of
 from ._report import Report
 
 if TYPE_CHECKING:
@@ -120,6 +120,11 @@ class Image(Reader):
         """All fields of the DOS, COFF and optional header, and the DOS stub. Without an optional header its numbers are 0."""
         headers: AllHeaders = self._one("all_headers")
         return headers
+
+    @property
+    def machine(self) -> Machine:
+        """The machine, an int with a name: `Machine.AMD64`."""
+        return Machine(self.headers.machine)
 
     @property
     def is_64(self) -> bool:
@@ -258,6 +263,19 @@ class Image(Reader):
         """The CodeView record of PDB 7.0, by which a symbol server files the symbols."""
         row: SymbolKey | None = self._one("symbol_key")
         return row
+
+    @property
+    def symbol_path(self) -> str | None:
+        """Where a symbol server has the PDB of the image, NAME/KEY/NAME: by PDB 7.0, else by PDB 2.0. None where there is
+        neither, and for a name that is no file's."""
+        record: SymbolKey | Pdb20 | None = self.symbol_key or self.pdb20
+        path: str | None = record and record.symbol_path
+        return path
+
+    def image_path(self, name: str) -> str | None:
+        """Where a symbol server has the image itself, whose file has this name. None without an optional header."""
+        headers = self.headers
+        return image_path(name, headers.time_date_stamp, headers.size_of_image) if headers.width else None
 
     @property
     def pdb20(self) -> Pdb20 | None:
@@ -589,11 +607,11 @@ class Image(Reader):
                 f"<p>{len(self.imports)} libraries, {len(self.exports)} exports</p><ul>{warned}</ul>")
 
 
-def open(path: str | os.PathLike[str], mode: Mode = Mode.PERMISSIVE, *, limit: int = 1 << 32) -> Image:
-    """The image of a file, which is read whole: a file that is mapped, and that another program truncates, would end
-    this one.
+def open(path: AnyFile, mode: Mode = Mode.PERMISSIVE, *, limit: int = 1 << 32) -> Image:
+    """The image of a file, by its path or open in binary mode, which is read whole: a file that is mapped, and that another
+    program truncates, would end this one.
 
     Raises Error where its headers are refused, and OSError where it can't be read or has more than `limit` bytes.
     """
-    name = os.fspath(path)
-    return Image(content_of(name, limit), mode, path=name)
+    content, name = content_of(path, limit)
+    return Image(content, mode, path=name)

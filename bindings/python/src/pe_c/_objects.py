@@ -1,12 +1,12 @@
 """COFF objects, which compilers write, and TE images, which firmware has."""
 from __future__ import annotations
 
-import os
 from typing import TYPE_CHECKING
 
+from ._added import Machine
 from ._core import CoffHeader, DebugEntry, Section, Symbol, SymbolKey, TeHeader
 from ._part import Part
-from ._reader import OBJECT, TE, Reader, content_of
+from ._reader import OBJECT, TE, AnyFile, Reader, content_of
 
 if TYPE_CHECKING:
     import _typeshed
@@ -20,10 +20,14 @@ class Coff(Reader):
         super().__init__(data, OBJECT, "headers", copy=copy, path=path)
 
     @classmethod
-    def open(cls, path: str | os.PathLike[str], *, limit: int = 1 << 32) -> Coff:
-        """That of a file, which is read whole."""
-        name = os.fspath(path)
-        return cls(content_of(name, limit), path=name)
+    def open(cls, path: AnyFile, *, limit: int = 1 << 32) -> Coff:
+        """That of a file, by its path or open, which is read whole."""
+        content, name = content_of(path, limit)
+        return cls(content, path=name)
+
+    @property
+    def machine(self) -> Machine:
+        return Machine(self.header.machine)
 
     @property
     def header(self) -> CoffHeader:
@@ -50,10 +54,14 @@ class Te(Reader):
         super().__init__(data, TE, "headers", copy=copy, path=path)
 
     @classmethod
-    def open(cls, path: str | os.PathLike[str], *, limit: int = 1 << 32) -> Te:
-        """That of a file, which is read whole."""
-        name = os.fspath(path)
-        return cls(content_of(name, limit), path=name)
+    def open(cls, path: AnyFile, *, limit: int = 1 << 32) -> Te:
+        """That of a file, by its path or open, which is read whole."""
+        content, name = content_of(path, limit)
+        return cls(content, path=name)
+
+    @property
+    def machine(self) -> Machine:
+        return Machine(self.header.machine)
 
     @property
     def header(self) -> TeHeader:

@@ -5,20 +5,17 @@ Such a name is an attribute that is missing: hasattr() is False, and the error s
 from __future__ import annotations
 
 EXPORT = "the module has no offsets of the parts of an export"
-TREE = "the module lists resources, and of their directories has the first alone"
 LENGTHS = "the library for C returns version blocks without their lengths and offsets"
 CONFIG = "pefile joins the names of two fields of PE32; each has its own here"
 RESERVED = "the library for C does not return what is reserved"
 DYNAMIC = "the library for C does not read dynamic relocations"
 WRITER = "the module writes certificates and resources alone: Image.attach, Image.detach, ResourceEditor"
-LOADED = "get_memory_mapped_image() returns the image at another base; the file's bytes stay as they are"
 DUMP = "pe_c.Image.to_dict() has all values"
 PARTS = "each directory is read when its attribute is asked for"
 UNWIND = "pe_c.Image.unwind() has the records and codes"
 INSIDE = "it is a part of how pefile reads"
 BOUND = "the library for C does not compare the two tables"
 NAMES = "the library for C resolves the name, and does not return where it stands"
-STRINGS = "the library for C does not split string tables (RT_STRING)"
 MISC = "the library for C does not read this record"
 
 
@@ -28,12 +25,6 @@ def _all(reason: str, names: str, of: str = "") -> dict[str, str]:
 
 GAPS: dict[str, str] = {
     **_all(EXPORT, "ordinal_offset address_offset name_offset forwarder_offset", "ExportData."),
-    **_all(TREE, "Characteristics TimeDateStamp MajorVersion MinorVersion NumberOfNamedEntries NumberOfIdEntries",
-           "IMAGE_RESOURCE_DIRECTORY below the first."),
-    **_all(TREE, "OffsetToData NameOffset OffsetToDirectory", "IMAGE_RESOURCE_DIRECTORY_ENTRY."),
-    **_all(TREE, "Name Id OffsetToData NameOffset OffsetToDirectory", "IMAGE_RESOURCE_DIRECTORY_ENTRY of a name."),
-    **_all(TREE, "Reserved", "IMAGE_RESOURCE_DATA_ENTRY."),
-    **_all(STRINGS, "strings", "ResourceDirData."),
     **_all(LENGTHS, "Length ValueLength Type", "VS_VERSIONINFO."),
     **_all(LENGTHS, "Length ValueLength Type", "StringFileInfo."),
     **_all(LENGTHS, "Length ValueLength Type entries_offsets", "StringTable."),
@@ -64,30 +55,23 @@ GAPS: dict[str, str] = {
                    "PrologEpilogOpSetFP PrologEpilogOpSaveReg PrologEpilogOpSaveRegFar PrologEpilogOpSaveXMM "
                    "PrologEpilogOpSaveXMMFar PrologEpilogOpPushFrame PrologEpilogOpEpilogMarker PrologEpilogOpsFactory"),
     **_all(MISC, "DataType Length Unicode Reserved1 Reserved2 Data", "IMAGE_DEBUG_MISC."),
-    **_all(WRITER, "write set_dword_at_rva set_dword_at_offset set_word_at_rva set_word_at_offset set_qword_at_rva "
-                   "set_qword_at_offset set_bytes_at_rva set_bytes_at_offset set_data_bytes merge_modified_section_data", "PE."),
-    **_all(WRITER, "set_file_offset", "Structure."),
     **_all(WRITER, "AddressSet set_flags set_format set_bitfields_format"),
-    **_all(LOADED, "relocate_image", "PE."),
     **_all(DUMP, "print_info dump_info dump_dict", "PE."),
-    **_all(DUMP, "dump dump_dict", "Structure."),
     **_all(DUMP, "dump dump_dict", "StructureWithBitfields."),
     **_all(DUMP, "Dump main"),
     **_all(PARTS, "parse_sections parse_exceptions_directory parse_directory_bound_imports parse_directory_tls "
                   "parse_directory_load_config parse_relocations_directory parse_image_base_relocation_list parse_relocations "
                   "parse_relocations_with_format parse_debug_directory parse_resources_directory parse_resource_data_entry "
                   "parse_resource_entry parse_version_information parse_export_directory parse_delay_import_directory "
-                  "parse_import_directory parse_imports get_import_table parse_rich_header", "PE."),
+                  "parse_import_directory parse_imports get_import_table", "PE."),
     **_all(INSIDE, "dword_align normalize_import_va", "PE."),
-    **_all(INSIDE, "__pack__ get_field_absolute_offset get_field_relative_offset", "Structure."),
     **_all(INSIDE, "lru_cache cache_adjust_FileAlignment cache_adjust_SectionAlignment count_zeroes long "
                    "MAX_STRING_LENGTH MAX_IMPORT_SYMBOLS MAX_IMPORT_NAME_LENGTH MAX_DLL_LENGTH MAX_SYMBOL_NAME_LENGTH "
                    "MAX_SECTIONS MAX_RESOURCE_ENTRIES MAX_RESOURCE_DEPTH MAX_SYMBOL_EXPORT_COUNT STRUCT_SIZEOF_TYPES "
                    "sizeof_type StructureWithBitfields DynamicRelocationData allowed_filename is_valid_dos_filename "
-                   "allowed_function_name is_valid_function_name parse_strings retrieve_flags power_of_two b"),
+                   "allowed_function_name is_valid_function_name parse_strings b"),
     **_all(INSIDE, "invalidate render_pascal_16 get_pascal_16_length ask_unicode_16 render_unicode_16 get_rva",
            "UnicodeStringWrapperPostProcessor."),
-    **_all(STRINGS, "get_resources_strings", "PE."),
 }
 
 

@@ -17,14 +17,29 @@ T = TypeVar("T")
 Self = TypeVar("Self", bound="Reader")
 # What the bytes of a _core.Image are.
 IMAGE, OBJECT, TE, BYTES = range(4)
+# A path, or a file that is open in binary mode.
+AnyFile = typing.Union[str, "os.PathLike[str]", typing.BinaryIO]
 
 
-def content_of(name: str, limit: int) -> bytes:
-    """A file whole: one that is mapped, and that another program truncates, would end this one."""
-    with io.open(name, "rb", buffering=0) as file:
-        if os.fstat(file.fileno()).st_size > limit:
-            raise OSError(errno.EFBIG, os.strerror(errno.EFBIG), name)
-        return file.readall()
+def content_of(file: AnyFile, limit: int) -> tuple[bytes, str | None]:
+    """A file whole, and its path: one that is mapped, and that another program truncates, would end this one. Of a file that is
+    open what follows its position."""
+    if isinstance(file, (str, os.PathLike)):
+        name = os.fspath(file)
+        with io.open(name, "rb", buffering=0) as opened:
+            if os.fstat(opened.fileno()).st_size > limit:
+                raise OSError(errno.EFBIG, os.strerror(errno.EFBIG), name)
+            return opened.readall(), name
+    if not hasattr(file, "read"):
+        raise TypeError(f"a path or a file that is open in binary mode, and not {type(file).__name__}")
+    content: object = file.read(limit + 1)
+    given = getattr(file, "name", None)
+    path = given if isinstance(given, str) else None
+    if not isinstance(content, (bytes, bytearray, memoryview)):
+        raise TypeError(f"the file is not open in binary mode: it reads {type(content).__name__}")
+    if len(content) > limit:
+        raise OSError(errno.EFBIG, os.strerror(errno.EFBIG), path)
+    return bytes(content), path
 
 
 class Reader:
@@ -34,10 +49,24 @@ class Reader:
                  path: str | None = None) -> None:
         self.path = path
         self._kept: dict[str, Any] = {}
+        self._kind_and_mode = kind, mode
         core, number = _core.image(data, mode, copy, kind, False)
         if core is None:
             raise error_of(number, part, path)
         self._core = core
+
+    def __copy__(self: Self) -> Self:
+        """The same file once more, over the same bytes: either is closed without the other."""
+        made = type(self).__new__(type(self))
+        kind, mode = self._kind_and_mode
+        core, _ = _core.image(self.memory, mode, False, kind, False)
+        assert core is not None
+        made.__dict__.update({**self.__dict__, "_kept": {}, "_core": core})
+        return made
+
+    def __deepcopy__(self: Self, memo: dict[int, Any]) -> Self:
+        """Bytes are never changed, so that a copy need not have its own."""
+        return self.__copy__()
 
     def close(self) -> None:
         """Lets the buffer go. Raises BufferError while another call reads the image, as that of another thread."""

@@ -1,10 +1,14 @@
 /* The methods that write a file, or an image as loaded. _core.c, whose macros they take, includes them. */
 
-/* A file of so many bytes that a call writes, or none after an error. */
+/* A file of so many bytes that a call writes without the GIL, or none after an error. */
 #define WRITTEN(call, ...) \
     PyObject *file = rows.result == PE_C_DONE ? PyBytes_FromStringAndSize(NULL, (Py_ssize_t)size) : NULL; \
-    if (file) \
-        rows.result = call(__VA_ARGS__, (uint8_t *)PyBytes_AsString(file), (size_t)size, &size); \
+    if (file) { \
+        uint8_t *room = (uint8_t *)PyBytes_AsString(file); \
+        Py_BEGIN_ALLOW_THREADS \
+        rows.result = call(__VA_ARGS__, room, (size_t)size, &size); \
+        Py_END_ALLOW_THREADS \
+    } \
     if (rows.result != PE_C_DONE) \
         Py_CLEAR(file); \
     return answer(file, &rows);
@@ -40,7 +44,10 @@ static PyObject *edited(Image *self, PyObject *arguments)
         return NULL;
     OPEN
 #define RECORDS(of, type) (const type *)PyBytes_AsString(of), (size_t)PyBytes_Size(of) / sizeof(type)
-#define EDIT VIEW, RECORDS(records, pe_c_resource), RECORDS(data, uint8_t)
+    const pe_c_resource *all = (const pe_c_resource *)PyBytes_AsString(records);
+    const uint8_t *bytes = (const uint8_t *)PyBytes_AsString(data);
+    size_t count = (size_t)PyBytes_Size(records) / sizeof *all, length = (size_t)PyBytes_Size(data);
+#define EDIT VIEW, all, count, bytes, length
     rows.result = pe_c_edited_length(EDIT, &size);
     WRITTEN(pe_c_edit, EDIT)
 }

@@ -3,8 +3,8 @@
 Names and values are those of pefile 2023.2.7, so names of DLLs and functions are bytes. Each directory is read when
 its attribute is asked for first, so fast_load makes no difference, and an image without one has no such attribute, as
 in pefile. A name that is not here is in the table of _pefile_gaps.py with why, and asking for it raises NotInPeC, an
-AttributeError: there are no values that stand for what was not read. An image is not changed: what is assigned stays
-in the object.
+AttributeError: there are no values that stand for what was not read. An image is changed by `set_..` and by what is
+assigned to fields of headers and of resource directories, and `write` returns it; what was read before stays as it is.
 
 PE(..) raises PEFormatError where the headers are refused. After that methods raise PEFormatError alone, and no
 attribute raises but AttributeError. """
@@ -13,7 +13,9 @@ from __future__ import annotations
 import collections
 import hashlib
 import os
+import string
 import struct
+import time
 import typing
 from typing import Any, TypeVar
 
@@ -79,6 +81,15 @@ def get_sublang_name_for_lang(lang_value: int, sublang_value: int) -> str:
     return next((it for it in names if known in it), names[0])
 
 
+def retrieve_flags(flag_dict: dict[Any, Any], flag_filter: str) -> list[tuple[str, int]]:
+    """The names of flags that start so, with their numbers."""
+    return [(name, number) for name, number in flag_dict.items() if isinstance(name, str) and name.startswith(flag_filter)]
+
+
+def power_of_two(val: int) -> bool:
+    return val != 0 and val & (val - 1) == 0
+
+
 def __getattr__(name: str) -> Any:
     raise _missing("", name)
 
@@ -100,13 +111,57 @@ def _bytes(text: str | None) -> bytes | None:
 
 # ---- structures
 
-# Of each structure its size in the file; two where PE32+ has another.
-_SIZES = {"IMAGE_DOS_HEADER": 64, "IMAGE_NT_HEADERS": 4, "IMAGE_FILE_HEADER": 20, "IMAGE_OPTIONAL_HEADER": 96,
-          "IMAGE_OPTIONAL_HEADER64": 112, "IMAGE_SECTION_HEADER": 40, "IMAGE_DATA_DIRECTORY": 8}
+
+def _layout(*parts: tuple[str, str]) -> list[tuple[str, list[str]]]:
+    """A format of struct and the names of each field; a union has several, with commas."""
+    return [(code, field.split(",")) for code, names in parts for field in names.split()]
+
+
+def _optional(address: str, base_of_data: str) -> list[tuple[str, list[str]]]:
+    return _layout(
+        ("H", "Magic"), ("B", "MajorLinkerVersion MinorLinkerVersion"),
+        ("I", f"SizeOfCode SizeOfInitializedData SizeOfUninitializedData AddressOfEntryPoint BaseOfCode {base_of_data}"),
+        (address, "ImageBase"), ("I", "SectionAlignment FileAlignment"),
+        ("H", "MajorOperatingSystemVersion MinorOperatingSystemVersion MajorImageVersion MinorImageVersion MajorSubsystemVersion "
+         "MinorSubsystemVersion"), ("I", "Reserved1 SizeOfImage SizeOfHeaders CheckSum"), ("H", "Subsystem DllCharacteristics"),
+        (address, "SizeOfStackReserve SizeOfStackCommit SizeOfHeapReserve SizeOfHeapCommit"),
+        ("I", "LoaderFlags NumberOfRvaAndSizes"))
+
+
+# The fields of structures as they stand in the file, of those whose place is known.
+_LAYOUTS = {
+    "IMAGE_DOS_HEADER": _layout(
+        ("H", "e_magic e_cblp e_cp e_crlc e_cparhdr e_minalloc e_maxalloc e_ss e_sp e_csum e_ip e_cs e_lfarlc e_ovno"),
+        ("8s", "e_res"), ("H", "e_oemid e_oeminfo"), ("20s", "e_res2"), ("I", "e_lfanew")),
+    "IMAGE_NT_HEADERS": _layout(("I", "Signature")),
+    "IMAGE_FILE_HEADER": _layout(
+        ("H", "Machine NumberOfSections"), ("I", "TimeDateStamp PointerToSymbolTable NumberOfSymbols"),
+        ("H", "SizeOfOptionalHeader Characteristics")),
+    "IMAGE_OPTIONAL_HEADER": _optional("I", "BaseOfData"), "IMAGE_OPTIONAL_HEADER64": _optional("Q", ""),
+    "IMAGE_DATA_DIRECTORY": _layout(("I", "VirtualAddress Size")),
+    "IMAGE_RESOURCE_DIRECTORY": _layout(
+        ("I", "Characteristics TimeDateStamp"), ("H", "MajorVersion MinorVersion NumberOfNamedEntries NumberOfIdEntries")),
+    "IMAGE_RESOURCE_DIRECTORY_ENTRY": _layout(("I", "Name OffsetToData")),
+    "IMAGE_RESOURCE_DATA_ENTRY": _layout(("I", "OffsetToData Size CodePage Reserved")),
+    "IMAGE_SECTION_HEADER": _layout(
+        ("8s", "Name"), ("I", "Misc,Misc_PhysicalAddress,Misc_VirtualSize VirtualAddress SizeOfRawData PointerToRawData "
+                              "PointerToRelocations PointerToLinenumbers"),
+        ("H", "NumberOfRelocations NumberOfLinenumbers"), ("I", "Characteristics"))}
 # The flags that a structure has as attributes: the field that they are of, the table and how their names start.
 _FLAGS = {"IMAGE_FILE_HEADER": ("Characteristics", IMAGE_CHARACTERISTICS, "IMAGE_FILE_"),
           "IMAGE_OPTIONAL_HEADER": ("DllCharacteristics", DLL_CHARACTERISTICS, "IMAGE_DLLCHARACTERISTICS_"),
           "IMAGE_SECTION_HEADER": ("Characteristics", SECTION_CHARACTERISTICS, "IMAGE_SCN_")}
+
+
+def _time(stamp: int) -> str:
+    return f" [{time.asctime(time.gmtime(stamp))} UTC]"
+
+
+def _dumped(name: str, value: Any) -> str:
+    """The value of a field as `dump` shows it."""
+    if isinstance(value, int):
+        return f"0x{value:<8X}{_time(value) if name == 'TimeDateStamp' else ''}"
+    return "".join(chr(it) if 0x20 < it < 0x7F else f"\\x{it:02x}" for it in value.rstrip(b"\0"))
 
 
 class Structure:
@@ -119,40 +174,86 @@ class Structure:
     entry: dict[bytes | None, str]
 
     def __init__(self, structure: str, offset: int | None = None, /, **fields: Any) -> None:
-        self.name = self._structure = structure
-        self._offset = offset
-        self._fields = tuple(fields)
-        self.__dict__.update(fields)
+        self.__dict__.update(fields, name=structure, _structure=structure, _offset=offset, _fields=tuple(fields), _changed=set())
+
+    def __setattr__(self, name: str, value: Any) -> None:
+        if name in self.__dict__.get("_fields", ()):
+            self._changed.add(name)
+        self.__dict__[name] = value
 
     def __getattr__(self, name: str) -> Any:
         structure = self.__dict__.get("_structure", "").replace("HEADER64", "HEADER")
         field, table, start = _FLAGS.get(structure, ("", {}, "-"))
         if name.startswith(start) and name in table:
             return bool(getattr(self, field) & table[name])
-        raise _missing(structure if f"Structure.{name}" not in _GAPS_OF_ALL else "Structure", name)
+        raise _missing(structure, name)
 
     def __repr__(self) -> str:
         return f"<Structure: [{self.name}] {' '.join(f'{it}={getattr(self, it)!r}' for it in self._fields)}>"
 
     def get_file_offset(self) -> int:
         """The file offset of the structure, where the library says where that is."""
-        if self._offset is None:
+        offset: int | None = self._offset
+        if offset is None:
             raise NotInPeC(f"{self.name}.get_file_offset", "the library for C does not return where this structure stands")
-        return self._offset
+        return offset
+
+    def set_file_offset(self, offset: int) -> None:
+        """Where `PE.write` writes the structure."""
+        self.__dict__["_offset"] = offset
+
+    def _layout(self, what: str) -> list[tuple[str, list[str]]]:
+        if self._structure not in _LAYOUTS:
+            raise NotInPeC(f"{self.name}.{what}", "it is known of headers alone")
+        return _LAYOUTS[self._structure]
 
     def sizeof(self) -> int:
         """The bytes of the structure in the file."""
-        if self._structure not in _SIZES:
-            raise NotInPeC(f"{self.name}.sizeof", "it is known of headers alone")
-        return _SIZES[self._structure]
+        return struct.calcsize("<" + "".join(code for code, _ in self._layout("sizeof")))
+
+    def _offsets(self, what: str) -> dict[str, int]:
+        """The offset of each field in the structure."""
+        found, offset = {}, 0
+        for code, names in self._layout(what):
+            found.update(dict.fromkeys(names, offset))
+            offset += struct.calcsize("<" + code)
+        return found
+
+    def get_field_relative_offset(self, field_name: str) -> int:
+        return self._offsets("get_field_relative_offset")[field_name]
+
+    def get_field_absolute_offset(self, field_name: str) -> int:
+        return self.get_file_offset() + self._offsets("get_field_absolute_offset")[field_name]
+
+    def __pack__(self) -> bytes:
+        """The structure as bytes, with what was assigned to its fields. Of a union that name counts which was assigned."""
+        layout = self._layout("__pack__")
+        values = [getattr(self, next((it for it in names if it in self._changed), names[0])) for _, names in layout]
+        return struct.pack("<" + "".join(code for code, _ in layout), *values)
+
+    def dump(self, indentation: int = 0) -> list[str]:
+        """The fields in lines: where each stands, its name and its value."""
+        start, lines = self.get_file_offset(), [f"[{self.name}]"]
+        for name, offset in self._offsets("dump").items():
+            lines.append("0x%-8X 0x%-3X %-30s %s" % (start + offset, offset, name + ":", _dumped(name, getattr(self, name))))
+        return lines
+
+    def dump_dict(self) -> dict[str, Any]:
+        """The fields by their names: where each stands, and its value."""
+        start = self.get_file_offset()
+        found: dict[str, Any] = {"Structure": self.name}
+        for name, offset in self._offsets("dump_dict").items():
+            value = getattr(self, name)
+            if isinstance(value, int):
+                value = f"0x{value:<8X}{_time(value)}" if name == "TimeDateStamp" else value
+            else:
+                value = "".join(chr(it) if chr(it) in string.printable else f"\\x{it:02x}" for it in value)
+            found[name] = {"FileOffset": start + offset, "Offset": offset, "Value": value}
+        return found
 
     def all_zeroes(self) -> bool:
         """Whether all fields are 0 that are there."""
         return not any(getattr(self, it) for it in self._fields if isinstance(getattr(self, it), int))
-
-
-_GAPS_OF_ALL = ("Structure.dump", "Structure.dump_dict", "Structure.set_file_offset", "Structure.__pack__",
-                "Structure.get_field_absolute_offset", "Structure.get_field_relative_offset")
 
 
 class _Unpacked(Structure):
@@ -229,7 +330,8 @@ class SectionStructure(Structure):
         return self.contains_rva(rva)
 
     def _hash(self, algorithm: str) -> str:
-        return hashlib.new(algorithm, self.pe._view[self._range(None, None, False)], usedforsecurity=False).hexdigest()
+        data = memoryview(self.pe.__data__)
+        return hashlib.new(algorithm, data[self._range(None, None, False)], usedforsecurity=False).hexdigest()
 
     def get_hash_md5(self) -> str:
         return self._hash("md5")
@@ -247,6 +349,8 @@ class SectionStructure(Structure):
         """Shannon's entropy of the section's data, in bits a byte."""
         place = self._range(None, None, False)
         length = max(place.stop - place.start, 0) if place.start >= 0 else 0
+        if isinstance(self.pe.__data__, bytearray):
+            return entropy_of(collections.Counter(self.pe.__data__[place]).values())
         return entropy_of(self.pe._image._asked("entropy", "histogram", max(place.start, 0), length))
 
     def entropy_H(self, data: bytes) -> float:
@@ -283,7 +387,9 @@ class ExportData(DataContainer):
 
 
 class ResourceDirData(DataContainer):
-    """A resource directory: struct, entries."""
+    """A resource directory: struct, entries; of a string table its texts by their ids as strings."""
+
+    strings: dict[int, str]
 
 
 class ResourceDirEntryData(DataContainer):
@@ -500,59 +606,102 @@ def _read_debug(pe: PE) -> list[DebugData]:
                       entry=_read_record(pe, it)) for it in pe._image.debug_entries]
 
 
-def _named(value: int | str, **more: Any) -> ResourceDirEntryData:
-    """An entry of a directory. The upper two levels lead to directories, the last one to data: the library refuses
-    others."""
-    is_directory = int("directory" in more)
-    if isinstance(value, int):
-        entry = Structure(_ENTRY, None, Name=value, Id=value, DataIsDirectory=is_directory)
-    else:
-        entry = Structure(f"{_ENTRY} of a name", None, DataIsDirectory=is_directory)
-        entry.name = _ENTRY
-    is_name = isinstance(value, str)
-    return ResourceDirEntryData(struct=entry, name=UnicodeStringWrapperPostProcessor(value) if is_name else None,
-                                id=None if is_name else value, **more)
+_TOP_BIT = 0x80000000
 
 
-_ENTRY = "IMAGE_RESOURCE_DIRECTORY_ENTRY"
+def _entry(item: tuple[int | str, int, int, bool], tree: int, offset: int, **more: Any) -> ResourceDirEntryData:
+    """An entry of a directory, at a file offset. That of its name counts from the tree, and has the length first."""
+    name, name_offset, leads_to, is_directory = item
+    number = name if isinstance(name, int) else _TOP_BIT | (name_offset - 2 - tree)
+    data = leads_to | (_TOP_BIT if is_directory else 0)
+    entry = Structure("IMAGE_RESOURCE_DIRECTORY_ENTRY", offset, Name=number, OffsetToData=data)
+    entry.__dict__.update(NameOffset=number & ~_TOP_BIT, Id=number & 0xFFFF, DataIsDirectory=int(is_directory),
+                          OffsetToDirectory=leads_to)
+    return ResourceDirEntryData(struct=entry, name=UnicodeStringWrapperPostProcessor(name) if isinstance(name, str) else None,
+                                id=name if isinstance(name, int) else None, **more)
 
 
-_TREE = "IMAGE_RESOURCE_DIRECTORY"
+def _directory(pe: PE, offset: int) -> tuple[ResourceDirData, int, list[tuple[int, tuple[int | str, int, int, bool]]]] | None:
+    """The directory at an offset of the tree, the file offset of the tree, and of the entries each with its file offset."""
+    found, number, _ = pe._image._read("resource_directory_at", offset)
+    if number or found is None:
+        return None
+    it, tree, entries = found
+    directory = Structure(
+        "IMAGE_RESOURCE_DIRECTORY", tree + offset, Characteristics=it.characteristics, TimeDateStamp=it.time_date_stamp,
+        MajorVersion=it.major_version, MinorVersion=it.minor_version, NumberOfNamedEntries=it.number_of_named_entries,
+        NumberOfIdEntries=it.number_of_id_entries)
+    items = pe._image._read("resource_items", offset)[0] or ()
+    return ResourceDirData(struct=directory, entries=[]), tree, [(entries + 8 * i, item) for i, item in enumerate(items)]
 
 
-def _directory() -> ResourceDirData:
-    directory = Structure(f"{_TREE} below the first")
-    directory.name = _TREE
-    return ResourceDirData(struct=directory, entries=[])
+def _strings(content: memoryview, first: int) -> dict[int, str]:
+    """The texts of a string table by their ids. A text that is none is left out, and at the third the rest."""
+    found: dict[int, str] = {}
+    wrong = at = 0
+    while at + 2 <= len(content) and wrong < 3:
+        count, = struct.unpack_from("<h", content, at)
+        at, first = at + 2, first + 1
+        if 0 < count <= len(content) // 2:
+            try:
+                found[first - 1] = bytes(content[at:at + 2 * count]).decode("utf-16-le")
+            except UnicodeDecodeError:
+                wrong += 1
+            at += 2 * count
+    return found
 
 
-def _first_directory(pe: PE) -> ResourceDirData | None:
-    it = pe._value("resource_root")
-    return None if it is None else ResourceDirData(struct=Structure(
-        _TREE, None, Characteristics=it.characteristics, TimeDateStamp=it.time_date_stamp, MajorVersion=it.major_version,
-        MinorVersion=it.minor_version, NumberOfNamedEntries=it.number_of_named_entries,
-        NumberOfIdEntries=it.number_of_id_entries), entries=[])
+def _read_strings(pe: PE, leaf: _rows.Resource, directory: ResourceDirData, left: int) -> int:
+    """Adds the texts of a string table to its directory, and returns how many bytes further ones may have: those of a hostile
+    image may all be the same."""
+    size = len(leaf.content or b"")
+    if left >= 0 and left < size:
+        pe._limits.append("String tables have more bytes than the file. Those after them are left out.")
+    if left >= size and leaf.content is not None and isinstance(leaf.name, int):
+        directory.strings.update(_strings(leaf.content, (leaf.name - 1) * 16))
+    return left - size if left >= size else -1
 
 
 def _read_resources(pe: PE) -> ResourceDirData | None:
-    """The tree of the leaves: types, names, languages."""
-    root = _first_directory(pe)
-    if root is None:
-        return None
-    types: dict[int | str, tuple[ResourceDirData, dict[int | str, ResourceDirData]]] = {}
-    for leaf in pe._image.resources:
-        if leaf.type not in types:
-            types[leaf.type] = (_directory(), {})
-            root.entries.append(_named(leaf.type, directory=types[leaf.type][0]))
-        its, names = types[leaf.type]
-        if leaf.name not in names:
-            names[leaf.name] = _directory()
-            its.entries.append(_named(leaf.name, directory=names[leaf.name]))
+    """The tree: types, names, languages, as far as its leaves are read, which come in the order of the entries of directories."""
+    tree = _Tree(pe)
+    root = tree.below(0, 0)
+    return root if root and root.entries else None
+
+
+class _Tree:
+    """The tree of resources as it is read: which leaves are left, and how many bytes string tables may still have."""
+
+    def __init__(self, pe: PE) -> None:
+        self.pe, self.left = pe, len(pe.__data__)
+        self.leaves = collections.deque(pe._image.resources)
+
+    def below(self, offset: int, level: int) -> ResourceDirData | None:
+        """A directory with all below it, none where no leaf is left."""
+        found = _directory(self.pe, offset)
+        if found is None:
+            return None
+        directory, tree, items = found
+        for place, item in items:
+            if not self.leaves:
+                break
+            if level == 2:
+                directory.entries.append(_entry(item, tree, place, data=self.data(directory, tree + item[2])))
+            elif (inner := self.below(item[2], level + 1)) is not None:
+                directory.entries.append(_entry(item, tree, place, directory=inner))
+        return directory
+
+    def data(self, directory: ResourceDirData, offset: int) -> ResourceDataEntryData:
+        """The data entry of the next leaf, which stands at a file offset."""
+        leaf = self.leaves.popleft()
+        reserved = self.pe.get_dword_from_offset(offset + 12) or 0
+        entry = Structure("IMAGE_RESOURCE_DATA_ENTRY", offset, OffsetToData=leaf.rva, Size=leaf.size, CodePage=leaf.code_page,
+                          Reserved=reserved)
+        if leaf.type == RESOURCE_TYPE["RT_STRING"]:
+            directory.__dict__.setdefault("strings", {})
+            self.left = _read_strings(self.pe, leaf, directory, self.left)
         language = leaf.language if isinstance(leaf.language, int) else 0
-        data = Structure("IMAGE_RESOURCE_DATA_ENTRY", None, OffsetToData=leaf.rva, Size=leaf.size, CodePage=leaf.code_page)
-        names[leaf.name].entries.append(_named(leaf.language, data=ResourceDataEntryData(
-            struct=data, lang=language & 0x3FF, sublang=language >> 10)))
-    return root if root.entries else None
+        return ResourceDataEntryData(struct=entry, lang=language & 0x3FF, sublang=language >> 10)
 
 
 def _read_relocations(pe: PE) -> list[BaseRelocationData]:
@@ -630,7 +779,7 @@ def _file_info(block: _rows.VersionBlock) -> Structure:
     if block.key.startswith("StringFileInfo"):
         made.StringTable = []
         for table in block.children:
-            entries = {_bytes(it.key): _bytes(it.value) if isinstance(it.value, str) else b"" for it in table.children}
+            entries = _Texts({_bytes(it.key): _bytes(it.value) if isinstance(it.value, str) else b"" for it in table.children})
             lengths = {key: (len(key or b""), len(value or b"")) for key, value in entries.items()}
             made.StringTable.append(Structure("StringTable", None, LangID=_bytes(table.key), entries=entries,
                                               entries_lengths=lengths))
@@ -665,6 +814,33 @@ def _read_fixed_info(pe: PE) -> list[Structure]:
             for it in (version.fixed for version in _versions(pe)) if it is not None]
 
 
+_LOST = "the library for C does not return where this structure stands, so that it is not written"
+
+
+class _Texts(dict[typing.Optional[bytes], typing.Optional[bytes]]):
+    """The strings of a table of version information, which say whether one was assigned."""
+
+    _changed: frozenset[str] = frozenset()
+    name = "StringTable"
+
+    def __setitem__(self, key: bytes | None, value: bytes | None) -> None:
+        self._changed = frozenset(["entries"])
+        super().__setitem__(key, value)
+
+
+def _structures(value: Any) -> typing.Iterator[Any]:
+    """The structures inside of what was read."""
+    values = [value]
+    while values:
+        it = values.pop()
+        if isinstance(it, (Structure, _Texts)):
+            yield it
+        if isinstance(it, (Structure, DataContainer)):
+            values += [inner for name, inner in it.__dict__.items() if name != "pe"]
+        elif isinstance(it, list):
+            values += it
+
+
 # What is read when it is asked for, and is no attribute where there is nothing.
 _READ = {"DIRECTORY_ENTRY_IMPORT": _read_imports, "DIRECTORY_ENTRY_DELAY_IMPORT": _read_delay_imports,
          "DIRECTORY_ENTRY_EXPORT": _read_exports, "DIRECTORY_ENTRY_DEBUG": _read_debug,
@@ -672,6 +848,17 @@ _READ = {"DIRECTORY_ENTRY_IMPORT": _read_imports, "DIRECTORY_ENTRY_DELAY_IMPORT"
          "DIRECTORY_ENTRY_TLS": _read_tls, "DIRECTORY_ENTRY_LOAD_CONFIG": _read_load_config,
          "DIRECTORY_ENTRY_BOUND_IMPORT": _read_bound_imports, "DIRECTORY_ENTRY_EXCEPTION": _read_exceptions,
          "FileInfo": _read_file_info, "VS_VERSIONINFO": _read_version_info, "VS_FIXEDFILEINFO": _read_fixed_info}
+
+
+# Fields of these directories that are addresses.
+_ADDRESSES = {
+    "DIRECTORY_ENTRY_TLS": ("StartAddressOfRawData", "EndAddressOfRawData", "AddressOfIndex", "AddressOfCallBacks"),
+    "DIRECTORY_ENTRY_LOAD_CONFIG": (
+        "LockPrefixTable", "EditList", "SecurityCookie", "SEHandlerTable", "GuardCFCheckFunctionPointer",
+        "GuardCFDispatchFunctionPointer", "GuardCFFunctionTable", "GuardAddressTakenIatEntryTable",
+        "GuardLongJumpTargetTable", "DynamicValueRelocTable", "CHPEMetadataPointer",
+        "GuardRFFailureRoutine", "GuardRFFailureRoutineFunctionPointer",
+        "GuardRFVerifyStackPointerFunctionPointer", "EnclaveConfigurationPointer")}
 
 
 class PE:
@@ -689,7 +876,8 @@ class PE:
         self._limits: list[str] = []
         self._view = self._image.memory
         whole = self._view.obj
-        self.__data__: bytes = whole if isinstance(whole, bytes) and len(whole) == len(self._view) else bytes(self._view)
+        self.__data__: bytes | bytearray = (
+            whole if isinstance(whole, bytes) and len(whole) == len(self._view) else bytes(self._view))
         self._read_headers()
 
     # ---- headers
@@ -781,6 +969,12 @@ class PE:
         for it in self.get_warnings():
             print(">", it)
 
+    def get_resources_strings(self) -> list[str]:
+        """The texts of all string tables."""
+        root = getattr(self, "DIRECTORY_ENTRY_RESOURCE", None)
+        names = [it for kind in (root.entries if root else []) for it in kind.directory.entries]
+        return [text for it in names for text in it.directory.__dict__.get("strings", {}).values()]
+
     # ---- hashes
 
     def get_imphash(self) -> str:
@@ -791,14 +985,130 @@ class PE:
         """The hash of the exports' names; "" without names, and where their list is not whole."""
         return self._image.exphash() or ""
 
+    def parse_rich_header(self) -> dict[str, Any] | None:
+        """The Rich header: key, raw_data, clear_data, checksum, values. None without one."""
+        it = self.RICH_HEADER
+        names = ("key", "raw_data", "clear_data", "checksum", "values")
+        return None if it is None else {name: getattr(it, name) for name in names}
+
     def get_rich_header_hash(self, algorithm: str = "md5") -> str:
         if algorithm not in ("md5", "sha1", "sha256", "sha512"):
             raise Exception("Invalid hashing algorithm specified")
         return self._image.rich_hash(algorithm) or ""
 
     def generate_checksum(self) -> int:
-        """The checksum that the image should have."""
-        return self._image.right_checksum().value
+        """The checksum that the image should have, with what was changed in it."""
+        try:
+            return self._now().right_checksum().value
+        except Error as error:
+            raise PEFormatError(str(error)) from None
+
+    # ---- changes
+
+    def set_data_bytes(self, offset: int, data: bytes) -> None:
+        """Writes bytes at a file offset. What was read before stays as it is."""
+        if not isinstance(self.__data__, bytearray):
+            self.__data__ = bytearray(self.__data__)
+        self.__data__[offset:offset + len(data)] = data
+
+    def set_bytes_at_offset(self, offset: int, data: bytes) -> bool:
+        """Writes bytes at a file offset. False where that is outside of the file."""
+        if not isinstance(data, bytes):
+            raise TypeError("data should be of type: bytes")
+        is_inside = 0 <= offset < len(self.__data__)
+        if is_inside:
+            self.set_data_bytes(offset, data)
+        return is_inside
+
+    def set_bytes_at_rva(self, rva: int, data: bytes) -> bool:
+        """The same at an RVA."""
+        if not isinstance(data, bytes):
+            raise TypeError("data should be of type: bytes")
+        offset = self.get_physical_by_rva(rva)
+        return bool(offset) and self.set_bytes_at_offset(offset or 0, data)
+
+    def set_word_at_offset(self, offset: int, word: int) -> bool:
+        return self.set_bytes_at_offset(offset, self.get_data_from_word(word))
+
+    def set_word_at_rva(self, rva: int, word: int) -> bool:
+        return self.set_bytes_at_rva(rva, self.get_data_from_word(word))
+
+    def set_dword_at_offset(self, offset: int, dword: int) -> bool:
+        return self.set_bytes_at_offset(offset, self.get_data_from_dword(dword))
+
+    def set_dword_at_rva(self, rva: int, dword: int) -> bool:
+        return self.set_bytes_at_rva(rva, self.get_data_from_dword(dword))
+
+    def set_qword_at_offset(self, offset: int, qword: int) -> bool:
+        return self.set_bytes_at_offset(offset, self.get_data_from_qword(qword))
+
+    def set_qword_at_rva(self, rva: int, qword: int) -> bool:
+        return self.set_bytes_at_rva(rva, self.get_data_from_qword(qword))
+
+    def relocate_image(self, new_ImageBase: int) -> None:
+        """Moves the addresses in the file to another base, by the base relocations. Raises PEFormatError, and changes nothing,
+        where one is damaged, outside of the file, or of a type that few machines have. Without a directory of relocations it
+        does nothing."""
+        directories, difference = self.OPTIONAL_HEADER.DATA_DIRECTORY, new_ImageBase - self.OPTIONAL_HEADER.ImageBase
+        if not any(it.Size for it in directories[_image.IMAGE_DIRECTORY_ENTRY_BASERELOC:][:1]):
+            return
+        moves = list(self._moves(difference))
+        for name in ("DIRECTORY_ENTRY_IMPORT", "DIRECTORY_ENTRY_TLS", "DIRECTORY_ENTRY_LOAD_CONFIG"):
+            getattr(self, name, None)
+        for form, offset, move in moves:
+            number, = struct.unpack_from(form, self.__data__, offset)
+            self.set_data_bytes(offset, struct.pack(form, (number + move) % (1 << 8 * struct.calcsize(form))))
+        self.OPTIONAL_HEADER.ImageBase = new_ImageBase
+        self._move_fields(difference)
+
+    def _moves(self, difference: int) -> typing.Iterator[tuple[str, int, int]]:
+        """What the base relocations change: the format of a number, its offset, and what is added to it."""
+        if self._image.relocations.error or self._image.relocations.is_limited:
+            raise PEFormatError(f"base relocations that are not whole: {self._image.relocations.error or 'limited'}")
+        forms = {1: ("<H", difference >> 16), 2: ("<H", difference), 3: ("<I", difference), 10: ("<Q", difference)}
+        for it in (it for row in self._image.relocations for it in row.entries if it.kind):
+            if it.kind not in forms:
+                raise PEFormatError(f"base relocation of type {it.kind} at RVA 0x{it.rva:x}")
+            form, move = forms[it.kind]
+            offset = self._image.offset_of(it.rva)
+            if offset is None or offset + struct.calcsize(form) > len(self.__data__):
+                raise PEFormatError(f"base relocation outside of the file, at RVA 0x{it.rva:x}")
+            yield form, offset, move
+
+    def _move_fields(self, difference: int) -> None:
+        """Moves the addresses that were read. What the file has there its relocations moved."""
+        for dll in self.__dict__.get("DIRECTORY_ENTRY_IMPORT", ()):
+            for it in dll.imports:
+                it.address += difference
+        for name, fields in _ADDRESSES.items():
+            there = getattr(self.__dict__.get(name), "struct", Structure("")).__dict__
+            there.update({it: there[it] + difference for it in fields if there.get(it)})
+
+    def merge_modified_section_data(self) -> None:
+        """Does nothing: the data of sections are those of the file."""
+
+    def write(self, filename: str | os.PathLike[str] | None = None) -> bytearray | None:
+        """The file with what was set in its bytes, and assigned to fields of headers and of resource directories; into a file
+        where that is named. Raises NotInPeC where a field of another structure was assigned, whose place the library for C does
+        not return, or a string of a version."""
+        data = bytearray(self.__data__)
+        headers = [self.DOS_HEADER, self.NT_HEADERS, self.FILE_HEADER, self.OPTIONAL_HEADER, *self.OPTIONAL_HEADER.DATA_DIRECTORY,
+                   *self.sections]
+        for it in (it for it in [*headers, *_structures([self.__dict__.get(name) for name in _READ])] if it._changed):
+            if isinstance(it, _Texts) or it._offset is None or it._structure not in _LAYOUTS:
+                raise NotInPeC(f"{it.name}.{min(it._changed)} as it was assigned", _LOST)
+            packed = it.__pack__()
+            data[it._offset:it._offset + len(packed)] = packed
+        if not filename:
+            return data
+        with open(filename, "wb") as file:
+            file.write(data)
+        return None
+
+    def _now(self) -> _image.Image:
+        """The image with what was changed in it."""
+        data = bytes(self.write() or b"")
+        return self._image if self._view == data else _image.Image(data)
 
     def verify_checksum(self) -> bool:
         return bool(self.OPTIONAL_HEADER.CheckSum == self.generate_checksum())
@@ -941,10 +1251,11 @@ class PE:
         if self.OPTIONAL_HEADER.SizeOfImage > max_virtual_address:
             raise PEFormatError(f"SizeOfImage is {self.OPTIONAL_HEADER.SizeOfImage:#x}, more than max_virtual_address")
         try:
-            mapped = self._image.map(ImageBase, most=max_virtual_address)
+            image = self._now()
+            mapped = image.map(ImageBase, most=max_virtual_address)
+            return image.map(most=max_virtual_address) or b"" if mapped is None else mapped
         except Error as error:
             raise PEFormatError(str(error)) from None
-        return self._image.map(most=max_virtual_address) or b"" if mapped is None else mapped
 
     def has_relocs(self) -> bool:
         return hasattr(self, "DIRECTORY_ENTRY_BASERELOC")
