@@ -109,7 +109,8 @@ class Browser {
       this.program.kill(signal);
       if (await this.endsIn(SECONDS_TO_END)) break;
     }
-    rmSync(this.profile, { recursive: true, force: true, maxRetries: 5, retryDelay: 200 });
+    // its other processes write there until they end
+    rmSync(this.profile, { recursive: true, force: true, maxRetries: 10, retryDelay: 200 });
   }
 }
 
