@@ -101,15 +101,17 @@ static uint64_t count_alone(const pe_c_view *view, const char *what, int *is_kno
 {
     pe_c_resource_walk leaves = PE_C_EMPTY;
     pe_c_range range = PE_C_EMPTY;
-    pe_c_pogo pogo = PE_C_EMPTY;
+    pe_c_debug_records records = PE_C_EMPTY;
     if (strcmp(what, "leaves") == 0)
         return pe_c_resource_leaves(view, &leaves) == PE_C_DONE ? count_leaves(view, &leaves) : 0;
     if (strcmp(what, "blocks") == 0)
         return pe_c_version_blocks(view, &range) == PE_C_DONE ? count_blocks(view, range, LEVELS) : 0;
     if (strcmp(what, "relocations") == 0)
         return pe_c_relocation_blocks(view, &range) == PE_C_DONE ? count_relocations(view, range) : 0;
-    if (strcmp(what, "pogo") == 0)
-        return pe_c_debug_pogo(view, &pogo) == PE_C_DONE ? count_pogo_entries(view, &pogo.entries) : 0;
+    if (strcmp(what, "pogo") == 0) {
+        pe_c_debug_data(view, &records);
+        return records.pogo_result == PE_C_DONE ? count_pogo_entries(view, &records.pogo.entries) : 0;
+    }
     if (strcmp(what, "functions") == 0)
         return pe_c_function_table(view, &range) == PE_C_DONE ? count_functions(view, &range) : 0;
     if (strcmp(what, "arm64-functions") == 0)

@@ -1,4 +1,4 @@
-/* Writes an image with made resources by pe_c_edited_length and pe_c_edit: edits KIND N
+/* Writes an image with made resources by pe_c_edit, without room and then with it: edits KIND N
  *
  * N bytes of contents, or N leaves. It prints the length of the file; all is made where N is 0, and nothing written. */
 #include "pe.h"
@@ -86,8 +86,8 @@ int main(int argc, char **argv)
     if (n == 0)
         return 0;
     const pe_c_view view = {image, SIZE, &info, NULL, 0, NULL, 0};
-    uint32_t result = pe_c_edited_length(&view, records, count, data, data_length, &length);
-    uint8_t *room = result == PE_C_DONE ? malloc(length) : NULL;
+    uint32_t result = pe_c_edit(&view, records, count, data, data_length, NULL, 0, &length);
+    uint8_t *room = result == PE_C_ROOM ? malloc(length) : NULL;
     if (room != NULL)
         result = pe_c_edit(&view, records, count, data, data_length, room, length, &written);
     printf("result %u length %llu\n", result, (unsigned long long)written);

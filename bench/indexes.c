@@ -2,7 +2,7 @@
  *
  * By the CALL `list` or `step` MOST of the exports that have a name are read, by pe_c_list_exports or pe_c_next_export; by `delayed`
  * or `together` as many of what is imported of the first delay-loaded DLL, by pe_c_next_delayed_function or
- * pe_c_list_delayed_functions_together; by `record` of the records of the first x64 function, by pe_c_next_record; by `tables` the
+ * pe_c_list_delayed_functions; by `record` of the records of the first x64 function, by pe_c_next_record; by `tables` the
  * calls for seven directories are made MOST times, and by `offset` as many RVAs are mapped by pe_c_offset. How many there are is
  * printed. The text `index` makes the index alone where MOST is 0. */
 #include "reading.h"
@@ -24,7 +24,7 @@ static uint64_t list_exports(const pe_c_view *view, uint64_t most)
         pe_c_export entries[ENTRIES] = PE_C_EMPTY;
         const uint64_t left = most - count;
         written = 0;
-        if (pe_c_list_exports(view, &walk, entries, left < ENTRIES ? left : ENTRIES, &written) != PE_C_DONE)
+        if (pe_c_list_exports(view, &walk, NULL, 0, entries, left < ENTRIES ? left : ENTRIES, &written) != PE_C_DONE)
             return 0;
         count += written;
     }
@@ -74,7 +74,7 @@ static uint64_t list_delayed(const pe_c_view *view, uint64_t most)
     pe_c_delayed_function *entries = calloc(most + 1, sizeof *entries);
     uint64_t written = 0;
     if (runs == NULL || entries == NULL
-        || pe_c_list_delayed_functions_together(view, &dll.functions, runs, most, entries, most, &written) != PE_C_DONE)
+        || pe_c_list_delayed_functions(view, &dll.functions, runs, most, entries, most, &written) != PE_C_DONE)
         written = 0;
     free(runs);
     free(entries);

@@ -120,7 +120,7 @@ static uint64_t read_lookups(void)
 }
 
 /* A function that reads all of a walk from where it stands: `place` of the walk by steps. */
-#define READS(name, walk_type, steps_type, place, item_type, step, list, together) \
+#define READS(name, walk_type, steps_type, place, item_type, step, list) \
     static uint64_t name(walk_type *walk, item_type *items, size_t room) \
     { \
         uint64_t count = 0, written = 1; \
@@ -128,19 +128,15 @@ static uint64_t read_lookups(void)
         while (way == STEPS && step(&view, &steps, &items[count]) == PE_C_DONE) \
             count++; \
         while (way != STEPS && written > 0 && \
-               (way == LISTS ? list(&view, walk, items + count, room - count < ROOM ? room - count : ROOM, &written) \
-                             : together(&view, walk, runs, number_of_runs, items + count, room - count, &written)) == \
-                   PE_C_DONE) \
+               list(&view, walk, runs, number_of_runs, items + count, \
+                    way == LISTS && room - count > ROOM ? ROOM : room - count, &written) == PE_C_DONE) \
             count += written; \
         return count; \
     }
 
-READS(exports_of, pe_c_exports, pe_c_export_walk, exports, pe_c_export, pe_c_next_export, pe_c_list_exports,
-      pe_c_list_exports_together)
-READS(libraries_of, pe_c_libraries, pe_c_library_walk, libraries, pe_c_library, pe_c_next_library, pe_c_list_libraries,
-      pe_c_list_libraries_together)
-READS(imports_of, pe_c_imports, pe_c_import_walk, imports, pe_c_import, pe_c_next_import, pe_c_list_imports,
-      pe_c_list_imports_together)
+READS(exports_of, pe_c_exports, pe_c_export_walk, exports, pe_c_export, pe_c_next_export, pe_c_list_exports)
+READS(libraries_of, pe_c_libraries, pe_c_library_walk, libraries, pe_c_library, pe_c_next_library, pe_c_list_libraries)
+READS(imports_of, pe_c_imports, pe_c_import_walk, imports, pe_c_import, pe_c_next_import, pe_c_list_imports)
 
 static uint64_t read_exports(void)
 {
@@ -171,8 +167,8 @@ static uint64_t read_addresses(void)
     }
     while (written > 0) {
         size_t room = (size_t)(most - next);
-        if (pe_c_list_export_addresses(&view, &addresses, &next, exported + next, room > ROOM ? ROOM : room, &written) !=
-            PE_C_DONE)
+        if (pe_c_list_export_addresses(&view, &addresses, &next, NULL, 0, exported + next, room > ROOM ? ROOM : room,
+                                       &written) != PE_C_DONE)
             break;
     }
     return next;

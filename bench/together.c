@@ -24,7 +24,7 @@
 #include "reading.h"
 
 /* A function that lists all that a walk has left: with these runs by one call, else some a call. */
-#define LISTS(name, walk_type, entry_type, alone, together) \
+#define LISTS(name, walk_type, entry_type, call) \
     static uint64_t name(const pe_c_view *view, walk_type *walk, size_t most, pe_c_run *runs, size_t number_of_runs) \
     { \
         const size_t room = runs == NULL ? ENTRIES : most + 1; \
@@ -32,8 +32,7 @@
         uint64_t count = 0, written = 1; \
         while (entries != NULL && written > 0) { \
             written = 0; \
-            if ((runs == NULL ? alone(view, walk, entries, room, &written) \
-                              : together(view, walk, runs, number_of_runs, entries, room, &written)) != PE_C_DONE) \
+            if (call(view, walk, runs, number_of_runs, entries, room, &written) != PE_C_DONE) \
                 break; \
             count += written; \
         } \
@@ -41,12 +40,11 @@
         return count; \
     }
 
-LISTS(list_exports, pe_c_exports, pe_c_export, pe_c_list_exports, pe_c_list_exports_together)
-LISTS(list_libraries, pe_c_libraries, pe_c_library, pe_c_list_libraries, pe_c_list_libraries_together)
-LISTS(list_imports, pe_c_imports, pe_c_import, pe_c_list_imports, pe_c_list_imports_together)
-LISTS(list_dlls, pe_c_range, pe_c_delay_import, pe_c_list_delay_imports, pe_c_list_delay_imports_together)
-LISTS(list_delayed, pe_c_delayed_functions, pe_c_delayed_function, pe_c_list_delayed_functions,
-      pe_c_list_delayed_functions_together)
+LISTS(list_exports, pe_c_exports, pe_c_export, pe_c_list_exports)
+LISTS(list_libraries, pe_c_libraries, pe_c_library, pe_c_list_libraries)
+LISTS(list_imports, pe_c_imports, pe_c_import, pe_c_list_imports)
+LISTS(list_dlls, pe_c_range, pe_c_delay_import, pe_c_list_delay_imports)
+LISTS(list_delayed, pe_c_delayed_functions, pe_c_delayed_function, pe_c_list_delayed_functions)
 
 static uint64_t list_addresses(const pe_c_view *view, pe_c_run *runs, size_t number_of_runs)
 {
@@ -58,9 +56,7 @@ static uint64_t list_addresses(const pe_c_view *view, pe_c_run *runs, size_t num
     uint64_t next = 0, written = 1;
     while (entries != NULL && written > 0) {
         written = 0;
-        if ((runs == NULL ? pe_c_list_export_addresses(view, &table, &next, entries, room, &written)
-                          : pe_c_list_export_addresses_together(view, &table, &next, runs, number_of_runs, entries, room,
-                                                                &written)) != PE_C_DONE)
+        if (pe_c_list_export_addresses(view, &table, &next, runs, number_of_runs, entries, room, &written) != PE_C_DONE)
             break;
     }
     free(entries);
@@ -168,7 +164,7 @@ static uint64_t list_all_imports(const pe_c_view *view, pe_c_libraries libraries
         written = 0;
     while (written > 0) {
         written = 0;
-        if (pe_c_list_all_imports_together(view, &walk, runs, number_of_runs, entries, number_of_runs, &written)
+        if (pe_c_list_all_imports(view, &walk, runs, number_of_runs, entries, number_of_runs, &written)
             != PE_C_DONE)
             break;
         count += written;
@@ -196,7 +192,7 @@ static uint64_t list_all_delayed(const pe_c_view *view, pe_c_run *runs, size_t n
         written = 0;
     while (written > 0) {
         written = 0;
-        if (pe_c_list_all_delayed_functions_together(view, &walk, runs, number_of_runs, entries, number_of_runs, &written)
+        if (pe_c_list_all_delayed_functions(view, &walk, runs, number_of_runs, entries, number_of_runs, &written)
             != PE_C_DONE)
             break;
         count += written;

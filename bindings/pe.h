@@ -13,9 +13,16 @@
  * No call allocates, keeps state, prints, calls back, or needs initialisation. Any thread may call at any time.
  *
  * Results. A call returns PE_C_DONE and fills `out`, or returns another number and leaves `out` unchanged, but for the
- * address in a frame, `failure` of the calls for signatures, and `written` of pe_c_index, pe_c_map, pe_c_guid_text and
- * pe_c_utf16_text. The comment of a call lists its errors in the order in which they are tested. PE_C_NOTHING means that
- * there is nothing of the kind; it is no error.
+ * address in a frame, `failure` of the calls for signatures, and `written`, below. The comment of a call lists its errors in
+ * the order in which they are tested. PE_C_NOTHING means that there is nothing of the kind; it is no error.
+ *
+ * Room. A call that writes a file, an image, an index or a text writes to an array of the caller, `room`. Where that is too
+ * small the call returns PE_C_ROOM, the array is unchanged but for the beginning of a text, and `written` says how long it
+ * has to be. So a call with NULL and 0 returns the length, and a second one fills an array of that length:
+ *
+ *     result = pe_c_detach(&view, NULL, 0, &written);
+ *     if (result == PE_C_ROOM && (room = (uint8_t *)malloc((size_t)written)) != NULL)
+ *         result = pe_c_detach(&view, room, (size_t)written, &written);
  *
  * Units. An `offset` is a number of bytes from the start of `bytes`: in a file a file offset, in an image as loaded an
  * RVA. A range that a call returns lies inside `bytes`; one of length 0 may start past them.
@@ -49,6 +56,257 @@
  * A range or a walk that does not lie inside `bytes` is PE_C_SHORT; as a certificate table it is PE_C_CERTIFICATE_TABLE.
  *
  * The layouts are those of https://learn.microsoft.com/windows/win32/debug/pe-format */
+
+/* All calls, in the order of this header, each with the start of its comment. tools/check_docs --map writes the list.
+ * results
+ *   pe_c_text                       Writes the text of a result to the start of the array, in UTF-8, with a zero after it ..
+ *   pe_c_message                    Returns the text of a result, that of pe_c_text, as a string constant
+ * the image
+ *   pe_c_image                      Reads the headers of an image, which are at the same offsets in a file and in memory
+ *   pe_c_sections                   Writes the section headers to the start of the array, image->number_of_sections of them
+ *   pe_c_offset                     Returns the file offset of an RVA, by the first section that covers it; in an image as ..
+ * all numbers of the headers
+ *   pe_c_headers                    Reads all numbers of the headers of an image, which are at the same offsets in a file ..
+ * the section map, section by section
+ *   pe_c_index                      Makes an index of the sections at the start of the array, and writes how many entries ..
+ *   pe_c_section_at                 Returns the index of the section that maps an RVA: the first that covers it, by which ..
+ *   pe_c_section_range              Returns the bytes that the RVAs of a section are mapped to, one after the other, up to ..
+ *   pe_c_range_at                   Returns the bytes from an RVA to the end of what its section has in the file
+ *   pe_c_rva                        Returns the RVA that leads to a file offset, by the first section whose RVAs are ..
+ * the image as a loader lays it out
+ *   pe_c_map                        Writes the image as a loader lays it out to the start of the array, as many bytes as ..
+ *   pe_c_relocate                   Relocates an image as loaded, which pe_c_map wrote to the array, by the base ..
+ * the overlay
+ *   pe_c_overlay                    Returns the range of the bytes after the headers and the raw data of all sections ..
+ * section names
+ *   pe_c_string_table               Returns the COFF string table, from its size field on
+ *   pe_c_long_section_name          Returns the name of a section in the string table
+ * COFF objects and COFF symbols
+ *   pe_c_coff                       Reads the header of an object, the 20 bytes at its start
+ *   pe_c_coff_sections              Writes the section headers of an object to the start of the array ..
+ *   pe_c_coff_symbols               Returns a walk over the symbols of an object or of an image, with the range of their table
+ *   pe_c_coff_strings               Returns the string table of an object or of an image, from its size field on
+ *   pe_c_symbol                     Reads the symbol in an entry of a symbol table
+ *   pe_c_next_symbol                Reads the next symbol of a walk
+ *   pe_c_symbol_name                Returns the name of the symbol in an entry of a symbol table
+ * the Rich header
+ *   pe_c_rich_header                Returns the Rich header
+ *   pe_c_next_rich_entry            Returns the next entry
+ * debug data
+ *   pe_c_debug_entries              Returns the entries of the debug directory as a walk for pe_c_next_debug_entry
+ *   pe_c_next_debug_entry           Returns the next entry of the debug directory
+ *   pe_c_first_debug_entry          Returns the first entry of a type
+ *   pe_c_symbol_key                 Returns the symbol key
+ *   pe_c_codeview                   Returns the symbol key of a CodeView record that stands alone, as a minidump has one ..
+ *   pe_c_debug_data                 Reads the record of the first entry of each type at once
+ *   pe_c_symbol_key_of              Returns the symbol key
+ *   pe_c_pdb20_of                   Returns a CodeView record of PDB 2.0
+ *   pe_c_vc_features_of             Returns the counts of VC features
+ *   pe_c_characteristics_of         Returns the extended DLL characteristics
+ *   pe_c_repro_of                   Returns a Repro record
+ *   pe_c_pogo_of                    Returns a POGO record
+ *   pe_c_embedded_pdb_of            Returns the portable PDB in an image
+ *   pe_c_pdb_checksum_of            Returns the checksum of the PDB file
+ *   pe_c_next_pogo_entry            Returns the next entry of a POGO record
+ * TE images
+ *   pe_c_te                         Reads the header of a TE image, the 40 bytes at its start
+ *   pe_c_te_sections                Writes the section headers of a TE image to the start of the array ..
+ *   pe_c_te_debug_entries           Returns the entries of the debug directory as a walk for pe_c_next_te_debug_entry
+ *   pe_c_next_te_debug_entry        Reads the next entry, the RVA and the file offset of its record reduced by te->rva_offset
+ *   pe_c_te_first_debug_entry       Returns the first entry of a type, as pe_c_next_te_debug_entry does
+ * why headers are refused
+ *   pe_c_image_failure              Returns why pe_c_image refuses the bytes in this mode
+ *   pe_c_sections_failure           Returns why pe_c_sections refuses the section headers of an image, whatever room it is ..
+ *   pe_c_te_failure                 Returns why pe_c_te refuses the bytes
+ *   pe_c_te_sections_failure        Return why pe_c_te_sections and pe_c_coff_sections refuse the section headers, as ..
+ *   pe_c_coff_sections_failure      as the call above
+ *   pe_c_directory_failure          Returns what is wrong with a directory, PE_C_DIRECTORY_EXPORT and so on
+ *   pe_c_debug_failure              Returns what is wrong with the record of an entry of the debug directory that is read ..
+ * certificates
+ *   pe_c_next_certificate           Returns the next attribute certificate
+ * signatures
+ *   pe_c_signature                  Reads a signature
+ *   pe_c_next_element               Returns the next element of a list
+ *   pe_c_algorithm_identifier       Reads an algorithm
+ *   pe_c_indirect_data              Reads what Authenticode signs
+ *   pe_c_image_data                 Reads what a signature says of an image as a file
+ *   pe_c_signer                     Reads a signer of a signature, or a counter-signature
+ *   pe_c_attribute                  Reads an attribute of a signer
+ *   pe_c_find_attribute             Finds an attribute of a signer by the id of its type, such as PE_C_OID_MESSAGE_DIGEST ..
+ *   pe_c_opus_info                  Reads what a signer says of the program
+ *   pe_c_x509                       Reads a certificate
+ *   pe_c_extension                  Reads an extension of a certificate
+ *   pe_c_key_usage                  Returns what a key is for, of an extension with the type PE_C_OID_KEY_USAGE: 0x80 ..
+ *   pe_c_name                       Returns a walk over the attributes of a name
+ *   pe_c_next_name_attribute        Returns the next attribute of a name, in the order of the name
+ *   pe_c_time                       Reads a time
+ *   pe_c_time_stamp                 Reads what a time stamp says
+ * signing
+ *   pe_c_digest_ranges              Returns what the Authenticode digest of an image covers
+ *   pe_c_checksum                   Returns the checksum that an image should have, and where its field is
+ *   pe_c_attach                     Writes the file with a certificate to the start of the array, and its length to ..
+ *   pe_c_detach                     Writes the file without certificates to the start of the array, and its length to ..
+ * sections and images written
+ *   pe_c_write_sections             Writes the sections of the view into the array
+ *   pe_c_write_certificates         Writes the certificates into the array, one after the other from the offset of their ..
+ *   pe_c_write_image                Writes the image into the array
+ *   pe_c_write_whole                Writes the whole file into the array, and over it what pe_c_write_image writes, but no ..
+ * x64 functions and unwind records
+ *   pe_c_function_table             Returns the range of the function table, entries of 12 bytes
+ *   pe_c_find_function              Returns the function that covers an RVA, by binary search, or PE_C_NOTHING. In a table ..
+ *   pe_c_function_at                Returns the function with an index, from 0
+ *   pe_c_unwind_record              Returns the unwind record of an unwind RVA, the field `unwind` of a function of this ..
+ *   pe_c_next_code                  Returns the next code of a record, in the order in which they are undone
+ *   pe_c_scope_table                Returns the scope table in a record's handler_data as a walk for pe_c_next_scope
+ *   pe_c_next_scope                 Returns the next entry of a scope table
+ *   pe_c_plan_from                  Starts the plan of a function, by its unwind RVA, the field `unwind` of the function
+ *   pe_c_next_record                Returns the next record of a plan
+ *   pe_c_step                       Finds the registers of a function's caller, from those inside the function, in its ..
+ *   pe_c_next_frame                 Returns the next frame of a stack walk on x64, in the walk
+ *   pe_c_next_frames                The same for several frames in one call, which tests the modules once
+ * ARM64 functions and unwind records
+ *   pe_c_arm64_table                Returns the range of the function table, entries of 8 bytes
+ *   pe_c_find_arm64_function        Returns the function that covers an RVA, by binary search, or PE_C_NOTHING. In a table ..
+ *   pe_c_arm64_function_at          Returns the function with an index, from 0
+ *   pe_c_arm64_packed_fields        Returns the fields of packed unwind data
+ *   pe_c_arm64_unwind_record        Returns the unwind record of a function
+ *   pe_c_next_arm64_scope           Returns the next epilog scope of a record
+ *   pe_c_arm64_codes                Returns a walk over a record's codes
+ *   pe_c_next_arm64_code            Returns the next code
+ *   pe_c_step_arm64                 Finds the registers of a function's caller, from those inside the function, and writes ..
+ *   pe_c_next_arm64_frame           As pe_c_next_frame, on ARM64
+ *   pe_c_next_arm64_frames          The same for several frames in one call, as pe_c_next_frames
+ * exports
+ *   pe_c_export_directory           Returns the fields of the export directory, whatever its tables are
+ *   pe_c_export_tables              Returns the tables of the export directory, where a walk starts
+ *   pe_c_next_export                Returns the next export
+ *   pe_c_export_addresses           Returns the table of RVAs of the export directory, the ordinal base and the DLL's name
+ *   pe_c_export_at                  Returns the export with an index, from 0
+ * names of functions without a PDB
+ *   pe_c_name_tables                Reads the tables of which pe_c_function_names reads names
+ *   pe_c_function_names             Writes to `names` what names each of these addresses, in their order; the rest of ..
+ * imports
+ *   pe_c_import_libraries           Returns where a walk over libraries starts
+ *   pe_c_next_library               Returns the next library
+ *   pe_c_next_import                Returns the next import of a library
+ *   pe_c_all_imports                Returns the import directory as a walk for pe_c_list_all_imports
+ * delay imports
+ *   pe_c_delay_imports              Returns the entries of the delay import directory, where a walk starts
+ *   pe_c_next_delay_import          Returns the next DLL. The directory ends with its bytes, or at an entry without the ..
+ *   pe_c_next_delayed_function      Returns the next function of a DLL. Errors
+ *   pe_c_all_delayed_functions      Returns the delay import directory as a walk for pe_c_list_all_delayed_functions
+ * bound imports
+ *   pe_c_bound_imports              Returns the bytes of the directory
+ *   pe_c_next_bound_import          Returns the next DLL. The walk starts as a copy of the table
+ *   pe_c_next_bound_forwarder       Returns the next DLL that a DLL forwards to
+ * version information and manifest
+ *   pe_c_fixed_version              Returns the fixed file information
+ *   pe_c_version_text               Returns the value of a name, PE_C_COMMENTS .. PE_C_SPECIAL_BUILD: UTF-16 code units ..
+ *   pe_c_version_blocks             Returns version information as a walk over its blocks, of which the first is all of it
+ *   pe_c_next_version_block         Returns the next block
+ *   pe_c_manifest                   Returns the range of the manifest, an XML text
+ * resources
+ *   pe_c_resource_leaves            Returns where a walk over leaves starts; they come in the order of the entries of ..
+ *   pe_c_next_resource_leaf         Returns the next leaf
+ *   pe_c_resource_root              Returns the root of the resource tree, the directory whose entries are types ..
+ *   pe_c_resource_directory_at      Returns the directory at an offset of a tree, which is that of a walk over leaves
+ *   pe_c_next_resource_item         Returns the next entry of a directory of a tree
+ *   pe_c_fixed_version_in           Returns the fixed file information in the content of a leaf of type 16 (RT_VERSION)
+ *   pe_c_version_text_in            Returns the value of a name in the content of such a leaf, as pe_c_version_text does
+ * resources written
+ *   pe_c_edit                       Writes the image with these resources in place of those that it has to the start of ..
+ *   pe_c_write_block                Writes a block of version information to the start of the array, with zeros up to a ..
+ *   pe_c_write_version              Writes version information, the content of a resource of type 16 (RT_VERSION), to the ..
+ * thread-local storage
+ *   pe_c_tls                        Returns the TLS directory
+ *   pe_c_tls_callbacks              Returns the callbacks of a TLS directory as a walk
+ *   pe_c_next_tls_callback          Returns the next callback, a virtual address
+ * load configuration
+ *   pe_c_load_config                Returns the load configuration
+ *   pe_c_load_config_field          Returns the field with a number, PE_C_CONFIG_
+ * tables of a load configuration
+ *   pe_c_guard_table                Returns a walk over the table with a number, PE_C_GUARD_
+ *   pe_c_next_guard_entry           Returns the next entry of a table
+ * base relocations
+ *   pe_c_relocation_blocks          Returns the blocks of the base relocations as a walk
+ *   pe_c_next_relocation_block      Returns the next block
+ *   pe_c_next_relocation            Returns the next relocation of a block
+ * CLR header and metadata
+ *   pe_c_clr_header                 Returns the CLR header
+ *   pe_c_clr_metadata               Returns the root of the metadata of a CLR header
+ *   pe_c_next_metadata_stream       Returns the next stream of the metadata
+ * texts
+ *   pe_c_guid_text                  Writes the text of a GUID, the first 16 of these bytes, as those of pe_c_key
+ *   pe_c_utf16_text                 Writes the text of a range in UTF-16 as UTF-8
+ *   pe_c_text_in                    Returns the text in a range up to its first zero, and whether a zero follows it, in ..
+ * lists in one call
+ *   pe_c_list_functions             Lists the functions of a table as pe_c_function_at reads them, from the index `next` ..
+ *   pe_c_list_codes                 Lists the unwind codes of a walk
+ *   pe_c_record_codes               Returns the unwind record of an unwind RVA as pe_c_unwind_record does, and lists its codes
+ *   pe_c_all_codes                  Lists all codes of a record, of which these are the bytes of its codes alone
+ *   pe_c_list_arm64_functions       Lists the functions of an ARM64 table as pe_c_arm64_function_at reads them, from the ..
+ *   pe_c_list_arm64_codes           Lists the ARM64 unwind codes of a walk
+ *   pe_c_list_exports               Lists the exports that have a name, and reads names and forwarders' texts together ..
+ *   pe_c_list_libraries             Lists the libraries of an import directory, and reads the names together, and looks ..
+ *   pe_c_list_imports               Lists the imports of a library, and reads the names together, with a run for each ..
+ *   pe_c_list_all_imports           Lists the imports of all libraries, one library after the other, and reads the names ..
+ *   pe_c_list_export_addresses      Lists all exports as pe_c_export_at reads them, from the index `next` on, which moves ..
+ *   pe_c_list_long_section_names    Lists the long names of the sections of an image, from the index `next` on, which ..
+ *   pe_c_list_symbols               Lists the symbols of a walk as pe_c_next_symbol returns them, each with what ..
+ *   pe_c_list_resource_leaves       Lists the leaves of a resource tree
+ *   pe_c_list_version_blocks        Lists blocks of version information
+ *   pe_c_list_relocation_blocks     Lists the blocks of base relocations
+ *   pe_c_list_relocations           Lists the relocations of a block, whose page RVA is page_rva
+ *   pe_c_list_delay_imports         Lists the DLLs of a delay import directory, and reads the names together, with a run ..
+ *   pe_c_list_delayed_functions     Lists what is imported of a DLL that is loaded later, and reads the names together ..
+ *   pe_c_list_all_delayed_functions Lists the functions of all delay-loaded DLLs, one DLL after the other, and reads the ..
+ *   pe_c_list_bound_imports         Lists bound imports as pe_c_next_bound_import returns them, and reads the names ..
+ *   pe_c_list_bound_forwarders      Lists the same of the DLLs that a DLL forwards to, as pe_c_next_bound_forwarder ..
+ *   pe_c_list_pogo_entries          Lists the entries of a POGO record
+ *   pe_c_list_guard_entries         Lists the entries of a table of a load configuration
+ * why a step is refused
+ *   pe_c_library_failure            Of pe_c_next_library
+ *   pe_c_import_failure             Of pe_c_next_import
+ *   pe_c_unwind_record_failure      Of pe_c_unwind_record, which takes the same
+ *   pe_c_code_failure               Of pe_c_next_code
+ *   pe_c_resource_leaf_failure      Of pe_c_next_resource_leaf
+ *   pe_c_certificate_failure        Of pe_c_next_certificate
+ *   pe_c_relocation_block_failure   Of pe_c_next_relocation_block
+ *   pe_c_relocation_failure         Of pe_c_next_relocation, which takes the same `page_rva`. PE_C_DIRECTORY_NO_ARGUMENT ..
+ *   pe_c_arm64_record_failure       Of pe_c_arm64_unwind_record
+ *   pe_c_arm64_code_failure         Of pe_c_next_arm64_code
+ *   pe_c_delay_import_failure       Of pe_c_next_delay_import
+ *   pe_c_delayed_function_failure   Of pe_c_next_delayed_function
+ *   pe_c_bound_import_failure       Of pe_c_next_bound_import, which takes the same `table`. ..
+ *   pe_c_symbol_name_failure        Of pe_c_symbol_name, which takes the same
+ * minidumps
+ *   pe_c_dump                       Reads the header of a minidump, and tests that its directory is inside the bytes
+ *   pe_c_dump_entry_at              Returns the entry of the directory with an index, or PE_C_NOTHING. Errors
+ *   pe_c_dump_stream                Returns the range of the stream of a kind, that of the first entry of the kind, or ..
+ *   pe_c_dump_range                 Returns the range of a location
+ *   pe_c_dump_text                  Returns the range of a string, in UTF-16LE without its final zero
+ *   pe_c_dump_thread_at             Returns the thread with an index in the stream of threads, or PE_C_NOTHING. Errors
+ *   pe_c_dump_module_at             The same of modules, which stand in no order
+ *   pe_c_dump_thread_name_at        The same of names of threads
+ *   pe_c_dump_unloaded_at           Returns the unloaded module with an index in their stream, or PE_C_NOTHING. Errors
+ *   pe_c_dump_thread_info_at        The same of thread information
+ *   pe_c_dump_handle_at             The same of handles
+ *   pe_c_dump_region_at             The same of regions of memory
+ *   pe_c_dump_exception             Reads the exception, by its stream
+ *   pe_c_dump_system                Reads the system, by its stream
+ *   pe_c_dump_process               Reads what is known of the process, by its stream
+ *   pe_c_dump_memory_at             Returns the piece of memory with an index in PE_C_MEMORY_LIST_STREAM, or PE_C_NOTHING. ..
+ *   pe_c_dump_memory64              Returns a walk over the pieces of memory of a full dump, by PE_C_MEMORY64_LIST_STREAM. ..
+ *   pe_c_next_memory64              Returns the next piece of memory of a full dump
+ *   pe_c_dump_context               Reads a context of x64
+ *   pe_c_dump_context_arm64         The same of ARM64, whose contexts have 912 bytes
+ *   pe_c_dump_thread_context        Reads the registers of a thread that count, on x64
+ *   pe_c_dump_thread_context_arm64  The same of ARM64
+ *   pe_c_is_image_of                Returns PE_C_DONE where an image is that of a module
+ *   pe_c_memory_runs                Writes the memory of pieces in any order to `runs`, as pieces that ascend and do not ..
+ *   pe_c_memory_ranges              Writes to `found`, for each of the ranges that are asked for, whose offset is an ..
+ */
+
 #ifndef PE_C_H
 #define PE_C_H
 
@@ -851,13 +1109,13 @@ typedef struct {
 /* What is read of the first entry of each type, each with its own result: PE_C_DONE, and then the record is here;
  * PE_C_NOTHING or an error, and then it is as it was. */
 typedef struct {
-    pe_c_key key;                   /* of pe_c_symbol_key */
-    pe_c_pdb20 pdb20;               /* of pe_c_debug_pdb20 */
-    pe_c_repro repro;               /* of pe_c_debug_repro */
-    pe_c_pogo pogo;                 /* of pe_c_debug_pogo */
-    pe_c_vc_features features;      /* of pe_c_debug_vc_features */
-    uint32_t characteristics;       /* of pe_c_debug_characteristics */
-    uint32_t key_result, pdb20_result, repro_result;    /* of each of these fields the result of its call */
+    pe_c_key key;                   /* the CodeView record, if it is one of PDB 7.0: that of pe_c_symbol_key */
+    pe_c_pdb20 pdb20;               /* the CodeView record, if it is one of PDB 2.0 */
+    pe_c_repro repro;               /* the Repro record */
+    pe_c_pogo pogo;                 /* the POGO record, if it has one of the two signatures */
+    pe_c_vc_features features;      /* the record of VC features */
+    uint32_t characteristics;       /* extended DLL characteristics, IMAGE_DLLCHARACTERISTICS_EX_ flags */
+    uint32_t key_result, pdb20_result, repro_result;    /* of each of these fields its result */
     uint32_t pogo_result, features_result, characteristics_result;  /* of these too */
 } pe_c_debug_records;
 
@@ -885,10 +1143,8 @@ uint32_t pe_c_next_debug_entry(const uint8_t *bytes, size_t length, pe_c_range *
  * Errors: PE_C_UNMAPPED; PE_C_DEBUG_BOUNDS in strict mode. */
 uint32_t pe_c_first_debug_entry(const pe_c_view *view, uint32_t data_type, pe_c_debug_entry *out) PE_C_RESULT(1, 3);
 
-/* The next six read the record of the first entry of a type, and return PE_C_NOTHING also without such an entry.
- * Errors: those of pe_c_first_debug_entry, then those of the call of the same record below, which takes an entry. */
-
-/* Returns the symbol key: the CodeView record, if it is one of PDB 7.0. */
+/* Returns the symbol key: the record of the first CodeView entry, if it is one of PDB 7.0. PE_C_NOTHING also without such an
+ * entry. Errors: those of pe_c_first_debug_entry, then those of pe_c_symbol_key_of. */
 uint32_t pe_c_symbol_key(const pe_c_view *view, pe_c_key *out) PE_C_RESULT(1, 2);
 
 /* Returns the symbol key of a CodeView record that stands alone, as a minidump has one of each module: no other debug
@@ -896,23 +1152,8 @@ uint32_t pe_c_symbol_key(const pe_c_view *view, pe_c_key *out) PE_C_RESULT(1, 2)
  * Errors: PE_C_SHORT where the range is not inside the bytes; PE_C_DEBUG_SIZE where it has fewer than 24 bytes. */
 uint32_t pe_c_codeview(const uint8_t *bytes, size_t length, const pe_c_range *record, pe_c_key *out) PE_C_RESULT(3, 4);
 
-/* Returns the CodeView record, if it is one of PDB 2.0. */
-uint32_t pe_c_debug_pdb20(const pe_c_view *view, pe_c_pdb20 *out) PE_C_RESULT(1, 2);
-
-/* Returns the record of VC features. */
-uint32_t pe_c_debug_vc_features(const pe_c_view *view, pe_c_vc_features *out) PE_C_RESULT(1, 2);
-
-/* Returns the extended DLL characteristics, IMAGE_DLLCHARACTERISTICS_EX_ flags. */
-uint32_t pe_c_debug_characteristics(const pe_c_view *view, uint32_t *out) PE_C_RESULT(1, 2);
-
-/* Returns the Repro record. */
-uint32_t pe_c_debug_repro(const pe_c_view *view, pe_c_repro *out) PE_C_RESULT(1, 2);
-
-/* Returns the POGO record. PE_C_NOTHING also for another signature. */
-uint32_t pe_c_debug_pogo(const pe_c_view *view, pe_c_pogo *out) PE_C_RESULT(1, 2);
-
-/* Reads the record of the first entry of each type at once, as these six do. It always returns PE_C_DONE: each record has a
- * result of its own. */
+/* Reads the record of the first entry of each type at once. It always returns PE_C_DONE: each record has a result of its own,
+ * as if by pe_c_first_debug_entry and then the call of the same record below, which takes an entry. */
 uint32_t pe_c_debug_data(const pe_c_view *view, pe_c_debug_records *out) PE_C_NOT_NULL(1, 2);
 
 /* The next eight read the record of an entry that the caller has, in a mode, whatever the entry's type is. */
@@ -1514,12 +1755,7 @@ uint32_t pe_c_digest_ranges(const pe_c_view *view, pe_c_digest *out) PE_C_RESULT
  * Errors: those of pe_c_image; PE_C_NO_OPTIONAL_HEADER. */
 uint32_t pe_c_checksum(const pe_c_view *view, pe_c_checksum_field *out) PE_C_RESULT(1, 2);
 
-/* Returns the length of the file that pe_c_attach writes with these arguments.
- * Errors: those of pe_c_attach, but for PE_C_WRITE_FIT. */
-uint32_t pe_c_attached_length(const pe_c_view *view, const uint8_t *certificate, size_t certificate_length,
-                              uint32_t placement, uint64_t *out) PE_C_RESULT(1, 5);
-
-/* Writes the file with a certificate to the start of the array, and its length to `out`: zeros up to a multiple of eight
+/* Writes the file with a certificate to the start of the array, and its length to `written`: zeros up to a multiple of eight
  * bytes, the certificate, zeros again, the entry of the certificate directory and the checksum. What the digest covers stays
  * as it was. The rest of the array is unchanged, and all of it after an error. The array overlaps neither the file nor the
  * certificate; it may be NULL if room_length is 0, and the certificate if certificate_length is.
@@ -1530,21 +1766,16 @@ uint32_t pe_c_attached_length(const pe_c_view *view, const uint8_t *certificate,
  * before that; PE_C_SIGN_HEADERS, PE_C_SIGN_SECTION where headers or the data of a section end after the start of the table,
  * or after the end of the file without one; PE_C_SIGN_TABLE_OFFSET where the certificate is to go after others whose table
  * is not at a multiple of eight; PE_C_SHORT, PE_C_CERTIFICATE_SIZE of a certificate shorter than eight bytes, or than its
- * first entry says; PE_C_SIGN_TOO_LARGE where the file with it has 2^32 bytes or more; PE_C_WRITE_FIT where that does not
- * fit into the array. */
+ * first entry says; PE_C_SIGN_TOO_LARGE where the file with it has 2^32 bytes or more; PE_C_ROOM. */
 uint32_t pe_c_attach(const pe_c_view *view, const uint8_t *certificate, size_t certificate_length, uint32_t placement,
-                     uint8_t *room, size_t room_length, uint64_t *out) PE_C_RESULT(1, 7);
+                     uint8_t *room, size_t room_length, uint64_t *written) PE_C_RESULT(1, 7);
 
-/* Returns the length of the file that pe_c_detach writes with these arguments.
- * Errors: those of pe_c_detach, but for PE_C_WRITE_FIT. */
-uint32_t pe_c_detached_length(const pe_c_view *view, uint64_t *out) PE_C_RESULT(1, 2);
-
-/* Writes the file without certificates to the start of the array, and its length to `out`: all before the certificate table,
+/* Writes the file without certificates to the start of the array, and its length to `written`: all before the certificate table,
  * with zeros in the entry of the certificate directory, and the checksum. An image without certificates stays as it is, but
  * for its checksum. The rest of the array is unchanged, and all of it after an error. The array does not overlap the file;
  * it may be NULL if room_length is 0.
- * Errors: those of pe_c_attach up to PE_C_SIGN_SECTION; PE_C_WRITE_FIT where the file does not fit into the array. */
-uint32_t pe_c_detach(const pe_c_view *view, uint8_t *room, size_t room_length, uint64_t *out) PE_C_RESULT(1, 4);
+ * Errors: those of pe_c_attach up to PE_C_SIGN_SECTION; PE_C_ROOM. */
+uint32_t pe_c_detach(const pe_c_view *view, uint8_t *room, size_t room_length, uint64_t *written) PE_C_RESULT(1, 4);
 
 /* ---- sections and images written
  *
@@ -1556,7 +1787,7 @@ uint32_t pe_c_detach(const pe_c_view *view, uint8_t *room, size_t room_length, u
  * table that is invalid is an error, and in permissive mode no certificate of it is written. Certificates go where their
  * directory says, each with zeros up to a multiple of 8 bytes. Of all of these calls: offsets count from the start of the
  * array, and where pieces overlap the later one wins. What no piece covers is unchanged, and after an error all of the array
- * and `out` or `next`. The array does not overlap the file; it may be NULL if room_length is 0. */
+ * and, but for PE_C_ROOM, `out`, `next` or `written`. The array does not overlap the file; it may be NULL if room_length is 0. */
 
 /* Writes the sections of the view into the array: for each its data at pointer_to_raw_data, its header, and zeros after the
  * data up to a multiple of `unit` bytes, no zeros where that is 0. The headers are written one after the other, from `next`
@@ -1572,32 +1803,24 @@ uint32_t pe_c_write_sections(const pe_c_view *view, uint32_t unit, uint8_t *room
  * PE_C_WRITE_FIT where a certificate does not fit into the array. */
 uint32_t pe_c_write_certificates(const pe_c_view *view, uint8_t *room, size_t room_length, uint64_t *out) PE_C_RESULT(1, 4);
 
-/* Returns how many bytes of an array pe_c_write_image needs with these arguments: the greatest end of what it writes.
- * Errors: those of pe_c_write_image, but PE_C_WRITE_FIT only where no array is long enough. */
-uint32_t pe_c_image_length(const pe_c_view *view, uint64_t *out) PE_C_RESULT(1, 2);
-
 /* Writes the image into the array: the DOS header, the stub, the PE signature, the COFF header and the optional header where
  * the headers have them; the sections of the view as pe_c_write_sections does, up to multiples of the file alignment, with
- * their headers in the section table; the certificates. Puts to `out` the greatest of three offsets: the start of the
+ * their headers in the section table; the certificates. Puts to `written` the greatest of three offsets: the start of the
  * section table, the end of the data of the last section with the greatest raw pointer, the end of the certificates. Without
- * a section the first may lie past the end of the array; pe_c_image_length says how many bytes were needed.
+ * a section the first may lie past the end of the array. With PE_C_ROOM `written` is the greatest end of what is written.
  * Errors: those of pe_c_image; in strict mode those of pe_c_next_certificate, of all certificates; PE_C_NO_OPTIONAL_HEADER;
  * PE_C_WRITE_ALIGNMENT where the file alignment is no power of two; PE_C_WRITE_SYMBOLS where the pointer to COFF symbols is
- * not 0; PE_C_WRITE_OVERLAP, PE_C_WRITE_SECTION and PE_C_WRITE_FIT as of pe_c_write_sections. */
-uint32_t pe_c_write_image(const pe_c_view *view, uint8_t *room, size_t room_length, uint64_t *out) PE_C_RESULT(1, 4);
-
-/* Returns how many bytes of an array pe_c_write_whole needs with these arguments: those of the file, or the greatest end of
- * what is written over it if that is greater.
- * Errors: those of pe_c_write_whole, but PE_C_WRITE_FIT only where no array is long enough. */
-uint32_t pe_c_whole_length(const pe_c_view *view, uint64_t *out) PE_C_RESULT(1, 2);
+ * not 0; PE_C_WRITE_OVERLAP, PE_C_WRITE_SECTION as of pe_c_write_sections; PE_C_WRITE_FIT where no array is long enough;
+ * PE_C_ROOM. */
+uint32_t pe_c_write_image(const pe_c_view *view, uint8_t *room, size_t room_length, uint64_t *written) PE_C_RESULT(1, 4);
 
 /* Writes the whole file into the array, and over it what pe_c_write_image writes, but no zeros after sections. So COFF
  * symbols and bytes between sections and after them stay as they are in the file. An image without certificates whose
- * sections are unchanged comes back byte for byte. Puts to `out` the greater of the file's length and of what
- * pe_c_write_image puts there, which may lie past the end of the array as there; pe_c_whole_length says how many bytes were
- * needed.
+ * sections are unchanged comes back byte for byte. Puts to `written` the greater of the file's length and of what
+ * pe_c_write_image puts there, which may lie past the end of the array as there. With PE_C_ROOM `written` is the length of the
+ * file, or the greatest end of what is written over it if that is greater.
  * Errors: those of pe_c_write_image but for PE_C_WRITE_ALIGNMENT and PE_C_WRITE_SYMBOLS. */
-uint32_t pe_c_write_whole(const pe_c_view *view, uint8_t *room, size_t room_length, uint64_t *out) PE_C_RESULT(1, 4);
+uint32_t pe_c_write_whole(const pe_c_view *view, uint8_t *room, size_t room_length, uint64_t *written) PE_C_RESULT(1, 4);
 
 /* ---- x64 functions and unwind records
  *
@@ -1738,9 +1961,9 @@ enum {
     PE_C_WAY_LEAF = 2,              /* it called a leaf function */
     PE_C_WAY_INTERRUPT = 3,         /* an interrupt stopped it: the records before it show what the processor pushed, on
                                        ARM64 what the operating system saved */
-    PE_C_WAY_SCANNED = 4            /* by a scan of the stack, where no records led on: at the first call of the code
-                                       without records, on x64, else at the first call. It may be wrong, and those after
-                                       it */
+    PE_C_WAY_SCANNED = 4            /* by a scan of the stack, where no records led on: at the call that leads nearest into
+                                       the code without records, on x64, else at the first call. It may be wrong, and
+                                       those after it */
 };
 
 /* Why a walk is over. */
@@ -1886,13 +2109,14 @@ uint32_t pe_c_step(const pe_c_view *view, const pe_c_range *table, const uint8_t
  *
  * In each frame the function is looked up by rip, or by the byte before it where the function has called. Its epilogs are
  * known by their code in the image, and a jump out of it is followed. Where no records describe the code of the top frame, or
- * of one that was interrupted, the caller is found by the return address at rsp, if a call ends there, else by the first of
- * 128 words from rsp on that is after a call in an executable section: the last section of its module that starts at or
- * before the call's last byte is asked, so sections have to be in ascending order. In a frame that has called it is the first
- * such word. What is found so may be wrong: walk->is_guess says so of each frame, but not of the caller of code in a module
- * with a table that has no function there, if both are executable and a call ends at the return address: that is a leaf
- * function. Without such a call a leaf function of a module, which was jumped to, returns to executable code, or into a module
- * without an image. Only past an interrupt may the stack pointer not rise.
+ * of one that was interrupted, the caller is found by the return address at rsp, if a call ends there or it is in a module
+ * without an image, else by the first of 128 words from rsp on that is after a call in an executable section: the last section
+ * of its module that starts at or before the call's last byte is asked, so sections have to be in ascending order. In a frame
+ * that has called it is the first such word. In a module with a table that has no function there, the word whose call, E8,
+ * leads nearest before the frame among such code comes before all but a call at rsp. What is found so may be wrong:
+ * walk->is_guess says so of each frame, but not of the caller of code in a module with a table that has no function there, if
+ * both are executable and a call ends at the return address: that is a leaf function. Without such a call a leaf function of a
+ * module, which was jumped to, returns to executable code. Only past an interrupt may the stack pointer not rise.
  * Errors, which change nothing: PE_C_SHORT where the table of a module is not inside its bytes, or, where walk->is_searched
  * is 0, a piece not inside the memory. */
 uint32_t pe_c_next_frame(const pe_c_module *modules, size_t module_count, const uint8_t *memory, size_t memory_length,
@@ -2126,9 +2350,10 @@ PE_C_SIZE(pe_c_arm64_stack_walk, 376);
 
 /* As pe_c_next_frame, on ARM64. In each frame the function is looked up by pc, or by the call, four bytes before it, where
  * the function has called. Where no unwind data describe the code of the top frame, or of one that was interrupted, the
- * caller is found by the link register, if a call ends there, else by the first of 128 words from the stack pointer on that
- * is, without its signature, after a call in an executable section; in a frame that has called by the first such word. The
- * stack pointer may stay where it is in the first two alone, and sink past an interrupt alone.
+ * caller is found by the link register, if a call ends there or it is in a module without an image, else by the first of 128
+ * words from the stack pointer on that is, without its signature, after a call in an executable section; in a frame that has
+ * called by the first such word. The stack pointer may stay where it is in the first two alone, and sink past an interrupt
+ * alone.
  * Errors, which change nothing: those of pe_c_next_frame. */
 uint32_t pe_c_next_arm64_frame(const pe_c_module *modules, size_t module_count, const uint8_t *memory, size_t memory_length,
                                const pe_c_memory_piece *pieces, size_t piece_count, pe_c_arm64_stack_walk *walk)
@@ -2236,6 +2461,71 @@ uint32_t pe_c_export_addresses(const pe_c_view *view, pe_c_address_table *out) P
 uint32_t pe_c_export_at(const pe_c_view *view, const pe_c_address_table *table, uint64_t index, pe_c_exported *out)
     PE_C_RESULT(1, 2, 4);
 
+/* ---- names of functions without a PDB
+ *
+ * Images of mingw-w64, and of Go and Rust for it, have COFF symbols, and DLLs have exports. The last of either before an address
+ * is mostly of another function, since most functions have no export. The function table says which code is one function: within
+ * it no name is that of another one.
+ *
+ *     pe_c_name_tables(&view, &sources);
+ *     uint64_t *room = (uint64_t *)calloc((size_t)sources.room + 1, sizeof *room);
+ *     if (room != NULL)
+ *         pe_c_function_names(&view, &sources, addresses, count, room, (size_t)sources.room, names, count); */
+
+/* The tables of an image of which names are read, each by itself, and the result of each: PE_C_DONE, PE_C_NOTHING where the
+ * image has none, or the error. One that is not there is empty. */
+typedef struct {
+    pe_c_range functions;           /* the function table; there is none on x86 */
+    pe_c_range symbols;             /* the symbol table, entries of 18 bytes; there is none in an image as loaded: no section has it */
+    pe_c_range strings;             /* the string table, with the longer names of symbols */
+    pe_c_exports exports;           /* the tables of the export directory */
+    uint64_t room;                  /* how many numbers pe_c_function_names needs room for */
+    uint32_t functions_result;      /* errors are those of pe_c_function_table and pe_c_arm64_table */
+    uint32_t symbols_result;        /* those of pe_c_headers and pe_c_coff_symbols */
+    uint32_t strings_result;        /* those of pe_c_headers and pe_c_coff_strings */
+    uint32_t exports_result;        /* those of pe_c_export_tables */
+} pe_c_name_sources;
+
+/* An address in the code of an image. */
+typedef struct {
+    uint32_t rva;                   /* the address */
+    uint32_t is_return;             /* 0 where the code there was about to run, as in the top frame of a stack. Else it is a return
+                                       address: the byte before it is looked up, as a call may be the last of its function */
+} pe_c_code_address;
+
+/* What names an address. */
+typedef struct {
+    pe_c_range name;                /* UTF-8, without its final zero. Empty without a name, and where the name is not text, or is
+                                       longer than 4,095 bytes */
+    uint32_t start;                 /* RVA that has the name */
+    uint32_t offset;                /* how far after it the address is */
+    uint32_t source;                /* what names it: 0 nothing, 1 a COFF symbol, 2 an export */
+    uint32_t is_nearest;            /* 1 where it is only the last name before the address, in an image without a function table; it
+                                       may be that of another function. Else 0 */
+} pe_c_function_name;
+
+PE_C_SIZE(pe_c_name_sources, 136);
+PE_C_SIZE(pe_c_code_address, 8);
+PE_C_SIZE(pe_c_function_name, 32);
+
+/* Reads the tables of which pe_c_function_names reads names. One that is damaged does not cost the others. Always returns
+ * PE_C_DONE. */
+uint32_t pe_c_name_tables(const pe_c_view *view, pe_c_name_sources *out) PE_C_RESULT(1, 2);
+
+/* Writes to `names` what names each of these addresses, in their order; the rest of `names` is unchanged. It is
+ *   - the last function symbol at or before the address within its function: a COFF symbol of the type 0x20 and the class
+ *     IMAGE_SYM_CLASS_EXTERNAL or IMAGE_SYM_CLASS_STATIC. Of several at one RVA it is the first of the table. A function is an
+ *     entry of the function table, also one whose unwind record is chained to another;
+ *   - else the export that starts the function, of several the first of the name table. A forwarder is none;
+ *   - in an image without a function table the last symbol or export at or before the address, a symbol where both are at one RVA;
+ *   - else nothing, also where no function of the table has the address: a leaf function needs no entry there.
+ * `room` has to have as many numbers as `sources` says; what is in it then is left open. What has a name is sorted in it, so that
+ * n entries of the tables and m addresses take as long as (n + m) log n steps, and to read at most 4,096 bytes a name.
+ * Errors: PE_C_ROOM where `room` or `names` is too short. */
+uint32_t pe_c_function_names(const pe_c_view *view, const pe_c_name_sources *sources, const pe_c_code_address *addresses,
+                             size_t address_count, uint64_t *room, size_t room_entries, pe_c_function_name *names,
+                             size_t name_entries) PE_C_RESULT(1, 2);
+
 /* ---- imports
  *
  * The import directory has a record of 20 bytes for each DLL, which leads to the DLL's name and to its list of imports,
@@ -2244,7 +2534,7 @@ uint32_t pe_c_export_at(const pe_c_view *view, const pe_c_address_table *table, 
  *
  * There are two walks: one over the DLLs (here "libraries"), and for each one over its imports, which starts at
  * library.imports. A program that reads all libraries before the first import meets errors in the order of
- * `peinfo list`. A third walk goes through both, for pe_c_list_all_imports_together.
+ * `peinfo list`. A third walk goes through both, for pe_c_list_all_imports.
  *
  *     pe_c_library_walk libraries = PE_C_EMPTY;
  *     pe_c_import_libraries(&view, &libraries.libraries);
@@ -2342,7 +2632,7 @@ uint32_t pe_c_next_library(const pe_c_view *view, pe_c_library_walk *walk, pe_c_
  * the entry; PE_C_SHORT of the hint there; PE_C_IMPORT_NAME of the name. */
 uint32_t pe_c_next_import(const pe_c_view *view, pe_c_import_walk *walk, pe_c_import *out) PE_C_RESULT(1, 2, 3);
 
-/* Returns the import directory as a walk for pe_c_list_all_imports_together. PE_C_NOTHING without a directory.
+/* Returns the import directory as a walk for pe_c_list_all_imports. PE_C_NOTHING without a directory.
  * Errors: PE_C_UNMAPPED. */
 uint32_t pe_c_all_imports(const pe_c_view *view, pe_c_library_imports *out) PE_C_RESULT(1, 2);
 
@@ -2353,7 +2643,7 @@ uint32_t pe_c_all_imports(const pe_c_view *view, pe_c_library_imports *out) PE_C
  * https://learn.microsoft.com/windows/win32/debug/pe-format#delay-load-import-tables-image-only
  *
  * There are two walks: one over the DLLs, and for each one over its functions, which starts at import.functions. A third
- * walk goes through both, for pe_c_list_all_delayed_functions_together. */
+ * walk goes through both, for pe_c_list_all_delayed_functions. */
 
 /* An entry of the delay import directory, IMAGE_DELAYLOAD_DESCRIPTOR. Addresses are RVAs where bit 0 of the attributes
  * is set, else virtual addresses, as linkers before Visual C++ 7 wrote them. */
@@ -2441,7 +2731,7 @@ uint32_t pe_c_next_delay_import(const pe_c_view *view, pe_c_delay_import_walk *w
 uint32_t pe_c_next_delayed_function(const pe_c_view *view, pe_c_delayed_function_walk *walk,
                                     pe_c_delayed_function *out) PE_C_RESULT(1, 2, 3);
 
-/* Returns the delay import directory as a walk for pe_c_list_all_delayed_functions_together. PE_C_NOTHING where the
+/* Returns the delay import directory as a walk for pe_c_list_all_delayed_functions. PE_C_NOTHING where the
  * directory is absent. Errors: PE_C_UNMAPPED, PE_C_SHORT. */
 uint32_t pe_c_all_delayed_functions(const pe_c_view *view, pe_c_library_functions *out) PE_C_RESULT(1, 2);
 
@@ -2709,15 +2999,10 @@ typedef struct {
 
 PE_C_SIZE(pe_c_resource, 72);
 
-/* Returns the length of the file that pe_c_edit writes with these arguments, which is that of the image or more.
- * Errors: those of pe_c_edit, but for PE_C_WRITE_FIT. */
-uint32_t pe_c_edited_length(const pe_c_view *view, const pe_c_resource *resources, size_t resource_count,
-                            const uint8_t *data, size_t data_length, uint64_t *out) PE_C_RESULT(1, 6);
-
-/* Writes the image with these resources in place of those that it has to the start of the array, and its length to `out`.
- * The rest of the array is unchanged, and all of it after an error. `data` has the names and the contents, and may be
- * `bytes`. The array overlaps none of the others; it may be NULL if room_length is 0, the resources if resource_count is,
- * and the data if data_length is.
+/* Writes the image with these resources in place of those that it has to the start of the array, and its length, which is
+ * that of the file or more, to `written`. The rest of the array is unchanged, and all of it after an error. `data` has the
+ * names and the contents, and may be `bytes`. The array overlaps none of the others; it may be NULL if room_length is 0, the
+ * resources if resource_count is, and the data if data_length is.
  * The resources are sorted by type, name and language: names before ids, names by their code units, ids and languages by
  * their numbers. No two have the same type, name and language.
  * They go over the data of their section if they fit there, no other section follows it in memory before their end, and no
@@ -2741,28 +3026,21 @@ uint32_t pe_c_edited_length(const pe_c_view *view, const pe_c_resource *resource
  * COFF symbols start before the end of the data and end after it; PE_C_EDIT_OVERLAP where a section ends after the image
  * in memory, or shares bytes with the headers; PE_C_EDIT_DEBUG_DATA where the debug entries do not lie between the section
  * headers and the data of that section, or the data of one neither end before these nor start after those of all sections;
- * PE_C_WRITE_FIT where the file does not fit into the array. */
+ * PE_C_ROOM. */
 uint32_t pe_c_edit(const pe_c_view *view, const pe_c_resource *resources, size_t resource_count, const uint8_t *data,
-                   size_t data_length, uint8_t *room, size_t room_length, uint64_t *out) PE_C_RESULT(1, 8);
-
-/* Returns the length of what pe_c_write_block writes with these arguments.
- * Errors: those of pe_c_write_block, but for PE_C_WRITE_FIT. */
-uint32_t pe_c_block_length(const uint8_t *key, size_t key_length, uint32_t is_text, const uint8_t *value,
-                           size_t value_length, const uint8_t *children, size_t children_length, uint64_t *out)
-    PE_C_RESULT(8);
+                   size_t data_length, uint8_t *room, size_t room_length, uint64_t *written) PE_C_RESULT(1, 8);
 
 /* Writes a block of version information to the start of the array, with zeros up to a multiple of four bytes, where the next
- * block starts, and its length with them to `out`. The rest of the array is unchanged, and all of it after an error.
+ * block starts, and its length with them to `written`. The rest of the array is unchanged, and all of it after an error.
  * `key` is UTF-16 code units, little-endian, without a final zero; `is_text` is 0, or another number where the value is a
  * text, which has a final zero; `children` are the blocks in it, as this call writes them, one after the other. The array
  * overlaps none of the others; each may be NULL if its length is 0.
  * https://learn.microsoft.com/windows/win32/menurc/vs-versioninfo
  * Errors: PE_C_BLOCK_KEY where the key has an odd number of bytes, or a code unit of zero; PE_C_BLOCK_TEXT where the value
- * is a text of an odd number of bytes; PE_C_BLOCK_TOO_LONG where the block has more than 65,535 bytes; PE_C_WRITE_FIT where
- * it does not fit into the array. */
+ * is a text of an odd number of bytes; PE_C_BLOCK_TOO_LONG where the block has more than 65,535 bytes; PE_C_ROOM. */
 uint32_t pe_c_write_block(const uint8_t *key, size_t key_length, uint32_t is_text, const uint8_t *value,
                           size_t value_length, const uint8_t *children, size_t children_length, uint8_t *room,
-                          size_t room_length, uint64_t *out) PE_C_RESULT(10);
+                          size_t room_length, uint64_t *written) PE_C_RESULT(10);
 
 /* A string of version information. Its ranges are those of an array of bytes that is passed beside it. */
 typedef struct {
@@ -2789,26 +3067,19 @@ typedef struct {
 
 PE_C_SIZE(pe_c_version_table, 12);
 
-/* Returns the length of what pe_c_write_version writes with these arguments.
- * Errors: those of pe_c_write_version, but for PE_C_WRITE_FIT. */
-uint32_t pe_c_version_length(const pe_c_version *fixed, const pe_c_version_table *tables, size_t table_count,
-                             const pe_c_version_string *strings, size_t string_count,
-                             const pe_c_version_language *translations, size_t translation_count, const uint8_t *texts,
-                             size_t texts_length, uint64_t *out) PE_C_RESULT(1, 10);
-
 /* Writes version information, the content of a resource of type 16 (RT_VERSION), to the start of the array, and its length
- * to `out`. The rest of the array is unchanged, and all of it after an error. `tables` are the tables of strings,
+ * to `written`. The rest of the array is unchanged, and all of it after an error. `tables` are the tables of strings,
  * `translations` the languages and code pages that the file supports, each in its order; `texts` has the names and the
  * texts. The array overlaps none of the others; each may be NULL if its length is 0.
  * Errors: PE_C_SHORT where a range of a string is not inside the texts, or the strings of a table are not all there;
  * PE_C_BLOCK_TOO_LONG where the tables have more than 65,535 bytes by the lengths of names and texts; PE_C_BLOCK_KEY where
  * a name has an odd number of bytes, or a code unit of zero; PE_C_BLOCK_TEXT where a text has an odd number of bytes;
  * PE_C_BLOCK_TOO_LONG where a string, a table, or a block of these has more than 65,535 bytes: of the blocks the first
- * refusal, each after those that are in it; PE_C_WRITE_FIT where it does not fit into the array. */
+ * refusal, each after those that are in it; PE_C_ROOM. */
 uint32_t pe_c_write_version(const pe_c_version *fixed, const pe_c_version_table *tables, size_t table_count,
                             const pe_c_version_string *strings, size_t string_count,
                             const pe_c_version_language *translations, size_t translation_count, const uint8_t *texts,
-                            size_t texts_length, uint8_t *room, size_t room_length, uint64_t *out) PE_C_RESULT(1, 12);
+                            size_t texts_length, uint8_t *room, size_t room_length, uint64_t *written) PE_C_RESULT(1, 12);
 
 /* ---- thread-local storage
  *
@@ -3134,7 +3405,7 @@ uint32_t pe_c_text_in(const uint8_t *bytes, size_t length, const pe_c_range *ran
  *
  *     uint64_t written;
  *     uint32_t result;
- *     while ((result = pe_c_list_exports(&view, &walk, entries, 64, &written)) == PE_C_DONE && written > 0)
+ *     while ((result = pe_c_list_exports(&view, &walk, NULL, 0, entries, 64, &written)) == PE_C_DONE && written > 0)
  *         use(entries, written);
  *
  * An error is that of the walk, returned by a call of its own: where entries come before it, a call returns these with
@@ -3175,25 +3446,9 @@ uint32_t pe_c_list_arm64_functions(const pe_c_view *view, const pe_c_range *tabl
 uint32_t pe_c_list_arm64_codes(const pe_c_view *view, pe_c_arm64_walk *walk, pe_c_arm64_code *entries,
                                size_t number_of_entries, uint64_t *written) PE_C_RESULT(1, 2, 5);
 
-/* Lists the exports that have a name. Errors: PE_C_ROOM; PE_C_SHORT where the tables are not inside the bytes. */
-uint32_t pe_c_list_exports(const pe_c_view *view, pe_c_exports *walk, pe_c_export *entries, size_t number_of_entries,
-                           uint64_t *written) PE_C_RESULT(1, 2, 5);
-
-/* Lists all exports as pe_c_export_at reads them, from the index `next` on, which moves past them.
- * Errors: PE_C_ROOM; PE_C_SHORT where the table is not inside the bytes. */
-uint32_t pe_c_list_export_addresses(const pe_c_view *view, const pe_c_address_table *table, uint64_t *next,
-                                    pe_c_exported *entries, size_t number_of_entries,
-                                    uint64_t *written) PE_C_RESULT(1, 2, 3, 6);
-
-/* Lists the libraries of an import directory. Errors: PE_C_ROOM; those of pe_c_next_library. */
-uint32_t pe_c_list_libraries(const pe_c_view *view, pe_c_libraries *walk, pe_c_library *entries,
-                             size_t number_of_entries, uint64_t *written) PE_C_RESULT(1, 2, 5);
-
-/* Lists the imports of a library. Errors: PE_C_ROOM; those of pe_c_next_import. */
-uint32_t pe_c_list_imports(const pe_c_view *view, pe_c_imports *walk, pe_c_import *entries, size_t number_of_entries,
-                           uint64_t *written) PE_C_RESULT(1, 2, 5);
-
-/* Room for what the calls that take runs find out of names and lists; what is in it has no meaning to callers. */
+/* Room for what the calls that take runs find out of names and lists; what is in it has no meaning to callers, and what is in
+ * it after a call is left open. Names that share a text are read together as far as there are runs: a hostile file may let all
+ * of them start in one long text. Others are read to their end each, so NULL and 0 do where a caller has no such files. */
 typedef struct {
     uint64_t start;                 /* the offset of a name */
     uint64_t end;                   /* the offset of the zero after it */
@@ -3202,53 +3457,46 @@ typedef struct {
 
 PE_C_SIZE(pe_c_run, 24);
 
-/* Lists what pe_c_list_exports does, and reads names and forwarders' texts together where they share much, others each by
- * itself. With two runs for each entry that the name table has left, or more, a call takes about as long as to sort these and
- * to read each byte a few times, however many of the texts overlap: a hostile file may let all of them start in one long text.
- * A call looks at no more entries for that than there are runs, and reads further texts to their end each; no runs are needed.
- * What is in `runs` after the call is left open. Errors: as pe_c_list_exports. */
-uint32_t pe_c_list_exports_together(const pe_c_view *view, pe_c_exports *walk, pe_c_run *runs, size_t number_of_runs,
-                                    pe_c_export *entries, size_t number_of_entries,
-                                    uint64_t *written) PE_C_RESULT(1, 2, 7);
+/* Lists the exports that have a name, and reads names and forwarders' texts together where they share much. With two runs for
+ * each entry that the name table has left, or more, a call takes about as long as to sort these and to read each byte a few
+ * times, however many of the texts overlap. A call looks at no more entries for that than there are runs.
+ * Errors: PE_C_ROOM; PE_C_SHORT where the tables are not inside the bytes. */
+uint32_t pe_c_list_exports(const pe_c_view *view, pe_c_exports *walk, pe_c_run *runs, size_t number_of_runs,
+                           pe_c_export *entries, size_t number_of_entries, uint64_t *written) PE_C_RESULT(1, 2, 7);
 
-/* Lists what pe_c_list_libraries does, and reads the names together, and looks for the ends of the lists of imports
+/* Lists the libraries of an import directory, and reads the names together, and looks for the ends of the lists of imports
  * together. With two runs for each library that is left, or more, this takes about as long as to sort these and to read each
- * byte a few times, at most ten, however many share a text or a list.
- * What is in `runs` after the call is left open. Errors: as pe_c_list_libraries. */
-uint32_t pe_c_list_libraries_together(const pe_c_view *view, pe_c_libraries *walk, pe_c_run *runs, size_t number_of_runs,
-                                      pe_c_library *entries, size_t number_of_entries,
-                                      uint64_t *written) PE_C_RESULT(1, 2, 7);
+ * byte a few times, at most ten, however many share a text or a list. Errors: PE_C_ROOM; those of pe_c_next_library. */
+uint32_t pe_c_list_libraries(const pe_c_view *view, pe_c_libraries *walk, pe_c_run *runs, size_t number_of_runs,
+                             pe_c_library *entries, size_t number_of_entries, uint64_t *written) PE_C_RESULT(1, 2, 7);
 
-/* Lists what pe_c_list_imports does, and reads the names together, with a run for each import that is left, or more.
- * What is in `runs` after the call is left open. Errors: as pe_c_list_imports. */
-uint32_t pe_c_list_imports_together(const pe_c_view *view, pe_c_imports *walk, pe_c_run *runs, size_t number_of_runs,
-                                    pe_c_import *entries, size_t number_of_entries,
-                                    uint64_t *written) PE_C_RESULT(1, 2, 7);
+/* Lists the imports of a library, and reads the names together, with a run for each import that is left, or more.
+ * Errors: PE_C_ROOM; those of pe_c_next_import. */
+uint32_t pe_c_list_imports(const pe_c_view *view, pe_c_imports *walk, pe_c_run *runs, size_t number_of_runs,
+                           pe_c_import *entries, size_t number_of_entries, uint64_t *written) PE_C_RESULT(1, 2, 7);
 
 /* Lists the imports of all libraries, one library after the other, and reads the names of the libraries and of the imports
  * together. With a run for each of the entries and one for each library that is left, or more, a call takes about as long as
  * to sort these and to read each byte a few times, however many names share a text. With fewer, as with none, further names
  * are read to their end each, also those of libraries without an import. Libraries may share a list, whose imports are
  * listed for each of them: `number_of_entries` bounds what a call takes.
- * What is in `runs` after the call is left open. Errors: PE_C_ROOM; those of pe_c_next_library and pe_c_next_import, in the
- * order of the walk. */
-uint32_t pe_c_list_all_imports_together(const pe_c_view *view, pe_c_library_imports *walk, pe_c_run *runs,
-                                        size_t number_of_runs, pe_c_library_import *entries, size_t number_of_entries,
-                                        uint64_t *written) PE_C_RESULT(1, 2, 7);
+ * Errors: PE_C_ROOM; those of pe_c_next_library and pe_c_next_import, in the order of the walk. */
+uint32_t pe_c_list_all_imports(const pe_c_view *view, pe_c_library_imports *walk, pe_c_run *runs, size_t number_of_runs,
+                               pe_c_library_import *entries, size_t number_of_entries,
+                               uint64_t *written) PE_C_RESULT(1, 2, 7);
 
-/* Lists what pe_c_list_export_addresses does, and reads the texts of forwarders together, with a run for each of the
- * entries, or more.
- * What is in `runs` after the call is left open. Errors: as pe_c_list_export_addresses. */
-uint32_t pe_c_list_export_addresses_together(const pe_c_view *view, const pe_c_address_table *table, uint64_t *next,
-                                             pe_c_run *runs, size_t number_of_runs, pe_c_exported *entries,
-                                             size_t number_of_entries, uint64_t *written) PE_C_RESULT(1, 2, 3, 8);
+/* Lists all exports as pe_c_export_at reads them, from the index `next` on, which moves past them, and reads the texts of
+ * forwarders together, with a run for each of the entries, or more.
+ * Errors: PE_C_ROOM; PE_C_SHORT where the table is not inside the bytes. */
+uint32_t pe_c_list_export_addresses(const pe_c_view *view, const pe_c_address_table *table, uint64_t *next, pe_c_run *runs,
+                                    size_t number_of_runs, pe_c_exported *entries, size_t number_of_entries,
+                                    uint64_t *written) PE_C_RESULT(1, 2, 3, 8);
 
 /* Lists the long names of the sections of an image, from the index `next` on, which moves past them: what
  * pe_c_long_section_name returns of each, and an empty range where that returns PE_C_NOTHING. `table` is the string table.
  * Names are read together, with a run for each of the entries, or more: an image may have 65,535 sections, and one string
  * for all of them. Of an image the call reads the bytes and the sections alone, so with those of an object, and any record
  * as `image`, it lists the names of that.
- * What is in `runs` after the call is left open.
  * Errors: PE_C_ROOM; PE_C_SHORT where a section is left, and `table` is not inside the bytes. */
 uint32_t pe_c_list_long_section_names(const pe_c_view *view, const pe_c_range *table, uint64_t *next, pe_c_run *runs,
                                       size_t number_of_runs, pe_c_range *entries, size_t number_of_entries,
@@ -3273,9 +3521,8 @@ PE_C_SIZE(pe_c_named_symbol, 72);
 PE_C_SIZE(pe_c_named_symbol_walk, 40);
 
 /* Lists the symbols of a walk as pe_c_next_symbol returns them, each with what pe_c_symbol_name returns of it. Names are
- * read together where they share much, as by pe_c_list_exports_together, here with one run for each entry that the symbol
- * table has left, or more; the string table stays as it is.
- * What is in `runs` after the call is left open.
+ * read together where they share much, as by pe_c_list_exports, here with one run for each entry that the symbol table has
+ * left, or more; the string table stays as it is.
  * Errors: PE_C_ROOM; PE_C_SHORT where the symbol table is not inside the bytes. */
 uint32_t pe_c_list_symbols(const uint8_t *bytes, size_t length, pe_c_named_symbol_walk *walk, pe_c_run *runs,
                            size_t number_of_runs, pe_c_named_symbol *entries, size_t number_of_entries,
@@ -3297,40 +3544,31 @@ uint32_t pe_c_list_relocation_blocks(const pe_c_view *view, pe_c_range *walk, pe
 uint32_t pe_c_list_relocations(const pe_c_view *view, uint32_t page_rva, pe_c_range *walk, pe_c_relocation *entries,
                                size_t number_of_entries, uint64_t *written) PE_C_RESULT(1, 3, 6);
 
-/* Lists the DLLs of a delay import directory. Errors: PE_C_ROOM; those of pe_c_next_delay_import. */
-uint32_t pe_c_list_delay_imports(const pe_c_view *view, pe_c_range *walk, pe_c_delay_import *entries,
-                                 size_t number_of_entries, uint64_t *written) PE_C_RESULT(1, 2, 5);
+/* Lists the DLLs of a delay import directory, and reads the names together, with a run for each of the entries, or more.
+ * Errors: PE_C_ROOM; those of pe_c_next_delay_import. */
+uint32_t pe_c_list_delay_imports(const pe_c_view *view, pe_c_range *walk, pe_c_run *runs, size_t number_of_runs,
+                                 pe_c_delay_import *entries, size_t number_of_entries,
+                                 uint64_t *written) PE_C_RESULT(1, 2, 7);
 
-/* Lists what is imported of a DLL that is loaded later. Errors: PE_C_ROOM; those of pe_c_next_delayed_function. */
-uint32_t pe_c_list_delayed_functions(const pe_c_view *view, pe_c_delayed_functions *walk, pe_c_delayed_function *entries,
-                                     size_t number_of_entries, uint64_t *written) PE_C_RESULT(1, 2, 5);
-
-/* Lists what pe_c_list_delay_imports does, and reads the names together, with a run for each of the entries, or more.
- * What is in `runs` after the call is left open. Errors: as pe_c_list_delay_imports. */
-uint32_t pe_c_list_delay_imports_together(const pe_c_view *view, pe_c_range *walk, pe_c_run *runs,
-                                          size_t number_of_runs, pe_c_delay_import *entries, size_t number_of_entries,
-                                          uint64_t *written) PE_C_RESULT(1, 2, 7);
-
-/* Lists what pe_c_list_delayed_functions does, and reads the names together, with a run for each of the entries, or more.
- * What is in `runs` after the call is left open. Errors: as pe_c_list_delayed_functions. */
-uint32_t pe_c_list_delayed_functions_together(const pe_c_view *view, pe_c_delayed_functions *walk, pe_c_run *runs,
-                                              size_t number_of_runs, pe_c_delayed_function *entries,
-                                              size_t number_of_entries, uint64_t *written) PE_C_RESULT(1, 2, 7);
+/* Lists what is imported of a DLL that is loaded later, and reads the names together, with a run for each of the entries, or
+ * more. Errors: PE_C_ROOM; those of pe_c_next_delayed_function. */
+uint32_t pe_c_list_delayed_functions(const pe_c_view *view, pe_c_delayed_functions *walk, pe_c_run *runs,
+                                     size_t number_of_runs, pe_c_delayed_function *entries, size_t number_of_entries,
+                                     uint64_t *written) PE_C_RESULT(1, 2, 7);
 
 /* Lists the functions of all delay-loaded DLLs, one DLL after the other, and reads the names of the DLLs and of their
  * functions together. With a run for each of the entries and one for each DLL that is left, or more, a call takes about as
  * long as to sort these and to read each byte a few times, however many names share a text; and without an index in the
  * view it tests the sections in turn for each address. With fewer runs, as with none, further names are read to their end
  * each, also those of DLLs without a function. DLLs may share a table, whose functions are listed for each of them:
- * `number_of_entries` bounds what a call takes. What is in `runs` after the call is left open. Errors: PE_C_ROOM; those of
- * pe_c_next_delay_import and pe_c_next_delayed_function, in the order of the walk. */
-uint32_t pe_c_list_all_delayed_functions_together(const pe_c_view *view, pe_c_library_functions *walk, pe_c_run *runs,
-                                                  size_t number_of_runs, pe_c_library_function *entries,
-                                                  size_t number_of_entries, uint64_t *written) PE_C_RESULT(1, 2, 7);
+ * `number_of_entries` bounds what a call takes.
+ * Errors: PE_C_ROOM; those of pe_c_next_delay_import and pe_c_next_delayed_function, in the order of the walk. */
+uint32_t pe_c_list_all_delayed_functions(const pe_c_view *view, pe_c_library_functions *walk, pe_c_run *runs,
+                                         size_t number_of_runs, pe_c_library_function *entries, size_t number_of_entries,
+                                         uint64_t *written) PE_C_RESULT(1, 2, 7);
 
 /* Lists bound imports as pe_c_next_bound_import returns them, and reads the names together, with a run for each of the
- * entries, or more. `table` is the range of the directory.
- * What is in `runs` after the call is left open. Errors: PE_C_ROOM; those of pe_c_next_bound_import. */
+ * entries, or more. `table` is the range of the directory. Errors: PE_C_ROOM; those of pe_c_next_bound_import. */
 uint32_t pe_c_list_bound_imports(const uint8_t *bytes, size_t length, const pe_c_range *table, pe_c_range *walk,
                                  pe_c_run *runs, size_t number_of_runs, pe_c_bound_import *entries,
                                  size_t number_of_entries, uint64_t *written) PE_C_RESULT(3, 4, 9);
@@ -3338,8 +3576,7 @@ uint32_t pe_c_list_bound_imports(const uint8_t *bytes, size_t length, const pe_c
 /* Lists the same of the DLLs that a DLL forwards to, as pe_c_next_bound_forwarder returns them. The 8 bytes of a DLL are
  * read as those of a forwarder are: a walk through the whole directory, at first a copy of `table`, lists the names and time
  * stamps of all DLLs and their forwarders, in their order, where to list the forwarders of each would cost a text that they
- * share for each.
- * What is in `runs` after the call is left open. Errors: PE_C_ROOM; those of pe_c_next_bound_forwarder. */
+ * share for each. Errors: PE_C_ROOM; those of pe_c_next_bound_forwarder. */
 uint32_t pe_c_list_bound_forwarders(const uint8_t *bytes, size_t length, const pe_c_range *table, pe_c_range *walk,
                                     pe_c_run *runs, size_t number_of_runs, pe_c_bound_forwarder *entries,
                                     size_t number_of_entries, uint64_t *written) PE_C_RESULT(3, 4, 9);

@@ -358,7 +358,8 @@ fn wild_calls_return_to_the_link_register(rt: HostRuntime) -> Result<(), Fail> {
     }
     for lr in [0, NT + 0x10C, NT + 0x11C, NT + 0x111, NT] {
         let frames = [(0, 0x2000, 0, Way::Top, false)];
-        expect_walk(
+        expect_walk_in(
+            &[CODE],
             &rt,
             rt.alloc(),
             registers(0, 0x2000, lr),
@@ -408,6 +409,51 @@ fn stacks_are_scanned(rt: HostRuntime) -> Result<(), Fail> {
             NO_RETURN_ADDRESS
         };
         expect_walk_in(&[CODE], &rt, rt.alloc(), top, &memory, &lost, end)?;
+    }
+    Ok(())
+}
+
+/// A module whose image is not at hand: no bytes say whether a call ends at the link register there, which comes before a scan.
+#[test]
+fn a_leaf_function_returns_into_a_module_without_an_image(rt: HostRuntime) -> Result<(), Fail> {
+    let alloc = rt.alloc();
+    let stack = stack_of(alloc, &[(0x2008, APP + 0x190)])?;
+    let memory = Stack {
+        start: 0x2000,
+        bytes: &stack,
+    };
+    let app = app(alloc)?;
+    let (data, sections) = (exceptions(&app, 7)?, [CODE]);
+    let known = module(APP, &app, &data, &sections);
+    let modules = [
+        known,
+        Module {
+            base: NT,
+            bytes: &[],
+            sections: &[],
+            exceptions: None,
+            ..known
+        },
+    ];
+    for (pc, lr, way) in [
+        (APP + 0x1F0, NT + 4, Way::Leaf),
+        (0x1234, NT + 4, Way::Leaf),
+        (APP + 0x1F0, NT, Way::Scanned),
+    ] {
+        let modules = Modules::new(&modules).map_err(|_| "the modules ascend")?;
+        let mut walk = Arm64StackFrames::new(modules, &memory, registers(pc, 0x2000, lr), 100);
+        let top = walk.next().ok_or("the top frame")?;
+        assert_eq!(rt; (top.registers.pc, top.is_guess), (pc, false));
+        let caller = walk.next().ok_or("a caller")?;
+        let (there, sp) = match way {
+            Way::Leaf => (lr, 0x2000),
+            _ => (APP + 0x190, 0x2010),
+        };
+        assert_eq!(rt; (caller.registers.pc, caller.registers.sp), (there, sp));
+        assert_eq!(rt;
+            (caller.way, caller.has_called, caller.is_guess),
+            (way, true, true)
+        );
     }
     Ok(())
 }

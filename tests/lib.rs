@@ -46,6 +46,10 @@ mod load_configs;
 #[cfg(test)]
 mod minidumps;
 #[cfg(test)]
+mod pdb_bytes;
+#[cfg(test)]
+mod pdbs;
+#[cfg(test)]
 mod plans;
 #[cfg(test)]
 mod refusal_numbers;

@@ -613,6 +613,33 @@ fn a_scan_finds_the_call_of_the_function_first(rt: HostRuntime) -> Result<(), Fa
     expect_frames(&rt, alloc, (APP + 0x90, 0x1000), &words, &frames, ZERO)
 }
 
+/// Where several functions share such code, the call that leads nearest to the frame is that of its function: those that end at 0xB0,
+/// 0x5A and 0xB8 lead to 0x80, 0x84 and 0x90. Of two that lead to one function the first is taken.
+#[test]
+fn a_scan_finds_the_call_of_the_nearest_function(rt: HostRuntime) -> Result<(), Fail> {
+    let alloc = rt.alloc();
+    for (calls, index) in [
+        ([0xB0, 0x5A, 0xB8], 2),
+        ([0xB0, 0xB8, 0x5A], 1),
+        ([0xB8, 0x5A, 0xB0], 0),
+        ([0xB0, 0x5A, 0x5A], 1),
+        ([0x5A, 0xB0, 0x50], 0),
+    ] {
+        let mut words = [0; 10];
+        words[0] = 7;
+        for (word, call) in words[1..].iter_mut().zip(calls) {
+            *word = APP + call;
+        }
+        let rsp = 0x1010 + 8 * index as u64;
+        let frames = [
+            (APP + 0x90, 0x1000, Way::Top, false),
+            (APP + calls[index], rsp, Way::Scanned, true),
+        ];
+        expect_frames(&rt, alloc, (APP + 0x90, 0x1000), &words, &frames, ZERO)?;
+    }
+    Ok(())
+}
+
 /// Nor do the callers of a call in such a function have records: the stack is scanned from there too, up to a function that has some.
 #[test]
 fn a_scan_finds_the_callers_of_calls_without_records(rt: HostRuntime) -> Result<(), Fail> {
@@ -756,9 +783,8 @@ fn a_scan_reads_128_words(rt: HostRuntime) -> Result<(), Fail> {
     Ok(())
 }
 
-/// A leaf function was jumped to, so that it returns where no call is known: into a module whose image is not at hand, or with the
-/// image into data of it, or where no module is. From the first a scan leads on, here by a word that is past the scan before it, and
-/// without one the walk ends there.
+/// A leaf function returns where no call is known: into a module whose image is not at hand, before a scan, which leads on from there;
+/// or to the first byte of that, or with the image into data of it, or where no module is.
 #[test]
 fn a_leaf_function_returns_into_a_module_without_an_image(rt: HostRuntime) -> Result<(), Fail> {
     let alloc = rt.alloc();
@@ -779,9 +805,8 @@ fn a_leaf_function_returns_into_a_module_without_an_image(rt: HostRuntime) -> Re
     };
     let top = (APP + 0x90, 0x1000, Way::Top, false);
     let there = (LIB + 0x44, 0x1008, Way::Leaf, true);
-    let call = (APP + 0x50, 0x1408, Way::Scanned, true);
-    let mut on = [0; 135];
-    (on[0], on[128], on[133]) = (LIB + 0x44, APP + 0x50, 0xB0);
+    let call = (APP + 0x50, 0x1018, Way::Scanned, true);
+    let on = [LIB + 0x44, 7, APP + 0x50, 0, 0, 0, 0, 0xB0, 0];
     let modules = [app, unknown];
     expect_guesses(
         &rt,
@@ -799,7 +824,7 @@ fn a_leaf_function_returns_into_a_module_without_an_image(rt: HostRuntime) -> Re
         &[top, there, call],
         WalkEnd::Zero,
     )?;
-    for word in [LIB - 1, LIB + 0x100, APP + 0xC8] {
+    for word in [LIB, LIB + 0x101, APP + 0xC8] {
         expect_guesses(
             &rt,
             alloc,
@@ -809,10 +834,30 @@ fn a_leaf_function_returns_into_a_module_without_an_image(rt: HostRuntime) -> Re
             WalkEnd::NoReturnAddress,
         )?;
     }
-    // A wild jump into it: nothing speaks for a leaf function there.
-    let wild = (LIB + 0x44, 0x1000, Way::Top, false);
-    let words = [LIB + 0x48, 7];
-    expect_guesses(&rt, alloc, &[unknown], &words, &[wild], WalkEnd::NoModule)
+    // In it too, and in no module, after a wild jump or call; the call may be its last instruction.
+    for pc in [LIB + 0x44, 0] {
+        let wild = (pc, 0x1000, Way::Top, false);
+        let end = (LIB + 0x100, 0x1008, Way::Leaf, true);
+        let (words, frames) = ([LIB + 0x100, 7], [wild, end]);
+        expect_guesses(&rt, alloc, &[unknown], &words, &frames, WalkEnd::NoModule)?;
+    }
+    // No address of the first 64 KB is one of code.
+    let low = Module {
+        base: 0xFFF0,
+        ..unknown
+    };
+    let first = (0x1_0000, 0x1008, Way::Leaf, true);
+    let frames = [top, first];
+    expect_guesses(
+        &rt,
+        alloc,
+        &[low, app],
+        &[0x1_0000, 7],
+        &frames,
+        WalkEnd::NoModule,
+    )?;
+    let (end, frames) = (WalkEnd::NoReturnAddress, [top]);
+    expect_guesses(&rt, alloc, &[low, app], &[0xFFFF, 7], &frames, end)
 }
 
 /// The walk from the first of these frames, over words from address 0x1000 on, has these, all of them guesses but the first, and ends

@@ -1,7 +1,8 @@
-"""What the commands of this folder that compare with other readers share: finding files, running programs, reading the
-headers of an image and what llvm-readobj prints, and the rows and counts of `main`."""
+"""What the commands of this folder that compare with other readers share: finding files, running and building programs, reading
+the headers of an image and what llvm-readobj prints, and the rows of files and their counts."""
 
 import collections
+import contextlib
 import os
 import re
 import shutil
@@ -67,6 +68,11 @@ def images(places):
             print(f"{path}: {fault.strerror}", file=sys.stderr)
 
 
+def content(path):
+    with open(path, "rb") as file:
+        return file.read()
+
+
 def run(words):
     """Returns the status, standard output and standard error of a command, or None where it hangs."""
     try:
@@ -75,6 +81,18 @@ def run(words):
         return None
     text = done.stdout.decode("utf-8", "replace")
     return done.returncode, text, done.stderr.decode("utf-8", "replace")
+
+
+@contextlib.contextmanager
+def program_of(command, name, kept=None, *flags):
+    """The path of the program in Rattle of the folder NAME here, built by tools/build_damaged with flags: with checks at run time,
+    and not proved. It is the file that is to be kept, where it is built if it is not there yet, or one for this run."""
+    with tempfile.TemporaryDirectory() as folder:
+        program = os.path.abspath(kept or os.path.join(folder, name))
+        if not os.path.exists(program):
+            print(f"{command}: building {name}, which takes two minutes", file=sys.stderr)
+            subprocess.run([f"{HERE}/build_damaged", *flags, "--program", f"{HERE}/{name}", program], check=True)
+        yield program
 
 
 def built_lief(folder):
@@ -87,32 +105,6 @@ def built_lief(folder):
     return program if done and done[0] == 0 else None
 
 
-# Signatures.
-
-
-class Signer:
-    """A key and a certificate for one run, and the images that it signs."""
-
-    def __init__(self):
-        self.folder = tempfile.mkdtemp()
-        self.key, self.certificate = f"{self.folder}/key.pem", f"{self.folder}/certificate.pem"
-        subprocess.run(["openssl", "req", "-x509", "-newkey", "rsa:2048", "-nodes", "-keyout", self.key, "-out", self.certificate,
-                        "-days", "2", "-subj", "/CN=test"], check=True, stderr=subprocess.DEVNULL)
-
-    def signed(self, path):
-        """The path of a signed copy, or None and why there is none."""
-        out = f"{self.folder}/signed"
-        if os.path.exists(out):
-            os.remove(out)
-        done = run(["osslsigncode", "sign", "-h", "sha256", "-certs", self.certificate, "-key", self.key, "-in", path, "-out", out])
-        if done is None or done[0] != 0 or not os.path.exists(out):
-            return None, "hangs" if done is None else (done[1] + done[2]).strip().split("\n")[-1]
-        return out, None
-
-    def close(self):
-        shutil.rmtree(self.folder)
-
-
 # The headers of an image.
 
 
@@ -120,8 +112,7 @@ class Image:
     """The headers of an image, as far as the readers of these commands need them."""
 
     def __init__(self, path):
-        with open(path, "rb") as file:
-            self.bytes = file.read()
+        self.bytes = content(path)
         place = self.number("<I", 0x3C)
         if self.bytes[place:place + 4] != b"PE\0\0":
             raise Unread("PeMagic")
@@ -166,34 +157,6 @@ def as_loaded(path):
     start, size = image.directory(6)
     entries = [struct.unpack_from("<4I", data, at + 12) for at in range(start, start + size - 27, 28)]
     return None if any(length and not rva for _, length, rva, _ in entries) else data
-
-
-# What the program tools/show prints.
-
-
-def shown(program, path):
-    """The refusal in strict mode, or None, and the lines after it."""
-    answer = run([*program, path])
-    if answer is None or answer[0] != 0:
-        raise Difference("the program hangs" if answer is None else f"the program's status is {answer[0]}")
-    lines = answer[1].split("\n")[:-1]
-    strict = lines.pop(0)[7:] if lines and lines[0].startswith("strict ") else None
-    return strict, lines
-
-
-def shown_image(program, path):
-    """The refusal in strict mode, or None, the machine, and the lines after it."""
-    strict, lines = shown(program, path)
-    if not lines or not lines[0].startswith(("machine ", "refused ")):
-        raise Difference(f"the program prints {lines[:1]}")
-    if lines[0].startswith("refused "):
-        raise Refused(f"{strict}; permissive: {lines[0]}")
-    return strict, int(lines[0][8:], 16), lines[1:]
-
-
-def kinds_alone(lines):
-    """The lines with the kind alone of each refusal."""
-    return [re.sub(r"^refused (?:Malformed\()?(\w+).*", r"refused \1", line) for line in lines]
 
 
 # What llvm-readobj prints.
@@ -251,87 +214,24 @@ def value(members, name):
 
 # Rows.
 
-# A command that compares what tools/show shows of a file: the word for it, and a function from the program's words,
-# llvm-readobj and a file to a verdict, the rest of the row, and counts. `inputs` returns the files of the paths.
-Command = collections.namedtuple("Command", "what row_of inputs", defaults=(images,))
 
-
-def row_of_alike(verdict, strict, counts):
-    """The row of a file that is alike, with the refusal in strict mode, or None."""
-    said = ", ".join(f"{n} {name}" for name, n in counts.items())
-    return ("permissive", f"{strict}; {said}", counts) if strict else (verdict, said, counts)
-
-
-def row_of_nothing(strict, machine, name, without):
-    """The row of an image of which the program shows nothing, by a function that says why the reader of the command has
-    nothing either."""
-    return ("permissive", f"{strict}; no {name}: {without()}", {}) if strict else ("none", f"machine {machine:04x}", {})
-
-
-def row_of(command, program, readobj, path):
-    try:
-        return command.row_of([program, command.what], readobj, path)
-    except Refused as refusal:
-        return "refused", str(refusal), {}
-    except Difference as difference:
-        return "differs", str(difference), {}
-    except (Unread, struct.error) as refusal:
-        return "differs", f"the reader of this file refuses it: {refusal}", {}
-
-
-def compare_all(command, program, rows, places):
-    readobj, version = newest_readobj()
-    print(f"compare_{command.what}: with {f'llvm-readobj {version}' if readobj else 'no llvm-readobj'}", flush=True)
+def compare_all(row_of, paths, hidden=()):
+    """Prints a row of each file, a verdict and what is said, and then how many have each verdict, and the sums of all counts. The
+    function returns the three, or raises Refused or Difference. Rows of the verdicts that are hidden are not printed. Returns the
+    status of a command."""
     verdicts, total = collections.Counter(), collections.Counter()
-    for path in command.inputs(places):
-        verdict, rest, counts = row_of(command, program, readobj, path)
+    for path in paths:
+        try:
+            verdict, said, counts = row_of(path)
+        except Refused as why:
+            verdict, said, counts = "refused", str(why), {}
+        except Difference as why:
+            verdict, said, counts = "differs", str(why), {}
         verdicts[verdict] += 1
         total.update(counts)
-        if rows == "all" or verdict not in ("ok", "none"):
-            print(f"{verdict:10} {path}: {rest}", flush=True)
+        if verdict not in hidden:
+            print(f"{verdict:10} {path}: {said}".rstrip(": "), flush=True)
     print(f"{sum(verdicts.values())} files: " + ", ".join(f"{n} {name}" for name, n in verdicts.items()))
-    print(", ".join(f"{n:,} {name}" for name, n in total.items()))
+    if total:
+        print(", ".join(f"{n:,} {name}" for name, n in total.items()))
     return 1 if verdicts["differs"] else 0
-
-
-def asked(words):
-    """The program's path, the rows that are shown, and the paths to look in, or None where the arguments are wrong."""
-    program, rows, places = None, "all", []
-    while words:
-        word = words.pop(0)
-        if word == "--show" and words:
-            program = words.pop(0)
-        elif word == "--rows" and words and words[0] in ("all", "notable"):
-            rows = words.pop(0)
-        elif word.startswith("--"):
-            return None
-        else:
-            places.append(word)
-    return (program, rows, places) if places else None
-
-
-def build_show(program, *flags):
-    """Builds tools/show into a file."""
-    words = [os.path.join(HERE, "build_damaged"), *flags, "--program", os.path.join(HERE, "show"), program]
-    subprocess.run(words, check=True)
-
-
-def main(command, words):
-    name = f"compare_{command.what}"
-    ask = asked(words)
-    if ask is None:
-        print(f"usage: tools/{name} [--show PROGRAM] [--rows all|notable] FILE_OR_FOLDER ...", file=sys.stderr)
-        return 2
-    program, rows, places = ask
-    if not all_there(name, places):
-        return 2
-    with tempfile.TemporaryDirectory() as folder:
-        program = os.path.abspath(program or os.path.join(folder, "show"))
-        if not os.path.exists(program):
-            print(f"{name}: building the program, which takes a minute", file=sys.stderr)
-            try:
-                build_show(program)
-            except subprocess.CalledProcessError:
-                print(f"{name}: the program can't be built", file=sys.stderr)
-                return 2
-        return compare_all(command, program, rows, places)

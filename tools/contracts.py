@@ -30,6 +30,9 @@ compared. What is compared is read off the clauses, which have to be of these fo
 
 A clause of another form fixes nothing here. All of the result and of each written argument has to be fixed: the whole, or each
 field of a tuple or a struct.
+
+Where all of these clauses are equations there is nothing to prove: what equals the same is equal. So a check proves those with a
+predicate alone, and of the others a sample. Methods of traits have no such function beside them; of these only equations count.
 """
 
 import collections
@@ -55,6 +58,8 @@ ELIDED = re.compile(r"&(?!')|'_\b")
 BORROWS = re.compile(r"'(?!static)|(?<=.)&(?!'static)")
 STRUCT = re.compile(r"\bstruct (\w+)(?:<[^{(;]*?>)?\s*\{(.*?)^\}", re.S | re.M)
 CONDITIONAL = re.compile(r"→|↔")
+# What the sides of an equation consist of: terms, and none of the words that join statements.
+TERM = re.compile(r'[\w\s.,;:(){}\[\]"\\λ≡∷+*/%^=<>&|-]*')
 LAMBDA = re.compile(r"\([^()]*λ(?:[^()]|\([^()]*\))*\)")
 PROJECTION = re.compile(r"(?:\.(?:now|items|entry))+\Z")
 USE = re.compile(r"^([ \t]*)ghost use ([\w.«»]+)\.\{([^}]*)\}", re.M)
@@ -80,8 +85,9 @@ But unless (Err e) P = unless e P
 Clause = collections.namedtuple("Clause", "kind name text")
 # What a clause fixes: an expression, of which targets, and the predicate by which an error is left out of it, or ''.
 Fixed = collections.namedtuple("Fixed", "text targets unless")
-# A function that shows that another one's contract has one answer: its path, that of the other, its text, the words in its clauses.
-Shown = collections.namedtuple("Shown", "path of text words")
+# A function that shows that another one's contract has one answer: its path, that of the other, its text, the words in its clauses,
+# and whether equations show it by their form.
+Shown = collections.namedtuple("Shown", "path of text words is_plain")
 
 
 @functools.cache
@@ -146,6 +152,11 @@ def clauses_of(head):
             at += 1
         found.append(Clause(it[1], it[3] or "", " ".join(head[it.end():at - 1].split())))
     return found
+
+
+def is_equation(clause):
+    """Whether a clause is one equation of terms."""
+    return len(split_outside(clause, " ≡ ")) == 2 and bool(TERM.fullmatch(re.sub(r"\{[^{}]*\}", "", clause)))
 
 
 def words_of(text):
@@ -255,6 +266,10 @@ class Contract:
         alone = sorted(it for it in named if it in self.beside and not self.beside[it] <= named)
         return f"{alone[0]} leaves what {', '.join(self.beside[alone[0]])} has" if alone else ""
 
+    def is_plain(self):
+        """Whether all that fixes something is an equation."""
+        return all(is_equation(it) for it in self.fixing)
+
     @staticmethod
     def fields(text, target):
         """The field of a target that an expression shows, '' for the whole, or none where it mixes several."""
@@ -284,7 +299,7 @@ class Contract:
         if self.function.type:
             text = re.sub(r"\n(?=.)", "\n    ", text)
         words = {"◌≡◌", *re.findall(r"[A-Za-z_]\w*", " ".join([*compared, *clauses]))}
-        return Shown(f"{self.path}_again", self.path, text, words)
+        return Shown(f"{self.path}_again", self.path, text, words, self.is_plain())
 
     def impl(self):
         """What stands in brackets after `impl` and after the type of the impl around the function."""
@@ -385,8 +400,10 @@ class Contracts:
         self.places.update({it: f"Rattle.{crate.name}.specs.{SPECS}" for it in ("seen", "But")})
         self.places["◌≡◌"] = "Rattle.std.specs.Prelude"
         table, known = read_table(), (views_known([*below, crate], self.places), views_beside())
-        self.all = {path: Contract(crate, path, table, known) for path, it in sorted(crate.functions.items())
-                    if not (path.startswith("laws") or it.trait)}
+        known = {path: Contract(crate, path, table, known) for path in sorted(crate.functions) if not path.startswith("laws")}
+        self.all = {path: it for path, it in known.items() if not it.function.trait}
+        # Methods of traits whose own clauses, beside those of the trait, are equations that fix all.
+        self.of_traits = {path: it for path, it in known.items() if it.function.trait and it.fixed and it.is_plain() and not it.missing()}
 
         root = re.sub(r"//[^\n]*", "", crate.texts.get("src/lib.rt", ""))
         self.exported = {name for it in EXPORT.finditer(root) for name in re.findall(r"\w+", it[1] or it[2])}

@@ -91,6 +91,39 @@ def on_one_line(comment):
     return " ".join(plain(comment).split())
 
 
+# The list of all calls near the top, and a title of a section or something that is called, with the comment above it.
+CALL_LIST = re.compile(r"^/\* All calls, .*?\*/$", re.M | re.S)
+LISTED = re.compile(rf"^/\* ---- (?P<title>.*?)(?: \*/)?$|^{ABOUT}^(?:static inline )?(?:const )?\w+ \*?(?P<name>pe_c_\w+)\(", re.M | re.S)
+WIDTH = 127
+
+
+def listed_calls(whole):
+    """The list of all calls: by the sections of the header, of each its name and the start of its comment."""
+    lines, head = ["/* All calls, in the order of this header, each with the start of its comment. tools/check_docs --map writes the list."], ""
+    rest = CALL_LIST.sub("", whole)
+    found = [(it["title"] or "", it["name"], first_sentence(it[0])) for it in LISTED.finditer(rest)
+             if not (it["name"] or "").startswith("pe_c_abi_")]
+    wide = max(len(name) for _, name, _ in found if name)
+    for title, name, said in found:
+        if title:
+            head = title
+            continue
+        if head:
+            lines.append(f" * {head}")
+            head = ""
+        room = WIDTH - wide - 6
+        said = said or "as the call above"
+        short = said if len(said) <= room else said[:room - 3].rsplit(" ", 1)[0].rstrip(",;:") + " .."
+        lines.append(f" *   {name:<{wide}} {short}")
+    return "\n".join([*lines, " */"])
+
+
+def first_sentence(text):
+    """The first sentence of the comment that a text starts with, or ""."""
+    comment = re.match(r"/\*(.*?)\*/", text, re.S)
+    return re.split(r"(?<=[a-z0-9_)])[.:](?=\s|$)", on_one_line(comment[1]))[0] if comment else ""
+
+
 class Header:
     """The header, read."""
 

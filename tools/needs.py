@@ -15,10 +15,14 @@ import time
 # The first package that a system has, with this version or a later one, is taken. Debian 12 has a cargo of 2022 and its cargo-web,
 # Ubuntu 24.04 one of 2024 and later ones by their versions.
 CARGO, RUSTC = ((name, f"{name}-web", *(f"{name}-1.{it}" for it in (89, 85, 82, 81))) for name in ("cargo", "rustc"))
-RUST = {"cargo 1.81": CARGO, "rustc 1.81": RUSTC, "cc": "gcc", "libc.a of cc": "libc6-dev"}
+# The feature serde of the cargo crate: cargo looks for what it depends on also without it.
+SERDE = {"crate serde-1": "librust-serde-dev", "crate serde_derive-1": "librust-serde-derive-dev",
+         "crate serde_json-1": "librust-serde-json-dev"}
+RUST = {"cargo 1.81": CARGO, "rustc 1.81": RUSTC, "cc": "gcc", "libc.a of cc": "libc6-dev", **SERDE}
 CRATES = {"crate clap-4": "librust-clap-dev", "crate clap_complete-4": "librust-clap-complete-dev", "crate chrono-0.4": "librust-chrono-dev",
-          "crate csv-1": "librust-csv-dev", "crate indicatif-0.17": "librust-indicatif-dev", "crate libc-0.2": "librust-libc-dev",
-          "crate md-": "librust-md-5-dev", "crate rayon-1": "librust-rayon-dev", "crate serde_json-1": "librust-serde-json-dev",
+          "crate csv-1": "librust-csv-dev", "crate cpp_demangle-0.4": "librust-cpp-demangle-dev",
+          "crate rustc-demangle-0.1": "librust-rustc-demangle-dev", "crate indicatif-0.17": "librust-indicatif-dev",
+          "crate libc-0.2": "librust-libc-dev", "crate md-": "librust-md-5-dev", "crate rayon-1": "librust-rayon-dev",
           "crate sha1-": "librust-sha1-dev", "crate sha2-": "librust-sha2-dev",
           "crate openssl-0.10": "librust-openssl-dev", "libcrypto.a of cc": "libssl-dev", "pkg-config": "pkg-config"}
 MINGW = "x86_64-w64-mingw32"

@@ -26,7 +26,7 @@ import header_files
 from header import TOP, Header
 from limits import SECONDS, Failed, limited
 from needs import GROUPS, MINGW, missing
-from retarget import Compiler, Unlike, compiled, edited
+from retarget import Compiler, compiled, edited
 
 BINDINGS = os.path.join(TOP, "bindings")
 SOURCES = os.path.join(BINDINGS, "targets")

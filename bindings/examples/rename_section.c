@@ -43,8 +43,9 @@ int main(int argc, char **argv)
     memset(section->name, 0, SIZE_OF_NAME);
     memcpy(section->name, argv[3], strlen(argv[3]));
     pe_c_view view = {file, length, &image, sections, image.number_of_sections, NULL, 0};
-    result = pe_c_whole_length(&view, &needed);
-    if (result == PE_C_DONE)
+    /* Without room the call says how long the file is. */
+    result = pe_c_write_whole(&view, NULL, 0, &needed);
+    if (result == PE_C_ROOM)
         result = pe_c_write_whole(&view, written, sizeof written, &end);
     return result == PE_C_DONE ? write_file(argv[4], written, (size_t)needed) : status_of(result);
 }

@@ -25,6 +25,9 @@ class Room {
   }
 }
 
+/** Room for so many records or numbers that a call needs for itself. */
+export const placeFor = (count) => new Room(Number(count));
+
 // How many items the first call of a list takes, and how many times as many the next one, up to most of these bytes: each may
 // read a text that is as long as the file, so calls stay few, and their room is of the file's size.
 const FIRST = 16, MORE = 8, MOST = 1 << 16, BYTES_AN_ITEM = 64;
@@ -86,7 +89,10 @@ export class Caller {
     try {
       isDone = memory.isDone(name, result);
     } catch (error) {
-      throw error instanceof PeError ? Object.assign(error, refusal) : error;
+      if (!(error instanceof PeError)) throw error;
+      // How long the room has to be, where the call says it.
+      if (error.number === constants.PE_C_ROOM) filled.forEach((read) => read());
+      throw Object.assign(error, refusal, made.written > 0n && { written: made.written });
     }
     if (!isDone && !Object.values(counted).some((it) => it > 0n)) return null;
     filled.forEach((read) => read());
@@ -96,7 +102,7 @@ export class Caller {
   }
 
   #array(filled, [own, type, way], given) {
-    const values = given[own] ?? [], memory = this.#memory, size = width(type);
+    const values = given[own] ?? (type === 'uint8_t' ? new Uint8Array() : []), memory = this.#memory, size = width(type);
     const at = memory.reserve(values.length * size);
     if (values instanceof Room) values.at = at;
     else if (type === 'uint8_t') new Uint8Array(memory.exports.memory.buffer, at, values.length).set(values);
@@ -186,6 +192,20 @@ function bytesOf(given) {
 export function placed(memory, given) {
   const bytes = bytesOf(given);
   return { bytes: BigInt(memory.put(bytes)), length: BigInt(bytes.length) };
+}
+
+/** A file that a call writes, which says how long it is where it has no room. */
+export function written(caller, call, given) {
+  let length;
+  try {
+    return caller.call(call, given) && new Uint8Array(0);
+  } catch (error) {
+    if (error.number !== constants.PE_C_ROOM) throw error;
+    length = error.written;
+  }
+  const room = new Uint8Array(Number(length));
+  caller.call(call, { ...given, room });
+  return room;
 }
 
 /** The entry of a table of lists by its name. */

@@ -10,7 +10,7 @@ import { signerOf } from './signatures.mjs';
 
 const utf8 = new TextDecoder('utf-8', { ignoreBOM: true }), strict = new TextDecoder('utf-8', { fatal: true });
 const CODE_AND_WRITABLE = 0xA0000000, PERMISSIONS = [[0x40000000, 'r'], [0x80000000, 'w'], [0x20000000, 'x']];
-const X86 = 0x14C, X64 = 0x8664, PE32 = 0x10B, EMBEDDED_PDB = 17, PDB_CHECKSUM = 19;
+const X86 = 0x14C, X64 = 0x8664, PE32 = 0x10B, REPRO = 16, EMBEDDED_PDB = 17, PDB_CHECKSUM = 19, EXTENDED = 20;
 // What is shown in all is bounded by the file's length times this; each item counts as so many bytes.
 const READINGS = 16, ITEM = 8, LONG_NAMES = 96, LEAVES = 65536, TABLES = 4096;
 
@@ -97,7 +97,7 @@ const attempt = (read) => {
 // ---- headers, hardening, sections
 
 function headers(image, fileName) {
-  const { info } = image, isReproducible = Boolean(attempt(() => image.call('pe_c_debug_repro')));
+  const { info } = image, isReproducible = isHashed(image);
   const isMapped = (info.mode & constants.PE_C_MAPPED) !== 0;
   const right = isMapped ? null : attempt(() => image.call('pe_c_checksum'))?.value ?? null;
   return {
@@ -164,7 +164,7 @@ function directory({ virtual_address: start, size }, index) {
 function hardening(image) {
   const { info } = image, has = (flag) => (info.dll_characteristics & flag) !== 0;
   const config = attempt(() => image.call('pe_c_load_config'));
-  const extended = attempt(() => image.call('pe_c_debug_characteristics')) ?? 0;
+  const extended = attempt(() => recordOf(image, EXTENDED, 'pe_c_characteristics_of')) ?? 0;
   const aslr = has(0x40) && (info.characteristics & 1) === 0;
   return {
     aslr,
@@ -287,8 +287,11 @@ function recordOf(image, type, call) {
   return entry && image.call(call, { mode: image.info.mode, entry });
 }
 
+/** Whether time stamps are a hash, which a Repro record says. */
+const isHashed = (image) => Boolean(attempt(() => recordOf(image, REPRO, 'pe_c_repro_of')));
+
 function debug(image) {
-  const isHash = Boolean(attempt(() => image.call('pe_c_debug_repro')));
+  const isHash = isHashed(image);
   const entry = (it) => ({ type: named(it.data_type, names.DEBUG_TYPES), size: it.size_of_data, rva: it.address_of_raw_data,
     file_offset: it.pointer_to_raw_data, ...time(it.time_date_stamp, isHash) });
   return {
@@ -301,11 +304,11 @@ function debug(image) {
         key: `${all}${key.age.toString(16).toUpperCase()}` };
     }),
     ...part('repro', () => {
-      const record = image.call('pe_c_debug_repro');
+      const record = recordOf(image, REPRO, 'pe_c_repro_of');
       return record && { hash_hex: record.has_hash ? hex(image.slice(record.hash)) : null };
     }),
     ...part('extended_dll_characteristics', () => {
-      const value = image.call('pe_c_debug_characteristics');
+      const value = recordOf(image, EXTENDED, 'pe_c_characteristics_of');
       return value === null ? null : flags(value, names.EXTENDED_DLL_CHARACTERISTICS);
     }),
     ...part('embedded_pdb', () => {

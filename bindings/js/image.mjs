@@ -1,5 +1,5 @@
 // An image: its headers and sections, all calls of pe.h over it, and its lists as iterators.
-import { File, listOf, memoryOf, ownOf, placed } from './calls.mjs';
+import { File, listOf, memoryOf, ownOf, placed, placeFor, written } from './calls.mjs';
 import { constants } from './layouts.mjs';
 import { width } from './memory.mjs';
 import { delayImportsOf, digestOf, exportsOf, importsOf, manifestOf, signaturesOf, versionsOf } from './parts.mjs';
@@ -7,15 +7,17 @@ import { recordsOf, resourcesOf } from './resources.mjs';
 import { symbolsOf } from './symbols.mjs';
 
 const ARM64 = 0xAA64;
+// What names an address, by its number in pe_c_function_name.
+const SOURCES = [null, 'symbol', 'export'];
 
 // The lists of an image: the call that starts each, the one that returns its next item or many, and for calls that read names
 // together how many runs they take for each. The walk over exports skips names that are no text, so that it is cut in place of
 // its end.
 const LISTS = {
   debugEntries: ['pe_c_debug_entries', 'pe_c_next_debug_entry'],
-  exports: ['pe_c_export_tables', 'pe_c_list_exports_together', { runs: 2, cut: nextNames }],
-  libraries: ['pe_c_import_libraries', 'pe_c_list_libraries_together', { runs: 2 }],
-  delayImports: ['pe_c_delay_imports', 'pe_c_list_delay_imports_together', { runs: 1 }],
+  exports: ['pe_c_export_tables', 'pe_c_list_exports', { runs: 2, cut: nextNames }],
+  libraries: ['pe_c_import_libraries', 'pe_c_list_libraries', { runs: 2 }],
+  delayImports: ['pe_c_delay_imports', 'pe_c_list_delay_imports', { runs: 1 }],
   versionBlocks: ['pe_c_version_blocks', 'pe_c_next_version_block'],
   resourceLeaves: ['pe_c_resource_leaves', 'pe_c_list_resource_leaves', {}],
   relocationBlocks: ['pe_c_relocation_blocks', 'pe_c_list_relocation_blocks', {}],
@@ -28,7 +30,7 @@ function nextNames({ names: { offset, length }, ...walk }, count) {
 }
 
 /** The exports that have a name, from where a walk over them is. */
-export const namedExports = (image, walk) => image.many('pe_c_list_exports_together', walk, LISTS.exports[2]);
+export const namedExports = (image, walk) => image.many('pe_c_list_exports', walk, LISTS.exports[2]);
 
 /** A walk of its own, for a list that starts anew each time. */
 const copied = (walk) => structuredClone(walk);
@@ -130,7 +132,7 @@ export class Image extends File {
   /** All libraries with what is imported of each, as values; or the imports of one library, as records. */
   imports(library) {
     if (!library) return importsOf(this);
-    return this.many('pe_c_list_imports_together', copied(library.imports), { runs: 1 });
+    return this.many('pe_c_list_imports', copied(library.imports), { runs: 1 });
   }
 
   /** Whether the RVA of a library's list is unmapped, so that `imports` has nothing. A list at the file offset 0 is not empty: the DOS
@@ -155,13 +157,13 @@ export class Image extends File {
 
   /** The functions of a DLL that is loaded when it is needed. */
   delayedFunctions(delayImport) {
-    return this.many('pe_c_list_delayed_functions_together', copied(delayImport.functions), { runs: 1 });
+    return this.many('pe_c_list_delayed_functions', copied(delayImport.functions), { runs: 1 });
   }
 
   /** All exports by their index, with those that have no name. */
   *exportAddresses() {
     const table = this.call('pe_c_export_addresses');
-    if (table) yield* this.indexed('pe_c_list_export_addresses_together', { table }, 1);
+    if (table) yield* this.indexed('pe_c_list_export_addresses', { table }, 1);
   }
 
   /** The bound imports, each with its forwarders. */
@@ -205,6 +207,16 @@ export class Image extends File {
     if (table) yield* this.indexed(isArm64 ? 'pe_c_list_arm64_functions' : 'pe_c_list_functions', { table });
   }
 
+  /** What names each of these addresses without a PDB: RVAs, which return addresses are where `isReturn`. It is the last COFF symbol within
+   * its function, else the export that starts it, or in an image without a function table the nearest of either; else null. */
+  functionNames(addresses) {
+    const asked = addresses.map(({ rva, isReturn = false }) => ({ rva, is_return: Number(isReturn) }));
+    const sources = this.call('pe_c_name_tables'), names = asked.map(() => ({}));
+    this.call('pe_c_function_names', { sources, addresses: asked, room: placeFor(sources.room), names });
+    return names.map(({ name, start, offset, source, is_nearest: isNearest }) => source === 0 ? null : {
+      name: name.length > 0n ? this.utf8(name) : null, start, offset, source: SOURCES[source], isNearest: isNearest === 1 });
+  }
+
   /** The unwind records of an x64 function, up to the root of its chain. */
   *records(found) {
     const table = this.call('pe_c_function_table'), plan = this.call('pe_c_plan_from', { unwind: found.unwind });
@@ -230,21 +242,14 @@ export class Image extends File {
 
   // ---- what is written: a new file each, and the image stays
 
-  /** A file that a call writes, after a call that says how long it is. */
-  #written(lengthCall, call, given) {
-    const room = new Uint8Array(Number(this.call(lengthCall, given)));
-    this.call(call, { ...given, room });
-    return room;
-  }
-
   /** The file with a certificate, or several: entries of a certificate table. */
   attach(certificate, { placement = constants.PE_C_AFTER } = {}) {
-    return this.#written('pe_c_attached_length', 'pe_c_attach', { certificate, placement });
+    return written(this, 'pe_c_attach', { certificate, placement });
   }
 
   /** The file without its certificates. */
   detach() {
-    return this.#written('pe_c_detached_length', 'pe_c_detach', {});
+    return written(this, 'pe_c_detach', {});
   }
 
   /** All resources in each language, as `edit` takes them. */
@@ -254,6 +259,6 @@ export class Image extends File {
 
   /** The file with these resources, in any order, in place of those that it has. */
   edit(resources) {
-    return this.#written('pe_c_edited_length', 'pe_c_edit', recordsOf(resources));
+    return written(this, 'pe_c_edit', recordsOf(resources));
   }
 }

@@ -1,5 +1,5 @@
 // Resources as values, and version information as bytes: what is written in place of that which an image has.
-import { memoryOf } from './calls.mjs';
+import { memoryOf, written } from './calls.mjs';
 import { constants } from './layouts.mjs';
 import { whole } from './memory.mjs';
 
@@ -101,10 +101,8 @@ export function blockOf(caller, { key, text = '', value, children = [] }) {
     children: joined(children.map((it) => blockOf(caller, it))),
   };
   // A reader takes a text up to its first zero.
-  if (text.includes('\0')) throw memoryOf(caller).error('pe_c_block_length', constants.PE_C_BLOCK_TEXT);
-  const room = new Uint8Array(Number(caller.call('pe_c_block_length', given)));
-  caller.call('pe_c_write_block', { ...given, room });
-  return room;
+  if (text.includes('\0')) throw memoryOf(caller).error('pe_c_write_block', constants.PE_C_BLOCK_TEXT);
+  return written(caller, 'pe_c_write_block', given);
 }
 
 /** Version information of one language, as bytes. */
@@ -113,7 +111,7 @@ export function versionOf(caller, { fileVersion = [0, 0, 0, 0], productVersion =
   const [file, product] = [fileVersion, productVersion].map(([a, b, c, d]) => [double(a, b), double(c, d)]);
   const rows = Object.entries(strings).map(([key, text]) => ({ name: units(key), text: units(text ? `${text}\0` : '') }));
   // A reader takes a text up to its first zero.
-  if (Object.values(strings).some((it) => it.includes('\0'))) throw memoryOf(caller).error('pe_c_version_length', constants.PE_C_BLOCK_TEXT);
+  if (Object.values(strings).some((it) => it.includes('\0'))) throw memoryOf(caller).error('pe_c_write_version', constants.PE_C_BLOCK_TEXT);
   const { parts, range } = ranges(), pair = { language: word(language), code_page: UNICODE };
   const given = {
     fixed: {
@@ -123,7 +121,5 @@ export function versionOf(caller, { fileVersion = [0, 0, 0, 0], productVersion =
     tables: [{ first: 0, count: rows.length, language: pair }], translations: [pair],
     strings: rows.map((it) => ({ name: range(it.name), text: range(it.text) })), texts: joined(parts),
   };
-  const room = new Uint8Array(Number(caller.call('pe_c_version_length', given)));
-  caller.call('pe_c_write_version', { ...given, room });
-  return room;
+  return written(caller, 'pe_c_write_version', given);
 }

@@ -249,15 +249,18 @@ test('a walk is over after an error', () => {
 
 test('certificates are attached, listed and detached', () => {
   const image = opened('debug'), certificate = Uint8Array.of(16, 0, 0, 0, 0, 2, 2, 0, 1, 2, 3, 4, 5, 6, 7, 8);
-  const length = image.call('pe_c_attached_length', { certificate, placement: constants.PE_C_AFTER });
-  const short = { certificate, placement: 0, room: new Uint8Array(9) };
-  assert.equal(refused(() => image.call('pe_c_attach', short)).constant, 'PE_C_WRITE_FIT');
+  const needed = (call, given) => {
+    const { constant, written } = refused(() => image.call(call, given));
+    assert.equal(constant, 'PE_C_ROOM');
+    return written;
+  };
+  const length = needed('pe_c_attach', { certificate, placement: constants.PE_C_AFTER });
+  assert.equal(needed('pe_c_attach', { certificate, placement: 0, room: new Uint8Array(9) }), length);
   const room = new Uint8Array(Number(length));
   assert.equal(image.call('pe_c_attach', { certificate, placement: constants.PE_C_AFTER, room }), length);
   const attached = library.open(room), listed = [...attached.certificates()];
   assert.deepEqual(listed.map((it) => [it.length, it.type, [...attached.slice(it.body)]]), [[16, 2, [1, 2, 3, 4, 5, 6, 7, 8]]]);
-  const bare = new Uint8Array(Number(attached.call('pe_c_detached_length')));
-  attached.call('pe_c_detach', { room: bare });
+  const bare = attached.detach();
   const { value, offset } = image.call('pe_c_checksum'), whole = Uint8Array.from(file('debug'));
   new DataView(whole.buffer).setUint32(Number(offset), value, true);
   assert.deepEqual(bare, whole);
@@ -276,16 +279,17 @@ test('sections are written', () => {
 });
 
 test('images are written', () => {
-  const bytes = file('debug'), image = library.open(bytes), length = image.call('pe_c_whole_length');
+  const bytes = file('debug'), image = library.open(bytes);
+  const needed = (call) => refused(() => image.call(call)).written, length = needed('pe_c_write_whole');
   const room = new Uint8Array(Number(length));
   assert.equal(image.call('pe_c_write_whole', { room }), length);
   assert.deepEqual(room, Uint8Array.from(bytes));
-  const part = new Uint8Array(Number(image.call('pe_c_image_length')));
+  const part = new Uint8Array(Number(needed('pe_c_write_image')));
   image.call('pe_c_write_image', { room: part });
   const { sections_offset: offset, number_of_sections: count } = image.info, headers = Number(offset) + 40 * count;
   assert.deepEqual(part.subarray(0, headers), room.subarray(0, headers));
   assert.ok(part.subarray(headers, 0x200).every((it) => it === 0));
-  assert.equal(refused(() => image.call('pe_c_write_whole', { room: room.subarray(1) })).constant, 'PE_C_WRITE_FIT');
+  assert.equal(refused(() => image.call('pe_c_write_whole', { room: room.subarray(1) })).constant, 'PE_C_ROOM');
   assert.equal(image.call('pe_c_write_certificates', { room: part }), 0n);
 });
 
@@ -714,10 +718,9 @@ function follow(image, list, item) {
 }
 
 function others(image) {
-  for (const name of ['overlay', 'symbol_key', 'debug_pdb20', 'debug_vc_features', 'debug_characteristics', 'debug_repro',
-    'fixed_version', 'manifest', 'load_config']) attempt(() => image.call(`pe_c_${name}`));
-  const pogo = attempt(() => image.call('pe_c_debug_pogo'));
-  if (pogo) [...image.items('pe_c_next_pogo_entry', pogo.entries)];
+  for (const name of ['overlay', 'symbol_key', 'fixed_version', 'manifest', 'load_config']) attempt(() => image.call(`pe_c_${name}`));
+  const { pogo, pogo_result: result } = image.call('pe_c_debug_data');
+  if (result === constants.PE_C_DONE) [...image.items('pe_c_next_pogo_entry', pogo.entries)];
   for (let name = 0; name < 12; name++) attempt(() => image.call('pe_c_version_text', { name }));
   const table = attempt(() => image.call('pe_c_string_table'));
   if (table) for (const section of image.sections) attempt(() => image.call('pe_c_long_section_name', { table, section }));
@@ -747,35 +750,34 @@ test('a list in one call has what its walk has, and starts where that is', () =>
   }
   const image = opened('imports'), [dll] = image.list('libraries');
   const delayed = opened('delay_imports'), [late] = delayed.list('delayImports');
-  assert.deepEqual(listed(image, 'pe_c_list_imports', { walk: structuredClone(dll.imports) }), [...image.imports(dll)]);
-  assert.deepEqual(listed(delayed, 'pe_c_list_delayed_functions', { walk: structuredClone(late.functions) }),
-    [...delayed.delayedFunctions(late)]);
-  const read = (call, walk) => listed(delayed, `pe_c_list_${call}_together`, { walk, runs: [{}, {}] });
-  assert.deepEqual(read('delayed_functions', structuredClone(late.functions)), [...delayed.delayedFunctions(late)]);
+  const read = (call, walk, runs = [{}, {}]) => listed(delayed, `pe_c_list_${call}`, { walk, runs });
+  for (const runs of [[], [{}, {}]]) {
+    assert.deepEqual(listed(image, 'pe_c_list_imports', { walk: structuredClone(dll.imports), runs }), [...image.imports(dll)]);
+    assert.deepEqual(read('delayed_functions', structuredClone(late.functions), runs), [...delayed.delayedFunctions(late)]);
+  }
   assert.deepEqual(read('delay_imports', delayed.call('pe_c_delay_imports')), [...delayed.list('delayImports')]);
   const later = read('all_delayed_functions', delayed.call('pe_c_all_delayed_functions'));
   assert.deepEqual(later.map((it) => [delayed.utf8(it.library_name), it.library, it.function.has_name ? delayed.utf8(it.function.name) : null,
     it.function.ordinal]), [['dbghelp.dll', 0n, 'SymInitialize', 0x121], ['dbghelp.dll', 0n, null, 7],
     ['VERSION.dll', 1n, 'VerQueryValueW', 0]]);
   assert.deepEqual(later[0].function, [...delayed.delayedFunctions(late)][0]);
-  const together = (call, walk) => listed(image, `pe_c_list_${call}_together`, { walk, runs: [{}, {}] });
-  assert.deepEqual(together('libraries', image.call('pe_c_import_libraries')), [...image.list('libraries')]);
-  assert.deepEqual(together('imports', structuredClone(dll.imports)), [...image.imports(dll)]);
-  const all = listed(image, 'pe_c_list_all_imports_together', { walk: image.call('pe_c_all_imports'), runs: [{}, {}, {}] });
+  assert.deepEqual(listed(image, 'pe_c_list_libraries', { walk: image.call('pe_c_import_libraries'), runs: [{}, {}] }),
+    [...image.list('libraries')]);
+  const all = listed(image, 'pe_c_list_all_imports', { walk: image.call('pe_c_all_imports'), runs: [{}, {}, {}] });
   assert.deepEqual(all.map((it) => [image.utf8(it.library_name), it.library, it.import.has_name ? image.utf8(it.import.name) : null,
     it.import.ordinal]), [['KERNEL32.dll', 0n, 'Sleep', 42], ['KERNEL32.dll', 0n, null, 17], ['a.dll', 1n, 'f', 0]]);
   assert.deepEqual(all[0].import, [...image.imports(dll)][0]);
   assert.equal(image.call('pe_c_offset', { rva: all[0].hint_rva }) + 2n, all[0].import.name.offset);
   assert.equal(all[1].hint_rva, 0);
   const names = opened('exports'), tables = names.call('pe_c_export_tables');
-  assert.deepEqual(listed(names, 'pe_c_list_exports_together', { walk: tables, runs: [{}] }), [...names.list('exports')]);
+  assert.deepEqual(listed(names, 'pe_c_list_exports', { walk: tables, runs: [{}] }), [...names.list('exports')]);
   const moved = opened('relocations'), [block] = moved.list('relocationBlocks');
   assert.deepEqual(listed(moved, 'pe_c_list_relocations', { page_rva: block.page_rva, walk: { ...block.entries } }),
     [...moved.relocations(block)]);
   const exported = opened('exports'), table = exported.call('pe_c_export_addresses');
-  assert.deepEqual(listed(exported, 'pe_c_list_export_addresses', { table, next: 0n }), [...exported.exportAddresses()]);
-  assert.deepEqual(listed(exported, 'pe_c_list_export_addresses_together', { table, next: 0n, runs: [{}, {}] }),
-    [...exported.exportAddresses()]);
+  for (const runs of [[], [{}, {}]]) {
+    assert.deepEqual(listed(exported, 'pe_c_list_export_addresses', { table, next: 0n, runs }), [...exported.exportAddresses()]);
+  }
   const bound = opened('bound_imports'), range = bound.call('pe_c_bound_imports');
   const dlls = [...bound.items('pe_c_next_bound_import', { ...range }, { table: range })];
   assert.deepEqual(listed(bound, 'pe_c_list_bound_imports', { table: range, walk: { ...range }, runs: [{}] }), dlls);
@@ -787,7 +789,7 @@ test('a list in one call has what its walk has, and starts where that is', () =>
   // the names of parts of code, in an image made by hand
   const entry = [0, 0, 0, 13, 16, 0x1020, 0x420], record = [0x4C544347, 0x1000, 0x10, 97];
   const it = library.open(madeImage(words32([...entry, 0, ...record]), [[6, 0x1000, 28]]));
-  const parts = it.call('pe_c_debug_pogo').entries;
+  const parts = it.call('pe_c_debug_data').pogo.entries;
   const named = [...it.items('pe_c_next_pogo_entry', { ...parts })];
   assert.deepEqual(named.map((part) => [part.rva, part.size, it.utf8(part.name)]), [[0x1000, 0x10, 'a\0']]);
   assert.deepEqual(listed(it, 'pe_c_list_pogo_entries', { walk: { ...parts } }), named);
@@ -1299,6 +1301,18 @@ test('signatures as values, and the digest that they are of', () => {
   pending.push(image.digest().then((it) => test('a digest', () => assert.equal(Buffer.from(it).toString('hex'), right))));
 });
 await Promise.all(pending);
+
+test('names of functions without a PDB', () => {
+  const image = opened('exports'), [named] = image.list('exports'), name = image.utf8(named.name);
+  const found = { name, start: named.rva, offset: 0, source: 'export', isNearest: true };
+  assert.equal(image.functionTable(), null);
+  const asked = [{ rva: named.rva }, { rva: named.rva, isReturn: true }, { rva: named.rva + 1, isReturn: true }, { rva: 0, isReturn: true }];
+  const [at, before, after, none] = image.functionNames(asked);
+  assert.deepEqual([at, after, none], [found, { ...found, offset: 1 }, null]);
+  assert.notDeepEqual(before, found);
+  assert.deepEqual(image.functionNames([]), []);
+  assert.equal(opened('functions').functionNames([{ rva: 0 }])[0], null);
+});
 
 test('every call of pe.h succeeds in some test', () => {
   assert.deepEqual(Object.keys(calls).filter((name) => !done.has(name)), []);

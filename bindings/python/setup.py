@@ -1,24 +1,29 @@
 """The extension of pe_c, over the library for C: libpe_c.a in the folder that PE_C_FOLDER names, else in
-../../crates/pe_c/out, where `make` in bindings leaves it. pe.h is that of bindings, or of the folder that PE_C_HEADER names.
+../../crates/pe_c/out, where `make` in bindings leaves it. pe.h is that of the folder that PE_C_HEADER names, else that of bindings,
+of which a source package has a copy.
 """
 import os
 import re
+import shutil
 import sys
 
 from setuptools import Extension, setup
 from setuptools.command.build_ext import build_ext
+from setuptools.command.sdist import sdist
 from wheel.bdist_wheel import bdist_wheel
 
 HERE = os.path.dirname(os.path.abspath(__file__))
 ARCHIVE = os.path.join(os.environ.get("PE_C_FOLDER", os.path.join(HERE, "..", "..", "crates", "pe_c", "out")), "libpe_c.a")
-INCLUDE = os.environ.get("PE_C_HEADER", os.path.join(HERE, ".."))
+# A source package has the header beside this file, and no archive.
+OWN_HEADER = os.path.join(HERE, "include")
+INCLUDE = os.environ.get("PE_C_HEADER", OWN_HEADER if os.path.isdir(OWN_HEADER) else os.path.join(HERE, ".."))
 
 
 def check_archive():
     """Says in one line what is missing. The archive has the number of its ABI as the name of a call."""
     for path in (ARCHIVE, os.path.join(INCLUDE, "pe.h")):
         if not os.path.exists(path):
-            sys.exit(f"pe-c: {path} is missing: run `make` in bindings, or set PE_C_FOLDER and PE_C_HEADER")
+            sys.exit(f"pe-c: {path} is missing: PE_C_FOLDER names the folder of libpe_c.a, and `make` in bindings makes one")
     with open(os.path.join(INCLUDE, "pe.h"), encoding="utf-8") as file:
         abi = re.search(r"\bpe_c_abi_\d+", file.read())[0]
     with open(ARCHIVE, "rb") as file:
@@ -30,6 +35,15 @@ class Build(build_ext):
     def run(self):
         check_archive()
         super().run()
+
+
+class Source(sdist):
+    """A source package, with pe.h of the library that it wants."""
+
+    def make_release_tree(self, base_dir, files):
+        super().make_release_tree(base_dir, files)
+        os.makedirs(os.path.join(base_dir, "include"), exist_ok=True)
+        shutil.copyfile(os.path.join(INCLUDE, "pe.h"), os.path.join(base_dir, "include", "pe.h"))
 
 
 class Stable(bdist_wheel):
@@ -49,4 +63,4 @@ setup(
         py_limited_api=True,
         extra_compile_args=FLAGS,
         extra_link_args=["-Wl,--exclude-libs,ALL", "-Wl,-z,relro,-z,now", "-Wl,--build-id=none", "-Wl,-s"])],
-    cmdclass={"bdist_wheel": Stable, "build_ext": Build})
+    cmdclass={"bdist_wheel": Stable, "build_ext": Build, "sdist": Source})

@@ -325,27 +325,18 @@ static void debug_data(const struct file *file)
     pe_c_range range = PE_C_EMPTY;
     pe_c_debug_entry entry = PE_C_EMPTY;
     pe_c_key key = PE_C_EMPTY;
-    pe_c_pdb20 pdb = PE_C_EMPTY;
-    pe_c_vc_features features = PE_C_EMPTY;
-    uint32_t flags = 0;
-    pe_c_repro repro = PE_C_EMPTY;
-    pe_c_pogo pogo = PE_C_EMPTY;
     pe_c_pogo_entry pogo_entry = PE_C_EMPTY;
     if (IS_DONE(pe_c_debug_entries, range, VIEW, &range))
         WALK(ITEMS, pe_c_next_debug_entry, entry, BYTES, &range, &entry)
             debug_record(file, &entry);
     first_entries(file);
     CALL(pe_c_symbol_key, key, VIEW, &key);
-    CALL(pe_c_debug_pdb20, pdb, VIEW, &pdb);
-    CALL(pe_c_debug_vc_features, features, VIEW, &features);
-    CALL(pe_c_debug_characteristics, flags, VIEW, &flags);
-    CALL(pe_c_debug_repro, repro, VIEW, &repro);
     pe_c_debug_records all = PE_C_EMPTY;
     CALL(pe_c_debug_data, all, VIEW, &all);
-    if (IS_DONE(pe_c_debug_pogo, pogo, VIEW, &pogo)) {
-        pe_c_range entries_walk = pogo.entries;
+    if (all.pogo_result == PE_C_DONE) {
+        pe_c_range entries_walk = all.pogo.entries;
         LIST(pe_c_list_pogo_entries, pe_c_pogo_entry, VIEW, &entries_walk);
-        WALK(ITEMS, pe_c_next_pogo_entry, pogo_entry, BYTES, &pogo.entries, &pogo_entry) {}
+        WALK(ITEMS, pe_c_next_pogo_entry, pogo_entry, BYTES, &all.pogo.entries, &pogo_entry) {}
     }
 }
 
@@ -469,22 +460,22 @@ static void certificates(const struct file *file)
     CALL(pe_c_digest_ranges, digest, VIEW, &digest);
     CALL(pe_c_checksum, checksum, VIEW, &checksum);
     for (uint32_t placement = 0; placement < 2; placement++) {
-        CALL(pe_c_attached_length, length, VIEW, certificate, sizeof certificate, placement, &length);
+        CALL(pe_c_attach, length, VIEW, certificate, sizeof certificate, placement, NULL, 0, &length);
         if (IS_DONE(pe_c_attach, length, VIEW, certificate, sizeof certificate, placement, file->room,
                     file->room_length, &length))
             add_bytes(file->room, length);
     }
-    CALL(pe_c_detached_length, length, VIEW, &length);
+    CALL(pe_c_detach, length, VIEW, NULL, 0, &length);
     if (IS_DONE(pe_c_detach, length, VIEW, file->room, file->room_length, &length))
         add_bytes(file->room, length);
     uint64_t next = file->image.sections_offset;
     CALL(pe_c_write_sections, next, VIEW, file->image.file_alignment, file->room, file->room_length, &next);
     CALL(pe_c_write_certificates, length, VIEW, file->room, file->room_length, &length);
     /* Of an image its DOS header is added, and of a whole file as many bytes as the file has: others may be old ones. */
-    CALL(pe_c_image_length, length, VIEW, &length);
+    CALL(pe_c_write_image, length, VIEW, NULL, 0, &length);
     if (IS_DONE(pe_c_write_image, length, VIEW, file->room, file->room_length, &length))
         add_bytes(file->room, 64);
-    CALL(pe_c_whole_length, length, VIEW, &length);
+    CALL(pe_c_write_whole, length, VIEW, NULL, 0, &length);
     if (IS_DONE(pe_c_write_whole, length, VIEW, file->room, file->room_length, &length))
         add_bytes(file->room, file->length);
 }
@@ -503,6 +494,21 @@ static void exports(const struct file *file)
     if (IS_DONE(pe_c_export_addresses, table, VIEW, &table))
         WALK(ITEMS, pe_c_export_at, exported, VIEW, &table, index, &exported)
             index++;
+}
+
+static void function_names(const struct file *file)
+{
+    enum { NUMBERS = 20000 };
+    static uint64_t room[NUMBERS];
+    pe_c_name_sources sources = PE_C_EMPTY;
+    pe_c_code_address addresses[ROWS] = PE_C_EMPTY;
+    pe_c_function_name names[ROWS] = PE_C_EMPTY;
+    CALL(pe_c_name_tables, sources, VIEW, &sources);
+    for (int i = 0; i < ROWS; i++) {
+        addresses[i].rva = (uint32_t)(next_random() % (file->image.size_of_image + 1u));
+        addresses[i].is_return = (uint32_t)(next_random() % 2);
+    }
+    CALL(pe_c_function_names, names, VIEW, &sources, addresses, ROWS, room, NUMBERS, names, ROWS);
 }
 
 static void imports(const struct file *file)
@@ -528,21 +534,21 @@ static void imports(const struct file *file)
         }
     if (IS_DONE(pe_c_delay_imports, walk, VIEW, &walk)) {
         pe_c_range dlls = walk;
-        LIST(pe_c_list_delay_imports, pe_c_delay_import, VIEW, &dlls);
+        LIST(pe_c_list_delay_imports, pe_c_delay_import, VIEW, &dlls, NULL, 0);
         dlls = walk;
-        LIST(pe_c_list_delay_imports_together, pe_c_delay_import, VIEW, &dlls, runs, ROWS);
+        LIST(pe_c_list_delay_imports, pe_c_delay_import, VIEW, &dlls, runs, ROWS);
         delay_imports.entries = walk;
         WALK_KEPT(LISTS, pe_c_next_delay_import, pe_c_delay_import_failure, delayed, delay_imports, entries) {
             pe_c_delayed_functions functions = delayed.functions;
-            LIST(pe_c_list_delayed_functions, pe_c_delayed_function, VIEW, &functions);
+            LIST(pe_c_list_delayed_functions, pe_c_delayed_function, VIEW, &functions, NULL, 0);
             functions = delayed.functions;
-            LIST(pe_c_list_delayed_functions_together, pe_c_delayed_function, VIEW, &functions, runs, ROWS);
+            LIST(pe_c_list_delayed_functions, pe_c_delayed_function, VIEW, &functions, runs, ROWS);
             functions_of.functions = delayed.functions;
             WALK_KEPT(ITEMS, pe_c_next_delayed_function, pe_c_delayed_function_failure, function, functions_of, functions) {}
         }
     }
     if (IS_DONE(pe_c_all_delayed_functions, all, VIEW, &all))
-        LIST(pe_c_list_all_delayed_functions_together, pe_c_library_function, VIEW, &all, runs, ROWS);
+        LIST(pe_c_list_all_delayed_functions, pe_c_library_function, VIEW, &all, runs, ROWS);
     if (!IS_DONE(pe_c_bound_imports, table, VIEW, &table))
         return;
     walk = table;
@@ -582,7 +588,7 @@ static void edits(const struct file *file)
     uint64_t length = 0;
     pe_c_resource both[2] = PE_C_EMPTY;
     for (uint32_t is_text = 0; is_text < 2; is_text++) {
-        CALL(pe_c_block_length, length, key, sizeof key, is_text, text, sizeof text - is_text, key, 0, &length);
+        CALL(pe_c_write_block, length, key, sizeof key, is_text, text, sizeof text - is_text, key, 0, NULL, 0, &length);
         CALL(pe_c_write_block, length, key, sizeof key, is_text, text, sizeof text, key, 0, block, sizeof block, &length);
     }
     static const uint8_t texts[10] = {'k', 0, 'e', 0, 'o', 0, 'n', 0, 0, 0};
@@ -591,7 +597,8 @@ static void edits(const struct file *file)
     static const pe_c_version_table tables[2] = {{0, 1, {0x409, 1200}}, {0, 1, {0x407, 1200}}};
     uint8_t version[512] = {0};
     for (size_t count = 0; count < 3; count++) {
-        CALL(pe_c_version_length, length, &fixed, tables, count, &string, 1, &tables->language, 1, texts, sizeof texts - count, &length);
+        CALL(pe_c_write_version, length, &fixed, tables, count, &string, 1, &tables->language, 1, texts, sizeof texts - count, NULL, 0,
+             &length);
         if (IS_DONE(pe_c_write_version, length, &fixed, tables, count, &string, 1, &tables->language, 1, texts, sizeof texts, version,
                     sizeof version, &length))
             add_bytes(version, length);
@@ -603,7 +610,7 @@ static void edits(const struct file *file)
         both[i].language = 1033 + i;
         both[i].content.length = length;
     }
-    CALL(pe_c_edited_length, length, VIEW, both, 2, block, sizeof block, &length);
+    CALL(pe_c_edit, length, VIEW, both, 2, block, sizeof block, NULL, 0, &length);
     if (IS_DONE(pe_c_edit, length, VIEW, both, 2, block, sizeof block, file->room, file->room_length, &length))
         add_bytes(file->room, length);
 }
@@ -716,29 +723,29 @@ static void lists_of_names(const struct file *file)
     pe_c_run runs[ROWS] = PE_C_EMPTY;
     if (pe_c_export_tables(VIEW, &tables) == PE_C_DONE) {
         pe_c_exports together = tables;
-        LIST(pe_c_list_exports, pe_c_export, VIEW, &tables);
-        LIST(pe_c_list_exports_together, pe_c_export, VIEW, &together, runs, ROWS);
+        LIST(pe_c_list_exports, pe_c_export, VIEW, &tables, NULL, 0);
+        LIST(pe_c_list_exports, pe_c_export, VIEW, &together, runs, ROWS);
     }
     if (pe_c_export_addresses(VIEW, &table) == PE_C_DONE) {
         uint64_t together = 0;
-        LIST(pe_c_list_export_addresses, pe_c_exported, VIEW, &table, &next);
-        LIST(pe_c_list_export_addresses_together, pe_c_exported, VIEW, &table, &together, runs, ROWS);
+        LIST(pe_c_list_export_addresses, pe_c_exported, VIEW, &table, &next, NULL, 0);
+        LIST(pe_c_list_export_addresses, pe_c_exported, VIEW, &table, &together, runs, ROWS);
     }
     if (pe_c_import_libraries(VIEW, &libraries) != PE_C_DONE)
         return;
     pe_c_libraries walk = libraries;
     pe_c_library_walk steps = {.libraries = libraries};
-    LIST(pe_c_list_libraries, pe_c_library, VIEW, &walk);
+    LIST(pe_c_list_libraries, pe_c_library, VIEW, &walk, NULL, 0);
     walk = libraries;
-    LIST(pe_c_list_libraries_together, pe_c_library, VIEW, &walk, runs, ROWS);
+    LIST(pe_c_list_libraries, pe_c_library, VIEW, &walk, runs, ROWS);
     if (pe_c_next_library(VIEW, &steps, &library) == PE_C_DONE) {
         pe_c_imports together = library.imports;
-        LIST(pe_c_list_imports, pe_c_import, VIEW, &library.imports);
-        LIST(pe_c_list_imports_together, pe_c_import, VIEW, &together, runs, ROWS);
+        LIST(pe_c_list_imports, pe_c_import, VIEW, &library.imports, NULL, 0);
+        LIST(pe_c_list_imports, pe_c_import, VIEW, &together, runs, ROWS);
     }
     pe_c_library_imports all = PE_C_EMPTY;
     if (IS_DONE(pe_c_all_imports, all, VIEW, &all))
-        LIST(pe_c_list_all_imports_together, pe_c_library_import, VIEW, &all, runs, ROWS);
+        LIST(pe_c_list_all_imports, pe_c_library_import, VIEW, &all, runs, ROWS);
 }
 
 static void lists_of_functions(const struct file *file)
@@ -931,6 +938,7 @@ static void in_mode(struct file *file, uint32_t mode)
     walk_x64(file);
     walk_arm64(file);
     exports(file);
+    function_names(file);
     imports(file);
     resources(file);
     directories(file);

@@ -6,9 +6,7 @@ use super::made::{
     untouched, view,
 };
 use crate::debug::{
-    DebugRecords, pe_c_debug_characteristics, pe_c_debug_data, pe_c_debug_entries,
-    pe_c_debug_pdb20, pe_c_debug_pogo, pe_c_debug_repro, pe_c_debug_vc_features,
-    pe_c_first_debug_entry, pe_c_symbol_key,
+    DebugRecords, pe_c_debug_data, pe_c_debug_entries, pe_c_first_debug_entry, pe_c_symbol_key,
 };
 use crate::debug_records::{
     EmbeddedPdb, Pdb20, PdbChecksum, Pogo, Repro, SymbolKey, pe_c_characteristics_of,
@@ -174,25 +172,6 @@ fn records_that_stand_alone(rt: HostRuntime) -> Result<(), Fail> {
     Ok(())
 }
 
-fn pdb20_of(bytes: &[u8], image: &Image, mode: u32) -> (u32, [u64; 2], [u32; 4]) {
-    let mut out = Pdb20 {
-        name: untouched(),
-        offset: 5,
-        signature: 6,
-        age: 7,
-        spare: 8,
-    };
-    let answer = pe_c_debug_pdb20(&view(bytes, &in_mode(image, mode), &sections()), &mut out);
-    let Pdb20 {
-        name,
-        offset,
-        signature,
-        age,
-        spare,
-    } = out;
-    (answer, of_range(name), [offset, signature, age, spare])
-}
-
 const NO_FEATURES: VCFeatureInfo = VCFeatureInfo {
     pre_vc_plusplus_count: 9,
     c_and_cplusplus_count: 9,
@@ -201,63 +180,71 @@ const NO_FEATURES: VCFeatureInfo = VCFeatureInfo {
     guard_count: 9,
 };
 
-fn features_of(bytes: &[u8], image: &Image, mode: u32) -> (u32, VCFeatureInfo) {
-    let mut out = NO_FEATURES;
-    let answer = pe_c_debug_vc_features(&view(bytes, &in_mode(image, mode), &sections()), &mut out);
-    (answer, out)
-}
-
-fn characteristics_of(bytes: &[u8], image: &Image, mode: u32) -> (u32, u32) {
-    let mut out = 9;
-    let answer = pe_c_debug_characteristics(
-        &view(bytes, &in_mode(image, mode), &sections()),
-        &mut out,
-    );
-    (answer, out)
-}
-
-fn repro_of(bytes: &[u8], image: &Image, mode: u32) -> (u32, [u64; 2], [u32; 2]) {
-    let mut out = Repro {
-        hash: untouched(),
-        has_hash: 5,
-        spare: 6,
-    };
-    let answer = pe_c_debug_repro(&view(bytes, &in_mode(image, mode), &sections()), &mut out);
-    let Repro {
-        hash,
-        has_hash,
-        spare,
-    } = out;
-    (answer, of_range(hash), [has_hash, spare])
-}
-
-fn pogo_of(bytes: &[u8], image: &Image, mode: u32) -> (u32, [u64; 2], [u32; 2]) {
-    let mut out = Pogo {
-        entries: untouched(),
-        signature: 5,
-        spare: 6,
-    };
-    let answer = pe_c_debug_pogo(&view(bytes, &in_mode(image, mode), &sections()), &mut out);
-    let Pogo {
-        entries,
-        signature,
-        spare,
-    } = out;
-    (answer, of_range(entries), [signature, spare])
-}
-
+/// What the call for all of them returns, which is always `DONE`.
 fn reported_by(bytes: &[u8], image: &Image, mode: u32) -> Reported {
+    let mut out = DebugRecords {
+        key: SymbolKey {
+            guid: [7; 16],
+            age: 8,
+            spare: 9,
+            name: untouched(),
+        },
+        pdb20: Pdb20 {
+            name: untouched(),
+            offset: 5,
+            signature: 6,
+            age: 7,
+            spare: 8,
+        },
+        repro: Repro {
+            hash: untouched(),
+            has_hash: 5,
+            spare: 6,
+        },
+        pogo: Pogo {
+            entries: untouched(),
+            signature: 5,
+            spare: 6,
+        },
+        features: NO_FEATURES,
+        characteristics: 9,
+        key_result: 99,
+        pdb20_result: 99,
+        repro_result: 99,
+        pogo_result: 99,
+        features_result: 99,
+        characteristics_result: 99,
+    };
+    let answer = pe_c_debug_data(&view(bytes, &in_mode(image, mode), &sections()), &mut out);
+    let (key, old, repro, pogo) = (out.key, out.pdb20, out.repro, out.pogo);
     Reported {
-        key: key_of(bytes, image, mode),
-        pdb20: pdb20_of(bytes, image, mode),
-        features: features_of(bytes, image, mode),
-        characteristics: characteristics_of(bytes, image, mode),
-        repro: repro_of(bytes, image, mode),
-        pogo: pogo_of(bytes, image, mode),
+        key: (
+            out.key_result | answer,
+            key.guid,
+            [key.age, key.spare],
+            of_range(key.name),
+        ),
+        pdb20: (
+            out.pdb20_result,
+            of_range(old.name),
+            [old.offset, old.signature, old.age, old.spare],
+        ),
+        features: (out.features_result, out.features),
+        characteristics: (out.characteristics_result, out.characteristics),
+        repro: (
+            out.repro_result,
+            of_range(repro.hash),
+            [repro.has_hash, repro.spare],
+        ),
+        pogo: (
+            out.pogo_result,
+            of_range(pogo.entries),
+            [pogo.signature, pogo.spare],
+        ),
     }
 }
 
-/// Where nothing goes out and each call returns this answer.
+/// Where nothing goes out and each result is this one.
 fn nothing_but(answer: u32) -> Reported {
     Reported {
         key: (answer, [7; 16], [8, 9], UNTOUCHED),
@@ -306,6 +293,7 @@ fn records_of_debug_data(rt: HostRuntime) -> Result<(), Fail> {
     let image = with_table(0x1010, TABLE_SIZE);
     for mode in [STRICT, PERMISSIVE, u32::MAX - MAPPED] {
         assert_eq!(rt; reported_by(&bytes, &image, mode), reported_of_records());
+        assert_eq!(rt; key_of(&bytes, &image, mode), reported_of_records().key);
     }
     Ok(())
 }
@@ -340,16 +328,10 @@ fn older_records_in_strict_mode(rt: HostRuntime) -> Result<(), Fail> {
     };
     assert_eq!(rt; reported_by(&bytes, &image, STRICT), want);
     put(&mut bytes, &[(0x20, &[15])]);
-    let (key, pdb20) = (
-        key_of(&bytes, &image, STRICT),
-        pdb20_of(&bytes, &image, STRICT),
-    );
-    assert_eq!(rt; (key.0, pdb20.0), (DEBUG_SIZE, DEBUG_SIZE));
-    let (key, pdb20) = (
-        key_of(&bytes, &image, PERMISSIVE),
-        pdb20_of(&bytes, &image, PERMISSIVE),
-    );
-    assert_eq!(rt; (key.0, pdb20.0), (NOTHING, NOTHING));
+    for (mode, number) in [(STRICT, DEBUG_SIZE), (PERMISSIVE, NOTHING)] {
+        let said = reported_by(&bytes, &image, mode);
+        assert_eq!(rt; (said.key.0, said.pdb20.0), (number, number));
+    }
     Ok(())
 }
 
@@ -447,11 +429,9 @@ fn damaged_records_are_refused_alone(rt: HostRuntime) -> Result<(), Fail> {
         let mut bytes = with_records(rt.alloc())?;
         put(&mut bytes, &[(offset, &[byte])]);
         for (mode, number) in [(STRICT, strict), (PERMISSIVE, permissive)] {
-            assert_eq!(rt;
-                reported_by(&bytes, &image, mode),
-                with_damaged(reported_of_records(), number, kind),
-                "at {offset:#x}"
-            );
+            let want = with_damaged(reported_of_records(), number, kind);
+            assert_eq!(rt; reported_by(&bytes, &image, mode), want, "at {offset:#x}");
+            assert_eq!(rt; key_of(&bytes, &image, mode), want.key);
         }
     }
     Ok(())
@@ -524,103 +504,6 @@ fn tables_that_are_refused(rt: HostRuntime) -> Result<(), Fail> {
         reported_by(&bytes, &long, PERMISSIVE),
         reported_of_records()
     );
-    Ok(())
-}
-
-/// The same in one call. `None` if it does not return `DONE`.
-fn reported_at_once(bytes: &[u8], image: &Image, mode: u32) -> Option<Reported> {
-    let mut out = DebugRecords {
-        key: SymbolKey {
-            guid: [7; 16],
-            age: 8,
-            spare: 9,
-            name: untouched(),
-        },
-        pdb20: Pdb20 {
-            name: untouched(),
-            offset: 5,
-            signature: 6,
-            age: 7,
-            spare: 8,
-        },
-        repro: Repro {
-            hash: untouched(),
-            has_hash: 5,
-            spare: 6,
-        },
-        pogo: Pogo {
-            entries: untouched(),
-            signature: 5,
-            spare: 6,
-        },
-        features: NO_FEATURES,
-        characteristics: 9,
-        key_result: 99,
-        pdb20_result: 99,
-        repro_result: 99,
-        pogo_result: 99,
-        features_result: 99,
-        characteristics_result: 99,
-    };
-    if pe_c_debug_data(&view(bytes, &in_mode(image, mode), &sections()), &mut out) != DONE {
-        return None;
-    }
-    let (key, old, repro, pogo) = (out.key, out.pdb20, out.repro, out.pogo);
-    Some(Reported {
-        key: (
-            out.key_result,
-            key.guid,
-            [key.age, key.spare],
-            of_range(key.name),
-        ),
-        pdb20: (
-            out.pdb20_result,
-            of_range(old.name),
-            [old.offset, old.signature, old.age, old.spare],
-        ),
-        features: (out.features_result, out.features),
-        characteristics: (out.characteristics_result, out.characteristics),
-        repro: (
-            out.repro_result,
-            of_range(repro.hash),
-            [repro.has_hash, repro.spare],
-        ),
-        pogo: (
-            out.pogo_result,
-            of_range(pogo.entries),
-            [pogo.signature, pogo.spare],
-        ),
-    })
-}
-
-/// Each record has its own result, whatever refuses another.
-#[test]
-fn records_at_once(rt: HostRuntime) -> Result<(), Fail> {
-    let image = with_table(0x1010, TABLE_SIZE);
-    let mut bytes = with_records(rt.alloc())?;
-    let whole = reported_at_once(&bytes, &image, STRICT);
-    assert_eq!(rt; whole, Some(reported_of_records()));
-    let unmapped = reported_at_once(&bytes, &with_table(0x3000, 28), STRICT);
-    assert_eq!(rt; unmapped, Some(nothing_but(UNMAPPED)));
-    let absent = reported_at_once(&bytes, &with_table(0, 0), STRICT);
-    assert_eq!(rt; absent, Some(nothing_but(NOTHING)));
-    put(&mut bytes, &[(0x20, &[23]), (0x61, &[2]), (0x101, &[1])]);
-    for (mode, number) in [(STRICT, DEBUG_SIZE), (PERMISSIVE, NOTHING)] {
-        let damaged = Reported {
-            key: nothing_but(number).key,
-            pogo: nothing_but(SHORT).pogo,
-            repro: nothing_but(DEBUG_DATA).repro,
-            ..reported_of_records()
-        };
-        assert_eq!(rt; reported_at_once(&bytes, &image, mode), Some(damaged));
-    }
-    let older = with_old_records(rt.alloc())?;
-    let want = Reported {
-        pdb20: (DONE, [0xB0, 7], [0x0403_0201, 0x0807_0605, 6, 0]),
-        repro: (DONE, [0, 0], [0, 0]),
-        ..nothing_but(NOTHING)
-    };
-    assert_eq!(rt; reported_at_once(&older, &image, PERMISSIVE), Some(want));
     Ok(())
 }
 

@@ -334,16 +334,22 @@ fn lists_of_both(rt: HostRuntime) -> Result<(), Fail> {
         descriptor: NO_ENTRY,
     };
     let (mut walk, mut entries, mut written) = (range(4, 64), [none; 2], 77);
-    let answer = pe_c_list_delay_imports(&view, &mut walk, &mut entries[..0], &mut written);
+    let answer = pe_c_list_delay_imports(
+        &view,
+        &mut walk,
+        &mut [],
+        &mut entries[..0],
+        &mut written,
+    );
     assert_eq!(rt; (answer, written, of_range(walk)), (ROOM, 77, [4, 64]));
     for (count, name) in [(1, [68, 5]), (0, [68, 5])] {
-        let answer = pe_c_list_delay_imports(&view, &mut walk, &mut entries, &mut written);
+        let answer = pe_c_list_delay_imports(&view, &mut walk, &mut [], &mut entries, &mut written);
         assert_eq!(rt; (answer, written, of_range(walk)), (DONE, count, [36, 32]));
         assert_eq!(rt; of_range(entries[0].name), name);
         assert_eq!(rt; of_range(entries[1].name), UNTOUCHED);
     }
     let mut cut = range(4, 31);
-    let answer = pe_c_list_delay_imports(&view, &mut cut, &mut entries, &mut written);
+    let answer = pe_c_list_delay_imports(&view, &mut cut, &mut [], &mut entries, &mut written);
     assert_eq!(rt; (answer, written, of_range(cut)), (SHORT, 0, OVER));
     let none = DelayedFunction {
         name: untouched(),
@@ -352,7 +358,13 @@ fn lists_of_both(rt: HostRuntime) -> Result<(), Fail> {
     };
     let (mut walk, mut found) = (functions([84, 44], 1), [none; 3]);
     for (count, left) in [(2, [100, 28]), (0, [100, 28])] {
-        let answer = pe_c_list_delayed_functions(&view, &mut walk, &mut found, &mut written);
+        let answer = pe_c_list_delayed_functions(
+            &view,
+            &mut walk,
+            &mut [],
+            &mut found,
+            &mut written,
+        );
         assert_eq!(rt; (answer, written, of_range(walk.left)), (DONE, count, left));
         assert_eq!(rt;
             (of_range(found[0].name), found[0].ordinal),

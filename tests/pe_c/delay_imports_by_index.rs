@@ -11,11 +11,8 @@ use crate::delay_imports::{
 };
 use crate::image::Image;
 use crate::library_functions::{LibraryFunction, LibraryFunctions};
-use crate::lists::delay_imports::{
-    pe_c_list_delay_imports, pe_c_list_delay_imports_together, pe_c_list_delayed_functions,
-    pe_c_list_delayed_functions_together,
-};
-use crate::lists::library_functions::pe_c_list_all_delayed_functions_together;
+use crate::lists::delay_imports::{pe_c_list_delay_imports, pe_c_list_delayed_functions};
+use crate::lists::library_functions::pe_c_list_all_delayed_functions;
 use crate::ranges::Range;
 use crate::results::DONE;
 use crate::section_index::pe_c_index;
@@ -94,29 +91,13 @@ fn stepped(view: &View, directory: [u64; 2]) -> Found {
     found_of(answer, dll, other, function)
 }
 
-/// The same by lists.
+/// The same by lists with names that are read together.
 fn listed(view: &View, directory: [u64; 2]) -> Found {
     let mut walk = range(directory[0], directory[1]);
     let (mut dlls, mut functions, mut written) = ([NO_LIBRARY], [NO_FUNCTION], 77);
-    let answer = pe_c_list_delay_imports(view, &mut walk, &mut dlls, &mut written);
+    let answer = pe_c_list_delay_imports(view, &mut walk, &mut [RUN], &mut dlls, &mut written);
     let mut left = dlls[0].functions;
-    let other = pe_c_list_delayed_functions(view, &mut left, &mut functions, &mut written);
-    found_of(answer, dlls[0], other, functions[0])
-}
-
-/// The same by lists with names that are read together.
-fn listed_together(view: &View, directory: [u64; 2]) -> Found {
-    let mut walk = range(directory[0], directory[1]);
-    let (mut dlls, mut functions, mut written) = ([NO_LIBRARY], [NO_FUNCTION], 77);
-    let answer = pe_c_list_delay_imports_together(
-        view,
-        &mut walk,
-        &mut [RUN],
-        &mut dlls,
-        &mut written,
-    );
-    let mut left = dlls[0].functions;
-    let other = pe_c_list_delayed_functions_together(
+    let other = pe_c_list_delayed_functions(
         view,
         &mut left,
         &mut [RUN],
@@ -145,7 +126,7 @@ fn all_listed(view: &View, directory: [u64; 2]) -> All {
         begun: 0,
     };
     let (mut entries, mut runs, mut written) = ([NO_LIBRARY_FUNCTION; 3], [RUN; 6], 77);
-    let answer = pe_c_list_all_delayed_functions_together(
+    let answer = pe_c_list_all_delayed_functions(
         view,
         &mut walk,
         &mut runs,
@@ -195,11 +176,9 @@ fn sections_with_an_index(rt: HostRuntime) -> Result<(), Fail> {
         let first = (DONE, [0x200, 5], [0x400, 0x200], DONE, [0x212, 1], 7);
         assert_eq!(rt; stepped(view, [0x10, 96]), first);
         assert_eq!(rt; listed(view, [0x10, 96]), first);
-        assert_eq!(rt; listed_together(view, [0x10, 96]), first);
         let second = (DONE, [0x480, 2], [0x280, 0x380], DONE, OVER, 9);
         assert_eq!(rt; stepped(view, [0x30, 64]), second);
         assert_eq!(rt; listed(view, [0x30, 64]), second);
-        assert_eq!(rt; listed_together(view, [0x30, 64]), second);
         assert_eq!(rt;
             all_listed(view, [0x10, 96]),
             (
@@ -247,7 +226,6 @@ fn indices_that_lead_elsewhere(rt: HostRuntime) -> Result<(), Fail> {
         };
         assert_eq!(rt; stepped(&with, [0x10, 64]), found);
         assert_eq!(rt; listed(&with, [0x10, 64]), found);
-        assert_eq!(rt; listed_together(&with, [0x10, 64]), found);
         let (answer, written, [function, _]) = all_listed(&with, [0x10, 64]);
         assert_eq!(rt; (answer, written), (DONE, 1));
         assert_eq!(rt; function, (found.1, found.4, found.5));
@@ -261,7 +239,6 @@ fn indices_that_lead_elsewhere(rt: HostRuntime) -> Result<(), Fail> {
         };
         assert_eq!(rt; stepped(&with, [0x10, 64]).0, UNMAPPED);
         assert_eq!(rt; listed(&with, [0x10, 64]).0, UNMAPPED);
-        assert_eq!(rt; listed_together(&with, [0x10, 64]).0, UNMAPPED);
         assert_eq!(rt; all_listed(&with, [0x10, 64]).0, UNMAPPED);
     }
     Ok(())

@@ -8,7 +8,7 @@ use crate::export_addresses::{AddressTable, Exported, pe_c_export_addresses, pe_
 use crate::exports::{Export, ExportWalk, Exports, pe_c_export_tables, pe_c_next_export};
 use crate::image::Image;
 use crate::kept_sections::NO_SECTIONS;
-use crate::lists::exports::{pe_c_list_exports, pe_c_list_exports_together};
+use crate::lists::exports::pe_c_list_exports;
 use crate::ranges::Range;
 use crate::results::{DONE, NOTHING};
 use pe_core::DataDirectory;
@@ -325,8 +325,8 @@ fn of_export(export: &Export) -> Named {
     )
 }
 
-/// The export from an entry of the name table on, by a walk and by both lists, with the walks after them.
-fn export_from(bytes: &[u8], directory: DataDirectory, next: u64) -> [(u32, Named, Walk); 3] {
+/// The export from an entry of the name table on, by a walk and by a list, with the walks after them.
+fn export_from(bytes: &[u8], directory: DataDirectory, next: u64) -> [(u32, Named, Walk); 2] {
     let (image, sections) = (image(X64), sections());
     let view = view(bytes, &image, &sections);
     let start = Exports {
@@ -337,19 +337,10 @@ fn export_from(bytes: &[u8], directory: DataDirectory, next: u64) -> [(u32, Name
     let mut walk = from(start);
     let answer = pe_c_next_export(&view, &mut walk, &mut step);
     let (mut one, mut listed, mut written) = (start, [UNTOUCHED; 1], 77);
-    let first = pe_c_list_exports(&view, &mut one, &mut listed, &mut written);
-    let (mut other, mut together) = (start, [UNTOUCHED; 1]);
-    let second = pe_c_list_exports_together(
-        &view,
-        &mut other,
-        &mut [],
-        &mut together,
-        &mut written,
-    );
+    let first = pe_c_list_exports(&view, &mut one, &mut [], &mut listed, &mut written);
     [
         (answer, of_export(&step), of_walk(walk.exports)),
         (first, of_export(&listed[0]), of_walk(one)),
-        (second, of_export(&together[0]), of_walk(other)),
     ]
 }
 
@@ -382,7 +373,7 @@ fn forwarders_by_name(rt: HostRuntime) -> Result<(), Fail> {
         let export = ([0xA0, 1], text, 8, 0x1008, is_forwarder);
         assert_eq!(rt;
             export_from(&bytes, directory, 1),
-            [(DONE, export, of_walk(after)); 3],
+            [(DONE, export, of_walk(after)); 2],
             "{virtual_address:#x} {size:#x}"
         );
         let (_, table) = table_at(&bytes, &with_directory(0x1010));
@@ -407,7 +398,7 @@ fn forwarders_without_a_text(rt: HostRuntime) -> Result<(), Fail> {
     let export = ([0x90, 5], OVER, 0, 0x9000, 1);
     assert_eq!(rt;
         export_from(&bytes, unmapped, 0),
-        [(DONE, export, of_walk(after)); 3]
+        [(DONE, export, of_walk(after)); 2]
     );
     let mapped = directory(0x1008, 1);
     let after = Exports {
@@ -423,7 +414,7 @@ fn forwarders_without_a_text(rt: HostRuntime) -> Result<(), Fail> {
         let export = ([0xA0, 1], range, 8, 0x1008, 1);
         assert_eq!(rt;
             export_from(&bytes, mapped, 1),
-            [(DONE, export, of_walk(after)); 3]
+            [(DONE, export, of_walk(after)); 2]
         );
     }
     // The first entry of the address table leads to the last two bytes.
@@ -440,7 +431,7 @@ fn forwarders_without_a_text(rt: HostRuntime) -> Result<(), Fail> {
         let export = ([0xA0, 1], range, last as u64, rva, 1);
         assert_eq!(rt;
             export_from(&bytes, at_end, 1),
-            [(DONE, export, of_walk(after)); 3]
+            [(DONE, export, of_walk(after)); 2]
         );
     }
     Ok(())

@@ -3,14 +3,11 @@
 
 use super::made::{
     CERTIFICATE_TABLE, NO_OPTIONAL_HEADER, PERMISSIVE, SHORT, STRICT, WRITE_ALIGNMENT, WRITE_FIT,
-    WRITE_OVERLAP, WRITE_SECTION, WRITE_SYMBOLS, X64, image, in_mode, view,
+    WRITE_OVERLAP, WRITE_SECTION, WRITE_SYMBOLS, X64, asked, image, in_mode, view,
 };
 use crate::image::{pe_c_image, pe_c_sections};
-use crate::image_write::{
-    pe_c_image_length, pe_c_whole_length, pe_c_write_certificates, pe_c_write_image,
-    pe_c_write_whole,
-};
-use crate::results::DONE;
+use crate::image_write::{pe_c_write_certificates, pe_c_write_image, pe_c_write_whole};
+use crate::results::{DONE, ROOM};
 use pe_core::SectionTable;
 use pe_images::{pointer_below_64, put, with_every_directory, with_functions};
 use std::alloc::{AllocError, Global};
@@ -33,7 +30,7 @@ enum Writer {
     Whole,
 }
 
-/// What a length and a write return, the numbers that they put, and the room.
+/// What a call without room and one with room return, the numbers that they put, and the room.
 type Written = ([u32; 2], [u64; 2], Vec<u8>);
 
 /// Writes these sections of the bytes, read in this mode, into a room of this size.
@@ -51,11 +48,11 @@ fn written_with(
     let source = view(bytes, &info, sections);
     let numbers = match writer {
         Writer::Image => [
-            pe_c_image_length(&source, &mut needed),
+            asked(pe_c_write_image(&source, &mut [], &mut needed)),
             pe_c_write_image(&source, &mut room, &mut end),
         ],
         Writer::Whole => [
-            pe_c_whole_length(&source, &mut needed),
+            asked(pe_c_write_whole(&source, &mut [], &mut needed)),
             pe_c_write_whole(&source, &mut room, &mut end),
         ],
     };
@@ -109,7 +106,7 @@ fn whole_files_come_back(rt: HostRuntime) -> Result<(), Fail> {
         assert!(rt; room[..0x413] == bytes[..]);
         assert!(rt; is_old(&room[0x413..]));
         let (numbers, ends, room) = written(alloc, Writer::Whole, &bytes, mode, 0x412)?;
-        assert_eq!(rt; (numbers, ends), ([DONE, WRITE_FIT], [0x413, OLD_NUMBER]));
+        assert_eq!(rt; (numbers, ends), ([DONE, ROOM], [0x413; 2]));
         assert!(rt; is_old(&room));
     }
     let bytes = with_every_directory(alloc)?;
@@ -130,7 +127,7 @@ fn images_are_written(rt: HostRuntime) -> Result<(), Fail> {
     assert!(rt; room[0x200..SIZE] == bytes[0x200..]);
     assert!(rt; is_old(&room[SIZE..]));
     let (numbers, ends, room) = written(alloc, Writer::Image, &bytes, STRICT, SIZE - 1)?;
-    assert_eq!(rt; (numbers, ends), ([DONE, WRITE_FIT], [0x410, OLD_NUMBER]));
+    assert_eq!(rt; (numbers, ends), ([DONE, ROOM], [0x410; 2]));
     assert!(rt; is_old(&room));
     // Both certificates of another image, each with its padding.
     let bytes = with_every_directory(alloc)?;

@@ -22,6 +22,7 @@ mod dump;
 mod ended_texts;
 mod exports;
 mod failure;
+mod function_names;
 mod guard_tables;
 mod headers;
 mod image;

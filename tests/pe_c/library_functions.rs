@@ -7,7 +7,7 @@ use super::made::{
 use crate::delay_imports::{DelayedFunction, DelayedFunctions};
 use crate::image::Image;
 use crate::library_functions::{LibraryFunction, LibraryFunctions, pe_c_all_delayed_functions};
-use crate::lists::library_functions::pe_c_list_all_delayed_functions_together;
+use crate::lists::library_functions::pe_c_list_all_delayed_functions;
 use crate::ranges::Range;
 use crate::results::{DONE, NOTHING, ROOM};
 use crate::text_runs::Run;
@@ -123,7 +123,7 @@ fn list(
     entries: usize,
 ) -> (u32, u64, [Fields; 5]) {
     let (mut runs, mut room, mut written) = ([RUN; 8], [NO_FUNCTION; 5], 77);
-    let answer = pe_c_list_all_delayed_functions_together(
+    let answer = pe_c_list_all_delayed_functions(
         &view(bytes, image, &sections()),
         walk,
         &mut runs[..names],

@@ -8,7 +8,7 @@ use super::made::{
 use crate::image::Image;
 use crate::imports::{Import, Imports, Libraries};
 use crate::library_imports::{LibraryImport, LibraryImports, pe_c_all_imports};
-use crate::lists::library_imports::pe_c_list_all_imports_together;
+use crate::lists::library_imports::pe_c_list_all_imports;
 use crate::ranges::Range;
 use crate::results::{DONE, NOTHING, ROOM};
 use crate::text_runs::Run;
@@ -104,7 +104,7 @@ fn list(
     entries: usize,
 ) -> (u32, u64, [Fields; 4]) {
     let (mut runs, mut room, mut written) = ([RUN; 6], [NO_IMPORT; 4], 77);
-    let answer = pe_c_list_all_imports_together(
+    let answer = pe_c_list_all_imports(
         &view(bytes, image, &sections()),
         walk,
         &mut runs[..names],

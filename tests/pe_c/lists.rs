@@ -17,7 +17,8 @@ use crate::export_addresses::{AddressTable, Exported};
 use crate::exports::{Export, Exports};
 use crate::imports::{Imports, Libraries};
 use crate::lists::arm64::{pe_c_list_arm64_codes, pe_c_list_arm64_functions};
-use crate::lists::exports::{pe_c_list_export_addresses, pe_c_list_exports};
+use crate::lists::exports::pe_c_list_exports;
+use crate::lists::forwarders::pe_c_list_export_addresses;
 use crate::lists::imports::{pe_c_list_imports, pe_c_list_libraries};
 use crate::lists::relocations::{pe_c_list_relocation_blocks, pe_c_list_relocations};
 use crate::lists::resources::{pe_c_list_resource_leaves, pe_c_list_version_blocks};
@@ -404,7 +405,13 @@ fn exports_in_lists(rt: HostRuntime) -> Result<(), Fail> {
         for (count, next, rva) in steps {
             let mut entries = [NO_EXPORT; 3];
             let mut written = UNWRITTEN;
-            let answer = pe_c_list_exports(&view, &mut walk, &mut entries[..room], &mut written);
+            let answer = pe_c_list_exports(
+                &view,
+                &mut walk,
+                &mut [],
+                &mut entries[..room],
+                &mut written,
+            );
             assert_eq!(rt; (answer, written, walk.next), (DONE, count, next));
             assert_eq!(rt; (entries[0].rva, entries[2].rva), (rva, 4));
             let second = if count == 2 { 0x1008 } else { 4 };
@@ -417,7 +424,7 @@ fn exports_in_lists(rt: HostRuntime) -> Result<(), Fail> {
     };
     let mut entries = [NO_EXPORT; 3];
     let mut written = UNWRITTEN;
-    let answer = pe_c_list_exports(&view, &mut walk, &mut entries, &mut written);
+    let answer = pe_c_list_exports(&view, &mut walk, &mut [], &mut entries, &mut written);
     assert_eq!(rt; (answer, written, entries[0].rva), (SHORT, UNWRITTEN, 4));
     assert_eq!(rt; of_range(walk.names), OVER);
     Ok(())
@@ -449,6 +456,7 @@ fn exports_by_index_in_lists(rt: HostRuntime) -> Result<(), Fail> {
             &view,
             &table,
             &mut next,
+            &mut [],
             &mut entries,
             &mut written,
         );
@@ -474,6 +482,7 @@ fn imports_in_lists(rt: HostRuntime) -> Result<(), Fail> {
         let answer = pe_c_list_libraries(
             &view(&bytes, &image, &sections),
             &mut walk,
+            &mut [],
             &mut entries,
             &mut written,
         );
@@ -503,6 +512,7 @@ fn imports_in_lists(rt: HostRuntime) -> Result<(), Fail> {
         let number = pe_c_list_imports(
             &view(&bytes, &image, &sections),
             &mut walk,
+            &mut [],
             &mut entries,
             &mut written,
         );
@@ -529,6 +539,7 @@ fn unmapped_imports_in_lists(rt: HostRuntime) -> Result<(), Fail> {
     let number = pe_c_list_imports(
         &view(&bytes, &image, &sections),
         &mut walk,
+        &mut [],
         &mut entries,
         &mut written,
     );

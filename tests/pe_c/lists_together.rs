@@ -6,11 +6,8 @@ use super::made::{
 use crate::coff::{Symbol, SymbolWalk};
 use crate::exports::{Export, Exports};
 use crate::imports::{Import, Imports, Libraries, Library};
-use crate::lists::exports::{pe_c_list_exports, pe_c_list_exports_together};
-use crate::lists::imports::{
-    pe_c_list_imports, pe_c_list_imports_together, pe_c_list_libraries,
-    pe_c_list_libraries_together,
-};
+use crate::lists::exports::pe_c_list_exports;
+use crate::lists::imports::{pe_c_list_imports, pe_c_list_libraries};
 use crate::lists::symbols::{NamedSymbol, NamedSymbolWalk, pe_c_list_symbols};
 use crate::ranges::Range;
 use crate::results::{DONE, ROOM};
@@ -100,7 +97,7 @@ fn exports_together(rt: HostRuntime) -> Result<(), Fail> {
         let mut entries = [NO_EXPORT; 7];
         let mut written = 77;
         let lent = &mut runs[..room.min(11)];
-        let answer = pe_c_list_exports_together(&view, &mut walk, lent, &mut entries, &mut written);
+        let answer = pe_c_list_exports(&view, &mut walk, lent, &mut entries, &mut written);
         assert_eq!(rt; (answer, written, walk.next), (DONE, 6, 9));
         for i in 0..6 {
             assert_eq!(rt; of_range(entries[i].name), want[i]);
@@ -111,29 +108,19 @@ fn exports_together(rt: HostRuntime) -> Result<(), Fail> {
             );
         }
         assert_eq!(rt; entries[6].rva, 4);
-        // What the other call lists, one a call.
-        let mut walks = [exports(); 2];
+        // One a call.
+        let mut walk = exports();
         for (i, name) in want.iter().enumerate() {
-            let mut found = [[NO_EXPORT; 1]; 2];
+            let (mut found, mut count) = ([NO_EXPORT], 77);
             let lent = &mut runs[..room.min(11)];
-            let (mut counts, [mut first, mut second]) = ([77; 2], walks);
-            let one = pe_c_list_exports_together(
-                &view,
-                &mut first,
-                lent,
-                &mut found[0],
-                &mut counts[0],
-            );
-            let other = pe_c_list_exports(&view, &mut second, &mut found[1], &mut counts[1]);
-            assert_eq!(rt; (one, other, counts), (DONE, DONE, [1, 1]), "{i}");
-            assert_eq!(rt; found.map(|it| of_range(it[0].name)), [*name; 2]);
-            assert_eq!(rt; first.next, second.next);
-            walks = [first, second];
+            let answer = pe_c_list_exports(&view, &mut walk, lent, &mut found, &mut count);
+            assert_eq!(rt; (answer, count), (DONE, 1), "{i}");
+            assert_eq!(rt; of_range(found[0].name), *name);
         }
     }
     let mut walk = exports();
     let mut written = 77;
-    let answer = pe_c_list_exports_together(&view, &mut walk, &mut [RUN], &mut [], &mut written);
+    let answer = pe_c_list_exports(&view, &mut walk, &mut [RUN], &mut [], &mut written);
     assert_eq!(rt; (answer, written, walk.next), (ROOM, 77, 0));
     Ok(())
 }
@@ -161,13 +148,7 @@ fn exports_that_share_much(rt: HostRuntime) -> Result<(), Fail> {
             let mut entries = [NO_EXPORT; 11];
             let mut written = 77;
             let lent = &mut runs[..room];
-            let answer = pe_c_list_exports_together(
-                &view,
-                &mut walk,
-                lent,
-                &mut entries,
-                &mut written,
-            );
+            let answer = pe_c_list_exports(&view, &mut walk, lent, &mut entries, &mut written);
             assert_eq!(rt; (answer, written, walk.next), (DONE, 10, 10));
             for entry in &entries[..10] {
                 assert_eq!(rt; [of_range(entry.name), of_range(entry.forwarder)], texts);
@@ -214,7 +195,7 @@ fn forwarders_together(rt: HostRuntime) -> Result<(), Fail> {
         let mut entries = [NO_EXPORT; 19];
         let mut written = 77;
         let lent = &mut runs[..room];
-        let answer = pe_c_list_exports_together(&view, &mut walk, lent, &mut entries, &mut written);
+        let answer = pe_c_list_exports(&view, &mut walk, lent, &mut entries, &mut written);
         assert_eq!(rt; (answer, written, walk.next), (DONE, 18, 18));
         for i in 0..18 {
             assert_eq!(rt; of_range(entries[i].forwarder), want[i % 9], "{room} {i}");
@@ -231,7 +212,7 @@ fn forwarders_together(rt: HostRuntime) -> Result<(), Fail> {
         for i in 0..18 {
             let mut entry = [NO_EXPORT; 1];
             let lent = &mut runs[..room];
-            pe_c_list_exports_together(&view, &mut walk, lent, &mut entry, &mut written);
+            pe_c_list_exports(&view, &mut walk, lent, &mut entry, &mut written);
             assert_eq!(rt;
                 (written, of_range(entry[0].forwarder)),
                 (1, want[i % 9]),
@@ -289,13 +270,7 @@ fn libraries_together(rt: HostRuntime) -> Result<(), Fail> {
         let mut entries = [NO_LIBRARY; 4];
         let (mut walk, mut written) = (start, 77);
         let lent = &mut runs[..room.min(11)];
-        let answer = pe_c_list_libraries_together(
-            &view,
-            &mut walk,
-            lent,
-            &mut entries,
-            &mut written,
-        );
+        let answer = pe_c_list_libraries(&view, &mut walk, lent, &mut entries, &mut written);
         assert_eq!(rt; (answer, written, walk.is_over), (DONE, 3, 1));
         assert_eq!(rt;
             entries.map(|it| (of_range(it.name), of_range(it.imports.left), it.imports.rva)),
@@ -305,14 +280,6 @@ fn libraries_together(rt: HostRuntime) -> Result<(), Fail> {
                 ([0x101, 81], [0xC4, 16], 0x2200),
                 ([0, 0], [0, 0], 1)
             ]
-        );
-        let mut others = [NO_LIBRARY; 4];
-        let (mut walk, mut written) = (start, 77);
-        let answer = pe_c_list_libraries(&view, &mut walk, &mut others, &mut written);
-        assert_eq!(rt; (answer, written), (DONE, 3));
-        assert_eq!(rt;
-            others.map(|it| (of_range(it.name), of_range(it.imports.left))),
-            entries.map(|it| (of_range(it.name), of_range(it.imports.left)))
         );
     }
     Ok(())
@@ -349,7 +316,7 @@ fn imports_together(rt: HostRuntime) -> Result<(), Fail> {
         let mut entries = [NO_IMPORT; 5];
         let (mut walk, mut written) = (start, 77);
         let lent = &mut runs[..room.min(11)];
-        let answer = pe_c_list_imports_together(&view, &mut walk, lent, &mut entries, &mut written);
+        let answer = pe_c_list_imports(&view, &mut walk, lent, &mut entries, &mut written);
         assert_eq!(rt;
             (answer, written, of_range(walk.left)),
             (DONE, 4, [0x40, 8])
@@ -365,18 +332,10 @@ fn imports_together(rt: HostRuntime) -> Result<(), Fail> {
             ]
         );
         let lent = &mut runs[..room.min(11)];
-        let answer = pe_c_list_imports_together(&view, &mut walk, lent, &mut entries, &mut written);
+        let answer = pe_c_list_imports(&view, &mut walk, lent, &mut entries, &mut written);
         assert_eq!(rt;
             (answer, written, of_range(walk.left)),
             (IMPORT_NAME, 4, OVER)
-        );
-        let mut others = [NO_IMPORT; 5];
-        let (mut walk, mut written) = (start, 77);
-        let answer = pe_c_list_imports(&view, &mut walk, &mut others, &mut written);
-        assert_eq!(rt; (answer, written), (DONE, 4));
-        assert_eq!(rt;
-            others.map(|it| of_range(it.name)),
-            entries.map(|it| of_range(it.name))
         );
     }
     Ok(())

@@ -3,7 +3,7 @@
 use crate::failure::Failure;
 use crate::image::Image;
 use crate::ranges::Range;
-use crate::results::NOTHING;
+use crate::results::{DONE, NOTHING, ROOM};
 use crate::view::View;
 use pe_core::{DataDirectory, SectionTable};
 use pe_frame::{IndexEntry, MemoryPiece};
@@ -318,6 +318,11 @@ pub(crate) const LEFT_ENTRY: IndexEntry = IndexEntry {
 /// The entry of an index from which all RVAs belong to the section with this index plus 1.
 pub(crate) fn from_start(section: u64) -> [IndexEntry; 1] {
     [IndexEntry { start: 0, section }]
+}
+
+/// What a call that writes a file says of it without room: `DONE` for the `ROOM` that it returns of each that it would write.
+pub(crate) fn asked(number: u32) -> u32 {
+    if number == ROOM { DONE } else { number }
 }
 
 /// The image, without an index of its sections.

@@ -271,7 +271,13 @@ fn exports_in_overlapping_sections(rt: HostRuntime) -> Result<(), Fail> {
         let (mut entries, mut step, mut written) = ([NO_EXPORT; 4], NO_EXPORT, 0);
         let mut count = 0;
         while count < 4 {
-            let number = pe_c_list_exports(&view, &mut walk, &mut entries[..room], &mut written);
+            let number = pe_c_list_exports(
+                &view,
+                &mut walk,
+                &mut [],
+                &mut entries[..room],
+                &mut written,
+            );
             assert!(rt; number == DONE && 0 < written);
             for entry in &entries[..written as usize] {
                 assert_eq!(rt; pe_c_next_export(&view, &mut steps, &mut step), DONE);
@@ -311,7 +317,13 @@ fn imports_in_overlapping_sections(rt: HostRuntime) -> Result<(), Fail> {
         let (mut entries, mut step, mut written) = ([NO_IMPORT; 4], NO_IMPORT, 0);
         let mut count = 0;
         while count < 4 {
-            let number = pe_c_list_imports(&view, &mut walk, &mut entries[..room], &mut written);
+            let number = pe_c_list_imports(
+                &view,
+                &mut walk,
+                &mut [],
+                &mut entries[..room],
+                &mut written,
+            );
             assert!(rt; number == DONE && 0 < written);
             for entry in &entries[..written as usize] {
                 assert_eq!(rt; pe_c_next_import(&view, &mut steps, &mut step), DONE);

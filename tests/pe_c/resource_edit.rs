@@ -2,10 +2,10 @@
 //! them. Its checksum is at 0xD0, the entry of the resource directory at 0x110, and the header of the resource section at 0x1A8.
 //! The bytes of the section follow from the format.
 
-use super::made::{SHORT, X64, image, view};
+use super::made::{SHORT, X64, asked, image, view};
 use crate::image::Image;
-use crate::resource_edit::{pe_c_edit, pe_c_edited_length};
-use crate::results::DONE;
+use crate::resource_edit::pe_c_edit;
+use crate::results::{DONE, ROOM};
 use pe_edit::{RecordKey, RecordRange, ResourceRecord};
 use pe_images::{headers_alone, put};
 use std::alloc::{AllocError, Global};
@@ -93,7 +93,13 @@ fn edited(
     let mut room = vec![in alloc; OLD; size]?;
     let (mut needed, mut length) = (OLD_LENGTH, OLD_LENGTH);
     let info: Image = image(X64);
-    let first = pe_c_edited_length(&view(bytes, &info, &[]), records, data, &mut needed);
+    let first = pe_c_edit(
+        &view(bytes, &info, &[]),
+        records,
+        data,
+        &mut [],
+        &mut needed,
+    );
     let second = pe_c_edit(
         &view(bytes, &info, &[]),
         records,
@@ -101,7 +107,7 @@ fn edited(
         &mut room,
         &mut length,
     );
-    Ok(([first, second], [needed, length], room))
+    Ok(([asked(first), second], [needed, length], room))
 }
 
 /// Two resources, of a name and an id, over the data of the section: directories of types, names and languages (16 bytes and 8
@@ -263,8 +269,8 @@ fn images_are_refused(rt: HostRuntime) -> Result<(), Fail> {
     // The file does not fit into the room: only the write is refused.
     let bytes = old_image(rt.alloc(), 0, b"MZ")?;
     let (numbers, lengths, room) = edited(rt.alloc(), &bytes, &record, &DATA, LENGTH - 1)?;
-    assert_eq!(rt; numbers, [DONE, 37]);
-    assert_eq!(rt; lengths, [LENGTH as u64, OLD_LENGTH]);
+    assert_eq!(rt; numbers, [DONE, ROOM]);
+    assert_eq!(rt; lengths, [LENGTH as u64; 2]);
     assert!(rt; room.iter().all(|byte| *byte == OLD));
     Ok(())
 }

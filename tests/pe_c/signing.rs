@@ -5,12 +5,11 @@
 use super::made::{
     BAD_MAGIC, CERTIFICATE_SIZE, CERTIFICATE_TABLE, HEADER_POINTER, NO_OPTIONAL_HEADER, PERMISSIVE,
     SHORT, SIGN_HEADERS, SIGN_NO_DIRECTORY, SIGN_SECTION, SIGN_TABLE_NOT_LAST, SIGN_TABLE_OFFSET,
-    STRICT, WRITE_FIT, X64, image, in_mode, of_range, untouched, view,
+    STRICT, X64, asked, image, in_mode, of_range, untouched, view,
 };
-use crate::results::DONE;
+use crate::results::{DONE, ROOM};
 use crate::signing::{
-    ChecksumField, Digest, pe_c_attach, pe_c_attached_length, pe_c_checksum, pe_c_detach,
-    pe_c_detached_length, pe_c_digest_ranges,
+    ChecksumField, Digest, pe_c_attach, pe_c_checksum, pe_c_detach, pe_c_digest_ranges,
 };
 use pe_images::{pointer_below_64, put, with_functions};
 use std::alloc::{AllocError, Global};
@@ -86,10 +85,11 @@ fn attached(
     let mut room = vec![in alloc; OLD; size]?;
     let (mut written, mut needed) = (OLD_LENGTH, OLD_LENGTH);
     let info = image(X64);
-    let first = pe_c_attached_length(
+    let first = pe_c_attach(
         &view(bytes, &info, &[]),
         certificate,
         placement,
+        &mut [],
         &mut needed,
     );
     let second = pe_c_attach(
@@ -99,7 +99,7 @@ fn attached(
         &mut room,
         &mut written,
     );
-    Ok(([first, second], [needed, written], room))
+    Ok(([asked(first), second], [needed, written], room))
 }
 
 /// The same of `detach`.
@@ -111,9 +111,9 @@ fn detached(
     let mut room = vec![in alloc; OLD; size]?;
     let (mut written, mut needed) = (OLD_LENGTH, OLD_LENGTH);
     let info = image(X64);
-    let first = pe_c_detached_length(&view(bytes, &info, &[]), &mut needed);
+    let first = pe_c_detach(&view(bytes, &info, &[]), &mut [], &mut needed);
     let second = pe_c_detach(&view(bytes, &info, &[]), &mut room, &mut written);
-    Ok(([first, second], [needed, written], room))
+    Ok(([asked(first), second], [needed, written], room))
 }
 
 fn has(bytes: &[u8], offset: usize, part: &[u8]) -> bool {
@@ -215,8 +215,14 @@ fn headers_are_those_of_the_bytes(rt: HostRuntime) -> Result<(), Fail> {
     assert_eq!(rt; (field.offset, field.value), (0x98, 0x7C12));
     let mut length = 0;
     assert_eq!(rt;
-        pe_c_attached_length(&view(&bytes, &lie, &[]), &CERTIFICATE, AFTER, &mut length),
-        DONE
+        pe_c_attach(
+            &view(&bytes, &lie, &[]),
+            &CERTIFICATE,
+            AFTER,
+            &mut [],
+            &mut length
+        ),
+        ROOM
     );
     assert_eq!(rt; length, 0x420);
     Ok(())
@@ -384,16 +390,10 @@ fn refused_writes_change_nothing(rt: HostRuntime) -> Result<(), Fail> {
     for size in [0x41F, 0] {
         let bytes = with_functions(rt.alloc())?;
         let (numbers, lengths, room) = attached(rt.alloc(), &bytes, &CERTIFICATE, AFTER, size)?;
-        assert_eq!(rt;
-            (numbers, lengths),
-            ([DONE, WRITE_FIT], [0x420, OLD_LENGTH])
-        );
+        assert_eq!(rt; (numbers, lengths), ([DONE, ROOM], [0x420; 2]));
         assert!(rt; room.iter().all(|byte| *byte == OLD));
         let (numbers, lengths, room) = detached(rt.alloc(), &bytes, size.min(0x3FF))?;
-        assert_eq!(rt;
-            (numbers, lengths),
-            ([DONE, WRITE_FIT], [0x400, OLD_LENGTH])
-        );
+        assert_eq!(rt; (numbers, lengths), ([DONE, ROOM], [0x400; 2]));
         assert!(rt; room.iter().all(|byte| *byte == OLD));
     }
     for (bytes, number) in [

@@ -1,9 +1,8 @@
 //! Blocks of version information that are written: the bytes, by Microsoft's page on the members of String, and refusals.
 
-use crate::results::DONE;
-use crate::version_write::{
-    pe_c_block_length, pe_c_version_length, pe_c_write_block, pe_c_write_version,
-};
+use super::made::asked;
+use crate::results::{DONE, ROOM};
+use crate::version_write::{pe_c_write_block, pe_c_write_version};
 use pe_edit::RecordRange;
 use pe_resource::VsFixedFileInfo;
 use pe_version::{LanguageRecord, StringRecord, TableRecord};
@@ -26,9 +25,9 @@ fn written(
 ) -> ([u32; 2], [u64; 2], [u8; 17]) {
     let mut room = [OLD; 17];
     let (mut needed, mut length) = (OLD_LENGTH, OLD_LENGTH);
-    let first = pe_c_block_length(key, is_text, value, children, &mut needed);
+    let first = pe_c_write_block(key, is_text, value, children, &mut [], &mut needed);
     let second = pe_c_write_block(key, is_text, value, children, &mut room, &mut length);
-    ([first, second], [needed, length], room)
+    ([asked(first), second], [needed, length], room)
 }
 
 #[test]
@@ -72,8 +71,8 @@ fn blocks_are_refused(rt: HostRuntime) -> Result<(), Fail> {
     }
     // The room is too small by one byte: only the write is refused.
     let (numbers, lengths, room) = written(b"A\0", 0, &[1; 8], &[]);
-    assert_eq!(rt; numbers, [DONE, 37]);
-    assert_eq!(rt; lengths, [20, OLD_LENGTH]);
+    assert_eq!(rt; numbers, [DONE, ROOM]);
+    assert_eq!(rt; lengths, [20; 2]);
     assert_eq!(rt; room, [OLD; 17]);
     Ok(())
 }
@@ -124,7 +123,7 @@ fn version(
         count,
         language: ENGLISH,
     }];
-    let first = pe_c_version_length(&FIXED, &tables, strings, &[], texts, &mut needed);
+    let first = pe_c_write_version(&FIXED, &tables, strings, &[], texts, &mut [], &mut needed);
     let second = pe_c_write_version(
         &FIXED,
         &tables,
@@ -134,7 +133,7 @@ fn version(
         &mut room[..size],
         &mut length,
     );
-    ([first, second], [needed, length], room)
+    ([asked(first), second], [needed, length], room)
 }
 
 #[test]
@@ -180,8 +179,8 @@ fn versions_are_refused(rt: HostRuntime) -> Result<(), Fail> {
     }
     // The room is too small by one byte: only the write is refused.
     let (numbers, lengths, room) = version(&[], 0, &[], 215);
-    assert_eq!(rt; numbers, [DONE, 37]);
-    assert_eq!(rt; lengths, [216, OLD_LENGTH]);
+    assert_eq!(rt; numbers, [DONE, ROOM]);
+    assert_eq!(rt; lengths, [216; 2]);
     assert_eq!(rt; room, [OLD; 220]);
     Ok(())
 }

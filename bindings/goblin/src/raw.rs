@@ -719,23 +719,25 @@ macro_rules! lists_of_an_image {
 lists_of_an_image! {
     list_functions: pe_c_list_functions(table: &Range) over u64 => sys::Function;
     list_codes: pe_c_list_codes() over sys::Walk => sys::Code;
-    list_export_addresses: pe_c_list_export_addresses(table: &sys::AddressTable) over u64 => sys::Exported;
     list_relocations: pe_c_list_relocations(page_rva: u32) over Range => sys::Relocation;
     list_arm64_codes: pe_c_list_arm64_codes() over sys::Arm64Walk => sys::Arm64Code;
 }
 
-/// The same of two calls that write the same: the first reads each name by itself, the second names together, with room for runs.
+/// The same of calls that read names together, as far as there are runs for them. They return how many items they wrote.
 macro_rules! lists_of_names {
-    ($($name:ident: $alone:ident, $together:ident over $walk:ty => $item:ty;)*) => { impl View<'_, '_> { $(
-        fn $name(&self, walk: &mut $walk, runs: &mut [sys::Run], room: &mut [$item]) -> Result<usize, Refusal> {
-            let (view, items, count, mut written) = (self.lent(), room.as_mut_ptr(), room.len(), 0);
+    ($($name:ident: $call:ident($($more:ident: $kind:ty),*) over $walk:ty => $item:ty;)*) => { impl View<'_, '_> { $(
+        pub(crate) fn $name(
+            &self,
+            $($more: $kind,)*
+            walk: &mut $walk,
+            runs: &mut [sys::Run],
+            room: &mut [$item],
+        ) -> Result<usize, Refusal> {
+            let (items, count, mut written) = (room.as_mut_ptr(), room.len(), 0);
             // SAFETY: the view is of what is borrowed for the call; each pointer and the length after it are those of one array; the
-            // walk is lent for it, and the library requires nothing else.
+            // walk and the other arguments are lent for it, and the library requires nothing else.
             let number = unsafe {
-                match runs.len() {
-                    0 => sys::$alone(&view, walk, items, count, &mut written),
-                    more => sys::$together(&view, walk, runs.as_mut_ptr(), more, items, count, &mut written),
-                }
+                sys::$call(&self.lent(), $($more,)* walk, runs.as_mut_ptr(), runs.len(), items, count, &mut written)
             };
             Ok(returned(number, written)?.unwrap_or(0) as usize)
         }
@@ -743,27 +745,13 @@ macro_rules! lists_of_names {
 }
 
 lists_of_names! {
-    list_exports: pe_c_list_exports, pe_c_list_exports_together over sys::Exports => sys::Export;
-    list_libraries: pe_c_list_libraries, pe_c_list_libraries_together over sys::Libraries => sys::Library;
+    list_exports: pe_c_list_exports() over sys::Exports => sys::Export;
+    list_export_addresses: pe_c_list_export_addresses(table: &sys::AddressTable) over u64 => sys::Exported;
+    list_libraries: pe_c_list_libraries() over sys::Libraries => sys::Library;
+    list_all_imports: pe_c_list_all_imports() over sys::LibraryImports => sys::LibraryImport;
 }
 
 impl View<'_, '_> {
-    /// The same of imports with their libraries, whose names are read together as far as there are runs for them.
-    fn list_all_imports(
-        &self,
-        walk: &mut sys::LibraryImports,
-        runs: &mut [sys::Run],
-        room: &mut [sys::LibraryImport],
-    ) -> Result<usize, Refusal> {
-        let (view, count, more, mut written) = (self.lent(), room.len(), runs.len(), 0);
-        // SAFETY: as above.
-        let number = unsafe {
-            let (runs, items) = (runs.as_mut_ptr(), room.as_mut_ptr());
-            sys::pe_c_list_all_imports_together(&view, walk, runs, more, items, count, &mut written)
-        };
-        Ok(returned(number, written)?.unwrap_or(0) as usize)
-    }
-
     /// The names in the string table of all sections, which are read together; one at 0 where a section has none.
     pub fn long_section_names(&self, table: &Range) -> error::Result<Vec<Range>> {
         let count = self.sections.len();

@@ -19,6 +19,7 @@ use crate::Status;
 use markup::Html;
 use pe_c::{Error, Image};
 use sha2::{Digest as _, Sha256};
+use std::io::{self, Write};
 use std::path::Path;
 
 const STYLE: &str = include_str!("html/style.css");
@@ -38,13 +39,12 @@ pub fn write_to(file: (&Path, &[u8]), image: Result<Image<'_>, Error>, wanted: &
         Ok(image) => Facts::of(path, image, wanted),
         Err(error) => Facts::refused(path, bytes, *error),
     };
-    let page = page_of(&facts, image.as_ref().ok());
     let status = if facts.is_refused() { Status::Refused } else { Status::Done };
-    files::deliver(page.as_bytes(), to, status)
+    files::deliver_written(to, status, &mut |out| write_page(&facts, image.as_ref().ok(), out))
 }
 
-fn page_of(facts: &Facts, image: Option<&Image<'_>>) -> String {
-    let mut html = Html::new();
+fn write_page(facts: &Facts, image: Option<&Image<'_>>, out: &mut dyn Write) -> io::Result<()> {
+    let mut html = Html::to(out);
     let name = Path::new(&facts.file).file_name().map(|it| it.to_string_lossy()).unwrap_or_default();
     head(&name, &mut html);
     html.markup("<header><h1>").text(&name).markup("</h1><p>");
@@ -59,12 +59,15 @@ fn page_of(facts: &Facts, image: Option<&Image<'_>>) -> String {
     warnings(&facts.refusals(), &facts.limited(), &mut html);
     if let Some(image) = image {
         filter(&mut html);
-        let mut main = Html::new();
         let regions = regions::of(image, facts);
-        map::of(&regions, image, &mut main);
-        parts(facts, &regions, &mut main);
-        contents(&main, &mut html);
-        html.markup("<main>").append(main).markup("</main>");
+        // The list of the parts stands before them, so they are made twice, and only one is in memory.
+        let mut unwritten = Html::unwritten();
+        parts(facts, &regions, &mut unwritten);
+        contents(&unwritten, &mut html);
+        html.markup("<main>");
+        map::of(&regions, image, &mut html);
+        parts(facts, &regions, &mut html);
+        html.markup("</main>");
     }
     html.markup("<footer>What is said of the image comes from calls of the library for C (");
     html.text(crate::arguments::ARCHIVE)
@@ -74,10 +77,10 @@ fn page_of(facts: &Facts, image: Option<&Image<'_>>) -> String {
 }
 
 /// The end of a footer, and what follows it.
-fn end(mut html: Html) -> String {
+fn end(mut html: Html<'_>) -> io::Result<()> {
     html.markup(" <code>pe ").text(env!("CARGO_PKG_VERSION")).markup("</code></footer><script>");
     html.markup(SCRIPT).markup("</script></body></html>\n");
-    html.into_text()
+    html.finish()
 }
 
 /// The source of a script or a style sheet that a policy allows: the Base64 of its SHA-256.
@@ -94,7 +97,7 @@ fn allowed(content: &str) -> String {
     text + "'"
 }
 
-fn head(name: &str, html: &mut Html) {
+fn head(name: &str, html: &mut Html<'_>) {
     html.markup("<!doctype html>\n<html lang=en><head><meta charset=utf-8>");
     html.markup("<meta http-equiv=Content-Security-Policy content=\"default-src 'none'; style-src ");
     // A hash has no character that an attribute escapes, but for the quotes around it.
@@ -105,7 +108,7 @@ fn head(name: &str, html: &mut Html) {
 }
 
 /// What is refused comes first, each with its reason, and the parts of which the page does not have all.
-fn warnings(refusals: &[(&'static str, &Refusal)], limited: &[&'static str], html: &mut Html) {
+fn warnings(refusals: &[(&'static str, &Refusal)], limited: &[&'static str], html: &mut Html<'_>) {
     if refusals.is_empty() {
         html.markup("<p class=accepted>No part is damaged.</p>");
     }
@@ -131,14 +134,14 @@ fn warnings(refusals: &[(&'static str, &Refusal)], limited: &[&'static str], htm
     html.markup("</section>");
 }
 
-fn filter(html: &mut Html) {
+fn filter(html: &mut Html<'_>) {
     html.markup("<div class=bar role=search><input type=search id=filter autocomplete=off spellcheck=false ");
     html.markup("aria-label=\"Filter the rows of all tables\" placeholder=\"Filter all tables ( / )\">");
     html.markup("<output id=found for=filter></output></div>");
 }
 
 /// All tables of the page.
-fn parts(facts: &Facts, regions: &[Region], html: &mut Html) {
+fn parts(facts: &Facts, regions: &[Region], html: &mut Html<'_>) {
     table("regions", "Regions of the file", &map::table(regions), html);
     if let Some(headers) = &facts.headers {
         list("headers", "Headers", tables::headers(headers), html);
@@ -183,7 +186,7 @@ fn parts(facts: &Facts, regions: &[Region], html: &mut Html) {
 }
 
 /// The parts that few images have.
-fn more_parts(facts: &Facts, html: &mut Html) {
+fn more_parts(facts: &Facts, html: &mut Html<'_>) {
     if let Some(delayed) = facts.delay_imports.as_ref().and_then(Part::present) {
         table("delayed", "Delay imports", &tables::delay_imports(delayed), html);
     }
@@ -211,7 +214,7 @@ fn more_parts(facts: &Facts, html: &mut Html) {
     }
 }
 
-fn debug_data(debug: &Debug, html: &mut Html) {
+fn debug_data(debug: &Debug, html: &mut Html<'_>) {
     list("records", "Debug records", tables::debug_records(debug), html);
     if let Some(entries) = debug.entries.present() {
         table("debug", "Debug data", &tables::debug(entries), html);
@@ -222,7 +225,7 @@ fn debug_data(debug: &Debug, html: &mut Html) {
 }
 
 /// Links to all parts that are on the page.
-fn contents(main: &Html, html: &mut Html) {
+fn contents(main: &Html<'_>, html: &mut Html<'_>) {
     html.markup("<nav aria-label=Contents><ul class=contents><li><a href=\"#map\">Map of the file</a></li>");
     for (id, title) in main.parts() {
         html.markup("<li><a href=\"#").markup(id).markup("\">").markup(title).markup("</a></li>");
@@ -230,7 +233,7 @@ fn contents(main: &Html, html: &mut Html) {
     html.markup("</ul></nav>");
 }
 
-fn list(id: &'static str, title: &'static str, rows: Vec<Row>, html: &mut Html) {
+fn list(id: &'static str, title: &'static str, rows: Vec<Row>, html: &mut Html<'_>) {
     if rows.is_empty() {
         return;
     }
@@ -243,7 +246,7 @@ fn list(id: &'static str, title: &'static str, rows: Vec<Row>, html: &mut Html) 
     html.markup("</dl></section>");
 }
 
-fn table(id: &'static str, title: &'static str, table: &Table, html: &mut Html) {
+fn table(id: &'static str, title: &'static str, table: &Table, html: &mut Html<'_>) {
     if table.rows.is_empty() && !table.is_limited {
         return;
     }

@@ -4,6 +4,7 @@
 
 mod arguments;
 mod csv;
+mod demangle;
 mod diff;
 mod digest;
 mod edit;

@@ -6,7 +6,7 @@
 use crate::system::{self, Doomed};
 use clap::Args;
 use std::fs::{self, File, OpenOptions};
-use std::io::{self, Write};
+use std::io::{self, BufWriter, Write};
 use std::path::{Path, PathBuf};
 use std::time::{SystemTime, UNIX_EPOCH};
 
@@ -25,10 +25,22 @@ impl Target {
     /// Writes the file, with the permissions of the one that it replaces, else of another one where one is named. Without `--replace`
     /// it must not exist.
     pub fn write(&self, bytes: &[u8], like: Option<&Path>) -> io::Result<()> {
+        self.write_by(like, &mut |out| out.write_all(bytes))
+    }
+
+    /// The same of what is written as it is made.
+    pub fn write_by(
+        &self,
+        like: Option<&Path>,
+        write: &mut dyn FnMut(&mut dyn Write) -> io::Result<()>,
+    ) -> io::Result<()> {
         let name = self.name()?;
         let like = if self.replace && name.exists() { Some(name.as_path()) } else { like };
-        let mut begun = Begun::beside(&name, like.is_some())?;
-        begun.file.write_all(bytes)?;
+        let begun = Begun::beside(&name, like.is_some())?;
+        let mut out = BufWriter::new(&begun.file);
+        write(&mut out)?;
+        out.flush()?;
+        drop(out);
         if let Some(like) = like {
             begun.file.set_permissions(system::permissions_of(&fs::metadata(like)?))?;
         }

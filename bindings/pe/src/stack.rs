@@ -4,6 +4,7 @@
 
 mod files;
 mod frames;
+mod functions;
 mod modules;
 pub mod text;
 mod told;
@@ -92,6 +93,12 @@ struct Texts<'d> {
 }
 
 impl Texts<'_> {
+    /// Takes so many bytes for a text that is shown, if they are left.
+    fn takes(&mut self, count: usize) -> bool {
+        self.is_over = self.is_over || !self.budget.takes(count);
+        !self.is_over
+    }
+
     /// The text at an offset. Null of one that is empty, cannot be read, or is past the bound.
     fn at(&mut self, rva: u64) -> Option<String> {
         self.shown(rva, 1)
@@ -103,8 +110,7 @@ impl Texts<'_> {
             return None;
         }
         let text = self.dump.text_lossy(rva, UNITS).ok().filter(|it| !it.is_empty())?;
-        self.is_over = !self.budget.takes(text.len().saturating_mul(times));
-        Some(text).filter(|_| !self.is_over)
+        Some(text).filter(|it| self.takes(it.len().saturating_mul(times)))
     }
 }
 
@@ -242,7 +248,10 @@ fn threads_of(dump: &Dump<'_>, loaded: Option<&Loaded<'_>>, asked: Asked, texts:
         is_crashed: Some(thread.thread_id) == crashed,
         ..frames::of(dump, thread, stacks.as_mut().zip(loaded), asked)
     });
-    let entries: Vec<Thread> = told.collect();
+    let mut entries: Vec<Thread> = told.collect();
+    if let Some(loaded) = loaded {
+        functions::put(&mut entries, loaded, texts);
+    }
     // A walk that ended before the bound of its own was cut by that of all.
     let is_limited = entries.iter().any(|it| it.end == Some("bound") && it.frames.len() < asked.frames);
     Part::Present(List { entries, error: None, is_limited })

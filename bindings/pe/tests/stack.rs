@@ -32,7 +32,7 @@ fn a_stack_is_walked_over_an_image_that_is_found() {
         json!([{
             "id": 0x24, "name": null, "is_crashed": false, "end": "bottom", "end_error": null,
             "frames": [{
-                "ip_va": 0x1_8000_5000u64, "sp_va": 0x2_0000, "module": null, "offset": 0x5000, "way": "top",
+                "ip_va": 0x1_8000_5000u64, "sp_va": 0x2_0000, "module": null, "offset": 0x5000, "function": null, "way": "top",
                 "has_called": false, "is_guess": false, "registers": null,
             }],
         }])

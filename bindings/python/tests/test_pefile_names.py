@@ -88,11 +88,11 @@ class Gaps(unittest.TestCase):
     """Without pefile: what the table names is missing, and says why."""
 
     def test_a_missing_field_has_no_value(self):
-        config = opened("guards").DIRECTORY_ENTRY_LOAD_CONFIG.struct
-        self.assertFalse(hasattr(config, "Reserved2"))
+        config, name = opened("guards").DIRECTORY_ENTRY_LOAD_CONFIG.struct, "GuardRFVerifyStackPointerFunctionPointerI"
+        self.assertFalse(hasattr(config, name))
         with self.assertRaises(NotInPeC) as caught:
-            config.Reserved2
-        self.assertEqual(caught.exception.reason, GAPS["IMAGE_LOAD_CONFIG_DIRECTORY.Reserved2"])
+            getattr(config, name)
+        self.assertEqual(caught.exception.reason, GAPS[f"IMAGE_LOAD_CONFIG_DIRECTORY.{name}"])
 
     def test_the_first_resource_directory_has_each_field_of_the_file(self):
         with open(os.path.join(IMAGES, "resources.bin"), "rb") as file:
@@ -116,7 +116,7 @@ class Gaps(unittest.TestCase):
 
     def test_missing_methods_and_names(self):
         pe = opened("exports")
-        for name in ("print_info", "dump_info", "dump_dict", "parse_imports"):
+        for name in ("parse_imports", "has_dynamic_relocs"):
             with self.assertRaises(NotInPeC):
                 getattr(pe, name)
         with self.assertRaises(NotInPeC):
@@ -124,6 +124,27 @@ class Gaps(unittest.TestCase):
         with self.assertRaises(AttributeError):
             ours.no_such_name
         self.assertFalse(hasattr(pe, "DIRECTORY_ENTRY_TLS"))
+
+    def test_fields_of_directories_are_written(self):
+        """At their place in the file, and no other byte; a name of a PDB keeps its length."""
+        pe = opened("imports")
+        before = bytes(pe.__data__)
+        at = pe.get_offset_from_rva(pe.OPTIONAL_HEADER.DATA_DIRECTORY[1].VirtualAddress) + 20 + 4
+        pe.DIRECTORY_ENTRY_IMPORT[1].struct.TimeDateStamp = 0x01020304
+        self.assertEqual(bytes(pe.write()), before[:at] + b"\4\3\2\1" + before[at + 4:])
+        pe = opened("debug")
+        before = bytes(pe.__data__)
+        record = pe.DIRECTORY_ENTRY_DEBUG[0].entry
+        record.PdbFileName = b"b.pdb and more\0"
+        at = pe.DIRECTORY_ENTRY_DEBUG[0].struct.PointerToRawData + 24
+        self.assertEqual(bytes(pe.write()), before[:at] + b"b.pdb " + before[at + 6:])
+
+    def test_what_is_dumped(self):
+        pe = opened("exports")
+        self.assertEqual(pe.dump_dict()["Exported symbols"][3],
+                         {"Ordinal": 8, "RVA": pe.DIRECTORY_ENTRY_EXPORT.symbols[2].address, "Name": None,
+                          "forwarder": b"NTDLL.RtlFree"})
+        self.assertIn("None forwarder: NTDLL.RtlFree\n", pe.dump_info())
 
     def test_a_structure_of_a_caller(self):
         pe, form = opened("exports"), ("PAIR", ("H,one", "I,two,other"))

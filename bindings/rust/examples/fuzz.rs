@@ -485,11 +485,7 @@ fn read_by_lies(bytes: &[u8], random: &mut Random, seen: &mut Seen) {
     list!(pe_c_list_codes(; sys::Walk { left: range, version: few as u8 % 4, frame_register: 5, spare: [1; 6] }), Code);
     list!(pe_c_list_arm64_codes(; sys::Arm64Walk { left: range, offset: index }), Arm64Code);
     let names = sys::Exports { names: range, ordinals: range, addresses: range, next: index, directory };
-    list!(pe_c_list_exports(; names), Export);
     let table = sys::AddressTable { addresses: range, directory, ordinal_base: few, ..sys::AddressTable::default() };
-    list!(pe_c_list_export_addresses(&table; index), Exported);
-    list!(pe_c_list_libraries(; sys::Libraries { next: range.offset, ..sys::Libraries::default() }), Library);
-    list!(pe_c_list_imports(; sys::Imports { left: range, rva: index }), Import);
     let resource = sys::ResourceEntry { name_or_id: few, offset_to_data_or_directory: few.rotate_left(5) };
     let part = sys::Range { offset: index, length: u64::from(few % 64) };
     let leaves = sys::ResourceWalk { tree: range, types: part, ..sys::ResourceWalk::default() };
@@ -499,8 +495,6 @@ fn read_by_lies(bytes: &[u8], random: &mut Random, seen: &mut Seen) {
     list!(pe_c_list_version_blocks(; range), VersionBlock);
     list!(pe_c_list_relocation_blocks(; range), RelocationBlock);
     list!(pe_c_list_relocations(few; range), Relocation);
-    list!(pe_c_list_delay_imports(; range), DelayImport);
-    list!(pe_c_list_delayed_functions(; sys::DelayedFunctions { left: range, attributes: few, spare: 1 }), DelayedFunction);
     list!(pe_c_list_pogo_entries(; range), PogoEntry);
     list!(pe_c_list_guard_entries(; sys::GuardEntries { entries: range, count: index, flag_size: few, spare: 1 }), GuardEntry);
     macro_rules! together {
@@ -523,20 +517,20 @@ fn read_by_lies(bytes: &[u8], random: &mut Random, seen: &mut Seen) {
             }
         }};
     }
-    together!(pe_c_list_exports_together(; names), Export);
-    together!(pe_c_list_export_addresses_together(&table; index), Exported);
+    together!(pe_c_list_exports(; names), Export);
+    together!(pe_c_list_export_addresses(&table; index), Exported);
     together!(pe_c_list_long_section_names(&range; index), Range);
-    together!(pe_c_list_delay_imports_together(; range), DelayImport);
+    together!(pe_c_list_delay_imports(; range), DelayImport);
     let functions = sys::DelayedFunctions { left: range, attributes: few, spare: 1 };
-    together!(pe_c_list_delayed_functions_together(; functions), DelayedFunction);
+    together!(pe_c_list_delayed_functions(; functions), DelayedFunction);
     let late = sys::LibraryFunctions { libraries: range, functions, library_name: range, begun: index };
-    together!(pe_c_list_all_delayed_functions_together(; late), LibraryFunction);
+    together!(pe_c_list_all_delayed_functions(; late), LibraryFunction);
     let libraries = sys::Libraries { next: range.offset, ..sys::Libraries::default() };
-    together!(pe_c_list_libraries_together(; libraries), Library);
+    together!(pe_c_list_libraries(; libraries), Library);
     let imports = sys::Imports { left: range, rva: index };
-    together!(pe_c_list_imports_together(; imports), Import);
+    together!(pe_c_list_imports(; imports), Import);
     let all = sys::LibraryImports { libraries, imports, library_name: range, begun: index };
-    together!(pe_c_list_all_imports_together(; all), LibraryImport);
+    together!(pe_c_list_all_imports(; all), LibraryImport);
     macro_rules! bound {
         ($name:ident, $out:ident) => {{
             let mut walk = range;
@@ -605,7 +599,8 @@ fn read_by_lies(bytes: &[u8], random: &mut Random, seen: &mut Seen) {
     call!(pe_c_dump_process(&range), DumpProcess);
     call!(pe_c_dump_context(&location), Context);
     call!(pe_c_dump_context_arm64(&location), Arm64Context);
-    let raised = sys::DumpException { thread_id: few % 2, thread_context: location, ..sys::DumpException::default() };
+    let mut raised = sys::DumpException::default();
+    (raised.thread_id, raised.thread_context) = (few % 2, location);
     let thread = call!(pe_c_dump_thread_at(&range, 0), DumpThread);
     call!(pe_c_dump_thread_context(&thread, &raised), Context);
     call!(pe_c_dump_thread_context_arm64(&thread, &raised), Arm64Context);
@@ -632,8 +627,6 @@ fn read_by_lies(bytes: &[u8], random: &mut Random, seen: &mut Seen) {
     call!(pe_c_arm64_codes(&range, index), Arm64Walk);
     call_of_image!(pe_c_debug_entries(), Range);
     call_of_image!(pe_c_symbol_key(), Key);
-    call_of_image!(pe_c_debug_repro(), Repro);
-    call_of_image!(pe_c_debug_pogo(), Pogo);
     call_of_image!(pe_c_debug_data(), DebugRecords);
     call_of_image!(pe_c_overlay(), Range);
     call_of_image!(pe_c_function_table(), Range);
@@ -668,21 +661,22 @@ fn read_by_lies(bytes: &[u8], random: &mut Random, seen: &mut Seen) {
     let (mut needed, mut written, mut left) = (0, 0, 0);
     // SAFETY: as above.
     unsafe {
-        sys::pe_c_attached_length(&view, part.as_ptr(), part.len(), few, &mut needed);
+        let none = core::ptr::null_mut();
+        sys::pe_c_attach(&view, part.as_ptr(), part.len(), few, none, 0, &mut needed);
         let (first, size) = (room.as_mut_ptr(), room.len());
         sys::pe_c_attach(&view, part.as_ptr(), part.len(), few, first, size, &mut written);
-        assert!(written == 0 || written == needed && written <= size as u64);
+        assert_eq!(written, needed);
         let mut next = index;
         sys::pe_c_write_sections(&view, few, first, size, &mut next);
         sys::pe_c_write_certificates(&view, first, size, &mut left);
-        sys::pe_c_image_length(&view, &mut needed);
+        sys::pe_c_write_image(&view, none, 0, &mut needed);
         sys::pe_c_write_image(&view, first, size, &mut left);
-        sys::pe_c_whole_length(&view, &mut needed);
+        sys::pe_c_write_whole(&view, none, 0, &mut needed);
         sys::pe_c_write_whole(&view, first, size, &mut left);
-        left = 0;
-        sys::pe_c_detached_length(&view, &mut needed);
+        (needed, left) = (0, 0);
+        sys::pe_c_detach(&view, none, 0, &mut needed);
         sys::pe_c_detach(&view, first, size, &mut left);
-        assert!(left == 0 || left == needed && left <= size as u64);
+        assert_eq!(left, needed);
     }
     let record = sys::Resource {
         resource_type: sys::ResourceName { name: range, id: few, has_name: few & 1 },
@@ -702,14 +696,15 @@ fn read_by_lies(bytes: &[u8], random: &mut Random, seen: &mut Seen) {
     // SAFETY: as above.
     unsafe {
         let (first, size) = (room.as_mut_ptr(), room.len());
-        sys::pe_c_edited_length(&view, records.as_ptr(), count, start, length, &mut needed);
+        let none = core::ptr::null_mut();
+        sys::pe_c_edit(&view, records.as_ptr(), count, start, length, none, 0, &mut needed);
         sys::pe_c_edit(&view, records.as_ptr(), count, start, length, first, size, &mut written);
-        assert!(written == 0 || written == needed && written <= size as u64);
+        assert_eq!(written, needed);
         let (first, size, key) = (room.as_mut_ptr(), room.len(), part.as_ptr());
         (needed, written) = (0, 0);
-        sys::pe_c_block_length(key, part.len(), few & 1, start, length, key, part.len(), &mut needed);
+        sys::pe_c_write_block(key, part.len(), few & 1, start, length, key, part.len(), none, 0, &mut needed);
         sys::pe_c_write_block(key, part.len(), few & 1, start, length, key, part.len(), first, size, &mut written);
-        assert!(written == 0 || written == needed && written <= size as u64);
+        assert_eq!(written, needed);
         (needed, written) = (0, 0);
         let small = sys::Range { offset: 0, length: u64::from(few % 5) };
         let strings =
@@ -720,22 +715,10 @@ fn read_by_lies(bytes: &[u8], random: &mut Random, seen: &mut Seen) {
         ];
         let (fixed, pairs) = (sys::Version::default(), [sys::VersionLanguage::default(); 2]);
         let (tables, strings, pairs, few) = (tables.as_ptr(), strings.as_ptr(), pairs.as_ptr(), count);
-        sys::pe_c_version_length(&fixed, tables, few, strings, few, pairs, few, start, length, &mut needed);
-        sys::pe_c_write_version(
-            &fixed,
-            tables,
-            few,
-            strings,
-            few,
-            pairs,
-            few,
-            start,
-            length,
-            first,
-            size,
-            &mut written,
-        );
-        assert!(written == 0 || written == needed && written <= size as u64);
+        for (first, size, written) in [(none, 0, &mut needed), (first, size, &mut written)] {
+            sys::pe_c_write_version(&fixed, tables, few, strings, few, pairs, few, start, length, first, size, written);
+        }
+        assert_eq!(written, needed);
     }
     let tables = call_of_image!(pe_c_export_tables(), Exports);
     for walk in [tables, sys::Exports { names: range, next: index, ..tables }] {
@@ -746,6 +729,18 @@ fn read_by_lies(bytes: &[u8], random: &mut Random, seen: &mut Seen) {
     call_of_image!(pe_c_export_at(&table, index), Exported);
     let lie = sys::AddressTable { addresses: range, directory, ordinal_base: few, ..table };
     call_of_image!(pe_c_export_at(&lie, index), Exported);
+    let sources = call_of_image!(pe_c_name_tables(), NameSources);
+    let exports = sys::Exports { names: range, ordinals: range, addresses: range, ..tables };
+    let lie = sys::NameSources { functions: range, symbols: range, strings: range, exports, ..sources };
+    let addresses = [few, random.next() as u32].map(|rva| sys::CodeAddress { rva, is_return: few & 1 });
+    let (mut numbers, mut names) = (vec![7; 1 << 15], [sys::FunctionName::default(); 2]);
+    for sources in [sources, lie] {
+        let (numbers, count) = (numbers.as_mut_ptr(), numbers.len());
+        // SAFETY: as above; the arrays are ones of their own.
+        unsafe {
+            sys::pe_c_function_names(&view, &sources, addresses.as_ptr(), 2, numbers, count, names.as_mut_ptr(), 2)
+        };
+    }
     let libraries = call_of_image!(pe_c_import_libraries(), Libraries);
     for walk in [libraries, sys::Libraries { next: range.offset, ..libraries }] {
         steps!(view, random, MOST, pe_c_next_library(LibraryWalk { libraries: walk }), Library, pe_c_library_failure);

@@ -4,10 +4,10 @@
 
 use pe_c::{Error, Image, Mode};
 
-/// A name of an image, which is UTF-8, as it may be printed: control characters are escaped.
-fn shown(name: &[u8]) -> String {
+/// A name of an image as it may be printed: control characters are escaped.
+fn shown(name: &str) -> String {
     let shown = |it: char| if it.is_control() { it.escape_default().to_string() } else { it.to_string() };
-    String::from_utf8_lossy(name).chars().map(shown).collect()
+    name.chars().map(shown).collect()
 }
 
 /// The lines of an image. A list that is damaged is an error, and the lines before it are lost with it.

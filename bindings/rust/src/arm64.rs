@@ -201,6 +201,7 @@ pub enum Arm64Operation {
 
 /// An ARM64 unwind code.
 #[derive(Clone, Copy, Debug, PartialEq, Eq, Hash)]
+#[non_exhaustive]
 pub struct Arm64Code {
     /// Bytes, from the start of the record's codes to this one.
     pub offset: u32,

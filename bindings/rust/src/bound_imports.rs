@@ -3,7 +3,7 @@
 
 use crate::coff::room_for;
 use crate::failure::{found, Failure};
-use crate::image::{bytes_of, returned, Error, Image};
+use crate::image::{returned, text_of, Error, Image};
 use crate::shown::{self, shown};
 use crate::sys;
 use crate::walk::{look, most_names};
@@ -94,14 +94,14 @@ impl<'a, T: Copy + Default> Entries<'a, T> {
 /// A DLL that an image is bound to.
 #[derive(Clone)]
 pub struct BoundImport<'a> {
-    /// Its name: UTF-8, without its final zero.
-    pub name: &'a [u8],
+    /// Its name, without its final zero.
+    pub name: &'a str,
     /// Its time stamp.
     pub time_date_stamp: u32,
     forwarders: Entries<'a, sys::BoundForwarder>,
 }
 
-shown! { BoundImport<'_> { name: shown::Text, time_date_stamp; .. } }
+shown! { BoundImport<'_> { name: shown::name, time_date_stamp; .. } }
 
 impl<'a> BoundImport<'a> {
     /// The DLLs that it forwards to.
@@ -111,19 +111,21 @@ impl<'a> BoundImport<'a> {
 }
 
 /// A DLL that another one forwards to.
-#[derive(Clone, Copy, PartialEq, Eq)]
+#[derive(Clone, Copy, Default, PartialEq, Eq)]
+#[cfg_attr(feature = "serde", derive(serde::Serialize))]
+#[non_exhaustive]
 pub struct BoundForwarder<'a> {
-    /// Its name: UTF-8, without its final zero.
-    pub name: &'a [u8],
+    /// Its name, without its final zero.
+    pub name: &'a str,
     /// Its time stamp.
     pub time_date_stamp: u32,
 }
 
-shown! { BoundForwarder<'_> { name: shown::Text, time_date_stamp } }
+shown! { BoundForwarder<'_> { name: shown::name, time_date_stamp } }
 
 impl<'a> BoundForwarder<'a> {
     fn of(found: &sys::BoundForwarder, bytes: &'a [u8]) -> Result<Self, Error> {
-        Ok(BoundForwarder { name: bytes_of(found.name, bytes)?, time_date_stamp: found.time_date_stamp })
+        Ok(BoundForwarder { name: text_of(found.name, bytes)?, time_date_stamp: found.time_date_stamp })
     }
 }
 
@@ -140,7 +142,7 @@ impl<'a> Iterator for BoundImports<'a> {
     fn next(&mut self) -> Option<Self::Item> {
         let found = self.0.step(sys::pe_c_list_bound_imports)?;
         Some(found.and_then(|found| {
-            let name = bytes_of(found.name, self.0.bytes)?;
+            let name = text_of(found.name, self.0.bytes)?;
             let forwarders = Entries::new(self.0.bytes, self.0.table, Some(found.forwarders));
             Ok(BoundImport { name, time_date_stamp: found.time_date_stamp, forwarders })
         }))
@@ -177,17 +179,19 @@ impl<'a> Iterator for BoundForwarders<'a> {
 impl FusedIterator for BoundForwarders<'_> {}
 
 /// A DLL that another one forwards to, and that other one.
-#[derive(Clone, Copy, PartialEq, Eq)]
+#[derive(Clone, Copy, Default, PartialEq, Eq)]
+#[cfg_attr(feature = "serde", derive(serde::Serialize))]
+#[non_exhaustive]
 pub struct LibraryForwarder<'a> {
-    /// The name of the DLL that forwards: UTF-8, without its final zero.
-    pub library: &'a [u8],
+    /// The name of the DLL that forwards, without its final zero.
+    pub library: &'a str,
     /// Its index among [`Image::bound_imports`].
     pub index: u64,
     /// The DLL that it forwards to.
     pub forwarder: BoundForwarder<'a>,
 }
 
-shown! { LibraryForwarder<'_> { library: shown::Text, index, forwarder } }
+shown! { LibraryForwarder<'_> { library: shown::name, index, forwarder } }
 
 /// The DLLs that bound imports forward to, one bound import after the other.
 ///
@@ -202,7 +206,7 @@ shown! { LibraryForwarder<'_> { library: shown::Text, index, forwarder } }
 /// let image = Image::parse(&bytes, Mode::Permissive)?;
 /// let forwarders: Vec<_> = image.bound_forwarders()?.collect::<Result<_, _>>()?;
 /// let names: Vec<_> = forwarders.iter().map(|it| (it.library, it.forwarder.name)).collect();
-/// assert_eq!(names, [(b"one.dll".as_slice(), b"two.dll".as_slice())]);
+/// assert_eq!(names, [("one.dll", "two.dll")]);
 /// # Ok::<(), pe_c::Error>(())
 /// ```
 #[derive(Clone)]
@@ -211,20 +215,20 @@ pub struct AllBoundForwarders<'a> {
     /// All entries of the directory, those of the bound imports too.
     entries: Entries<'a, sys::BoundForwarder>,
     /// The name of the bound import whose forwarders are returned, how many of these are left, and how many bound imports were begun.
-    library: &'a [u8],
+    library: &'a str,
     left: u64,
     begun: u64,
     is_over: bool,
 }
 
-shown! { AllBoundForwarders<'_> { imports, entries, library: shown::Text, left, begun, is_over } }
+shown! { AllBoundForwarders<'_> { imports, entries, library: shown::name, left, begun, is_over } }
 
 impl<'a> AllBoundForwarders<'a> {
     /// The next forwarder; `None` after the last.
     fn step(&mut self) -> Result<Option<LibraryForwarder<'a>>, Error> {
         while self.left == 0 {
             let Some(import) = self.imports.step(sys::pe_c_list_bound_imports).transpose()? else { return Ok(None) };
-            self.library = bytes_of(import.name, self.imports.bytes)?;
+            self.library = text_of(import.name, self.imports.bytes)?;
             (self.left, self.begun) = (import.forwarders.length / 8, self.begun + 1);
             // Its own entry comes before those of its forwarders.
             self.entry()?;
@@ -279,7 +283,7 @@ impl<'a> Image<'a> {
         Ok(AllBoundForwarders {
             imports: Entries::new(bytes, table, walk),
             entries: Entries::new(bytes, table, walk),
-            library: &[],
+            library: "",
             left: 0,
             begun: 0,
             is_over: false,

@@ -10,7 +10,9 @@ use crate::sys;
 use crate::walk::{items, Walk};
 
 /// An attribute certificate, `WIN_CERTIFICATE`.
-#[derive(Clone, Copy, PartialEq, Eq)]
+#[derive(Clone, Copy, Default, PartialEq, Eq)]
+#[cfg_attr(feature = "serde", derive(serde::Serialize))]
+#[non_exhaustive]
 pub struct Certificate<'a> {
     /// `dwLength`: bytes of header and body.
     pub length: u32,
@@ -19,6 +21,7 @@ pub struct Certificate<'a> {
     /// `WIN_CERT_TYPE_X509` 1, `_PKCS_SIGNED_DATA` 2, `_RESERVED_1` 3 or `_TS_STACK_SIGNED` 4.
     pub kind: u16,
     /// What follows the header of 8 bytes.
+    #[cfg_attr(feature = "serde", serde(serialize_with = "crate::serialized::hex"))]
     pub body: &'a [u8],
 }
 

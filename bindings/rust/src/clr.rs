@@ -17,7 +17,7 @@ use crate::walk::{items, Walk};
 /// let image = Image::parse(&bytes, Mode::Permissive)?;
 /// let clr = image.clr()?.expect("the image is for the .NET runtime");
 /// let metadata = clr.metadata()?;
-/// assert_eq!(metadata.version(), b"v4.0.30319");
+/// assert_eq!(metadata.version(), "v4.0.30319");
 /// for stream in metadata.streams() {
 ///     let stream = stream?;
 ///     println!("{} {:?}", stream.name.escape_ascii(), stream.content.map(<[u8]>::len));
@@ -82,9 +82,10 @@ shown! {
 }
 
 impl<'a> Metadata<'a> {
-    /// The version of the runtime that the image was made for, such as `v4.0.30319`: UTF-8 up to the first zero.
-    pub fn version(&self) -> &'a [u8] {
-        up_to_zero(self.version_bytes)
+    /// The version of the runtime that the image was made for, such as `v4.0.30319`: the version text up to the first zero.
+    pub fn version(&self) -> &'a str {
+        // It is UTF-8, as the library returns it.
+        core::str::from_utf8(up_to_zero(self.version_bytes)).unwrap_or_default()
     }
 
     /// The streams, in the order of their headers.
@@ -94,11 +95,15 @@ impl<'a> Metadata<'a> {
 }
 
 /// A stream of CLR metadata.
-#[derive(Clone, Copy, PartialEq, Eq)]
+#[derive(Clone, Copy, Default, PartialEq, Eq)]
+#[cfg_attr(feature = "serde", derive(serde::Serialize))]
+#[non_exhaustive]
 pub struct MetadataStream<'a> {
     /// `#~` the tables, `#Strings`, `#US`, `#GUID`, `#Blob` or another, without the final zero.
+    #[cfg_attr(feature = "serde", serde(serialize_with = "crate::serialized::name"))]
     pub name: &'a [u8],
     /// The stream's bytes, `None` where they do not all lie in the metadata.
+    #[cfg_attr(feature = "serde", serde(serialize_with = "crate::serialized::hex_or_none"))]
     pub content: Option<&'a [u8]>,
     /// From the start of the metadata, as the stream's header says.
     pub offset: u32,

@@ -4,7 +4,7 @@
 //! [Microsoft's page](https://learn.microsoft.com/windows/win32/debug/pe-format#coff-symbol-table).
 
 use crate::failure::{found, Failure};
-use crate::image::{bytes_of, returned, Error, Image, Layout};
+use crate::image::{bytes_of, returned, text_of, Error, Image, Layout};
 use crate::section_names::long_names;
 use crate::shown;
 use crate::sys::{self, CoffHeader, Section};
@@ -30,7 +30,7 @@ use core::ops::Range;
 ///         names.push((symbol.name()?, symbol.value));
 ///     }
 /// }
-/// assert_eq!(names, [(b"longer_than_eight".as_slice(), 1), (b".text", 0)]);
+/// assert_eq!(names, [("longer_than_eight", 1), (".text", 0)]);
 /// # Ok::<(), pe_c::Error>(())
 /// ```
 #[derive(Clone)]
@@ -102,17 +102,17 @@ impl<'a> Coff<'a> {
         Ok(Some(bytes_of(range, self.bytes)?))
     }
 
-    /// The name of a section in the string table: UTF-8, without its final zero. `None` where the header has the name itself,
+    /// The name of a section in the string table, without its final zero. `None` where the header has the name itself,
     /// [`Section::name`]; where there is no string table; and where no string is at the offset, NUL-terminated and UTF-8.
     ///
     /// # Errors
     ///
     /// Those of [`Coff::symbols`].
-    pub fn long_section_name(&self, section: &Section) -> Result<Option<&'a [u8]>, Error> {
+    pub fn long_section_name(&self, section: &Section) -> Result<Option<&'a str>, Error> {
         let Some(table) = ask_of_bytes(self.bytes, sys::pe_c_coff_strings, &self.header)? else { return Ok(None) };
         let name: Option<sys::Range> =
             look(self.bytes, sys::pe_c_long_section_name, &table, section as *const Section)?;
-        name.map(|range| bytes_of(range, self.bytes)).transpose()
+        name.map(|range| text_of(range, self.bytes)).transpose()
     }
 
     /// The same of each section, in the order of the sections. The names are read together: [`Coff::long_section_name`] reads one
@@ -121,7 +121,7 @@ impl<'a> Coff<'a> {
     /// # Errors
     ///
     /// Those of [`Coff::symbols`]; [`Error::MEMORY`].
-    pub fn long_section_names(&self) -> Result<Vec<Option<&'a [u8]>>, Error> {
+    pub fn long_section_names(&self) -> Result<Vec<Option<&'a str>>, Error> {
         let table = ask_of_bytes(self.bytes, sys::pe_c_coff_strings, &self.header)?;
         // The call reads no field of the image.
         let image = sys::ImageInfo::default();
@@ -193,7 +193,7 @@ impl<'a> Tables<'a> {
 
     /// A symbol that a call has listed, and its name.
     fn named(&self, found: &sys::NamedSymbol) -> NamedSymbol<'a> {
-        let name = Error::of(found.name_result).and_then(|()| bytes_of(found.name, self.bytes));
+        let name = Error::of(found.name_result).and_then(|()| text_of(found.name, self.bytes));
         NamedSymbol { symbol: Symbol { tables: *self, entry: found.symbol, name: Some(name) }, name }
     }
 }
@@ -322,13 +322,13 @@ impl FusedIterator for Symbols<'_> {}
 pub struct NamedSymbol<'a> {
     /// The symbol.
     pub symbol: Symbol<'a>,
-    /// UTF-8, without its final zero.
-    pub name: Result<&'a [u8], Error>,
+    /// Without its final zero.
+    pub name: Result<&'a str, Error>,
 }
 
 impl fmt::Debug for NamedSymbol<'_> {
     fn fmt(&self, f: &mut fmt::Formatter<'_>) -> fmt::Result {
-        let name = self.name.map(shown::Text);
+        let name = self.name.map(shown::name);
         f.debug_struct("NamedSymbol").field("symbol", &self.symbol).field("name", &name).finish()
     }
 }
@@ -339,18 +339,18 @@ pub struct Symbol<'a> {
     tables: Tables<'a>,
     entry: sys::SymbolEntry,
     /// If it was read with the entry.
-    name: Option<Result<&'a [u8], Error>>,
+    name: Option<Result<&'a str, Error>>,
 }
 
 impl<'a> Symbol<'a> {
-    /// The name: UTF-8, without its final zero. Of a symbol that [`Symbols::get`] returns, a name in the string table is read to its
+    /// The name, without its final zero. Of a symbol that [`Symbols::get`] returns, a name in the string table is read to its
     /// end each time.
     ///
     /// # Errors
     ///
     /// [`Error::STRING_TABLE`] where no string is at its offset, NUL-terminated and UTF-8, or where the name in the entry is not
     /// UTF-8.
-    pub fn name(&self) -> Result<&'a [u8], Error> {
+    pub fn name(&self) -> Result<&'a str, Error> {
         if let Some(name) = self.name {
             return name;
         }
@@ -361,7 +361,7 @@ impl<'a> Symbol<'a> {
             sys::pe_c_symbol_name(bytes.as_ptr(), bytes.len(), &symbols, &strings, self.entry.index, &mut name)
         };
         match returned(number, name)? {
-            Some(name) => bytes_of(name, bytes),
+            Some(name) => text_of(name, bytes),
             None => Err(Error::SHORT),
         }
     }
@@ -393,7 +393,7 @@ impl core::ops::Deref for Symbol<'_> {
 
 impl fmt::Debug for Symbol<'_> {
     fn fmt(&self, f: &mut fmt::Formatter<'_>) -> fmt::Result {
-        let text = self.name().map(shown::Text);
+        let text = self.name().map(shown::name);
         f.debug_struct("Symbol")
             .field("index", &self.entry.index)
             .field("name", &text)

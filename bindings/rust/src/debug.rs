@@ -27,18 +27,31 @@ use core::fmt;
 /// # Ok::<(), pe_c::Error>(())
 /// ```
 #[derive(Clone, Copy, PartialEq, Eq)]
+#[cfg_attr(feature = "serde", derive(serde::Serialize))]
+#[non_exhaustive]
 pub struct SymbolKey<'a> {
     /// Of the PDB.
     pub guid: Guid,
     /// Grows by one each time the PDB is written.
     pub age: u32,
     /// The PDB file's name and the zeros after it, up to the end of the record.
+    #[cfg_attr(feature = "serde", serde(rename = "name", serialize_with = "crate::serialized::name"))]
     pub name_bytes: &'a [u8],
 }
 
 shown! { SymbolKey<'_> { guid, age, name_bytes: shown::Text } }
 
 impl<'a> SymbolKey<'a> {
+    /// A key of a PDB of this name.
+    ///
+    /// ```
+    /// let key = pe_c::SymbolKey::new(pe_c::Guid([0x11; 16]), 10, b"a.pdb");
+    /// assert_eq!(key.path().expect("a name").to_string(), "a.pdb/11111111111111111111111111111111A/a.pdb");
+    /// ```
+    pub fn new(guid: Guid, age: u32, name: &'a [u8]) -> Self {
+        SymbolKey { guid, age, name_bytes: name }
+    }
+
     /// The key of a CodeView record that stands alone, as a minidump has one of each module. `None` where it is not one of
     /// PDB 7.0.
     ///
@@ -77,7 +90,9 @@ impl fmt::Display for SymbolKey<'_> {
 ///
 /// `Display` writes the key as symbol servers do: the time stamp's 8 digits, then the age, in upper-case hexadecimal.
 /// [`path`](Self::path) is the whole path there, and has an example.
-#[derive(Clone, Copy, PartialEq, Eq)]
+#[derive(Clone, Copy, Default, PartialEq, Eq)]
+#[cfg_attr(feature = "serde", derive(serde::Serialize))]
+#[non_exhaustive]
 pub struct Pdb20<'a> {
     /// 0 where the symbols are in a file of their own.
     pub offset: u32,
@@ -86,6 +101,7 @@ pub struct Pdb20<'a> {
     /// Grows by one each time the PDB is written.
     pub age: u32,
     /// The PDB file's name and the zeros after it, up to the end of the record.
+    #[cfg_attr(feature = "serde", serde(rename = "name", serialize_with = "crate::serialized::name"))]
     pub name_bytes: &'a [u8],
 }
 
@@ -106,11 +122,12 @@ impl fmt::Display for Pdb20<'_> {
 
 /// A Repro record: the same sources build the same image.
 #[derive(Clone, Copy, PartialEq, Eq)]
+#[cfg_attr(feature = "serde", derive(serde::Serialize))]
 pub enum Repro<'a> {
     /// The image's time stamps are a hash.
     TimeStamp,
     /// The hash of the image.
-    Hash(&'a [u8]),
+    Hash(#[cfg_attr(feature = "serde", serde(serialize_with = "crate::serialized::hex"))] &'a [u8]),
 }
 
 impl fmt::Debug for Repro<'_> {
@@ -142,13 +159,16 @@ impl<'a> Pogo<'a> {
 }
 
 /// An entry of a POGO record: a part of a section.
-#[derive(Clone, Copy, PartialEq, Eq)]
+#[derive(Clone, Copy, Default, PartialEq, Eq)]
+#[cfg_attr(feature = "serde", derive(serde::Serialize))]
+#[non_exhaustive]
 pub struct PogoEntry<'a> {
     /// RVA of the part.
     pub rva: u32,
     /// In bytes.
     pub size: u32,
     /// The name and its final zero.
+    #[cfg_attr(feature = "serde", serde(rename = "name", serialize_with = "crate::serialized::name"))]
     pub name_bytes: &'a [u8],
 }
 
@@ -193,22 +213,29 @@ items! {
 }
 
 /// A portable PDB in the image itself, as compilers of .NET write it.
-#[derive(Clone, Copy, PartialEq, Eq)]
+#[derive(Clone, Copy, Default, PartialEq, Eq)]
+#[cfg_attr(feature = "serde", derive(serde::Serialize))]
+#[non_exhaustive]
 pub struct EmbeddedPdb<'a> {
     /// In bytes, of the PDB, as the record states it.
     pub uncompressed_size: u32,
     /// The PDB, compressed: raw Deflate data.
+    #[cfg_attr(feature = "serde", serde(serialize_with = "crate::serialized::hex"))]
     pub compressed: &'a [u8],
 }
 
 shown! { EmbeddedPdb<'_> { uncompressed_size, compressed: shown::Bytes } }
 
 /// A checksum of the PDB file, as compilers of .NET write it: of its bytes with zeros in place of the PDB's id.
-#[derive(Clone, Copy, PartialEq, Eq)]
+#[derive(Clone, Copy, Default, PartialEq, Eq)]
+#[cfg_attr(feature = "serde", derive(serde::Serialize))]
+#[non_exhaustive]
 pub struct PdbChecksum<'a> {
     /// The name of the algorithm, as `SHA256`.
+    #[cfg_attr(feature = "serde", serde(serialize_with = "crate::serialized::name"))]
     pub algorithm: &'a [u8],
     /// The checksum.
+    #[cfg_attr(feature = "serde", serde(serialize_with = "crate::serialized::hex"))]
     pub checksum: &'a [u8],
 }
 
@@ -216,6 +243,7 @@ shown! { PdbChecksum<'_> { algorithm: shown::Text, checksum: shown::Bytes } }
 
 /// The record of the first debug entry of each type, each with an error of its own: what [`Image::debug_records`] returns.
 #[derive(Clone, Copy, Debug)]
+#[non_exhaustive]
 pub struct DebugRecords<'a> {
     /// What [`Image::symbol_key`] returns.
     pub symbol_key: Result<Option<SymbolKey<'a>>, Error>,
@@ -270,6 +298,13 @@ fn record_in<'a, T, R>(
     found?.map(|record| of(record, bytes)).transpose()
 }
 
+// The types of the entries whose records the methods below read, of winnt.h.
+const IMAGE_DEBUG_TYPE_CODEVIEW: u32 = 2;
+const IMAGE_DEBUG_TYPE_VC_FEATURE: u32 = 12;
+const IMAGE_DEBUG_TYPE_POGO: u32 = 13;
+const IMAGE_DEBUG_TYPE_REPRO: u32 = 16;
+const IMAGE_DEBUG_TYPE_EX_DLLCHARACTERISTICS: u32 = 20;
+
 /// A call that reads the record of an entry, in a mode.
 type OfEntry<T> = unsafe extern "C" fn(*const u8, usize, u32, *const DebugEntry, *mut T) -> u32;
 
@@ -315,6 +350,11 @@ impl<'a> Image<'a> {
         returned(number, out)
     }
 
+    /// What a call reads of the record of the first entry of a type.
+    fn of_first<T: Default>(&self, data_type: u32, call: OfEntry<T>) -> Result<Option<T>, Error> {
+        self.debug_entry(data_type)?.map_or(Ok(None), |entry| self.of_entry(call, &entry))
+    }
+
     /// The record of the first debug entry of each type, by one pass over the entries. An error of one is no error of another.
     pub fn debug_records(&self) -> DebugRecords<'a> {
         let (view, bytes, mut out) = (self.view(), self.bytes(), sys::DebugRecords::default());
@@ -357,7 +397,7 @@ impl<'a> Image<'a> {
     ///
     /// Those of [debug data](#debug-data).
     pub fn pdb20(&self) -> Result<Option<Pdb20<'a>>, Error> {
-        let record = self.ask(sys::pe_c_debug_pdb20)?;
+        let record = self.of_first(IMAGE_DEBUG_TYPE_CODEVIEW, sys::pe_c_pdb20_of)?;
         record.map(|record| pdb20_of(record, self.bytes())).transpose()
     }
 
@@ -377,7 +417,7 @@ impl<'a> Image<'a> {
     ///
     /// Those of [debug data](#debug-data).
     pub fn vc_features(&self) -> Result<Option<VcFeatures>, Error> {
-        self.ask(sys::pe_c_debug_vc_features)
+        self.of_first(IMAGE_DEBUG_TYPE_VC_FEATURE, sys::pe_c_vc_features_of)
     }
 
     /// The same of the record of an entry.
@@ -395,7 +435,7 @@ impl<'a> Image<'a> {
     ///
     /// Those of [debug data](#debug-data).
     pub fn debug_characteristics(&self) -> Result<Option<u32>, Error> {
-        self.ask(sys::pe_c_debug_characteristics)
+        self.of_first(IMAGE_DEBUG_TYPE_EX_DLLCHARACTERISTICS, sys::pe_c_characteristics_of)
     }
 
     /// The same of the record of an entry.
@@ -413,7 +453,7 @@ impl<'a> Image<'a> {
     ///
     /// Those of [debug data](#debug-data).
     pub fn repro(&self) -> Result<Option<Repro<'a>>, Error> {
-        let record = self.ask(sys::pe_c_debug_repro)?;
+        let record = self.of_first(IMAGE_DEBUG_TYPE_REPRO, sys::pe_c_repro_of)?;
         record.map(|record| repro_of(record, self.bytes())).transpose()
     }
 
@@ -433,7 +473,7 @@ impl<'a> Image<'a> {
     ///
     /// Those of [debug data](#debug-data).
     pub fn pogo(&self) -> Result<Option<Pogo<'a>>, Error> {
-        let record = self.ask(sys::pe_c_debug_pogo)?;
+        let record = self.of_first(IMAGE_DEBUG_TYPE_POGO, sys::pe_c_pogo_of)?;
         record.map(|record| pogo_of(record, self.bytes())).transpose()
     }
 

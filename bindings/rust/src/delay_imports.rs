@@ -3,22 +3,22 @@
 //! [Microsoft's page](https://learn.microsoft.com/windows/win32/debug/pe-format#delay-load-import-tables-image-only).
 
 use crate::failure::Failure;
-use crate::image::{bytes_of, Error, Image};
+use crate::image::{text_of, Error, Image};
 use crate::shown::{self, shown};
 use crate::sys;
-use crate::walk::{most_names, ImageList, Listing, Together};
+use crate::walk::{most_names, ImageList, Together};
 use core::iter::FusedIterator;
 
 /// A DLL that is loaded when one of its functions is called first.
 #[derive(Clone, Copy)]
 pub struct DelayImport<'i, 'a> {
     image: &'i Image<'a>,
-    /// The DLL's name: UTF-8, without its final zero.
-    pub name: &'a [u8],
+    /// The DLL's name, without its final zero.
+    pub name: &'a str,
     raw: sys::DelayImport,
 }
 
-shown! { DelayImport<'_, '_> { name: shown::Text, raw; .. } }
+shown! { DelayImport<'_, '_> { name: shown::name, raw; .. } }
 
 impl<'i, 'a> DelayImport<'i, 'a> {
     /// The entry of the directory, with the addresses of its tables.
@@ -52,9 +52,8 @@ impl<'i, 'a> DelayImport<'i, 'a> {
 ///         found.push((import.name, function?.name));
 ///     }
 /// }
-/// let dbghelp = b"dbghelp.dll".as_slice();
-/// assert_eq!(found[0], (dbghelp, Some(b"SymInitialize".as_slice())));
-/// assert_eq!(found[1], (dbghelp, None)); // by ordinal
+/// assert_eq!(found[0], ("dbghelp.dll", Some("SymInitialize")));
+/// assert_eq!(found[1], ("dbghelp.dll", None)); // by ordinal
 /// # Ok::<(), pe_c::Error>(())
 /// ```
 #[derive(Clone, Debug)]
@@ -65,15 +64,14 @@ impl<'i, 'a> Iterator for DelayImports<'i, 'a> {
 
     fn next(&mut self) -> Option<Self::Item> {
         let image = self.0.source;
-        let (call, together) =
-            (sys::pe_c_list_delay_imports as Listing<_, _>, sys::pe_c_list_delay_imports_together as Together<_, _>);
         // At most all that the walk has left, and four times as many as there were.
         let most = |walk: &sys::Range, taken: usize| {
             (walk.length / 32).min((4 * taken).min(most_names(image.bytes())) as u64) as usize
         };
-        let found = self.0.step_together(call, together, 1, most, |it: &sys::DelayImport| it.name.length)?;
+        let call = sys::pe_c_list_delay_imports as Together<_, _>;
+        let found = self.0.step_together(call, 1, most, |it: &sys::DelayImport| it.name.length)?;
         Some(found.and_then(|raw| {
-            let name = bytes_of(raw.name, image.bytes())?;
+            let name = text_of(raw.name, image.bytes())?;
             Ok(DelayImport { image, name, raw })
         }))
     }
@@ -89,10 +87,12 @@ impl DelayImports<'_, '_> {
 }
 
 /// A function of a DLL that is loaded later, by name or by ordinal.
-#[derive(Clone, Copy, PartialEq, Eq)]
+#[derive(Clone, Copy, Default, PartialEq, Eq)]
+#[cfg_attr(feature = "serde", derive(serde::Serialize))]
+#[non_exhaustive]
 pub struct DelayedFunction<'a> {
-    /// UTF-8, without its final zero; `None` for an import by ordinal.
-    pub name: Option<&'a [u8]>,
+    /// Without its final zero; `None` for an import by ordinal.
+    pub name: Option<&'a str>,
     /// The ordinal; with a name its hint, an index into the DLL's table of names.
     pub ordinal: u32,
 }
@@ -101,7 +101,7 @@ shown! { DelayedFunction<'_> { name: shown::text, ordinal } }
 
 impl<'a> DelayedFunction<'a> {
     fn of(found: &sys::DelayedFunction, bytes: &'a [u8]) -> Result<Self, Error> {
-        let name = bytes_of(found.name, bytes)?;
+        let name = text_of(found.name, bytes)?;
         Ok(DelayedFunction { name: (found.has_name != 0).then_some(name), ordinal: found.ordinal })
     }
 }
@@ -119,13 +119,10 @@ impl<'a> Iterator for DelayedFunctions<'_, 'a> {
 
     fn next(&mut self) -> Option<Self::Item> {
         let bytes = self.0.source.bytes();
-        let (call, together) = (
-            sys::pe_c_list_delayed_functions as Listing<_, _>,
-            sys::pe_c_list_delayed_functions_together as Together<_, _>,
-        );
         // Nothing says how many are left: four times as many as there were.
         let most = |_: &sys::DelayedFunctions, taken: usize| (4 * taken).min(most_names(bytes));
-        let found = self.0.step_together(call, together, 1, most, |it: &sys::DelayedFunction| it.name.length)?;
+        let call = sys::pe_c_list_delayed_functions as Together<_, _>;
+        let found = self.0.step_together(call, 1, most, |it: &sys::DelayedFunction| it.name.length)?;
         Some(found.and_then(|found| DelayedFunction::of(&found, bytes)))
     }
 }
@@ -140,17 +137,19 @@ impl DelayedFunctions<'_, '_> {
 }
 
 /// A function, and the DLL that it is of.
-#[derive(Clone, Copy, PartialEq, Eq)]
+#[derive(Clone, Copy, Default, PartialEq, Eq)]
+#[cfg_attr(feature = "serde", derive(serde::Serialize))]
+#[non_exhaustive]
 pub struct LibraryFunction<'a> {
-    /// The DLL's name: UTF-8, without its final zero.
-    pub library: &'a [u8],
+    /// The DLL's name, without its final zero.
+    pub library: &'a str,
     /// The DLL's index among [`Image::delay_imports`].
     pub index: u64,
     /// The function.
     pub function: DelayedFunction<'a>,
 }
 
-shown! { LibraryFunction<'_> { library: shown::Text, index, function } }
+shown! { LibraryFunction<'_> { library: shown::name, index, function } }
 
 /// The functions of all DLLs that are loaded later, one DLL after the other.
 ///
@@ -167,10 +166,9 @@ shown! { LibraryFunction<'_> { library: shown::Text, index, function } }
 /// let image = Image::parse(&bytes, Mode::Permissive)?;
 /// let functions: Vec<_> = image.delayed_functions()?.collect::<Result<_, _>>()?;
 /// let names: Vec<_> = functions.iter().map(|it| (it.library, it.function.name)).collect();
-/// let (dbghelp, version) = (b"dbghelp.dll".as_slice(), b"VERSION.dll".as_slice());
-/// assert_eq!(names[0], (dbghelp, Some(b"SymInitialize".as_slice())));
+/// assert_eq!(names[0], ("dbghelp.dll", Some("SymInitialize")));
 /// // The second is imported by its ordinal.
-/// assert_eq!(names[1..], [(dbghelp, None), (version, Some(b"VerQueryValueW".as_slice()))]);
+/// assert_eq!(names[1..], [("dbghelp.dll", None), ("VERSION.dll", Some("VerQueryValueW"))]);
 /// # Ok::<(), pe_c::Error>(())
 /// ```
 #[derive(Clone, Debug)]
@@ -183,10 +181,10 @@ impl<'a> Iterator for AllDelayedFunctions<'_, 'a> {
         let bytes = self.0.source.bytes();
         // No more DLLs than entries of the directory are left.
         let more = |walk: &sys::LibraryFunctions| (walk.libraries.length / 32) as usize;
-        let found = self.0.step_with_runs(sys::pe_c_list_all_delayed_functions_together, more)?;
+        let found = self.0.step_with_runs(sys::pe_c_list_all_delayed_functions, more)?;
         Some(found.and_then(|found| {
             let function = DelayedFunction::of(&found.function, bytes)?;
-            Ok(LibraryFunction { library: bytes_of(found.library_name, bytes)?, index: found.library, function })
+            Ok(LibraryFunction { library: text_of(found.library_name, bytes)?, index: found.library, function })
         }))
     }
 }

@@ -61,6 +61,7 @@ shown! { Dump<'_> { info, streams; .. } }
 
 /// The registers of a thread, by its machine.
 #[derive(Clone, Copy, Debug, PartialEq, Eq)]
+#[cfg_attr(feature = "serde", derive(serde::Serialize))]
 #[non_exhaustive]
 pub enum DumpContext {
     /// x64.
@@ -86,6 +87,7 @@ impl DumpContext {
 
 /// The registers of a frame, by its machine.
 #[derive(Clone, Copy, Debug, PartialEq, Eq)]
+#[cfg_attr(feature = "serde", derive(serde::Serialize))]
 #[non_exhaustive]
 pub enum DumpRegisters {
     /// x64.
@@ -301,7 +303,8 @@ impl<'a> Dump<'a> {
         Ok(walk.map(|walk| DumpMemory64(Walk::new(self.bytes, walk))))
     }
 
-    /// The exception that the dump was written for. `None` without its stream.
+    /// The exception that the dump was written for. `None` without its stream. The fields of its `MINIDUMP_EXCEPTION` stand beside those
+    /// of the stream, in one record, as in C, Python and JavaScript; in Rattle alone they are a record of their own, `raised`.
     ///
     /// # Errors
     ///

@@ -5,7 +5,7 @@
 //! [Microsoft's page](https://learn.microsoft.com/windows/win32/debug/pe-format#the-edata-section-image-only).
 
 use crate::coff::room_for;
-use crate::image::{bytes_of, Error, Image};
+use crate::image::{text_in, text_of, Error, Image};
 use crate::shown::{self, shown};
 use crate::sys;
 use crate::walk::most_names;
@@ -14,21 +14,23 @@ use core::iter::FusedIterator;
 use core::ops::Range;
 
 /// An export that has a name.
-#[derive(Clone, Copy, PartialEq, Eq)]
+#[derive(Clone, Copy, Default, PartialEq, Eq)]
+#[cfg_attr(feature = "serde", derive(serde::Serialize))]
+#[non_exhaustive]
 pub struct Export<'a> {
-    /// UTF-8, without its final zero.
-    pub name: &'a [u8],
+    /// Without its final zero.
+    pub name: &'a str,
     /// RVA of what is exported, or of the forwarder's text.
     pub rva: u32,
     /// File offset of the RVA, or `None` where it is unmapped.
     pub offset: Option<u64>,
     /// Its index in the table of RVAs: plus the [ordinal base](AddressTable::ordinal_base) it is the ordinal.
     pub index: u32,
-    /// Of a forwarder its text, `DLL.NAME` or `DLL.#ORDINAL`: UTF-8, without its final zero; empty where no text is there.
-    pub forwarder: Option<&'a [u8]>,
+    /// Of a forwarder its text, `DLL.NAME` or `DLL.#ORDINAL`, without its final zero; empty where no text is there.
+    pub forwarder: Option<&'a str>,
 }
 
-shown! { Export<'_> { name: shown::Text, rva, offset, index, forwarder: shown::text } }
+shown! { Export<'_> { name: shown::name, rva, offset, index, forwarder: shown::text } }
 
 /// The exports of an image, in the order of the name table.
 ///
@@ -46,7 +48,7 @@ shown! { Export<'_> { name: shown::Text, rva, offset, index, forwarder: shown::t
 ///     let export = export?;
 ///     found.push((export.name, export.rva));
 /// }
-/// assert_eq!(found, [(b"first".as_slice(), 0x9_0000), (b"second", 0x1004)]);
+/// assert_eq!(found, [("first", 0x9_0000), ("second", 0x1004)]);
 /// # Ok::<(), pe_c::Error>(())
 /// ```
 #[derive(Clone)]
@@ -113,8 +115,7 @@ impl<'i, 'a> Exports<'i, 'a> {
         part.names.length = 4 * (part.next + count as u64);
         let room = runs.as_mut_ptr();
         // SAFETY: the view, the walk and `written` are lent for the call, the arrays have so many items, and none overlaps another.
-        let number =
-            unsafe { sys::pe_c_list_exports_together(&view, &mut part, room, runs.len(), found, count, &mut written) };
+        let number = unsafe { sys::pe_c_list_exports(&view, &mut part, room, runs.len(), found, count, &mut written) };
         Error::of(number)?;
         self.walk.next = part.next;
         self.left = 0..written as usize;
@@ -146,8 +147,8 @@ impl<'a> Iterator for Exports<'_, 'a> {
         let i = self.left.next()?;
         let found = self.found()[i];
         let offset = (found.has_offset != 0).then_some(found.offset);
-        let forwarder = found.forwarder.of(self.image.bytes()).filter(|_| found.is_forwarder != 0);
-        Some(bytes_of(found.name, self.image.bytes()).map(|name| {
+        let forwarder = found.forwarder.of(self.image.bytes()).filter(|_| found.is_forwarder != 0).map(text_in);
+        Some(text_of(found.name, self.image.bytes()).map(|name| {
             let sys::Export { rva, index, .. } = found;
             Export { name, rva, offset, index, forwarder }
         }))
@@ -157,14 +158,16 @@ impl<'a> Iterator for Exports<'_, 'a> {
 impl FusedIterator for Exports<'_, '_> {}
 
 /// An export by its index, with or without a name.
-#[derive(Clone, Copy, PartialEq, Eq)]
+#[derive(Clone, Copy, Default, PartialEq, Eq)]
+#[cfg_attr(feature = "serde", derive(serde::Serialize))]
+#[non_exhaustive]
 pub struct Exported<'a> {
     /// Its index in the table plus the [ordinal base](AddressTable::ordinal_base).
     pub ordinal: u64,
     /// RVA of what is exported, or of the forwarder's text. 0 where the ordinal is not used.
     pub rva: u32,
-    /// Of a forwarder its text, `DLL.NAME` or `DLL.#ORDINAL`: UTF-8, without its final zero; empty where no text is there.
-    pub forwarder: Option<&'a [u8]>,
+    /// Of a forwarder its text, `DLL.NAME` or `DLL.#ORDINAL`, without its final zero; empty where no text is there.
+    pub forwarder: Option<&'a str>,
 }
 
 shown! { Exported<'_> { ordinal, rva, forwarder: shown::text } }
@@ -178,14 +181,14 @@ shown! { Exported<'_> { ordinal, rva, forwarder: shown::text } }
 ///
 /// let image = Image::parse(&bytes, Mode::Permissive)?;
 /// let table = image.export_addresses()?.expect("the image has exports");
-/// assert_eq!(table.name(), Some(b"made.dll".as_slice()));
+/// assert_eq!(table.name(), Some("made.dll"));
 /// for export in image.exports()? {
 ///     let export = export?;
 ///     let entry = table.get(export.index.into()).expect("the entry of an export is in the table");
 ///     assert_eq!(entry.rva, export.rva);
 /// }
 /// let last = table.iter().last().expect("it has exports");
-/// assert_eq!((last.ordinal, last.forwarder), (8, Some(b"NTDLL.RtlFree".as_slice())));
+/// assert_eq!((last.ordinal, last.forwarder), (8, Some("NTDLL.RtlFree")));
 /// # Ok::<(), pe_c::Error>(())
 /// ```
 #[derive(Clone, Copy)]
@@ -197,9 +200,9 @@ pub struct AddressTable<'i, 'a> {
 shown! { AddressTable<'_, '_> { table; .. } }
 
 impl<'i, 'a> AddressTable<'i, 'a> {
-    /// The DLL's name: UTF-8, without its final zero. `None` where its RVA is 0 or unmapped, or no text is there.
-    pub fn name(&self) -> Option<&'a [u8]> {
-        self.table.name.of(self.image.bytes()).filter(|_| self.table.has_name != 0)
+    /// The DLL's name, without its final zero. `None` where its RVA is 0 or unmapped, or no text is there.
+    pub fn name(&self) -> Option<&'a str> {
+        self.table.name.of(self.image.bytes()).filter(|_| self.table.has_name != 0).map(text_in)
     }
 
     /// The ordinal of the export with the index 0.
@@ -225,7 +228,7 @@ impl<'i, 'a> AddressTable<'i, 'a> {
 
     fn reported(&self, found: sys::Exported) -> Exported<'a> {
         let sys::Exported { ordinal, rva, .. } = found;
-        let forwarder = found.forwarder.of(self.image.bytes()).filter(|_| found.is_forwarder != 0);
+        let forwarder = found.forwarder.of(self.image.bytes()).filter(|_| found.is_forwarder != 0).map(text_in);
         Exported { ordinal, rva, forwarder }
     }
 
@@ -244,7 +247,7 @@ impl<'i, 'a> AddressTable<'i, 'a> {
         let (room, more, items, count) = (runs.as_mut_ptr(), runs.len(), found.as_mut_ptr(), found.len());
         // SAFETY: the view, the table and the numbers are lent for the call, the arrays have so many items, and none overlaps another.
         let number = unsafe {
-            sys::pe_c_list_export_addresses_together(&view, &self.table, next, room, more, items, count, &mut written)
+            sys::pe_c_list_export_addresses(&view, &self.table, next, room, more, items, count, &mut written)
         };
         Error::of(number).ok().map(|()| written as usize)
     }

@@ -20,6 +20,8 @@ use core::fmt;
 /// assert_eq!(failure.to_string(), "invalid magic number: 0x4d5a at offset 0x0");
 /// ```
 #[derive(Clone, Copy, Debug, PartialEq, Eq)]
+#[cfg_attr(feature = "serde", derive(serde::Serialize))]
+#[non_exhaustive]
 pub struct Failure {
     /// The error.
     pub error: Error,
@@ -43,6 +45,7 @@ impl From<sys::Failure> for Failure {
 
 /// What the record of an entry of the debug directory is read as: by which method.
 #[derive(Clone, Copy, Debug, PartialEq, Eq, Hash)]
+#[non_exhaustive]
 pub enum DebugRecord {
     /// [`Image::symbol_key_of`].
     SymbolKey = 0,

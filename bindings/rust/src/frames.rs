@@ -80,6 +80,7 @@ impl<'s> MemoryList<'s> {
 
 /// Why the registers of the caller are not found.
 #[derive(Clone, Copy, Debug, PartialEq, Eq)]
+#[cfg_attr(feature = "serde", derive(serde::Serialize))]
 #[non_exhaustive]
 pub enum StepError {
     /// The eight bytes at this address are not all in the memory.

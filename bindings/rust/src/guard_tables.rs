@@ -8,6 +8,7 @@ use core::iter::FusedIterator;
 
 /// A table of a load configuration.
 #[derive(Clone, Copy, Debug, PartialEq, Eq, Hash)]
+#[non_exhaustive]
 pub enum GuardTable {
     /// Exception handlers of an x86 image (`SEHandlerTable`). Its entries have no flags.
     SeHandlers = 0,
@@ -22,11 +23,14 @@ pub enum GuardTable {
 }
 
 /// An entry of a table.
-#[derive(Clone, Copy, Debug, PartialEq, Eq)]
+#[derive(Clone, Copy, Debug, Default, PartialEq, Eq)]
+#[cfg_attr(feature = "serde", derive(serde::Serialize))]
+#[non_exhaustive]
 pub struct GuardEntry<'a> {
     /// The RVA of the function, handler, target or entry.
     pub rva: u32,
     /// The flags that follow it, as many bytes as bits 28 to 31 of the guard flags say. `IMAGE_GUARD_FLAG_*` are of the first.
+    #[cfg_attr(feature = "serde", serde(serialize_with = "crate::serialized::hex"))]
     pub flags: &'a [u8],
 }
 

@@ -375,6 +375,19 @@ pub(crate) fn bytes_of(range: sys::Range, bytes: &[u8]) -> Result<&[u8], Error> 
     range.of(bytes).ok_or(Error::SHORT)
 }
 
+/// The text of bytes that the library returned as one. It proves of these that they are UTF-8, so they are not tested here: many names
+/// may share one long text, which would be read again for each.
+pub(crate) fn text_in(bytes: &[u8]) -> &str {
+    debug_assert!(bytes.len() > 4096 || core::str::from_utf8(bytes).is_ok());
+    // SAFETY: as above. Each caller passes what `pe.h` says is UTF-8.
+    unsafe { core::str::from_utf8_unchecked(bytes) }
+}
+
+/// The text of a range that the library returned, of which `pe.h` says that it is UTF-8.
+pub(crate) fn text_of(range: sys::Range, bytes: &[u8]) -> Result<&str, Error> {
+    bytes_of(range, bytes).map(text_in)
+}
+
 /// The bytes up to the first zero, or all of them.
 pub(crate) fn up_to_zero(bytes: &[u8]) -> &[u8] {
     bytes.split(|byte| *byte == 0).next().unwrap_or_default()

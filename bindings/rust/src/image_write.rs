@@ -2,7 +2,7 @@
 //! <https://learn.microsoft.com/windows/win32/debug/pe-format#overview>.
 
 use crate::image::{Error, Image};
-use crate::signing::file_of;
+use crate::signing::{file_of, length_of};
 use crate::sys::{self, Section};
 use alloc::vec::Vec;
 
@@ -36,11 +36,8 @@ impl Image<'_> {
     /// [`Error::WRITE_SECTION`] where the data of one are not in it; [`Error::MEMORY`] if the file cannot be allocated.
     pub fn write_whole(&self, sections: &[Section]) -> Result<Vec<u8>, Error> {
         let view = self.view_with(sections);
-        let mut length = 0;
-        // SAFETY: the view is of what is lent for the call.
-        Error::of(unsafe { sys::pe_c_whole_length(&view, &mut length) })?;
-        file_of(length, |room, end| {
-            // SAFETY: as above; the room is fresh, so it overlaps nothing.
+        file_of(|room, end| {
+            // SAFETY: the view is of what is lent for the call; the room is fresh, so it overlaps nothing.
             unsafe { sys::pe_c_write_whole(&view, room.as_mut_ptr(), room.len(), end) }
         })
     }
@@ -67,10 +64,10 @@ impl Image<'_> {
     /// Those of [`write_image`](Self::write_image), but [`Error::WRITE_FIT`] only where no array is long enough.
     pub fn image_length(&self, sections: &[Section]) -> Result<u64, Error> {
         let view = self.view_with(sections);
-        let mut length = 0;
-        // SAFETY: the view is of what is lent for the call.
-        Error::of(unsafe { sys::pe_c_image_length(&view, &mut length) })?;
-        Ok(length)
+        length_of(|room, end| {
+            // SAFETY: the view is of what is lent for the call, and the room overlaps nothing.
+            unsafe { sys::pe_c_write_image(&view, room.as_mut_ptr(), room.len(), end) }
+        })
     }
 
     /// Writes the headers, these sections with zeros up to multiples of the file alignment, and the certificates into an array.
@@ -88,7 +85,9 @@ impl Image<'_> {
         let view = self.view_with(sections);
         let mut end = 0;
         // SAFETY: the view is of what is lent for the call, and the room, borrowed apart from it, overlaps nothing.
-        Error::of(unsafe { sys::pe_c_write_image(&view, room.as_mut_ptr(), room.len(), &mut end) })?;
-        Ok(end)
+        match unsafe { sys::pe_c_write_image(&view, room.as_mut_ptr(), room.len(), &mut end) } {
+            sys::ROOM => Err(Error::WRITE_FIT),
+            number => Error::of(number).map(|()| end),
+        }
     }
 }

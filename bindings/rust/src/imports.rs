@@ -3,22 +3,22 @@
 //! [Microsoft's page](https://learn.microsoft.com/windows/win32/debug/pe-format#the-idata-section).
 
 use crate::failure::Failure;
-use crate::image::{bytes_of, Error, Image};
+use crate::image::{text_of, Error, Image};
 use crate::shown::{self, shown};
 use crate::sys;
-use crate::walk::{most_names, ImageList, Listing, Together};
+use crate::walk::{most_names, ImageList, Together};
 use core::iter::FusedIterator;
 
 /// A DLL that an image imports from.
 #[derive(Clone, Copy)]
 pub struct Library<'i, 'a> {
     image: &'i Image<'a>,
-    /// The DLL's name: UTF-8, without its final zero.
-    pub name: &'a [u8],
+    /// The DLL's name, without its final zero.
+    pub name: &'a str,
     raw: sys::Library,
 }
 
-shown! { Library<'_, '_> { name: shown::Text, raw; .. } }
+shown! { Library<'_, '_> { name: shown::name, raw; .. } }
 
 impl<'i, 'a> Library<'i, 'a> {
     /// The record of the C library, with the RVAs of the lookup and address tables.
@@ -74,9 +74,8 @@ impl<'i, 'a> Library<'i, 'a> {
 ///         found.push((library.name, import?.name));
 ///     }
 /// }
-/// let kernel32 = b"KERNEL32.dll".as_slice();
-/// assert_eq!(found[0], (kernel32, Some(b"Sleep".as_slice())));
-/// assert_eq!(found[1], (kernel32, None)); // by ordinal
+/// assert_eq!(found[0], ("KERNEL32.dll", Some("Sleep")));
+/// assert_eq!(found[1], ("KERNEL32.dll", None)); // by ordinal
 /// # Ok::<(), pe_c::Error>(())
 /// ```
 #[derive(Clone, Debug)]
@@ -90,11 +89,10 @@ impl<'i, 'a> Iterator for Libraries<'i, 'a> {
         // Nothing says how many are left: four times as many as there were.
         let most = |_: &sys::Libraries, taken: usize| (4 * taken).min(most_names(image.bytes()));
         let cost = |it: &sys::Library| it.name.length + it.imports.left.length;
-        let (call, together) =
-            (sys::pe_c_list_libraries as Listing<_, _>, sys::pe_c_list_libraries_together as Together<_, _>);
-        let found: Result<sys::Library, Error> = self.0.step_together(call, together, 2, most, cost)?;
+        let call = sys::pe_c_list_libraries as Together<_, _>;
+        let found: Result<sys::Library, Error> = self.0.step_together(call, 2, most, cost)?;
         Some(found.and_then(|raw| {
-            let name = bytes_of(raw.name, image.bytes())?;
+            let name = text_of(raw.name, image.bytes())?;
             Ok(Library { image, name, raw })
         }))
     }
@@ -127,10 +125,12 @@ impl Libraries<'_, '_> {
 }
 
 /// An import, by name or by ordinal.
-#[derive(Clone, Copy, PartialEq, Eq)]
+#[derive(Clone, Copy, Default, PartialEq, Eq)]
+#[cfg_attr(feature = "serde", derive(serde::Serialize))]
+#[non_exhaustive]
 pub struct Import<'a> {
-    /// UTF-8, without its final zero; `None` for an import by ordinal.
-    pub name: Option<&'a [u8]>,
+    /// Without its final zero; `None` for an import by ordinal.
+    pub name: Option<&'a str>,
     /// The ordinal; with a name its hint, an index into the DLL's table of names.
     pub ordinal: u32,
     /// RVA of the slot to which the loader writes the import's virtual address.
@@ -141,7 +141,7 @@ shown! { Import<'_> { name: shown::text, ordinal, rva } }
 
 impl<'a> Import<'a> {
     fn of(found: &sys::Import, bytes: &'a [u8]) -> Result<Self, Error> {
-        let name = bytes_of(found.name, bytes)?;
+        let name = text_of(found.name, bytes)?;
         Ok(Import { name: (found.has_name != 0).then_some(name), ordinal: found.ordinal, rva: found.rva })
     }
 }
@@ -168,8 +168,7 @@ impl<'a> Imports<'_, 'a> {
     fn listed(&mut self) -> Option<Result<Import<'a>, Error>> {
         let bytes = self.list.source.bytes();
         let most = |walk: &sys::Imports, _| (walk.left.length / 4).min(most_names(bytes) as u64) as usize;
-        let (call, together) = (sys::pe_c_list_imports, sys::pe_c_list_imports_together);
-        let found = self.list.step_together(call, together, 1, most, |it| it.name.length)?;
+        let found = self.list.step_together(sys::pe_c_list_imports, 1, most, |it| it.name.length)?;
         self.rest = self.rest.filter(|_| found.is_ok());
         Some(found.and_then(|found| Import::of(&found, bytes)))
     }
@@ -223,10 +222,12 @@ impl Imports<'_, '_> {
 }
 
 /// An import, and the DLL that it is from.
-#[derive(Clone, Copy, PartialEq, Eq)]
+#[derive(Clone, Copy, Default, PartialEq, Eq)]
+#[cfg_attr(feature = "serde", derive(serde::Serialize))]
+#[non_exhaustive]
 pub struct LibraryImport<'a> {
-    /// The DLL's name: UTF-8, without its final zero.
-    pub library: &'a [u8],
+    /// The DLL's name, without its final zero.
+    pub library: &'a str,
     /// The DLL's index among [`Image::libraries`].
     pub index: u64,
     /// The import.
@@ -235,7 +236,7 @@ pub struct LibraryImport<'a> {
     pub hint_rva: Option<u32>,
 }
 
-shown! { LibraryImport<'_> { library: shown::Text, index, import, hint_rva } }
+shown! { LibraryImport<'_> { library: shown::name, index, import, hint_rva } }
 
 /// The imports of all DLLs of an image, one DLL after the other.
 ///
@@ -252,9 +253,8 @@ shown! { LibraryImport<'_> { library: shown::Text, index, import, hint_rva } }
 /// let image = Image::parse(&bytes, Mode::Permissive)?;
 /// let imports: Vec<_> = image.imports()?.collect::<Result<_, _>>()?;
 /// let names: Vec<_> = imports.iter().map(|it| (it.library, it.import.name)).collect();
-/// let (kernel32, a) = (b"KERNEL32.dll".as_slice(), b"a.dll".as_slice());
 /// // The second is imported by its ordinal.
-/// assert_eq!(names, [(kernel32, Some(b"Sleep".as_slice())), (kernel32, None), (a, Some(b"f".as_slice()))]);
+/// assert_eq!(names, [("KERNEL32.dll", Some("Sleep")), ("KERNEL32.dll", None), ("a.dll", Some("f"))]);
 /// # Ok::<(), pe_c::Error>(())
 /// ```
 #[derive(Clone, Debug)]
@@ -270,11 +270,11 @@ impl<'a> Iterator for AllImports<'_, 'a> {
     fn next(&mut self) -> Option<Self::Item> {
         let (bytes, libraries) = (self.list.source.bytes(), self.libraries);
         let more = |walk: &sys::LibraryImports| libraries.saturating_sub(walk.begun) as usize;
-        let found = self.list.step_with_runs(sys::pe_c_list_all_imports_together, more)?;
+        let found = self.list.step_with_runs(sys::pe_c_list_all_imports, more)?;
         Some(found.and_then(|found| {
             let import = Import::of(&found.import, bytes)?;
             let hint_rva = import.name.map(|_| found.hint_rva);
-            Ok(LibraryImport { library: bytes_of(found.library_name, bytes)?, index: found.library, import, hint_rva })
+            Ok(LibraryImport { library: text_of(found.library_name, bytes)?, index: found.library, import, hint_rva })
         }))
     }
 }

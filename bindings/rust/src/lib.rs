@@ -18,6 +18,7 @@
 //! | unwind data | [`functions`](Image::functions), [`arm64_functions`](Image::arm64_functions) | [x64], [ARM64] |
 //! | a stack walk | [`Frames`], on x64 and ARM64; one step of it [`Functions::step`], [`Registers::leaf`], over memory in pieces [`Functions::step_pieces`] | [x64] |
 //! | | one step of it on ARM64 [`Arm64Functions::step`], [`Arm64Registers::leaf`] | [ARM64] |
+//! | names of functions | [`function_names`](Image::function_names), of a dump [`DumpImages::function_names`] | [.edata] |
 //! | exports, imports | [`exports`](Image::exports), [`export_addresses`](Image::export_addresses), [`libraries`](Image::libraries) | [.edata], [.idata] |
 //! | delay imports | [`delay_imports`](Image::delay_imports), [`delayed_functions`](Image::delayed_functions) | [delay load] |
 //! | bound imports | [`bound_imports`](Image::bound_imports), [`bound_forwarders`](Image::bound_forwarders) | |
@@ -57,6 +58,13 @@
 //! - Every list is an iterator. After an `Err` item it returns `None`; [`VersionBlocks`] alone may go on after one.
 //! - No bytes, registers or memory make a call panic or loop forever. Of the methods of an [`Image`] only [`Image::parse`] and
 //!   a clone, both for the section headers and an index of them, [`Image::attach`] and [`Image::detach`] allocate.
+//! - Names that the library proves to be UTF-8 are `&str`: of DLLs, functions, forwarders, symbols, long names of sections. Others are
+//!   bytes, as the name of a PDB, whose code page nothing says.
+//! - Records to which fields may be added are `#[non_exhaustive]`: read them by their fields. For a test of your own make one by
+//!   `Default` and set its fields, or by `new`, which [`Frame`], [`DumpStack`] and [`SymbolKey`] have. What a caller passes in, as a
+//!   [`Stack`], [`Registers`] or a [`MemoryPiece`], has all its fields.
+//! - The feature `serde` has records implement `Serialize`, also with fields of `pe.h`: names are texts with U+FFFD for what is not UTF-8,
+//!   contents hexadecimal digits, GUIDs texts, errors their texts.
 //! - `{:?}` of a record prints names as texts, up to 256 bytes of each, and contents by how many bytes they have: never the file.
 //! - An `offset` counts bytes from the start of the image's bytes: a file offset, or in a module in memory an RVA.
 //! - The docs of a call list its errors in the order in which they are tested.
@@ -99,6 +107,7 @@ mod dump;
 mod exports;
 mod failure;
 mod frames;
+mod function_names;
 mod guard_tables;
 mod image;
 mod image_write;
@@ -110,6 +119,8 @@ mod resources;
 mod rich_header;
 mod section_names;
 mod section_write;
+#[cfg(feature = "serde")]
+mod serialized;
 mod shown;
 mod signatures;
 mod signing;
@@ -145,6 +156,7 @@ pub use dump::{Dump, DumpContext, DumpMemory64, DumpRecords, DumpRegisters};
 pub use exports::{AddressTable, Export, Exported, Exports};
 pub use failure::{DebugRecord, Failure};
 pub use frames::{MemoryList, Stack, StepError};
+pub use function_names::{FunctionName, NameSource, NameTable};
 pub use guard_tables::{GuardEntries, GuardEntry, GuardTable};
 pub use image::{DirectoryIndex, Error, Image, Layout, Mode};
 pub use imports::{AllImports, Import, Imports, Libraries, Library, LibraryImport};
@@ -163,11 +175,11 @@ pub use stack_walk::{End, Frame, Frames, MachineRegisters, Module, Way};
 pub use stacks::{DumpImage, DumpImages, DumpMemory, DumpStack, ImageSource, Stacks};
 pub use symbol_server::{Guid, SymbolPath};
 pub use sys::{
-    Arm64Context, Arm64Function, Arm64Packed, Arm64Registers, Arm64Scope, CoffHeader, Context, DebugEntry, Directory,
-    DosHeader, DumpEntry, DumpException, DumpHandle, DumpInfo, DumpLocation, DumpModule, DumpPiece, DumpPower,
-    DumpProcess, DumpRegion, DumpSystem, DumpThread, DumpThreadInfo, DumpThreadName, DumpThreadStack, DumpTimes,
-    DumpUnloaded, DumpVersion, ExportFields, Function, Headers, ImageInfo, MemoryPiece, OptionalHeader, Registers,
-    Scope, Section, SymbolEntry, TeHeader, VcFeatures,
+    Arm64Context, Arm64Function, Arm64Packed, Arm64Registers, Arm64Scope, CodeAddress, CoffHeader, Context, DebugEntry,
+    Directory, DosHeader, DumpEntry, DumpException, DumpHandle, DumpInfo, DumpLocation, DumpModule, DumpPiece,
+    DumpPower, DumpProcess, DumpRegion, DumpSystem, DumpThread, DumpThreadInfo, DumpThreadName, DumpThreadStack,
+    DumpTimes, DumpUnloaded, DumpVersion, ExportFields, Function, Headers, ImageInfo, MemoryPiece, OptionalHeader,
+    Registers, Scope, Section, SymbolEntry, TeHeader, VcFeatures,
 };
 pub use te::{Te, TeDebugEntries};
 pub use tls::{Tls, TlsCallbacks};

@@ -22,7 +22,9 @@ use crate::sys;
 /// assert!(guarded);
 /// # Ok::<(), pe_c::Error>(())
 /// ```
-#[derive(Clone, Copy, Debug, PartialEq, Eq)]
+#[derive(Clone, Copy, Debug, Default, PartialEq, Eq)]
+#[cfg_attr(feature = "serde", derive(serde::Serialize))]
+#[non_exhaustive]
 pub struct LoadConfig {
     /// Of the structure in bytes, as it says itself.
     pub size: u32,
@@ -56,6 +58,7 @@ pub struct LoadConfig {
 /// A field that [`LoadConfig`] does not have, in the order of winnt.h. What is named a table or a pointer is a virtual address, but for
 /// offsets.
 #[derive(Clone, Copy, Debug, PartialEq, Eq, Hash)]
+#[non_exhaustive]
 pub enum LoadConfigField {
     /// `GlobalFlagsClear`: flags that are cleared in the process.
     GlobalFlagsClear = 0,

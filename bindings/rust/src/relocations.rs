@@ -11,6 +11,18 @@ use alloc::vec::Vec;
 use core::iter::FusedIterator;
 
 /// A block of base relocations.
+///
+/// ```
+/// # #[path = "../tests/made/mod.rs"] mod made;
+/// # let bytes = made::with_relocations();
+/// use pe_c::{Image, Mode};
+///
+/// let image = Image::parse(&bytes, Mode::Permissive)?;
+/// let block = image.relocation_blocks()?.next().expect("the image has relocations")?;
+/// let first = block.relocations().next().expect("the block has entries")?;
+/// assert_eq!((block.page_rva, first.rva, first.kind), (0x1000, 0x1008, 10)); // IMAGE_REL_BASED_DIR64
+/// # Ok::<(), Box<dyn std::error::Error>>(())
+/// ```
 #[derive(Clone, Copy)]
 pub struct RelocationBlock<'a> {
     /// RVA of the page that its relocations count from.
@@ -22,7 +34,9 @@ pub struct RelocationBlock<'a> {
 shown! { RelocationBlock<'_> { page_rva, entries; .. } }
 
 /// A base relocation.
-#[derive(Clone, Copy, Debug, PartialEq, Eq)]
+#[derive(Clone, Copy, Debug, Default, PartialEq, Eq)]
+#[cfg_attr(feature = "serde", derive(serde::Serialize))]
+#[non_exhaustive]
 pub struct Relocation {
     /// RVA of what to change; in a hostile block it may pass 32 bits.
     pub rva: u64,
@@ -130,7 +144,7 @@ impl Image<'_> {
     /// [`Error::MEMORY`] if it cannot be allocated.
     pub fn map(&self) -> Result<Vec<u8>, Error> {
         let view = self.view();
-        file_of(u64::from(self.info().size_of_image), |room, written| {
+        file_of(|room, written| {
             // SAFETY: the view is of what `self` lends for the call; the room is fresh.
             unsafe { sys::pe_c_map(&view, room.as_mut_ptr(), room.len(), written) }
         })

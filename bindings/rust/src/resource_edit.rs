@@ -106,6 +106,7 @@ pub type ResourcePlace = (ResourceKey, ResourceKey, u16);
 
 /// The content of a resource in one language.
 #[derive(Clone, PartialEq, Eq)]
+#[non_exhaustive]
 pub struct ResourceContent<'a> {
     /// The code page of its texts; most linkers write 0.
     pub code_page: u32,
@@ -247,15 +248,16 @@ impl<'a> ResourceEditor<'a> {
     fn records(&self) -> Result<(Vec<sys::Resource>, Vec<u8>), Error> {
         let mut data = Vec::new();
         let offsets = self.contents(&mut data)?;
-        let record = |(((resource_type, name, language), content), offset): ((&ResourcePlace, &ResourceContent<'_>), u64)| {
-            sys::Resource {
-                resource_type: resource_type.record(&mut data),
-                name: name.record(&mut data),
-                content: sys::Range { offset, length: content.bytes.len() as u64 },
-                language: u32::from(*language),
-                code_page: content.code_page,
-            }
-        };
+        let record =
+            |(((resource_type, name, language), content), offset): ((&ResourcePlace, &ResourceContent<'_>), u64)| {
+                sys::Resource {
+                    resource_type: resource_type.record(&mut data),
+                    name: name.record(&mut data),
+                    content: sys::Range { offset, length: content.bytes.len() as u64 },
+                    language: u32::from(*language),
+                    code_page: content.code_page,
+                }
+            };
         let records = self.resources.iter().zip(offsets).map(record).collect();
         Ok((records, data))
     }
@@ -278,24 +280,11 @@ impl<'a> ResourceEditor<'a> {
     pub fn write(&self) -> Result<Vec<u8>, Error> {
         let (records, data) = self.records()?;
         let view = sys::View::of(self.bytes, &self.info, &[], &[]);
-        /// A call of the image and these resources. Its other arguments are lent for the call; a room is apart from the others.
-        macro_rules! call {
-            ($call:ident, $($argument:expr),+) => {
-                // SAFETY: each pointer and length are those of one slice, and the view is of what is lent for the call.
-                unsafe {
-                    sys::$call(
-                        &view,
-                        records.as_ptr(),
-                        records.len(),
-                        data.as_ptr(),
-                        data.len(),
-                        $($argument),+
-                    )
-                }
-            };
-        }
-        let mut length = 0;
-        Error::of(call!(pe_c_edited_length, &mut length))?;
-        file_of(length, |room, written| call!(pe_c_edit, room.as_mut_ptr(), room.len(), written))
+        let (first, count, start, length) = (records.as_ptr(), records.len(), data.as_ptr(), data.len());
+        file_of(|room, written| {
+            // SAFETY: each pointer and length are those of one slice, the view is of what is lent for the call, and the room is apart
+            // from the others.
+            unsafe { sys::pe_c_edit(&view, first, count, start, length, room.as_mut_ptr(), room.len(), written) }
+        })
     }
 }

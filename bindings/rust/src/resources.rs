@@ -24,6 +24,7 @@ pub enum ResourceName<'a> {
 
 /// A resource in one language.
 #[derive(Clone, Copy)]
+#[cfg_attr(feature = "serde", derive(serde::Serialize))]
 pub struct ResourceLeaf<'a> {
     /// The type.
     pub resource_type: ResourceName<'a>,
@@ -37,8 +38,11 @@ pub struct ResourceLeaf<'a> {
     pub size: u32,
     /// The code page of texts in the content, mostly 0.
     pub code_page: u32,
+    #[cfg_attr(feature = "serde", serde(skip))]
     bytes: &'a [u8],
+    #[cfg_attr(feature = "serde", serde(skip))]
     content: sys::Range,
+    #[cfg_attr(feature = "serde", serde(skip))]
     content_result: u32,
 }
 
@@ -251,6 +255,8 @@ impl<'a> ResourceDirectory<'a> {
 
 /// An entry of a directory of a resource tree.
 #[derive(Clone, Copy, Debug, PartialEq, Eq)]
+#[cfg_attr(feature = "serde", derive(serde::Serialize))]
+#[non_exhaustive]
 pub struct ResourceItem<'a> {
     /// What names it.
     pub name: ResourceName<'a>,

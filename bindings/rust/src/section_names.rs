@@ -3,7 +3,7 @@
 //! <https://learn.microsoft.com/windows/win32/debug/pe-format#section-table-section-headers>.
 
 use crate::coff::room_for;
-use crate::image::{bytes_of, Error, Image};
+use crate::image::{bytes_of, text_of, Error, Image};
 use crate::sys::{self, Section};
 use alloc::vec::Vec;
 
@@ -31,19 +31,19 @@ impl<'a> Image<'a> {
         found.and_then(|range| bytes_of(range, self.bytes()).ok()).unwrap_or_default()
     }
 
-    /// The name of a section in the string table: UTF-8, without its final zero. `None` where the header has the name itself,
+    /// The name of a section in the string table, without its final zero. `None` where the header has the name itself,
     /// [`Section::name`]; where the image has no string table; and where no string is at the offset, NUL-terminated and UTF-8.
     ///
     /// # Errors
     ///
     /// Those of [`Image::string_table`].
-    pub fn long_section_name(&self, section: &Section) -> Result<Option<&'a [u8]>, Error> {
+    pub fn long_section_name(&self, section: &Section) -> Result<Option<&'a str>, Error> {
         let Some(table) = self.string_table_range()? else { return Ok(None) };
         let (bytes, mut out) = (self.bytes(), sys::Range::default());
         // SAFETY: the pointer and the length are those of one slice; the records are lent for the call.
         let number = unsafe { sys::pe_c_long_section_name(bytes.as_ptr(), bytes.len(), &table, section, &mut out) };
         match crate::image::returned(number, out)? {
-            Some(name) => Ok(Some(bytes_of(name, bytes)?)),
+            Some(name) => Ok(Some(text_of(name, bytes)?)),
             None => Ok(None),
         }
     }
@@ -65,7 +65,7 @@ impl<'a> Image<'a> {
     /// # Errors
     ///
     /// Those of [`Image::string_table`]; [`Error::MEMORY`].
-    pub fn long_section_names(&self) -> Result<Vec<Option<&'a [u8]>>, Error> {
+    pub fn long_section_names(&self) -> Result<Vec<Option<&'a str>>, Error> {
         let table = self.string_table_range()?;
         // SAFETY: the view is of what is borrowed here.
         unsafe { long_names(&self.view(), self.bytes(), table) }
@@ -81,7 +81,7 @@ pub(crate) unsafe fn long_names<'a>(
     view: &sys::View,
     bytes: &'a [u8],
     table: Option<sys::Range>,
-) -> Result<Vec<Option<&'a [u8]>>, Error> {
+) -> Result<Vec<Option<&'a str>>, Error> {
     let count = view.count;
     let mut names = room_for(count, None)?;
     let Some(table) = table.filter(|_| count > 0) else { return Ok(names) };
@@ -93,7 +93,7 @@ pub(crate) unsafe fn long_names<'a>(
         unsafe { sys::pe_c_list_long_section_names(view, &table, &mut next, room, count, ranges, count, &mut written) };
     Error::of(number)?;
     for (name, range) in names.iter_mut().zip(&found) {
-        *name = if range.offset == 0 { None } else { Some(bytes_of(*range, bytes)?) };
+        *name = if range.offset == 0 { None } else { Some(text_of(*range, bytes)?) };
     }
     Ok(names)
 }

@@ -32,9 +32,14 @@ impl fmt::Debug for Text<'_> {
     }
 }
 
+/// The same of a name that is UTF-8.
+pub(crate) fn name(name: &str) -> Text<'_> {
+    Text(name.as_bytes())
+}
+
 /// A name that may be absent.
-pub(crate) fn text(name: Option<&[u8]>) -> Option<Text<'_>> {
-    name.map(Text)
+pub(crate) fn text(text: Option<&str>) -> Option<Text<'_>> {
+    text.map(name)
 }
 
 /// A name in UTF-16, by its code units, as a text in quotes with U+FFFD for an unpaired surrogate.

@@ -4,6 +4,7 @@
 //! <https://learn.microsoft.com/windows/win32/debug/pe-format#process-for-generating-the-authenticode-pe-image-hash>.
 //! A caller hashes what the digest covers by a crate of its choice, signs that, and attaches the signature.
 
+use crate::coff::room_for;
 use crate::image::{Error, Image};
 use crate::shown::shown;
 use crate::sys;
@@ -42,7 +43,9 @@ impl<'a> DigestRanges<'a> {
 }
 
 /// The checksum that an image should have, and where it is.
-#[derive(Clone, Copy, Debug, PartialEq, Eq)]
+#[derive(Clone, Copy, Debug, Default, PartialEq, Eq)]
+#[cfg_attr(feature = "serde", derive(serde::Serialize))]
+#[non_exhaustive]
 pub struct Checksum {
     /// File offset of the field that holds it, 4 bytes, little-endian.
     pub offset: u64,
@@ -52,6 +55,7 @@ pub struct Checksum {
 
 /// Where a certificate is attached.
 #[derive(Clone, Copy, Debug, PartialEq, Eq, Hash)]
+#[non_exhaustive]
 pub enum Placement {
     /// After the certificates that are there.
     After = 0,
@@ -59,13 +63,19 @@ pub enum Placement {
     InPlace = 1,
 }
 
-/// A file of a length, which the write fills.
-pub(crate) fn file_of(length: u64, write: impl FnOnce(&mut [u8], &mut u64) -> u32) -> Result<Vec<u8>, Error> {
-    let length = usize::try_from(length).map_err(|_| Error::MEMORY)?;
-    let mut file = Vec::new();
-    file.try_reserve_exact(length).map_err(|_| Error::MEMORY)?;
-    file.resize(length, 0);
-    let mut written = 0;
+/// How many bytes a write needs, which says so where it has no room.
+pub(crate) fn length_of(write: impl FnOnce(&mut [u8], &mut u64) -> u32) -> Result<u64, Error> {
+    let mut length = 0;
+    match write(&mut [], &mut length) {
+        sys::ROOM => Ok(length),
+        number => Error::of(number).map(|()| length),
+    }
+}
+
+/// The file that a write fills, as long as it asks for.
+pub(crate) fn file_of(mut write: impl FnMut(&mut [u8], &mut u64) -> u32) -> Result<Vec<u8>, Error> {
+    let length = usize::try_from(length_of(&mut write)?).map_err(|_| Error::MEMORY)?;
+    let (mut file, mut written) = (room_for(length, 0)?, 0);
     Error::of(write(&mut file, &mut written))?;
     Ok(file)
 }
@@ -143,11 +153,9 @@ impl<'a> Image<'a> {
     pub fn attach(&self, certificate: &[u8], placement: Placement) -> Result<Vec<u8>, Error> {
         let view = self.view();
         let (first, count, way) = (certificate.as_ptr(), certificate.len(), placement as u32);
-        let mut length = 0;
-        // SAFETY: the view is of what `self` lends for the call, and the pointer and the length are those of one slice.
-        Error::of(unsafe { sys::pe_c_attached_length(&view, first, count, way, &mut length) })?;
-        file_of(length, |room, written| {
-            // SAFETY: as above; the room is fresh, so it overlaps nothing.
+        file_of(|room, written| {
+            // SAFETY: the view is of what `self` lends for the call, the pointer and the length are those of one slice, and the room
+            // is fresh, so it overlaps nothing.
             unsafe { sys::pe_c_attach(&view, first, count, way, room.as_mut_ptr(), room.len(), written) }
         })
     }
@@ -160,9 +168,8 @@ impl<'a> Image<'a> {
     ///
     /// Those of [`Image::attach`] up to [`Error::SIGN_SECTION`]; [`Error::MEMORY`] if the file cannot be allocated.
     pub fn detach(&self) -> Result<Vec<u8>, Error> {
-        let length = self.ask(sys::pe_c_detached_length)?.unwrap_or_default();
         let view = self.view();
-        file_of(length, |room, written| {
+        file_of(|room, written| {
             // SAFETY: the view is of what `self` lends for the call; the room is fresh.
             unsafe { sys::pe_c_detach(&view, room.as_mut_ptr(), room.len(), written) }
         })

@@ -68,6 +68,7 @@ impl<'m> Module<'m> {
 
 /// How a frame was found.
 #[derive(Clone, Copy, Debug, PartialEq, Eq)]
+#[cfg_attr(feature = "serde", derive(serde::Serialize))]
 #[non_exhaustive]
 pub enum Way {
     /// It is the top frame.
@@ -79,14 +80,16 @@ pub enum Way {
     /// An interrupt stopped it: in the frame below it the frame was undone that the processor pushed, or on ARM64 what the
     /// operating system saved.
     Interrupt,
-    /// By a scan of the stack, where no records led on. It is the first word whose call leads to the code without records in
-    /// which the frame before it is, or if there is none, the first that is after a call in executable code. It may be a return
-    /// address that was left there, so this frame and those after it may be wrong.
+    /// By a scan of the stack, where no records led on. It is the word whose call leads to the code without records in which the
+    /// frame before it is, to the nearest address before that, or if there is none, the first that is after a call in executable
+    /// code. It may be a return address that was left there, so this frame and those after it may be wrong.
     Scanned,
 }
 
 /// A frame of a stack walk: on x64 with [`Registers`], on ARM64 with [`Arm64Registers`].
 #[derive(Clone, Copy, Debug, PartialEq, Eq)]
+#[cfg_attr(feature = "serde", derive(serde::Serialize))]
+#[non_exhaustive]
 pub struct Frame<R = Registers> {
     /// The registers in its function. In the frame of a call `rip`, or `pc`, is the return address.
     pub registers: R,
@@ -101,8 +104,24 @@ pub struct Frame<R = Registers> {
     pub is_guess: bool,
 }
 
+impl<R> Frame<R> {
+    /// A frame as a walk reports it that nothing makes a guess of but a scan. The top frame has not called, nor one that an interrupt
+    /// stopped.
+    ///
+    /// ```
+    /// use pe_c::{Frame, Registers, Way};
+    ///
+    /// let frame = Frame::new(Registers { rip: 0x1_8000_1234, ..Registers::default() }, Way::Scanned);
+    /// assert!(frame.has_called && frame.is_guess);
+    /// ```
+    pub fn new(registers: R, way: Way) -> Self {
+        Frame { registers, way, has_called: !matches!(way, Way::Top | Way::Interrupt), is_guess: way == Way::Scanned }
+    }
+}
+
 /// Why a stack walk is over.
 #[derive(Clone, Copy, Debug, PartialEq, Eq)]
+#[cfg_attr(feature = "serde", derive(serde::Serialize))]
 #[non_exhaustive]
 pub enum End {
     /// As many frames were returned as the caller wants.
@@ -240,9 +259,9 @@ const MOST_AT_ONCE: usize = 1024;
 /// other frame it has to rise.
 ///
 /// The top frame, and one that was interrupted, may be in no function, as after a call of a null pointer. The return address is
-/// then at its stack pointer, on ARM64 in its link register, if a call ends at it. If none does, and of any other frame in no
-/// function, it is the first of the 128 words from the stack pointer on that is after a call in an executable section:
-/// [`Way::Scanned`] says so. Frames found so are guesses, as [`Frame::is_guess`] says, and the stack is whole only without any.
+/// then at its stack pointer, on ARM64 in its link register, if a call ends at it, or if it is in a module without an image. If
+/// not, and of any other frame in no function, it is one of the 128 words from the stack pointer on that is after a call in an
+/// executable section: [`Way::Scanned`] says which. Frames found so are guesses, as [`Frame::is_guess`] says, and the stack is whole only without any.
 ///
 /// On x64:
 ///

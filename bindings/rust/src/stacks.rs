@@ -184,6 +184,7 @@ impl<'a> DumpMemory<'a> {
 
 /// Where the image of a module comes from.
 #[derive(Clone, Copy, Debug, PartialEq, Eq)]
+#[cfg_attr(feature = "serde", derive(serde::Serialize))]
 #[non_exhaustive]
 pub enum ImageSource {
     /// From the dump's memory, all of it.
@@ -196,6 +197,7 @@ pub enum ImageSource {
 
 /// The image of a module.
 #[derive(Clone, Debug)]
+#[non_exhaustive]
 pub struct DumpImage<'a> {
     /// The image: a file, or as loaded.
     pub image: Image<'a>,
@@ -338,11 +340,20 @@ impl<'a> DumpImages<'a> {
 
 /// The frames of a thread, from the top frame outwards.
 #[derive(Clone)]
+#[cfg_attr(feature = "serde", derive(serde::Serialize))]
+#[non_exhaustive]
 pub struct DumpStack {
     /// The frames.
     pub frames: Vec<Frame<DumpRegisters>>,
     /// Why the walk is over. [`End::Bound`] also where all walks together have cost as much as they may.
     pub end: End,
+}
+
+impl DumpStack {
+    /// A stack with these frames.
+    pub fn new(frames: Vec<Frame<DumpRegisters>>, end: End) -> Self {
+        DumpStack { frames, end }
+    }
 }
 
 impl fmt::Debug for DumpStack {

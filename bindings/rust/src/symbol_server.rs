@@ -22,7 +22,7 @@ pub struct Guid(pub [u8; 16]);
 
 impl Guid {
     /// How a GUID is written: with hyphens, or as on a symbol server.
-    const HYPHENS: u32 = 0;
+    pub(crate) const HYPHENS: u32 = 0;
     pub(crate) const DIGITS: u32 = 1;
 
     /// Writes the 32 digits, with hyphens or without them.

@@ -14,6 +14,8 @@ use crate::Error;
 pub const DONE: u32 = 0;
 /// There is nothing of the kind, or the walk is over.
 pub const NOTHING: u32 = 100;
+/// The array is too small.
+pub const ROOM: u32 = 101;
 /// Accepts what the head of pe.h lists; a mode without it is strict.
 pub const PERMISSIVE: u32 = 1;
 /// Added to a mode: the bytes are an image as loaded.
@@ -48,6 +50,7 @@ pub const THREAD_NAMES_STREAM: u32 = 24;
 /// A range of the bytes of the image.
 #[repr(C)]
 #[derive(Clone, Copy, Debug, Default, PartialEq, Eq)]
+#[cfg_attr(feature = "serde", derive(serde::Serialize))]
 pub struct Range {
     /// From the start of the bytes.
     pub offset: u64,
@@ -61,6 +64,7 @@ const _: () = assert!(core::mem::size_of::<Range>() == 16);
 /// Both fields are 0 where it is absent.
 #[repr(C)]
 #[derive(Clone, Copy, Debug, Default, PartialEq, Eq)]
+#[cfg_attr(feature = "serde", derive(serde::Serialize))]
 pub struct Directory {
     /// RVA; of the certificate table a file offset.
     pub virtual_address: u32,
@@ -74,6 +78,7 @@ const _: () = assert!(core::mem::size_of::<Directory>() == 8);
 /// Without an optional header the numbers that it has are 0, and its directories are absent.
 #[repr(C)]
 #[derive(Clone, Copy, Debug, Default, PartialEq, Eq)]
+#[cfg_attr(feature = "serde", derive(serde::Serialize))]
 pub struct ImageInfo {
     /// ImageBase, the preferred virtual address of the image; add RVAs to it.
     pub base: u64,
@@ -122,8 +127,10 @@ const _: () = assert!(core::mem::size_of::<ImageInfo>() == 208);
 /// A section header, `IMAGE_SECTION_HEADER`.
 #[repr(C)]
 #[derive(Clone, Copy, Default, PartialEq, Eq)]
+#[cfg_attr(feature = "serde", derive(serde::Serialize))]
 pub struct Section {
     /// Padded with zeros; a name of 8 bytes is not NUL-terminated.
+    #[cfg_attr(feature = "serde", serde(serialize_with = "crate::serialized::name"))]
     pub name: [u8; 8],
     /// Bytes in memory.
     pub virtual_size: u32,
@@ -205,6 +212,7 @@ const _: () = assert!(core::mem::size_of::<KeptSections>() == 8);
 /// Windows reads the first field and the last alone.
 #[repr(C)]
 #[derive(Clone, Copy, Debug, Default, PartialEq, Eq)]
+#[cfg_attr(feature = "serde", derive(serde::Serialize))]
 pub struct DosHeader {
     /// `e_magic`: 0x5A4D, "MZ".
     pub signature: u16,
@@ -250,6 +258,7 @@ const _: () = assert!(core::mem::size_of::<DosHeader>() == 64);
 /// `IMAGE_FILE_HEADER`.
 #[repr(C)]
 #[derive(Clone, Copy, Debug, Default, PartialEq, Eq)]
+#[cfg_attr(feature = "serde", derive(serde::Serialize))]
 pub struct CoffHeader {
     /// Seconds since 1970, or a hash in a reproducible build.
     pub time_date_stamp: u32,
@@ -271,6 +280,7 @@ const _: () = assert!(core::mem::size_of::<CoffHeader>() == 20);
 /// `IMAGE_OPTIONAL_HEADER32` or `IMAGE_OPTIONAL_HEADER64`.
 #[repr(C)]
 #[derive(Clone, Copy, Debug, Default, PartialEq, Eq)]
+#[cfg_attr(feature = "serde", derive(serde::Serialize))]
 pub struct OptionalHeader {
     /// Preferred virtual address of the image.
     pub image_base: u64,
@@ -342,6 +352,8 @@ const _: () = assert!(core::mem::size_of::<OptionalHeader>() == 120);
 /// Without an optional header its numbers and both offsets are 0, and all directories are absent.
 #[repr(C)]
 #[derive(Clone, Copy, Debug, Default, PartialEq, Eq)]
+#[cfg_attr(feature = "serde", derive(serde::Serialize))]
+#[non_exhaustive]
 pub struct Headers {
     /// The optional header.
     pub optional: OptionalHeader,
@@ -365,12 +377,14 @@ const _: () = assert!(core::mem::size_of::<Headers>() == 368);
 /// A COFF symbol, `IMAGE_SYMBOL`, with what its entry says of others.
 #[repr(C)]
 #[derive(Clone, Copy, Default, PartialEq, Eq)]
+#[cfg_attr(feature = "serde", derive(serde::Serialize))]
 pub struct SymbolEntry {
     /// Its auxiliary records, 18 bytes each, up to the end of the table.
     pub auxiliary: Range,
     /// Index of its entry in the table; auxiliary records count.
     pub index: u64,
     /// Padded with zeros; or 4 zeros, and the offset of a longer name in the string table.
+    #[cfg_attr(feature = "serde", serde(serialize_with = "crate::serialized::name"))]
     pub name: [u8; 8],
     /// By the storage class, for instance an offset in the section.
     pub value: u32,
@@ -385,6 +399,7 @@ pub struct SymbolEntry {
     /// Auxiliary records that follow.
     pub number_of_aux_symbols: u8,
     /// 0
+    #[cfg_attr(feature = "serde", serde(skip))]
     pub spare: u16,
 }
 const _: () = assert!(core::mem::size_of::<SymbolEntry>() == 48);
@@ -422,6 +437,7 @@ const _: () = assert!(core::mem::size_of::<RichHeader>() == 40);
 /// An entry of a Rich header.
 #[repr(C)]
 #[derive(Clone, Copy, Debug, Default, PartialEq, Eq)]
+#[cfg_attr(feature = "serde", derive(serde::Serialize))]
 pub struct RichEntry {
     /// The build of the tool.
     pub build: u16,
@@ -435,6 +451,7 @@ const _: () = assert!(core::mem::size_of::<RichEntry>() == 8);
 /// An entry of the debug directory, `IMAGE_DEBUG_DIRECTORY`.
 #[repr(C)]
 #[derive(Clone, Copy, Debug, Default, PartialEq, Eq)]
+#[cfg_attr(feature = "serde", derive(serde::Serialize))]
 pub struct DebugEntry {
     /// Reserved.
     pub characteristics: u32,
@@ -491,6 +508,7 @@ const _: () = assert!(core::mem::size_of::<Pdb20>() == 32);
 /// VC features: the counts that dumpbin /headers shows.
 #[repr(C)]
 #[derive(Clone, Copy, Debug, Default, PartialEq, Eq)]
+#[cfg_attr(feature = "serde", derive(serde::Serialize))]
 pub struct VcFeatures {
     /// "Pre-VC++ 11.00".
     pub pre_vc_plusplus_count: u32,
@@ -573,23 +591,23 @@ const _: () = assert!(core::mem::size_of::<PdbChecksum>() == 32);
 #[repr(C)]
 #[derive(Clone, Copy, Debug, Default, PartialEq, Eq)]
 pub struct DebugRecords {
-    /// Of [`pe_c_symbol_key`].
+    /// The CodeView record, if it is one of PDB 7.0: that of [`pe_c_symbol_key`].
     pub key: Key,
-    /// Of [`pe_c_debug_pdb20`].
+    /// The CodeView record, if it is one of PDB 2.0.
     pub pdb20: Pdb20,
-    /// Of [`pe_c_debug_repro`].
+    /// The Repro record.
     pub repro: Repro,
-    /// Of [`pe_c_debug_pogo`].
+    /// The POGO record, if it has one of the two signatures.
     pub pogo: Pogo,
-    /// Of [`pe_c_debug_vc_features`].
+    /// The record of VC features.
     pub features: VcFeatures,
-    /// Of [`pe_c_debug_characteristics`].
+    /// Extended DLL characteristics, `IMAGE_DLLCHARACTERISTICS_EX_` flags.
     pub characteristics: u32,
-    /// Of each of these fields the result of its call.
+    /// Of each of these fields its result.
     pub key_result: u32,
-    /// Of each of these fields the result of its call.
+    /// Of each of these fields its result.
     pub pdb20_result: u32,
-    /// Of each of these fields the result of its call.
+    /// Of each of these fields its result.
     pub repro_result: u32,
     /// Of these too.
     pub pogo_result: u32,
@@ -605,6 +623,7 @@ const _: () = assert!(core::mem::size_of::<DebugRecords>() == 168);
 /// Its RVAs are reduced by `rva_offset`.
 #[repr(C)]
 #[derive(Clone, Copy, Debug, Default, PartialEq, Eq)]
+#[cfg_attr(feature = "serde", derive(serde::Serialize))]
 pub struct TeHeader {
     /// Preferred virtual address of the image.
     pub image_base: u64,
@@ -629,6 +648,7 @@ pub struct TeHeader {
     /// `IMAGE_SUBSYSTEM_`.
     pub subsystem: u8,
     /// 0
+    #[cfg_attr(feature = "serde", serde(skip))]
     pub spare: u32,
 }
 const _: () = assert!(core::mem::size_of::<TeHeader>() == 48);
@@ -993,6 +1013,7 @@ const _: () = assert!(core::mem::size_of::<ChecksumField>() == 16);
 /// An entry of the x64 function table, `RUNTIME_FUNCTION`.
 #[repr(C)]
 #[derive(Clone, Copy, Debug, Default, PartialEq, Eq)]
+#[cfg_attr(feature = "serde", derive(serde::Serialize))]
 pub struct Function {
     /// RVA of its first byte.
     pub begin: u32,
@@ -1076,6 +1097,7 @@ const _: () = assert!(core::mem::size_of::<CodeForm>() == 2);
 /// An entry of the scope table of a C handler: a `__try` block.
 #[repr(C)]
 #[derive(Clone, Copy, Debug, Default, PartialEq, Eq)]
+#[cfg_attr(feature = "serde", derive(serde::Serialize))]
 pub struct Scope {
     /// RVAs of the first guarded byte and after the last one.
     pub begin: u32,
@@ -1125,6 +1147,7 @@ const _: () = assert!(core::mem::size_of::<PlanWalk>() == 40);
 /// The registers of a thread that unwinding restores.
 #[repr(C)]
 #[derive(Clone, Copy, Debug, Default, PartialEq, Eq)]
+#[cfg_attr(feature = "serde", derive(serde::Serialize))]
 pub struct Registers {
     /// By their numbers: rax, rcx, rdx, rbx, rsp, rbp, rsi, rdi, r8 .. r15; rsp is `general[4]`.
     pub general: [u64; 16],
@@ -1162,6 +1185,7 @@ const _: () = assert!(core::mem::size_of::<Frame>() == 424);
 /// A piece of memory, as `MINIDUMP_MEMORY_DESCRIPTOR` and `_DESCRIPTOR64` say it.
 #[repr(C)]
 #[derive(Clone, Copy, Debug, Default, PartialEq, Eq)]
+#[cfg_attr(feature = "serde", derive(serde::Serialize))]
 pub struct MemoryPiece {
     /// Address of the first byte.
     pub start: u64,
@@ -1227,6 +1251,7 @@ const _: () = assert!(core::mem::size_of::<StackWalk>() == 440);
 /// An entry of the ARM64 function table.
 #[repr(C)]
 #[derive(Clone, Copy, Debug, Default, PartialEq, Eq)]
+#[cfg_attr(feature = "serde", derive(serde::Serialize))]
 pub struct Arm64Function {
     /// RVA of its first byte.
     pub begin: u32,
@@ -1240,6 +1265,7 @@ const _: () = assert!(core::mem::size_of::<Arm64Function>() == 8);
 /// The fields mean nothing unless `is_packed`.
 #[repr(C)]
 #[derive(Clone, Copy, Debug, Default, PartialEq, Eq)]
+#[cfg_attr(feature = "serde", derive(serde::Serialize))]
 pub struct Arm64Packed {
     /// 0: `unwind` is the RVA of a record; 1 a function; 2 a fragment; 3 reserved.
     pub flag: u32,
@@ -1288,6 +1314,7 @@ const _: () = assert!(core::mem::size_of::<Arm64Record>() == 72);
 /// An epilog scope: where an epilog of an ARM64 function is, and where its codes are.
 #[repr(C)]
 #[derive(Clone, Copy, Debug, Default, PartialEq, Eq)]
+#[cfg_attr(feature = "serde", derive(serde::Serialize))]
 pub struct Arm64Scope {
     /// Bytes, from the start of the function to that of the epilog.
     pub start_offset: u32,
@@ -1333,6 +1360,7 @@ const _: () = assert!(core::mem::size_of::<Arm64Code>() == 24);
 /// The registers of a thread on ARM64 that unwinding restores.
 #[repr(C)]
 #[derive(Clone, Copy, Debug, Default, PartialEq, Eq)]
+#[cfg_attr(feature = "serde", derive(serde::Serialize))]
 pub struct Arm64Registers {
     /// x0 .. x30: the frame pointer is `general[29]`, the link register `general[30]`.
     pub general: [u64; 31],
@@ -1488,6 +1516,8 @@ const _: () = assert!(core::mem::size_of::<Exported>() == 32);
 /// The export directory itself, `IMAGE_EXPORT_DIRECTORY`.
 #[repr(C)]
 #[derive(Clone, Copy, Debug, Default, PartialEq, Eq)]
+#[cfg_attr(feature = "serde", derive(serde::Serialize))]
+#[non_exhaustive]
 pub struct ExportFields {
     /// Reserved.
     pub characteristics: u32,
@@ -1513,6 +1543,66 @@ pub struct ExportFields {
     pub address_of_name_ordinals: u32,
 }
 const _: () = assert!(core::mem::size_of::<ExportFields>() == 40);
+
+/// The tables of an image of which names are read, each by itself, and the result of each: [`DONE`], [`NOTHING`] where
+/// the image has none, or the error.
+///
+/// One that is not there is empty.
+#[repr(C)]
+#[derive(Clone, Copy, Debug, Default, PartialEq, Eq)]
+pub struct NameSources {
+    /// The function table; there is none on x86.
+    pub functions: Range,
+    /// The symbol table, entries of 18 bytes; there is none in an image as loaded: no section has it.
+    pub symbols: Range,
+    /// The string table, with the longer names of symbols.
+    pub strings: Range,
+    /// The tables of the export directory.
+    pub exports: Exports,
+    /// How many numbers [`pe_c_function_names`] needs room for.
+    pub room: u64,
+    /// Errors are those of [`pe_c_function_table`] and [`pe_c_arm64_table`].
+    pub functions_result: u32,
+    /// Those of [`pe_c_headers`] and [`pe_c_coff_symbols`].
+    pub symbols_result: u32,
+    /// Those of [`pe_c_headers`] and [`pe_c_coff_strings`].
+    pub strings_result: u32,
+    /// Those of [`pe_c_export_tables`].
+    pub exports_result: u32,
+}
+const _: () = assert!(core::mem::size_of::<NameSources>() == 136);
+
+/// An address in the code of an image.
+#[repr(C)]
+#[derive(Clone, Copy, Debug, Default, PartialEq, Eq)]
+#[cfg_attr(feature = "serde", derive(serde::Serialize))]
+pub struct CodeAddress {
+    /// The address.
+    pub rva: u32,
+    /// 0 where the code there was about to run, as in the top frame of a stack. Else it is a return address: the byte
+    /// before it is looked up, as a call may be the last of its function.
+    pub is_return: u32,
+}
+const _: () = assert!(core::mem::size_of::<CodeAddress>() == 8);
+
+/// What names an address.
+#[repr(C)]
+#[derive(Clone, Copy, Debug, Default, PartialEq, Eq)]
+pub struct FunctionName {
+    /// UTF-8, without its final zero. Empty without a name, and where the name is not text, or is longer than 4,095
+    /// bytes.
+    pub name: Range,
+    /// RVA that has the name.
+    pub start: u32,
+    /// How far after it the address is.
+    pub offset: u32,
+    /// What names it: 0 nothing, 1 a COFF symbol, 2 an export.
+    pub source: u32,
+    /// 1 where it is only the last name before the address, in an image without a function table; it may be that of
+    /// another function. Else 0.
+    pub is_nearest: u32,
+}
+const _: () = assert!(core::mem::size_of::<FunctionName>() == 32);
 
 /// Where a walk over libraries stands.
 #[repr(C)]
@@ -1777,6 +1867,7 @@ const _: () = assert!(core::mem::size_of::<BoundForwarder>() == 24);
 /// The fixed file information, `VS_FIXEDFILEINFO`.
 #[repr(C)]
 #[derive(Clone, Copy, Debug, Default, PartialEq, Eq)]
+#[cfg_attr(feature = "serde", derive(serde::Serialize))]
 pub struct Version {
     /// 0xFEEF04BD.
     pub signature: u32,
@@ -2237,7 +2328,11 @@ pub struct TextInBytes {
 }
 const _: () = assert!(core::mem::size_of::<TextInBytes>() == 24);
 
-/// Room for what the calls that take runs find out of names and lists; what is in it has no meaning to callers.
+/// Room for what the calls that take runs find out of names and lists; what is in it has no meaning to callers, and
+/// what is in it after a call is left open.
+///
+/// Names that share a text are read together as far as there are runs: a hostile file may let all of them start in one
+/// long text. Others are read to their end each, so NULL and 0 do where a caller has no such files.
 #[repr(C)]
 #[derive(Clone, Copy, Debug, Default, PartialEq, Eq)]
 pub struct Run {
@@ -2281,6 +2376,8 @@ const _: () = assert!(core::mem::size_of::<NamedSymbolWalk>() == 40);
 /// The header, `MINIDUMP_HEADER`.
 #[repr(C)]
 #[derive(Clone, Copy, Debug, Default, PartialEq, Eq)]
+#[cfg_attr(feature = "serde", derive(serde::Serialize))]
+#[non_exhaustive]
 pub struct DumpInfo {
     /// Entries of 12 bytes.
     pub directory: Range,
@@ -2302,6 +2399,7 @@ const _: () = assert!(core::mem::size_of::<DumpInfo>() == 40);
 /// One of no bytes says that there are none.
 #[repr(C)]
 #[derive(Clone, Copy, Debug, Default, PartialEq, Eq)]
+#[cfg_attr(feature = "serde", derive(serde::Serialize))]
 pub struct DumpLocation {
     /// In bytes.
     pub size: u32,
@@ -2313,6 +2411,8 @@ const _: () = assert!(core::mem::size_of::<DumpLocation>() == 8);
 /// An entry of the directory, `MINIDUMP_DIRECTORY`.
 #[repr(C)]
 #[derive(Clone, Copy, Debug, Default, PartialEq, Eq)]
+#[cfg_attr(feature = "serde", derive(serde::Serialize))]
+#[non_exhaustive]
 pub struct DumpEntry {
     /// `PE_C_*_STREAM`; 0 is none.
     pub stream_type: u32,
@@ -2326,6 +2426,8 @@ const _: () = assert!(core::mem::size_of::<DumpEntry>() == 12);
 /// It may be empty: the pieces of memory have what there is of it.
 #[repr(C)]
 #[derive(Clone, Copy, Debug, Default, PartialEq, Eq)]
+#[cfg_attr(feature = "serde", derive(serde::Serialize))]
+#[non_exhaustive]
 pub struct DumpThreadStack {
     /// Address of the first byte.
     pub start_of_memory_range: u64,
@@ -2337,6 +2439,8 @@ const _: () = assert!(core::mem::size_of::<DumpThreadStack>() == 16);
 /// A thread, `MINIDUMP_THREAD`.
 #[repr(C)]
 #[derive(Clone, Copy, Debug, Default, PartialEq, Eq)]
+#[cfg_attr(feature = "serde", derive(serde::Serialize))]
+#[non_exhaustive]
 pub struct DumpThread {
     /// The ID of the thread.
     pub thread_id: u32,
@@ -2360,6 +2464,8 @@ const _: () = assert!(core::mem::size_of::<DumpThread>() == 48);
 /// A signature of 0 says that there is none.
 #[repr(C)]
 #[derive(Clone, Copy, Debug, Default, PartialEq, Eq)]
+#[cfg_attr(feature = "serde", derive(serde::Serialize))]
+#[non_exhaustive]
 pub struct DumpVersion {
     /// FEEF04BDh.
     pub signature: u32,
@@ -2393,6 +2499,8 @@ const _: () = assert!(core::mem::size_of::<DumpVersion>() == 52);
 /// A module, `MINIDUMP_MODULE`.
 #[repr(C)]
 #[derive(Clone, Copy, Debug, Default, PartialEq, Eq)]
+#[cfg_attr(feature = "serde", derive(serde::Serialize))]
+#[non_exhaustive]
 pub struct DumpModule {
     /// Address where it is loaded.
     pub base_of_image: u64,
@@ -2411,6 +2519,7 @@ pub struct DumpModule {
     /// Its `IMAGE_DEBUG_MISC`.
     pub misc_record: DumpLocation,
     /// 0
+    #[cfg_attr(feature = "serde", serde(skip))]
     pub spare: u32,
 }
 const _: () = assert!(core::mem::size_of::<DumpModule>() == 96);
@@ -2418,12 +2527,15 @@ const _: () = assert!(core::mem::size_of::<DumpModule>() == 96);
 /// The name of a thread, `MINIDUMP_THREAD_NAME`.
 #[repr(C)]
 #[derive(Clone, Copy, Debug, Default, PartialEq, Eq)]
+#[cfg_attr(feature = "serde", derive(serde::Serialize))]
+#[non_exhaustive]
 pub struct DumpThreadName {
     /// For [`pe_c_dump_text`].
     pub rva_of_thread_name: u64,
     /// The ID of the thread.
     pub thread_id: u32,
     /// 0
+    #[cfg_attr(feature = "serde", serde(skip))]
     pub spare: u32,
 }
 const _: () = assert!(core::mem::size_of::<DumpThreadName>() == 16);
@@ -2431,6 +2543,8 @@ const _: () = assert!(core::mem::size_of::<DumpThreadName>() == 16);
 /// A module that was unloaded, `MINIDUMP_UNLOADED_MODULE`.
 #[repr(C)]
 #[derive(Clone, Copy, Debug, Default, PartialEq, Eq)]
+#[cfg_attr(feature = "serde", derive(serde::Serialize))]
+#[non_exhaustive]
 pub struct DumpUnloaded {
     /// Address where it was loaded.
     pub base_of_image: u64,
@@ -2448,6 +2562,8 @@ const _: () = assert!(core::mem::size_of::<DumpUnloaded>() == 24);
 /// More on a thread, `MINIDUMP_THREAD_INFO`.
 #[repr(C)]
 #[derive(Clone, Copy, Debug, Default, PartialEq, Eq)]
+#[cfg_attr(feature = "serde", derive(serde::Serialize))]
+#[non_exhaustive]
 pub struct DumpThreadInfo {
     /// The ID of the thread.
     pub thread_id: u32,
@@ -2475,6 +2591,8 @@ const _: () = assert!(core::mem::size_of::<DumpThreadInfo>() == 64);
 /// A handle, `MINIDUMP_HANDLE_DESCRIPTOR`.
 #[repr(C)]
 #[derive(Clone, Copy, Debug, Default, PartialEq, Eq)]
+#[cfg_attr(feature = "serde", derive(serde::Serialize))]
+#[non_exhaustive]
 pub struct DumpHandle {
     /// The value of the handle.
     pub handle: u64,
@@ -2496,6 +2614,8 @@ const _: () = assert!(core::mem::size_of::<DumpHandle>() == 32);
 /// A region of memory, `MINIDUMP_MEMORY_INFO`.
 #[repr(C)]
 #[derive(Clone, Copy, Debug, Default, PartialEq, Eq)]
+#[cfg_attr(feature = "serde", derive(serde::Serialize))]
+#[non_exhaustive]
 pub struct DumpRegion {
     /// Address of the first byte.
     pub base_address: u64,
@@ -2517,6 +2637,8 @@ const _: () = assert!(core::mem::size_of::<DumpRegion>() == 40);
 /// The exception that a dump was written for, `MINIDUMP_EXCEPTION_STREAM`.
 #[repr(C)]
 #[derive(Clone, Copy, Debug, Default, PartialEq, Eq)]
+#[cfg_attr(feature = "serde", derive(serde::Serialize))]
+#[non_exhaustive]
 pub struct DumpException {
     /// The ID of the thread.
     pub thread_id: u32,
@@ -2540,6 +2662,8 @@ const _: () = assert!(core::mem::size_of::<DumpException>() == 160);
 /// The system, `MINIDUMP_SYSTEM_INFO`.
 #[repr(C)]
 #[derive(Clone, Copy, Debug, Default, PartialEq, Eq)]
+#[cfg_attr(feature = "serde", derive(serde::Serialize))]
+#[non_exhaustive]
 pub struct DumpSystem {
     /// 9 x64, 12 ARM64, 0 x86: of which machine the contexts are.
     pub processor_architecture: u16,
@@ -2564,6 +2688,7 @@ pub struct DumpSystem {
     /// `VER_SUITE_*`.
     pub suite_mask: u16,
     /// 0
+    #[cfg_attr(feature = "serde", serde(skip))]
     pub spare: u16,
 }
 const _: () = assert!(core::mem::size_of::<DumpSystem>() == 32);
@@ -2571,6 +2696,8 @@ const _: () = assert!(core::mem::size_of::<DumpSystem>() == 32);
 /// How long a process ran.
 #[repr(C)]
 #[derive(Clone, Copy, Debug, Default, PartialEq, Eq)]
+#[cfg_attr(feature = "serde", derive(serde::Serialize))]
+#[non_exhaustive]
 pub struct DumpTimes {
     /// In seconds since 1970.
     pub process_create_time: u32,
@@ -2584,6 +2711,8 @@ const _: () = assert!(core::mem::size_of::<DumpTimes>() == 12);
 /// The speed of the processor.
 #[repr(C)]
 #[derive(Clone, Copy, Debug, Default, PartialEq, Eq)]
+#[cfg_attr(feature = "serde", derive(serde::Serialize))]
+#[non_exhaustive]
 pub struct DumpPower {
     /// The most that it may have, in MHz.
     pub processor_max_mhz: u32,
@@ -2603,6 +2732,8 @@ const _: () = assert!(core::mem::size_of::<DumpPower>() == 20);
 /// What is not there is 0.
 #[repr(C)]
 #[derive(Clone, Copy, Debug, Default, PartialEq, Eq)]
+#[cfg_attr(feature = "serde", derive(serde::Serialize))]
+#[non_exhaustive]
 pub struct DumpProcess {
     /// As the writer says it.
     pub size_of_info: u32,
@@ -2622,6 +2753,7 @@ const _: () = assert!(core::mem::size_of::<DumpProcess>() == 48);
 /// A piece of memory, as [`pe_c_next_frame`] takes it with the bytes of the dump as its memory.
 #[repr(C)]
 #[derive(Clone, Copy, Debug, Default, PartialEq, Eq)]
+#[cfg_attr(feature = "serde", derive(serde::Serialize))]
 pub struct DumpPiece {
     /// Where its bytes are.
     pub memory: MemoryPiece,
@@ -2656,6 +2788,7 @@ const _: () = assert!(core::mem::size_of::<RangeEntry>() == 16);
 /// The registers of a thread on x64, CONTEXT.
 #[repr(C)]
 #[derive(Clone, Copy, Debug, Default, PartialEq, Eq)]
+#[cfg_attr(feature = "serde", derive(serde::Serialize))]
 pub struct Context {
     /// `xmm` is 0 where it was not saved.
     pub registers: Registers,
@@ -2669,6 +2802,7 @@ const _: () = assert!(core::mem::size_of::<Context>() == 400);
 /// The registers of a thread on ARM64, `ARM64_NT_CONTEXT`.
 #[repr(C)]
 #[derive(Clone, Copy, Debug, Default, PartialEq, Eq)]
+#[cfg_attr(feature = "serde", derive(serde::Serialize))]
 pub struct Arm64Context {
     /// d8 to d15 are 0 where they were not saved.
     pub registers: Arm64Registers,
@@ -2707,7 +2841,7 @@ extern "C" {
     ///
     /// The rest of the array is unchanged, and all of it after an error.
     ///
-    /// Errors: `PE_C_ROOM` where the array has fewer entries; [`Error::SHORT`] where the section headers are truncated.
+    /// Errors: [`ROOM`] where the array has fewer entries; [`Error::SHORT`] where the section headers are truncated.
     pub fn pe_c_sections(
         bytes: *const u8,
         length: usize,
@@ -2742,7 +2876,7 @@ extern "C" {
     /// them only for an RVA elsewhere; all other steps search all for each RVA. A section that may share an RVA with an
     /// earlier one, whose size is rounded up to a page, is not kept.
     ///
-    /// Errors: `PE_C_ROOM` where the array has too few entries; then `written` is how many it has to have.
+    /// Errors: [`ROOM`] where the array has too few entries; then `written` is how many it has to have.
     pub fn pe_c_index(view: *const View, room: *mut IndexEntry, entries: usize, written: *mut u64) -> u32;
     /// Returns the index of the section that maps an RVA: the first that covers it, by which [`pe_c_offset`] maps it.
     ///
@@ -2776,7 +2910,7 @@ extern "C" {
     /// is what the headers say: up to 4 GB of a short file. Under many sections make an index first: without one each
     /// of them is searched for among all.
     ///
-    /// Errors: `PE_C_ROOM` where the array is smaller; then it is unchanged, and `written` is how many bytes it has to
+    /// Errors: [`ROOM`] where the array is smaller; then it is unchanged, and `written` is how many bytes it has to
     /// have.
     pub fn pe_c_map(view: *const View, room: *mut u8, room_length: usize, written: *mut u64) -> u32;
     /// Relocates an image as loaded, which [`pe_c_map`] wrote to the array, by the base relocations of the view: adds
@@ -2829,7 +2963,7 @@ extern "C" {
     /// They follow the optional header, which objects usually do not have. The rest of the array is unchanged, and all
     /// of it after an error.
     ///
-    /// Errors: `PE_C_ROOM` where the array is smaller; [`Error::SHORT`] where the section headers are truncated.
+    /// Errors: [`ROOM`] where the array is smaller; [`Error::SHORT`] where the section headers are truncated.
     pub fn pe_c_coff_sections(
         bytes: *const u8,
         length: usize,
@@ -2911,7 +3045,10 @@ extern "C" {
     ///
     /// Errors: [`Error::UNMAPPED`]; [`Error::DEBUG_BOUNDS`] in strict mode.
     pub fn pe_c_first_debug_entry(view: *const View, data_type: u32, out: *mut DebugEntry) -> u32;
-    /// Returns the symbol key: the CodeView record, if it is one of PDB 7.0.
+    /// Returns the symbol key: the record of the first CodeView entry, if it is one of PDB 7.0.
+    ///
+    /// [`NOTHING`] also without such an entry. Errors: those of [`pe_c_first_debug_entry`], then those of
+    /// [`pe_c_symbol_key_of`].
     pub fn pe_c_symbol_key(view: *const View, out: *mut Key) -> u32;
     /// Returns the symbol key of a CodeView record that stands alone, as a minidump has one of each module: no other
     /// debug data is read, and no damage there is an error.
@@ -2921,21 +3058,10 @@ extern "C" {
     /// Errors: [`Error::SHORT`] where the range is not inside the bytes; [`Error::DEBUG_SIZE`] where it has fewer than
     /// 24 bytes.
     pub fn pe_c_codeview(bytes: *const u8, length: usize, record: *const Range, out: *mut Key) -> u32;
-    /// Returns the CodeView record, if it is one of PDB 2.0.
-    pub fn pe_c_debug_pdb20(view: *const View, out: *mut Pdb20) -> u32;
-    /// Returns the record of VC features.
-    pub fn pe_c_debug_vc_features(view: *const View, out: *mut VcFeatures) -> u32;
-    /// Returns the extended DLL characteristics, `IMAGE_DLLCHARACTERISTICS_EX_` flags.
-    pub fn pe_c_debug_characteristics(view: *const View, out: *mut u32) -> u32;
-    /// Returns the Repro record.
-    pub fn pe_c_debug_repro(view: *const View, out: *mut Repro) -> u32;
-    /// Returns the POGO record.
+    /// Reads the record of the first entry of each type at once.
     ///
-    /// [`NOTHING`] also for another signature.
-    pub fn pe_c_debug_pogo(view: *const View, out: *mut Pogo) -> u32;
-    /// Reads the record of the first entry of each type at once, as these six do.
-    ///
-    /// It always returns [`DONE`]: each record has a result of its own.
+    /// It always returns [`DONE`]: each record has a result of its own, as if by [`pe_c_first_debug_entry`] and then
+    /// the call of the same record below, which takes an entry.
     pub fn pe_c_debug_data(view: *const View, out: *mut DebugRecords) -> u32;
     /// Returns the symbol key.
     ///
@@ -3023,7 +3149,7 @@ extern "C" {
     ///
     /// The rest of the array is unchanged, and all of it after an error.
     ///
-    /// Errors: `PE_C_ROOM` where the array is smaller; [`Error::SHORT`] where the section headers are truncated.
+    /// Errors: [`ROOM`] where the array is smaller; [`Error::SHORT`] where the section headers are truncated.
     pub fn pe_c_te_sections(
         bytes: *const u8,
         length: usize,
@@ -3282,18 +3408,8 @@ extern "C" {
     ///
     /// Errors: those of [`pe_c_image`]; [`Error::NO_OPTIONAL_HEADER`].
     pub fn pe_c_checksum(view: *const View, out: *mut ChecksumField) -> u32;
-    /// Returns the length of the file that [`pe_c_attach`] writes with these arguments.
-    ///
-    /// Errors: those of [`pe_c_attach`], but for [`Error::WRITE_FIT`].
-    pub fn pe_c_attached_length(
-        view: *const View,
-        certificate: *const u8,
-        certificate_length: usize,
-        placement: u32,
-        out: *mut u64,
-    ) -> u32;
-    /// Writes the file with a certificate to the start of the array, and its length to `out`: zeros up to a multiple of
-    /// eight bytes, the certificate, zeros again, the entry of the certificate directory and the checksum.
+    /// Writes the file with a certificate to the start of the array, and its length to `written`: zeros up to a
+    /// multiple of eight bytes, the certificate, zeros again, the entry of the certificate directory and the checksum.
     ///
     /// What the digest covers stays as it was. The rest of the array is unchanged, and all of it after an error. The
     /// array overlaps neither the file nor the certificate; it may be NULL if `room_length` is 0, and the certificate
@@ -3306,8 +3422,7 @@ extern "C" {
     /// headers or the data of a section end after the start of the table, or after the end of the file without one;
     /// [`Error::SIGN_TABLE_OFFSET`] where the certificate is to go after others whose table is not at a multiple of
     /// eight; [`Error::SHORT`], [`Error::CERTIFICATE_SIZE`] of a certificate shorter than eight bytes, or than its
-    /// first entry says; [`Error::SIGN_TOO_LARGE`] where the file with it has 2^32 bytes or more; [`Error::WRITE_FIT`]
-    /// where that does not fit into the array.
+    /// first entry says; [`Error::SIGN_TOO_LARGE`] where the file with it has 2^32 bytes or more; [`ROOM`].
     pub fn pe_c_attach(
         view: *const View,
         certificate: *const u8,
@@ -3315,21 +3430,16 @@ extern "C" {
         placement: u32,
         room: *mut u8,
         room_length: usize,
-        out: *mut u64,
+        written: *mut u64,
     ) -> u32;
-    /// Returns the length of the file that [`pe_c_detach`] writes with these arguments.
-    ///
-    /// Errors: those of [`pe_c_detach`], but for [`Error::WRITE_FIT`].
-    pub fn pe_c_detached_length(view: *const View, out: *mut u64) -> u32;
-    /// Writes the file without certificates to the start of the array, and its length to `out`: all before the
+    /// Writes the file without certificates to the start of the array, and its length to `written`: all before the
     /// certificate table, with zeros in the entry of the certificate directory, and the checksum.
     ///
     /// An image without certificates stays as it is, but for its checksum. The rest of the array is unchanged, and all
     /// of it after an error. The array does not overlap the file; it may be NULL if `room_length` is 0.
     ///
-    /// Errors: those of [`pe_c_attach`] up to [`Error::SIGN_SECTION`]; [`Error::WRITE_FIT`] where the file does not fit
-    /// into the array.
-    pub fn pe_c_detach(view: *const View, room: *mut u8, room_length: usize, out: *mut u64) -> u32;
+    /// Errors: those of [`pe_c_attach`] up to [`Error::SIGN_SECTION`]; [`ROOM`].
+    pub fn pe_c_detach(view: *const View, room: *mut u8, room_length: usize, written: *mut u64) -> u32;
     /// Writes the sections of the view into the array: for each its data at `pointer_to_raw_data`, its header, and
     /// zeros after the data up to a multiple of `unit` bytes, no zeros where that is 0.
     ///
@@ -3347,38 +3457,29 @@ extern "C" {
     /// Errors: those of [`pe_c_image`]; in strict mode those of [`pe_c_next_certificate`], of all certificates;
     /// [`Error::NO_OPTIONAL_HEADER`]; [`Error::WRITE_FIT`] where a certificate does not fit into the array.
     pub fn pe_c_write_certificates(view: *const View, room: *mut u8, room_length: usize, out: *mut u64) -> u32;
-    /// Returns how many bytes of an array [`pe_c_write_image`] needs with these arguments: the greatest end of what it
-    /// writes.
-    ///
-    /// Errors: those of [`pe_c_write_image`], but [`Error::WRITE_FIT`] only where no array is long enough.
-    pub fn pe_c_image_length(view: *const View, out: *mut u64) -> u32;
     /// Writes the image into the array: the DOS header, the stub, the PE signature, the COFF header and the optional
     /// header where the headers have them; the sections of the view as [`pe_c_write_sections`] does, up to multiples of
     /// the file alignment, with their headers in the section table; the certificates.
     ///
-    /// Puts to `out` the greatest of three offsets: the start of the section table, the end of the data of the last
+    /// Puts to `written` the greatest of three offsets: the start of the section table, the end of the data of the last
     /// section with the greatest raw pointer, the end of the certificates. Without a section the first may lie past the
-    /// end of the array; [`pe_c_image_length`] says how many bytes were needed.
+    /// end of the array. With [`ROOM`] `written` is the greatest end of what is written.
     ///
     /// Errors: those of [`pe_c_image`]; in strict mode those of [`pe_c_next_certificate`], of all certificates;
     /// [`Error::NO_OPTIONAL_HEADER`]; [`Error::WRITE_ALIGNMENT`] where the file alignment is no power of two;
     /// [`Error::WRITE_SYMBOLS`] where the pointer to COFF symbols is not 0; [`Error::WRITE_OVERLAP`],
-    /// [`Error::WRITE_SECTION`] and [`Error::WRITE_FIT`] as of [`pe_c_write_sections`].
-    pub fn pe_c_write_image(view: *const View, room: *mut u8, room_length: usize, out: *mut u64) -> u32;
-    /// Returns how many bytes of an array [`pe_c_write_whole`] needs with these arguments: those of the file, or the
-    /// greatest end of what is written over it if that is greater.
-    ///
-    /// Errors: those of [`pe_c_write_whole`], but [`Error::WRITE_FIT`] only where no array is long enough.
-    pub fn pe_c_whole_length(view: *const View, out: *mut u64) -> u32;
+    /// [`Error::WRITE_SECTION`] as of [`pe_c_write_sections`]; [`Error::WRITE_FIT`] where no array is long enough;
+    /// [`ROOM`].
+    pub fn pe_c_write_image(view: *const View, room: *mut u8, room_length: usize, written: *mut u64) -> u32;
     /// Writes the whole file into the array, and over it what [`pe_c_write_image`] writes, but no zeros after sections.
     ///
     /// So COFF symbols and bytes between sections and after them stay as they are in the file. An image without
-    /// certificates whose sections are unchanged comes back byte for byte. Puts to `out` the greater of the file's
-    /// length and of what [`pe_c_write_image`] puts there, which may lie past the end of the array as there;
-    /// [`pe_c_whole_length`] says how many bytes were needed.
+    /// certificates whose sections are unchanged comes back byte for byte. Puts to `written` the greater of the file's
+    /// length and of what [`pe_c_write_image`] puts there, which may lie past the end of the array as there. With
+    /// [`ROOM`] `written` is the length of the file, or the greatest end of what is written over it if that is greater.
     ///
     /// Errors: those of [`pe_c_write_image`] but for [`Error::WRITE_ALIGNMENT`] and [`Error::WRITE_SYMBOLS`].
-    pub fn pe_c_write_whole(view: *const View, room: *mut u8, room_length: usize, out: *mut u64) -> u32;
+    pub fn pe_c_write_whole(view: *const View, room: *mut u8, room_length: usize, written: *mut u64) -> u32;
     /// Returns the range of the function table, entries of 12 bytes.
     ///
     /// [`NOTHING`] without one, or for a machine other than x64.
@@ -3507,13 +3608,14 @@ extern "C" {
     /// In each frame the function is looked up by rip, or by the byte before it where the function has called. Its
     /// epilogs are known by their code in the image, and a jump out of it is followed. Where no records describe the
     /// code of the top frame, or of one that was interrupted, the caller is found by the return address at rsp, if a
-    /// call ends there, else by the first of 128 words from rsp on that is after a call in an executable section: the
-    /// last section of its module that starts at or before the call's last byte is asked, so sections have to be in
-    /// ascending order. In a frame that has called it is the first such word. What is found so may be wrong:
-    /// `walk->is_guess` says so of each frame, but not of the caller of code in a module with a table that has no
-    /// function there, if both are executable and a call ends at the return address: that is a leaf function. Without
-    /// such a call a leaf function of a module, which was jumped to, returns to executable code, or into a module
-    /// without an image. Only past an interrupt may the stack pointer not rise.
+    /// call ends there or it is in a module without an image, else by the first of 128 words from rsp on that is after
+    /// a call in an executable section: the last section of its module that starts at or before the call's last byte is
+    /// asked, so sections have to be in ascending order. In a frame that has called it is the first such word. In a
+    /// module with a table that has no function there, the word whose call, E8, leads nearest before the frame among
+    /// such code comes before all but a call at rsp. What is found so may be wrong: `walk->is_guess` says so of each
+    /// frame, but not of the caller of code in a module with a table that has no function there, if both are executable
+    /// and a call ends at the return address: that is a leaf function. Without such a call a leaf function of a module,
+    /// which was jumped to, returns to executable code. Only past an interrupt may the stack pointer not rise.
     ///
     /// Errors, which change nothing: [`Error::SHORT`] where the table of a module is not inside its bytes, or, where
     /// `walk->is_searched` is 0, a piece not inside the memory.
@@ -3647,9 +3749,10 @@ extern "C" {
     ///
     /// In each frame the function is looked up by pc, or by the call, four bytes before it, where the function has
     /// called. Where no unwind data describe the code of the top frame, or of one that was interrupted, the caller is
-    /// found by the link register, if a call ends there, else by the first of 128 words from the stack pointer on that
-    /// is, without its signature, after a call in an executable section; in a frame that has called by the first such
-    /// word. The stack pointer may stay where it is in the first two alone, and sink past an interrupt alone.
+    /// found by the link register, if a call ends there or it is in a module without an image, else by the first of 128
+    /// words from the stack pointer on that is, without its signature, after a call in an executable section; in a
+    /// frame that has called by the first such word. The stack pointer may stay where it is in the first two alone, and
+    /// sink past an interrupt alone.
     ///
     /// Errors, which change nothing: those of [`pe_c_next_frame`].
     pub fn pe_c_next_arm64_frame(
@@ -3708,6 +3811,38 @@ extern "C" {
     ///
     /// Errors: [`Error::SHORT`] where the table is not inside the bytes.
     pub fn pe_c_export_at(view: *const View, table: *const AddressTable, index: u64, out: *mut Exported) -> u32;
+    /// Reads the tables of which [`pe_c_function_names`] reads names.
+    ///
+    /// One that is damaged does not cost the others. Always returns [`DONE`].
+    pub fn pe_c_name_tables(view: *const View, out: *mut NameSources) -> u32;
+    /// Writes to `names` what names each of these addresses, in their order; the rest of `names` is unchanged.
+    ///
+    /// It is
+    ///
+    /// ```text
+    /// - the last function symbol at or before the address within its function: a COFF symbol of the type 0x20 and the class
+    ///   IMAGE_SYM_CLASS_EXTERNAL or IMAGE_SYM_CLASS_STATIC. Of several at one RVA it is the first of the table. A function is an
+    ///   entry of the function table, also one whose unwind record is chained to another;
+    /// - else the export that starts the function, of several the first of the name table. A forwarder is none;
+    /// - in an image without a function table the last symbol or export at or before the address, a symbol where both are at one RVA;
+    /// - else nothing, also where no function of the table has the address: a leaf function needs no entry there.
+    /// ```
+    ///
+    /// `room` has to have as many numbers as `sources` says; what is in it then is left open. What has a name is sorted
+    /// in it, so that n entries of the tables and m addresses take as long as (n + m) log n steps, and to read at most
+    /// 4,096 bytes a name.
+    ///
+    /// Errors: [`ROOM`] where `room` or `names` is too short.
+    pub fn pe_c_function_names(
+        view: *const View,
+        sources: *const NameSources,
+        addresses: *const CodeAddress,
+        address_count: usize,
+        room: *mut u64,
+        room_entries: usize,
+        names: *mut FunctionName,
+        name_entries: usize,
+    ) -> u32;
     /// Returns where a walk over libraries starts.
     ///
     /// [`NOTHING`] without a directory.
@@ -3728,7 +3863,7 @@ extern "C" {
     /// [`Error::UNMAPPED`] of the RVA in the entry; [`Error::SHORT`] of the hint there; [`Error::IMPORT_NAME`] of the
     /// name.
     pub fn pe_c_next_import(view: *const View, walk: *mut ImportWalk, out: *mut Import) -> u32;
-    /// Returns the import directory as a walk for [`pe_c_list_all_imports_together`].
+    /// Returns the import directory as a walk for [`pe_c_list_all_imports`].
     ///
     /// [`NOTHING`] without a directory.
     ///
@@ -3758,7 +3893,7 @@ extern "C" {
         walk: *mut DelayedFunctionWalk,
         out: *mut DelayedFunction,
     ) -> u32;
-    /// Returns the delay import directory as a walk for [`pe_c_list_all_delayed_functions_together`].
+    /// Returns the delay import directory as a walk for [`pe_c_list_all_delayed_functions`].
     ///
     /// [`NOTHING`] where the directory is absent. Errors: [`Error::UNMAPPED`], [`Error::SHORT`].
     pub fn pe_c_all_delayed_functions(view: *const View, out: *mut LibraryFunctions) -> u32;
@@ -3890,20 +4025,8 @@ extern "C" {
         name: u32,
         out: *mut Range,
     ) -> u32;
-    /// Returns the length of the file that [`pe_c_edit`] writes with these arguments, which is that of the image or
-    /// more.
-    ///
-    /// Errors: those of [`pe_c_edit`], but for [`Error::WRITE_FIT`].
-    pub fn pe_c_edited_length(
-        view: *const View,
-        resources: *const Resource,
-        resource_count: usize,
-        data: *const u8,
-        data_length: usize,
-        out: *mut u64,
-    ) -> u32;
-    /// Writes the image with these resources in place of those that it has to the start of the array, and its length to
-    /// `out`.
+    /// Writes the image with these resources in place of those that it has to the start of the array, and its length,
+    /// which is that of the file or more, to `written`.
     ///
     /// The rest of the array is unchanged, and all of it after an error. `data` has the names and the contents, and may
     /// be `bytes`. The array overlaps none of the others; it may be NULL if `room_length` is 0, the resources if
@@ -3933,8 +4056,7 @@ extern "C" {
     /// [`Error::EDIT_SYMBOLS`] where COFF symbols start before the end of the data and end after it;
     /// [`Error::EDIT_OVERLAP`] where a section ends after the image in memory, or shares bytes with the headers;
     /// [`Error::EDIT_DEBUG_DATA`] where the debug entries do not lie between the section headers and the data of that
-    /// section, or the data of one neither end before these nor start after those of all sections; [`Error::WRITE_FIT`]
-    /// where the file does not fit into the array.
+    /// section, or the data of one neither end before these nor start after those of all sections; [`ROOM`].
     pub fn pe_c_edit(
         view: *const View,
         resources: *const Resource,
@@ -3943,23 +4065,10 @@ extern "C" {
         data_length: usize,
         room: *mut u8,
         room_length: usize,
-        out: *mut u64,
-    ) -> u32;
-    /// Returns the length of what [`pe_c_write_block`] writes with these arguments.
-    ///
-    /// Errors: those of [`pe_c_write_block`], but for [`Error::WRITE_FIT`].
-    pub fn pe_c_block_length(
-        key: *const u8,
-        key_length: usize,
-        is_text: u32,
-        value: *const u8,
-        value_length: usize,
-        children: *const u8,
-        children_length: usize,
-        out: *mut u64,
+        written: *mut u64,
     ) -> u32;
     /// Writes a block of version information to the start of the array, with zeros up to a multiple of four bytes,
-    /// where the next block starts, and its length with them to `out`.
+    /// where the next block starts, and its length with them to `written`.
     ///
     /// The rest of the array is unchanged, and all of it after an error. `key` is UTF-16 code units, little-endian,
     /// without a final zero; `is_text` is 0, or another number where the value is a text, which has a final zero;
@@ -3968,7 +4077,7 @@ extern "C" {
     ///
     /// Errors: [`Error::BLOCK_KEY`] where the key has an odd number of bytes, or a code unit of zero;
     /// [`Error::BLOCK_TEXT`] where the value is a text of an odd number of bytes; [`Error::BLOCK_TOO_LONG`] where the
-    /// block has more than 65,535 bytes; [`Error::WRITE_FIT`] where it does not fit into the array.
+    /// block has more than 65,535 bytes; [`ROOM`].
     pub fn pe_c_write_block(
         key: *const u8,
         key_length: usize,
@@ -3979,25 +4088,10 @@ extern "C" {
         children_length: usize,
         room: *mut u8,
         room_length: usize,
-        out: *mut u64,
-    ) -> u32;
-    /// Returns the length of what [`pe_c_write_version`] writes with these arguments.
-    ///
-    /// Errors: those of [`pe_c_write_version`], but for [`Error::WRITE_FIT`].
-    pub fn pe_c_version_length(
-        fixed: *const Version,
-        tables: *const VersionTable,
-        table_count: usize,
-        strings: *const VersionString,
-        string_count: usize,
-        translations: *const VersionLanguage,
-        translation_count: usize,
-        texts: *const u8,
-        texts_length: usize,
-        out: *mut u64,
+        written: *mut u64,
     ) -> u32;
     /// Writes version information, the content of a resource of type 16 (`RT_VERSION`), to the start of the array, and
-    /// its length to `out`.
+    /// its length to `written`.
     ///
     /// The rest of the array is unchanged, and all of it after an error. `tables` are the tables of strings,
     /// `translations` the languages and code pages that the file supports, each in its order; `texts` has the names and
@@ -4008,7 +4102,7 @@ extern "C" {
     /// texts; [`Error::BLOCK_KEY`] where a name has an odd number of bytes, or a code unit of zero;
     /// [`Error::BLOCK_TEXT`] where a text has an odd number of bytes; [`Error::BLOCK_TOO_LONG`] where a string, a
     /// table, or a block of these has more than 65,535 bytes: of the blocks the first refusal, each after those that
-    /// are in it; [`Error::WRITE_FIT`] where it does not fit into the array.
+    /// are in it; [`ROOM`].
     pub fn pe_c_write_version(
         fixed: *const Version,
         tables: *const VersionTable,
@@ -4021,7 +4115,7 @@ extern "C" {
         texts_length: usize,
         room: *mut u8,
         room_length: usize,
-        out: *mut u64,
+        written: *mut u64,
     ) -> u32;
     /// Returns the TLS directory.
     ///
@@ -4114,7 +4208,7 @@ extern "C" {
     ) -> u32;
     /// Writes the text of a GUID, the first 16 of these bytes, as those of [`Key`].
     ///
-    /// Errors: [`Error::SHORT`] where there are fewer; `PE_C_ROOM`.
+    /// Errors: [`Error::SHORT`] where there are fewer; [`ROOM`].
     pub fn pe_c_guid_text(
         guid: *const u8,
         guid_length: usize,
@@ -4128,7 +4222,7 @@ extern "C" {
     /// U+FFFD stands for a surrogate without a partner, zeros in the text are characters, and an odd byte at the end is
     /// left out.
     ///
-    /// Errors: [`Error::SHORT`] where the range is not inside the bytes; `PE_C_ROOM`.
+    /// Errors: [`Error::SHORT`] where the range is not inside the bytes; [`ROOM`].
     pub fn pe_c_utf16_text(
         bytes: *const u8,
         length: usize,
@@ -4144,7 +4238,7 @@ extern "C" {
     /// Lists the functions of a table as [`pe_c_function_at`] reads them, from the index `next` on, which moves past
     /// them.
     ///
-    /// Errors: `PE_C_ROOM`; [`Error::SHORT`] where the table is not inside the bytes.
+    /// Errors: [`ROOM`]; [`Error::SHORT`] where the table is not inside the bytes.
     pub fn pe_c_list_functions(
         view: *const View,
         table: *const Range,
@@ -4155,7 +4249,7 @@ extern "C" {
     ) -> u32;
     /// Lists the unwind codes of a walk.
     ///
-    /// Errors: `PE_C_ROOM`; those of [`pe_c_next_code`].
+    /// Errors: [`ROOM`]; those of [`pe_c_next_code`].
     pub fn pe_c_list_codes(
         view: *const View,
         walk: *mut Walk,
@@ -4168,8 +4262,8 @@ extern "C" {
     ///
     /// A record has at most 255 codes.
     ///
-    /// Errors, after which `out` is unchanged too: those of [`pe_c_unwind_record`]; `PE_C_ROOM`; of the first code
-    /// those of [`pe_c_next_code`].
+    /// Errors, after which `out` is unchanged too: those of [`pe_c_unwind_record`]; [`ROOM`]; of the first code those
+    /// of [`pe_c_next_code`].
     pub fn pe_c_record_codes(
         view: *const View,
         table: *const Range,
@@ -4181,10 +4275,10 @@ extern "C" {
     ) -> u32;
     /// Lists all codes of a record, of which these are the bytes of its codes alone.
     ///
-    /// It keeps no walk: `written` is set after an error and after `PE_C_ROOM` too, to the number of codes before it,
+    /// It keeps no walk: `written` is set after an error and after [`ROOM`] too, to the number of codes before it,
     /// which are written. A record has at most 255 codes.
     ///
-    /// Errors: `PE_C_ROOM` where bytes are left after `number_of_entries` codes, whatever they start with; those of
+    /// Errors: [`ROOM`] where bytes are left after `number_of_entries` codes, whatever they start with; those of
     /// [`pe_c_next_code`].
     pub fn pe_c_all_codes(
         bytes: *const u8,
@@ -4197,7 +4291,7 @@ extern "C" {
     /// Lists the functions of an ARM64 table as [`pe_c_arm64_function_at`] reads them, from the index `next` on, which
     /// moves past them.
     ///
-    /// Errors: `PE_C_ROOM`; [`Error::SHORT`] where the table is not inside the bytes.
+    /// Errors: [`ROOM`]; [`Error::SHORT`] where the table is not inside the bytes.
     pub fn pe_c_list_arm64_functions(
         view: *const View,
         table: *const Range,
@@ -4208,7 +4302,7 @@ extern "C" {
     ) -> u32;
     /// Lists the ARM64 unwind codes of a walk.
     ///
-    /// Errors: `PE_C_ROOM`; those of [`pe_c_next_arm64_code`].
+    /// Errors: [`ROOM`]; those of [`pe_c_next_arm64_code`].
     pub fn pe_c_list_arm64_codes(
         view: *const View,
         walk: *mut Arm64Walk,
@@ -4216,70 +4310,29 @@ extern "C" {
         number_of_entries: usize,
         written: *mut u64,
     ) -> u32;
-    /// Lists the exports that have a name.
+    /// Lists the exports that have a name, and reads names and forwarders' texts together where they share much.
     ///
-    /// Errors: `PE_C_ROOM`; [`Error::SHORT`] where the tables are not inside the bytes.
+    /// With two runs for each entry that the name table has left, or more, a call takes about as long as to sort these
+    /// and to read each byte a few times, however many of the texts overlap. A call looks at no more entries for that
+    /// than there are runs.
+    ///
+    /// Errors: [`ROOM`]; [`Error::SHORT`] where the tables are not inside the bytes.
     pub fn pe_c_list_exports(
         view: *const View,
         walk: *mut Exports,
-        entries: *mut Export,
-        number_of_entries: usize,
-        written: *mut u64,
-    ) -> u32;
-    /// Lists all exports as [`pe_c_export_at`] reads them, from the index `next` on, which moves past them.
-    ///
-    /// Errors: `PE_C_ROOM`; [`Error::SHORT`] where the table is not inside the bytes.
-    pub fn pe_c_list_export_addresses(
-        view: *const View,
-        table: *const AddressTable,
-        next: *mut u64,
-        entries: *mut Exported,
-        number_of_entries: usize,
-        written: *mut u64,
-    ) -> u32;
-    /// Lists the libraries of an import directory.
-    ///
-    /// Errors: `PE_C_ROOM`; those of [`pe_c_next_library`].
-    pub fn pe_c_list_libraries(
-        view: *const View,
-        walk: *mut Libraries,
-        entries: *mut Library,
-        number_of_entries: usize,
-        written: *mut u64,
-    ) -> u32;
-    /// Lists the imports of a library.
-    ///
-    /// Errors: `PE_C_ROOM`; those of [`pe_c_next_import`].
-    pub fn pe_c_list_imports(
-        view: *const View,
-        walk: *mut Imports,
-        entries: *mut Import,
-        number_of_entries: usize,
-        written: *mut u64,
-    ) -> u32;
-    /// Lists what [`pe_c_list_exports`] does, and reads names and forwarders' texts together where they share much,
-    /// others each by itself.
-    ///
-    /// With two runs for each entry that the name table has left, or more, a call takes about as long as to sort these
-    /// and to read each byte a few times, however many of the texts overlap: a hostile file may let all of them start
-    /// in one long text. A call looks at no more entries for that than there are runs, and reads further texts to their
-    /// end each; no runs are needed. What is in `runs` after the call is left open. Errors: as [`pe_c_list_exports`].
-    pub fn pe_c_list_exports_together(
-        view: *const View,
-        walk: *mut Exports,
         runs: *mut Run,
         number_of_runs: usize,
         entries: *mut Export,
         number_of_entries: usize,
         written: *mut u64,
     ) -> u32;
-    /// Lists what [`pe_c_list_libraries`] does, and reads the names together, and looks for the ends of the lists of
+    /// Lists the libraries of an import directory, and reads the names together, and looks for the ends of the lists of
     /// imports together.
     ///
     /// With two runs for each library that is left, or more, this takes about as long as to sort these and to read each
-    /// byte a few times, at most ten, however many share a text or a list. What is in `runs` after the call is left
-    /// open. Errors: as [`pe_c_list_libraries`].
-    pub fn pe_c_list_libraries_together(
+    /// byte a few times, at most ten, however many share a text or a list. Errors: [`ROOM`]; those of
+    /// [`pe_c_next_library`].
+    pub fn pe_c_list_libraries(
         view: *const View,
         walk: *mut Libraries,
         runs: *mut Run,
@@ -4288,11 +4341,10 @@ extern "C" {
         number_of_entries: usize,
         written: *mut u64,
     ) -> u32;
-    /// Lists what [`pe_c_list_imports`] does, and reads the names together, with a run for each import that is left, or
-    /// more.
+    /// Lists the imports of a library, and reads the names together, with a run for each import that is left, or more.
     ///
-    /// What is in `runs` after the call is left open. Errors: as [`pe_c_list_imports`].
-    pub fn pe_c_list_imports_together(
+    /// Errors: [`ROOM`]; those of [`pe_c_next_import`].
+    pub fn pe_c_list_imports(
         view: *const View,
         walk: *mut Imports,
         runs: *mut Run,
@@ -4307,10 +4359,10 @@ extern "C" {
     /// With a run for each of the entries and one for each library that is left, or more, a call takes about as long as
     /// to sort these and to read each byte a few times, however many names share a text. With fewer, as with none,
     /// further names are read to their end each, also those of libraries without an import. Libraries may share a list,
-    /// whose imports are listed for each of them: `number_of_entries` bounds what a call takes. What is in `runs` after
-    /// the call is left open. Errors: `PE_C_ROOM`; those of [`pe_c_next_library`] and [`pe_c_next_import`], in the
-    /// order of the walk.
-    pub fn pe_c_list_all_imports_together(
+    /// whose imports are listed for each of them: `number_of_entries` bounds what a call takes.
+    ///
+    /// Errors: [`ROOM`]; those of [`pe_c_next_library`] and [`pe_c_next_import`], in the order of the walk.
+    pub fn pe_c_list_all_imports(
         view: *const View,
         walk: *mut LibraryImports,
         runs: *mut Run,
@@ -4319,11 +4371,11 @@ extern "C" {
         number_of_entries: usize,
         written: *mut u64,
     ) -> u32;
-    /// Lists what [`pe_c_list_export_addresses`] does, and reads the texts of forwarders together, with a run for each
-    /// of the entries, or more.
+    /// Lists all exports as [`pe_c_export_at`] reads them, from the index `next` on, which moves past them, and reads
+    /// the texts of forwarders together, with a run for each of the entries, or more.
     ///
-    /// What is in `runs` after the call is left open. Errors: as [`pe_c_list_export_addresses`].
-    pub fn pe_c_list_export_addresses_together(
+    /// Errors: [`ROOM`]; [`Error::SHORT`] where the table is not inside the bytes.
+    pub fn pe_c_list_export_addresses(
         view: *const View,
         table: *const AddressTable,
         next: *mut u64,
@@ -4338,10 +4390,9 @@ extern "C" {
     ///
     /// `table` is the string table. Names are read together, with a run for each of the entries, or more: an image may
     /// have 65,535 sections, and one string for all of them. Of an image the call reads the bytes and the sections
-    /// alone, so with those of an object, and any record as `image`, it lists the names of that. What is in `runs`
-    /// after the call is left open.
+    /// alone, so with those of an object, and any record as `image`, it lists the names of that.
     ///
-    /// Errors: `PE_C_ROOM`; [`Error::SHORT`] where a section is left, and `table` is not inside the bytes.
+    /// Errors: [`ROOM`]; [`Error::SHORT`] where a section is left, and `table` is not inside the bytes.
     pub fn pe_c_list_long_section_names(
         view: *const View,
         table: *const Range,
@@ -4355,11 +4406,10 @@ extern "C" {
     /// Lists the symbols of a walk as [`pe_c_next_symbol`] returns them, each with what [`pe_c_symbol_name`] returns of
     /// it.
     ///
-    /// Names are read together where they share much, as by [`pe_c_list_exports_together`], here with one run for each
-    /// entry that the symbol table has left, or more; the string table stays as it is. What is in `runs` after the call
-    /// is left open.
+    /// Names are read together where they share much, as by [`pe_c_list_exports`], here with one run for each entry
+    /// that the symbol table has left, or more; the string table stays as it is.
     ///
-    /// Errors: `PE_C_ROOM`; [`Error::SHORT`] where the symbol table is not inside the bytes.
+    /// Errors: [`ROOM`]; [`Error::SHORT`] where the symbol table is not inside the bytes.
     pub fn pe_c_list_symbols(
         bytes: *const u8,
         length: usize,
@@ -4372,7 +4422,7 @@ extern "C" {
     ) -> u32;
     /// Lists the leaves of a resource tree.
     ///
-    /// Errors: `PE_C_ROOM`; those of [`pe_c_next_resource_leaf`].
+    /// Errors: [`ROOM`]; those of [`pe_c_next_resource_leaf`].
     pub fn pe_c_list_resource_leaves(
         view: *const View,
         walk: *mut ResourceWalk,
@@ -4382,7 +4432,7 @@ extern "C" {
     ) -> u32;
     /// Lists blocks of version information.
     ///
-    /// Errors: `PE_C_ROOM`; those of [`pe_c_next_version_block`].
+    /// Errors: [`ROOM`]; those of [`pe_c_next_version_block`].
     pub fn pe_c_list_version_blocks(
         view: *const View,
         walk: *mut Range,
@@ -4392,7 +4442,7 @@ extern "C" {
     ) -> u32;
     /// Lists the blocks of base relocations.
     ///
-    /// Errors: `PE_C_ROOM`; those of [`pe_c_next_relocation_block`].
+    /// Errors: [`ROOM`]; those of [`pe_c_next_relocation_block`].
     pub fn pe_c_list_relocation_blocks(
         view: *const View,
         walk: *mut Range,
@@ -4402,7 +4452,7 @@ extern "C" {
     ) -> u32;
     /// Lists the relocations of a block, whose page RVA is `page_rva`.
     ///
-    /// Errors: `PE_C_ROOM`; those of [`pe_c_next_relocation`].
+    /// Errors: [`ROOM`]; those of [`pe_c_next_relocation`].
     pub fn pe_c_list_relocations(
         view: *const View,
         page_rva: u32,
@@ -4411,31 +4461,11 @@ extern "C" {
         number_of_entries: usize,
         written: *mut u64,
     ) -> u32;
-    /// Lists the DLLs of a delay import directory.
+    /// Lists the DLLs of a delay import directory, and reads the names together, with a run for each of the entries, or
+    /// more.
     ///
-    /// Errors: `PE_C_ROOM`; those of [`pe_c_next_delay_import`].
+    /// Errors: [`ROOM`]; those of [`pe_c_next_delay_import`].
     pub fn pe_c_list_delay_imports(
-        view: *const View,
-        walk: *mut Range,
-        entries: *mut DelayImport,
-        number_of_entries: usize,
-        written: *mut u64,
-    ) -> u32;
-    /// Lists what is imported of a DLL that is loaded later.
-    ///
-    /// Errors: `PE_C_ROOM`; those of [`pe_c_next_delayed_function`].
-    pub fn pe_c_list_delayed_functions(
-        view: *const View,
-        walk: *mut DelayedFunctions,
-        entries: *mut DelayedFunction,
-        number_of_entries: usize,
-        written: *mut u64,
-    ) -> u32;
-    /// Lists what [`pe_c_list_delay_imports`] does, and reads the names together, with a run for each of the entries,
-    /// or more.
-    ///
-    /// What is in `runs` after the call is left open. Errors: as [`pe_c_list_delay_imports`].
-    pub fn pe_c_list_delay_imports_together(
         view: *const View,
         walk: *mut Range,
         runs: *mut Run,
@@ -4444,11 +4474,11 @@ extern "C" {
         number_of_entries: usize,
         written: *mut u64,
     ) -> u32;
-    /// Lists what [`pe_c_list_delayed_functions`] does, and reads the names together, with a run for each of the
+    /// Lists what is imported of a DLL that is loaded later, and reads the names together, with a run for each of the
     /// entries, or more.
     ///
-    /// What is in `runs` after the call is left open. Errors: as [`pe_c_list_delayed_functions`].
-    pub fn pe_c_list_delayed_functions_together(
+    /// Errors: [`ROOM`]; those of [`pe_c_next_delayed_function`].
+    pub fn pe_c_list_delayed_functions(
         view: *const View,
         walk: *mut DelayedFunctions,
         runs: *mut Run,
@@ -4464,9 +4494,11 @@ extern "C" {
     /// sort these and to read each byte a few times, however many names share a text; and without an index in the view
     /// it tests the sections in turn for each address. With fewer runs, as with none, further names are read to their
     /// end each, also those of DLLs without a function. DLLs may share a table, whose functions are listed for each of
-    /// them: `number_of_entries` bounds what a call takes. What is in `runs` after the call is left open. Errors:
-    /// `PE_C_ROOM`; those of [`pe_c_next_delay_import`] and [`pe_c_next_delayed_function`], in the order of the walk.
-    pub fn pe_c_list_all_delayed_functions_together(
+    /// them: `number_of_entries` bounds what a call takes.
+    ///
+    /// Errors: [`ROOM`]; those of [`pe_c_next_delay_import`] and [`pe_c_next_delayed_function`], in the order of the
+    /// walk.
+    pub fn pe_c_list_all_delayed_functions(
         view: *const View,
         walk: *mut LibraryFunctions,
         runs: *mut Run,
@@ -4478,8 +4510,7 @@ extern "C" {
     /// Lists bound imports as [`pe_c_next_bound_import`] returns them, and reads the names together, with a run for
     /// each of the entries, or more.
     ///
-    /// `table` is the range of the directory. What is in `runs` after the call is left open. Errors: `PE_C_ROOM`; those
-    /// of [`pe_c_next_bound_import`].
+    /// `table` is the range of the directory. Errors: [`ROOM`]; those of [`pe_c_next_bound_import`].
     pub fn pe_c_list_bound_imports(
         bytes: *const u8,
         length: usize,
@@ -4495,8 +4526,8 @@ extern "C" {
     ///
     /// The 8 bytes of a DLL are read as those of a forwarder are: a walk through the whole directory, at first a copy
     /// of `table`, lists the names and time stamps of all DLLs and their forwarders, in their order, where to list the
-    /// forwarders of each would cost a text that they share for each. What is in `runs` after the call is left open.
-    /// Errors: `PE_C_ROOM`; those of [`pe_c_next_bound_forwarder`].
+    /// forwarders of each would cost a text that they share for each. Errors: [`ROOM`]; those of
+    /// [`pe_c_next_bound_forwarder`].
     pub fn pe_c_list_bound_forwarders(
         bytes: *const u8,
         length: usize,
@@ -4510,7 +4541,7 @@ extern "C" {
     ) -> u32;
     /// Lists the entries of a POGO record.
     ///
-    /// Errors: `PE_C_ROOM`; those of [`pe_c_next_pogo_entry`].
+    /// Errors: [`ROOM`]; those of [`pe_c_next_pogo_entry`].
     pub fn pe_c_list_pogo_entries(
         view: *const View,
         walk: *mut Range,
@@ -4520,7 +4551,7 @@ extern "C" {
     ) -> u32;
     /// Lists the entries of a table of a load configuration.
     ///
-    /// Errors: `PE_C_ROOM`; those of [`pe_c_next_guard_entry`].
+    /// Errors: [`ROOM`]; those of [`pe_c_next_guard_entry`].
     pub fn pe_c_list_guard_entries(
         view: *const View,
         walk: *mut GuardEntries,
@@ -4806,7 +4837,7 @@ extern "C" {
     /// entries then is left open, and so is what is in these runs after those that are written. The rest of both is
     /// unchanged.
     ///
-    /// Errors, which change nothing: [`Error::SHORT`] if a piece ends past offset 2^64 - 1; `PE_C_ROOM`.
+    /// Errors, which change nothing: [`Error::SHORT`] if a piece ends past offset 2^64 - 1; [`ROOM`].
     pub fn pe_c_memory_runs(
         pieces: *const MemoryPiece,
         piece_count: usize,
@@ -4826,8 +4857,8 @@ extern "C" {
     /// [`MAPPED`]. The pieces are tested once a call; where they overlap or are in no order, all of them for each range
     /// too, and in what [`pe_c_memory_runs`] writes a search by halves finds each.
     ///
-    /// Errors, which change nothing: [`Error::SHORT`] if a piece is not inside `memory`; `PE_C_ROOM` where there is
-    /// room for fewer ranges than are asked for.
+    /// Errors, which change nothing: [`Error::SHORT`] if a piece is not inside `memory`; [`ROOM`] where there is room
+    /// for fewer ranges than are asked for.
     pub fn pe_c_memory_ranges(
         memory: *const u8,
         memory_length: usize,

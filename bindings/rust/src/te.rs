@@ -14,6 +14,18 @@ use core::fmt;
 use core::iter::FusedIterator;
 
 /// A TE image: its header and its sections.
+///
+/// ```
+/// # #[path = "../tests/made/mod.rs"] mod made;
+/// # let bytes = made::te_image();
+/// use pe_c::Te;
+///
+/// let te = Te::parse(&bytes)?;
+/// assert_eq!((te.header().machine, te.sections()[0].virtual_address), (0x8664, 0x1000));
+/// let key = te.symbol_key()?.expect("the image has a PDB");
+/// assert_eq!((key.name(), key.age), (b"a.pdb".as_slice(), 9));
+/// # Ok::<(), Box<dyn std::error::Error>>(())
+/// ```
 #[derive(Clone)]
 pub struct Te<'a> {
     bytes: &'a [u8],

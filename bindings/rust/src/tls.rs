@@ -9,7 +9,23 @@ use crate::walk::next_of;
 use core::iter::FusedIterator;
 
 /// The TLS directory, `IMAGE_TLS_DIRECTORY`. Addresses are virtual addresses.
-#[derive(Clone, Copy, Debug, PartialEq, Eq)]
+///
+/// ```
+/// # #[path = "../tests/made/mod.rs"] mod made;
+/// # let bytes = made::with_tls();
+/// use pe_c::{Image, Mode};
+///
+/// let image = Image::parse(&bytes, Mode::Permissive)?;
+/// let tls = image.tls()?.expect("the image has the directory");
+/// assert_eq!((tls.address_of_callbacks, tls.size_of_zero_fill), (0x1_8000_1000, 12));
+/// for callback in image.tls_callbacks()? {
+///     println!("runs before the entry point: {:#x}", callback?);
+/// }
+/// # Ok::<(), Box<dyn std::error::Error>>(())
+/// ```
+#[derive(Clone, Copy, Debug, Default, PartialEq, Eq)]
+#[cfg_attr(feature = "serde", derive(serde::Serialize))]
+#[non_exhaustive]
 pub struct Tls {
     /// Where the data starts of which each thread gets a copy.
     pub start_address_of_raw_data: u64,

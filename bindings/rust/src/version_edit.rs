@@ -89,22 +89,9 @@ impl Block {
         for child in &self.children {
             child.write(&mut children)?;
         }
-        let (is_text, mut length) = (u32::from(self.is_text), 0);
-        // SAFETY: each pointer and length are those of one slice, and `length` is lent for the call.
-        Error::of(unsafe {
-            sys::pe_c_block_length(
-                self.key.as_ptr(),
-                self.key.len(),
-                is_text,
-                self.value.as_ptr(),
-                self.value.len(),
-                children.as_ptr(),
-                children.len(),
-                &mut length,
-            )
-        })?;
-        let block = file_of(length, |room, written| {
-            // SAFETY: as above; the room is apart from the others.
+        let is_text = u32::from(self.is_text);
+        let block = file_of(|room, written| {
+            // SAFETY: each pointer and length are those of one slice; the room is apart from the others.
             unsafe {
                 sys::pe_c_write_block(
                     self.key.as_ptr(),
@@ -222,29 +209,25 @@ impl Records {
     }
 
     fn write(&self) -> Result<Vec<u8>, Error> {
-        /// A call of these records. Its other arguments are lent for the call; a room is apart from the others.
-        macro_rules! call {
-            ($call:ident, $($argument:expr),+) => {
-                // SAFETY: each pointer and length are those of one slice.
-                unsafe {
-                    sys::$call(
-                        &self.fixed,
-                        self.tables.as_ptr(),
-                        self.tables.len(),
-                        self.strings.as_ptr(),
-                        self.strings.len(),
-                        self.translations.as_ptr(),
-                        self.translations.len(),
-                        self.texts.as_ptr(),
-                        self.texts.len(),
-                        $($argument),+
-                    )
-                }
-            };
-        }
-        let mut length = 0;
-        Error::of(call!(pe_c_version_length, &mut length))?;
-        file_of(length, |room, written| call!(pe_c_write_version, room.as_mut_ptr(), room.len(), written))
+        file_of(|room, written| {
+            // SAFETY: each pointer and length are those of one slice; the room is apart from the others.
+            unsafe {
+                sys::pe_c_write_version(
+                    &self.fixed,
+                    self.tables.as_ptr(),
+                    self.tables.len(),
+                    self.strings.as_ptr(),
+                    self.strings.len(),
+                    self.translations.as_ptr(),
+                    self.translations.len(),
+                    self.texts.as_ptr(),
+                    self.texts.len(),
+                    room.as_mut_ptr(),
+                    room.len(),
+                    written,
+                )
+            }
+        })
     }
 }
 

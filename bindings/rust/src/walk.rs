@@ -318,8 +318,7 @@ impl<W: Copy, T: Copy + Default> ImageList<'_, '_, W, T> {
     /// there is no memory for that each is read by itself.
     pub fn step_together(
         &mut self,
-        call: Listing<W, T>,
-        together: Together<W, T>,
+        call: Together<W, T>,
         runs: usize,
         most: impl FnOnce(&W, usize) -> usize,
         cost: impl Fn(&T) -> u64,
@@ -329,50 +328,46 @@ impl<W: Copy, T: Copy + Default> ImageList<'_, '_, W, T> {
         }
         let most = most(&self.walk, self.taken);
         if most == 0 || self.spent <= self.source.bytes().len() as u64 {
-            let first = self.step(call);
+            let first = self.step_alone(call);
             let others = self.left.clone().map(|i| cost(&self.items[i])).sum::<u64>();
             self.spent += others + first.as_ref().and_then(|it| it.as_ref().ok()).map_or(0, cost);
             return first;
         }
-        match self.list_together(together, runs * most, most) {
+        match self.list_together(call, runs * most, most) {
             Some(first) => first,
-            None => self.step(call),
+            None => self.step_alone(call),
         }
     }
 
+    /// The next item, by a call that reads each name by itself.
+    fn step_alone(&mut self, call: Together<W, T>) -> Option<Result<T, Error>> {
+        // SAFETY: as in `step`; there need be no room for no runs.
+        self.step_of_few(|view, walk, items, written| unsafe {
+            call(view, walk, core::ptr::null_mut(), 0, items.as_mut_ptr(), ROOM, written)
+        })
+    }
+
     /// Lists so many items at most, with so many runs for their names, and returns the first. `None` if there is no memory for that.
-    fn list_together(
-        &mut self,
-        together: Together<W, T>,
-        runs: usize,
-        most: usize,
-    ) -> Option<Option<Result<T, Error>>> {
+    fn list_together(&mut self, call: Together<W, T>, runs: usize, most: usize) -> Option<Option<Result<T, Error>>> {
         let (mut room, many) = (room_for(runs, Run::default()).ok()?, room_for(most, T::default()).ok()?);
         self.many = many;
         // SAFETY: as above, and of the runs.
         let refused = self.fill(|view, list, written| unsafe {
-            together(view, &mut list.walk, room.as_mut_ptr(), room.len(), list.many.as_mut_ptr(), most, written)
+            call(view, &mut list.walk, room.as_mut_ptr(), room.len(), list.many.as_mut_ptr(), most, written)
         });
         Some(refused.map(Err).or_else(|| self.first_left()))
     }
 
     /// The next item of a walk whose names are all read together: a run for each of four times as many items as there were, and more
     /// for what else has a name, by the walk. Where there is no memory for that a call takes few, and reads each name by itself.
-    pub fn step_with_runs(
-        &mut self,
-        together: Together<W, T>,
-        more: impl FnOnce(&W) -> usize,
-    ) -> Option<Result<T, Error>> {
+    pub fn step_with_runs(&mut self, call: Together<W, T>, more: impl FnOnce(&W) -> usize) -> Option<Result<T, Error>> {
         if !self.left.is_empty() || self.is_over {
             return self.first_left();
         }
         let most = (4 * self.taken).clamp(ROOM, most_names(self.source.bytes()));
-        if let Some(first) = self.list_together(together, most + more(&self.walk), most) {
-            return first;
+        match self.list_together(call, most + more(&self.walk), most) {
+            Some(first) => first,
+            None => self.step_alone(call),
         }
-        // SAFETY: as in `step`; there need be no room for no runs.
-        self.step_of_few(|view, walk, items, written| unsafe {
-            together(view, walk, core::ptr::null_mut(), 0, items.as_mut_ptr(), ROOM, written)
-        })
     }
 }

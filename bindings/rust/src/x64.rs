@@ -73,6 +73,7 @@ pub enum Operation {
 
 /// An unwind code: one instruction of a prolog.
 #[derive(Clone, Copy, Debug, PartialEq, Eq, Hash)]
+#[non_exhaustive]
 pub struct Code {
     /// Bytes, from the start of the prolog to the end of the instruction. Undo the code at this offset and after it.
     pub code_offset: u8,

@@ -1,6 +1,15 @@
 //! All tests of the crate in one program, so that the images that they share are compiled once. `refused_memory` has an allocator of
 //! its own, and is a program of its own.
 
+/// A record to which fields may be added, by its own or another's fields.
+macro_rules! record {
+    ($base:expr; $($field:ident: $value:expr),* $(,)?) => {{
+        let mut record = $base;
+        $(record.$field = $value;)*
+        record
+    }};
+}
+
 mod facts;
 mod made;
 mod reading;

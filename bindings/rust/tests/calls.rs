@@ -541,7 +541,7 @@ fn signing_is_refused_by_number() {
     let (out, end) = (room.as_mut_ptr(), room.len());
     // SAFETY: the pointers and lengths are those of slices, arrays and records.
     let number = unsafe { pe_c::sys::pe_c_attach(&view, first, size, 0, out, end, &mut length) };
-    assert_eq!((number, length), (Error::WRITE_FIT.number(), 5));
+    assert_eq!((number, length), (pe_c::sys::ROOM, 0x420));
     assert!(room.iter().all(|byte| *byte == 0xEE));
 }
 
@@ -777,7 +777,7 @@ fn exports_are_listed() {
     let bytes = with_exports();
     let image = strict(&bytes);
     let exports: Vec<_> = image.exports().unwrap().map(Result::unwrap).map(|it| (it.name, it.rva, it.offset)).collect();
-    assert_eq!(exports, [(b"first".as_slice(), 0x9_0000, None), (b"second".as_slice(), 0x1004, Some(0x404))]);
+    assert_eq!(exports, [("first", 0x9_0000, None), ("second", 0x1004, Some(0x404))]);
     assert!(strict(SMALL).exports().unwrap().next().is_none());
 }
 
@@ -792,11 +792,11 @@ fn exports_by_name_may_be_forwarders() {
     let image = strict(&bytes);
     let found: Vec<_> = image.exports().unwrap().map(Result::unwrap).collect();
     let texts: Vec<_> = found.iter().map(|it| (it.name, it.index, it.forwarder)).collect();
-    let text = b"NTDLL.RtlFree".as_slice();
-    assert_eq!(texts, [(b"first".as_slice(), 1, None), (b"second", 3, Some(text))]);
+    let text = "NTDLL.RtlFree";
+    assert_eq!(texts, [("first", 1, None), ("second", 3, Some(text))]);
     let table = image.export_addresses().unwrap().unwrap();
     assert_eq!(table.get(u64::from(found[1].index)).unwrap().forwarder, Some(text));
-    assert!(bytes[found[1].offset.unwrap() as usize..].starts_with(text));
+    assert!(bytes[found[1].offset.unwrap() as usize..].starts_with(text.as_bytes()));
     let entry = offset(fields.address_of_functions) as usize + 12;
     let (start, end) = (directory.virtual_address, directory.virtual_address + directory.size);
     for (rva, is_forwarder) in [(start - 1, false), (start, true), (end - 1, true), (end, false)] {
@@ -812,13 +812,13 @@ fn exports_have_ordinals_and_forwarders() {
     let bytes = with_exports();
     let image = strict(&bytes);
     let table = image.export_addresses().unwrap().unwrap();
-    assert_eq!((table.name(), table.ordinal_base(), table.len()), (Some(b"made.dll".as_slice()), 5, 4));
+    assert_eq!((table.name(), table.ordinal_base(), table.len()), (Some("made.dll"), 5, 4));
     let found: Vec<_> = table.iter().map(|it| (it.ordinal, it.forwarder)).collect();
-    let text = b"NTDLL.RtlFree".as_slice();
+    let text = "NTDLL.RtlFree";
     assert_eq!(found, [(5, None), (6, None), (7, None), (8, Some(text))]);
     let rvas: Vec<_> = table.iter().map(|it| it.rva).collect();
     assert_eq!(rvas[..3], [0x1004, 0x9_0000, 0]);
-    let at = bytes.windows(text.len()).position(|it| it == text).unwrap() as u32;
+    let at = bytes.windows(text.len()).position(|it| it == text.as_bytes()).unwrap() as u32;
     assert_eq!(offset(rvas[3]), at);
     let indices: Vec<_> = image.exports().unwrap().map(|it| it.unwrap().index).collect();
     assert_eq!(indices, [1, 0]);
@@ -876,13 +876,13 @@ fn imports_are_listed_by_library() {
     let image = strict(&bytes);
     let libraries: Vec<_> = image.libraries().unwrap().map(Result::unwrap).collect();
     let [first, second] = libraries.as_slice() else { panic!("two libraries") };
-    assert_eq!((first.name, second.name), (b"KERNEL32.dll".as_slice(), b"a.dll".as_slice()));
+    assert_eq!((first.name, second.name), ("KERNEL32.dll", "a.dll"));
     let imports: Vec<_> = first.imports().map(Result::unwrap).map(|it| (it.name, it.ordinal, it.rva)).collect();
-    assert_eq!(imports, [(Some(b"Sleep".as_slice()), 42, 0x8000), (None, 17, 0x8008)]);
+    assert_eq!(imports, [(Some("Sleep"), 42, 0x8000), (None, 17, 0x8008)]);
     let record = second.raw();
     let slots = u64::from(record.address_table_rva);
     let imports: Vec<_> = second.imports().map(Result::unwrap).map(|it| (it.name, it.ordinal, it.rva)).collect();
-    assert_eq!(imports, [(Some(b"f".as_slice()), 0, slots)]);
+    assert_eq!(imports, [(Some("f"), 0, slots)]);
     assert_eq!((record.lookup_table_rva, record.time_date_stamp, record.forwarder_chain), (0, 5, 6));
     assert!(strict(SMALL).libraries().unwrap().next().is_none());
 }
@@ -893,9 +893,8 @@ fn imports_of_all_libraries_are_listed() {
     let image = strict(&bytes);
     let imports: Vec<_> = image.imports().unwrap().map(Result::unwrap).collect();
     let found: Vec<_> = imports.iter().map(|it| (it.library, it.index, it.import.name, it.import.ordinal)).collect();
-    let (kernel32, a) = (b"KERNEL32.dll".as_slice(), b"a.dll".as_slice());
-    let wanted =
-        [(kernel32, 0, Some(b"Sleep".as_slice()), 42), (kernel32, 0, None, 17), (a, 1, Some(b"f".as_slice()), 0)];
+    let (kernel32, a) = ("KERNEL32.dll", "a.dll");
+    let wanted = [(kernel32, 0, Some("Sleep"), 42), (kernel32, 0, None, 17), (a, 1, Some("f"), 0)];
     assert_eq!(found, wanted);
     let mut nested = Vec::new();
     for library in image.libraries().unwrap() {
@@ -936,7 +935,7 @@ fn an_unmapped_lookup_table_is_no_empty_one() {
             let slots = u64::from(first.raw().address_table_rva);
             let found: Vec<_> =
                 first.address_table().map(Result::unwrap).map(|it| (it.name, it.ordinal, it.rva - slots)).collect();
-            assert_eq!(found, [(Some(b"Sleep".as_slice()), 42, 0), (None, 17, 8)]);
+            assert_eq!(found, [(Some("Sleep"), 42, 0), (None, 17, 8)]);
             assert!(second.address_table().eq(second.imports()));
         }
     }
@@ -1107,7 +1106,7 @@ fn base_relocations_are_read() {
     let blocks: Vec<_> = image.relocation_blocks().unwrap().map(Result::unwrap).collect();
     assert_eq!(blocks.iter().map(|it| it.page_rva).collect::<Vec<_>>(), [0x1000, 0x5000]);
     let of = |index: usize| -> Vec<_> { blocks[index].relocations().map(Result::unwrap).collect() };
-    let one = |rva, kind, argument| Relocation { rva, kind, argument };
+    let one = |rva, kind, argument| record!(Relocation::default(); rva: rva, kind: kind, argument: argument);
     assert_eq!(of(0), [one(0x1008, 10, None), one(0x1FFF, 3, None)]);
     assert_eq!(of(1), [one(0x5010, 4, Some(0x8765)), one(0x5000, 0, None), one(0x5000, 0, None)]);
     assert!(strict(&with_debug()).relocation_blocks().unwrap().next().is_none());
@@ -1185,7 +1184,7 @@ fn many_names_in_one_text_are_read_together() {
     let bytes = with_names_in_one_text();
     let image = strict(&bytes);
     let exports: Vec<_> = image.exports().unwrap().map(|it| it.unwrap().name).collect();
-    let text = [b'a'; 400];
+    let text = "a".repeat(400);
     let wanted: Vec<_> = (0..300).map(|i| &text[i..]).collect();
     assert_eq!(exports, wanted);
     let libraries: Vec<_> = image.libraries().unwrap().map(Result::unwrap).collect();
@@ -1201,7 +1200,7 @@ fn many_names_in_one_text_are_read_together() {
 fn many_late_names_in_one_text_are_read_together() {
     let bytes = with_late_names_in_one_text();
     let image = strict(&bytes);
-    let text = [b'a'; 400];
+    let text = "a".repeat(400);
     let wanted: Vec<_> = (0..300).map(|i| &text[i..]).collect();
     let table = image.export_addresses().unwrap().unwrap();
     let forwarders: Vec<_> = table.iter().map(|it| it.forwarder.unwrap()).collect();

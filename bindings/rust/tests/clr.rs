@@ -20,6 +20,10 @@ fn changed(at: usize, part: &[u8]) -> Vec<u8> {
     bytes
 }
 
+fn stream<'a>(name: &'a [u8], content: Option<&'a [u8]>, offset: u32, size: u32) -> MetadataStream<'a> {
+    record!(MetadataStream::default(); name: name, content: content, offset: offset, size: size)
+}
+
 fn streams_of<'a>(image: &Image<'a>) -> Vec<Result<MetadataStream<'a>, Error>> {
     let mut streams = image.clr().unwrap().unwrap().metadata().unwrap().streams();
     let items = streams.by_ref().collect();
@@ -49,15 +53,15 @@ fn clr_headers_are_read() {
     assert_eq!(image.clr().unwrap().unwrap().header(), &wanted);
     assert!(strict(&with_debug()).clr().unwrap().is_none());
     let metadata = image.clr().unwrap().unwrap().metadata().unwrap();
-    assert_eq!((metadata.version(), metadata.version_bytes), (&b"v4.0.30319"[..], &b"v4.0.30319\0\0"[..]));
+    assert_eq!((metadata.version(), metadata.version_bytes), ("v4.0.30319", &b"v4.0.30319\0\0"[..]));
     assert_eq!((metadata.major_version, metadata.minor_version, metadata.flags), (1, 1, 0));
     assert_eq!(metadata.bytes, &bytes[METADATA..METADATA + 76]);
 }
 
 #[test]
 fn metadata_streams_are_read() {
-    let tables = MetadataStream { name: b"#~", content: Some(b"\0TABLES\0"), offset: 0x40, size: 8 };
-    let strings = MetadataStream { name: b"#Strings", content: None, offset: 0x48, size: 5 };
+    let tables = stream(b"#~", Some(b"\0TABLES\0"), 0x40, 8);
+    let strings = stream(b"#Strings", None, 0x48, 5);
     let bytes = with_clr();
     let image = strict(&bytes);
     assert_eq!(streams_of(&image), [Ok(tables), Ok(strings)]);
@@ -65,10 +69,10 @@ fn metadata_streams_are_read() {
     let module = Image::parse_as(&memory, Mode::Strict, Layout::Mapped).unwrap();
     assert_eq!(streams_of(&module), [Ok(tables), Ok(strings)]);
     // one byte less, and the second stream ends where the metadata do
-    let inside = MetadataStream { content: Some(b"\0Aa\0"), size: 4, ..strings };
+    let inside = stream(strings.name, Some(b"\0Aa\0"), strings.offset, 4);
     assert_eq!(streams_of(&strict(&changed(SECOND + 4, &[4]))), [Ok(tables), Ok(inside)]);
     // an empty stream at the end is there, one after it is not
-    let empty = |offset: u32, content| MetadataStream { content, offset, size: 0, ..strings };
+    let empty = |offset: u32, content| stream(strings.name, content, offset, 0);
     let of = |offset| changed(SECOND, &[offset, 0, 0, 0, 0]);
     assert_eq!(streams_of(&strict(&of(76)))[1], Ok(empty(76, Some(b""))));
     assert_eq!(streams_of(&strict(&of(77)))[1], Ok(empty(77, None)));

@@ -12,12 +12,11 @@ type Function<'a> = Result<(Option<&'a str>, u32), Error>;
 
 /// Of each DLL its name and its functions.
 fn listed<'a>(image: &Image<'a>) -> Vec<Result<(&'a str, Vec<Function<'a>>), Error>> {
-    let text = |bytes| std::str::from_utf8(bytes).unwrap();
-    let function = |it: DelayedFunction<'a>| (it.name.map(text), it.ordinal);
+    let function = |it: DelayedFunction<'a>| (it.name, it.ordinal);
     let mut imports = image.delay_imports().unwrap();
     let items = imports
         .by_ref()
-        .map(|it| it.map(|it| (text(it.name), it.functions().map(|it| it.map(function)).collect())))
+        .map(|it| it.map(|it| (it.name, it.functions().map(|it| it.map(function)).collect())))
         .collect();
     assert!(imports.next().is_none());
     items
@@ -66,11 +65,10 @@ type OfDll<'a> = Result<(&'a str, u64, Option<&'a str>, u32), Error>;
 
 /// The functions of all DLLs.
 fn all<'a>(image: &Image<'a>) -> Vec<OfDll<'a>> {
-    let text = |bytes| std::str::from_utf8(bytes).unwrap();
     let mut functions = image.delayed_functions().unwrap();
     let items = functions
         .by_ref()
-        .map(|it| it.map(|it| (text(it.library), it.index, it.function.name.map(text), it.function.ordinal)))
+        .map(|it| it.map(|it| (it.library, it.index, it.function.name, it.function.ordinal)))
         .collect();
     assert!(functions.next().is_none());
     items

@@ -9,21 +9,9 @@ fn strict(bytes: &[u8]) -> Image<'_> {
 }
 
 /// Of a structure that has its size alone.
-const NONE: LoadConfig = LoadConfig {
-    size: 4,
-    time_date_stamp: None,
-    major_version: None,
-    minor_version: None,
-    dependent_load_flags: None,
-    security_cookie: None,
-    se_handler_table: None,
-    se_handler_count: None,
-    guard_cf_check_function_pointer: None,
-    guard_cf_dispatch_function_pointer: None,
-    guard_cf_function_table: None,
-    guard_cf_function_count: None,
-    guard_flags: None,
-};
+fn of_a_size(size: u32) -> LoadConfig {
+    record!(LoadConfig::default(); size: size)
+}
 
 /// The image with a structure of another size.
 fn of_size(size: u32) -> Vec<u8> {
@@ -36,7 +24,8 @@ fn of_size(size: u32) -> Vec<u8> {
 fn load_configurations_are_read() {
     let bytes = with_load_config();
     let image = strict(&bytes);
-    let all = LoadConfig {
+    let all = record! {
+        LoadConfig::default();
         size: 148,
         time_date_stamp: Some(1_600_000_000),
         major_version: Some(6),
@@ -60,17 +49,17 @@ fn load_configurations_are_read() {
 
 #[test]
 fn short_load_configurations_have_fewer_fields() {
-    assert_eq!(strict(&of_size(4)).load_config(), Ok(Some(NONE)));
-    assert_eq!(strict(&of_size(7)).load_config(), Ok(Some(LoadConfig { size: 7, ..NONE })));
-    let early = LoadConfig {
+    assert_eq!(strict(&of_size(4)).load_config(), Ok(Some(of_a_size(4))));
+    assert_eq!(strict(&of_size(7)).load_config(), Ok(Some(of_a_size(7))));
+    let early = record! {
+        of_a_size(4);
         time_date_stamp: Some(1_600_000_000),
         major_version: Some(6),
         minor_version: Some(1),
         dependent_load_flags: Some(0x800),
-        ..NONE
     };
-    assert_eq!(strict(&of_size(95)).load_config(), Ok(Some(LoadConfig { size: 95, ..early })));
-    let cookie = LoadConfig { size: 96, security_cookie: Some(0x1_8000_2000), ..early };
+    assert_eq!(strict(&of_size(95)).load_config(), Ok(Some(record!(early; size: 95))));
+    let cookie = record!(early; size: 96, security_cookie: Some(0x1_8000_2000));
     assert_eq!(strict(&of_size(96)).load_config(), Ok(Some(cookie)));
     let flags = |size| strict(&of_size(size)).load_config().unwrap().unwrap().guard_flags;
     assert_eq!((flags(147), flags(148), flags(200)), (None, Some(0x1000_0500), Some(0x1000_0500)));
@@ -88,7 +77,7 @@ fn truncated_load_configurations_have_the_fields_that_are_there() {
     let config = strict(&bytes).load_config().unwrap().unwrap();
     assert_eq!((config.size, config.guard_cf_function_count, config.guard_flags), (148, Some(3), None));
     bytes.truncate(OFFSET as usize + 4);
-    assert_eq!(strict(&bytes).load_config(), Ok(Some(LoadConfig { size: 148, ..NONE })));
+    assert_eq!(strict(&bytes).load_config(), Ok(Some(of_a_size(148))));
     bytes.truncate(OFFSET as usize + 3);
     assert_eq!(strict(&bytes).load_config(), Err(Error::SHORT));
     let mut made = Made::new(X64);
@@ -110,7 +99,8 @@ fn load_configurations_of_pe32_are_read() {
     at(0x700, &[92, 0x5F00_0000, 0x0002_0001]);
     at(0x700 + 52, &[0x0800_0000, 0, 0x1000_2000, 0x1000_2010, 5, 0x1000_2020, 0, 0, 0, 0x500]);
     let config = strict(&bytes).load_config().unwrap().unwrap();
-    let wanted = LoadConfig {
+    let wanted = record! {
+        LoadConfig::default();
         size: 92,
         time_date_stamp: Some(0x5F00_0000),
         major_version: Some(1),

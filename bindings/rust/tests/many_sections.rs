@@ -26,7 +26,7 @@ fn exports_of_many_sections() {
     assert_eq!(image.sections().len(), 40);
     let exports = image.exports().unwrap().map(Result::unwrap);
     let found: Vec<_> = exports.map(|export| (export.name, export.rva, export.offset)).collect();
-    assert_eq!(found, [(b"first".as_slice(), 0x9_0000, None), (b"second", 0x1004, Some(0x404))]);
+    assert_eq!(found, [("first", 0x9_0000, None), ("second", 0x1004, Some(0x404))]);
 }
 
 #[test]
@@ -48,8 +48,8 @@ fn imports_of_many_sections() {
         let library = library.unwrap();
         found.extend(library.imports().map(|import| (library.name, import.unwrap().name)));
     }
-    let kernel = b"KERNEL32.dll".as_slice();
-    assert_eq!(found, [(kernel, Some(b"Sleep".as_slice())), (kernel, None), (b"a.dll", Some(b"f"))]);
+    let kernel = "KERNEL32.dll";
+    assert_eq!(found, [(kernel, Some("Sleep")), (kernel, None), ("a.dll", Some("f"))]);
 }
 
 /// What calls for directories return of an image, and how many items each walk has.

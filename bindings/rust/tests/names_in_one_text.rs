@@ -26,7 +26,7 @@ fn image(bytes: &[u8]) -> Image<'_> {
 }
 
 /// How many names there are, and how many letters they have together.
-fn counted<'a>(names: impl Iterator<Item = Result<&'a [u8], Error>>) -> (u64, u64) {
+fn counted<'a>(names: impl Iterator<Item = Result<&'a str, Error>>) -> (u64, u64) {
     names.fold((0, 0), |(count, letters), name| (count + 1, letters + name.expect("a name").len() as u64))
 }
 

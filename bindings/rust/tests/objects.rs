@@ -18,14 +18,14 @@ fn objects_are_read() {
     let symbols = object.symbols().unwrap().unwrap();
     let found: Vec<_> =
         symbols.clone().map(|it| it.map(|it| (it.index, it.name().unwrap(), it.section_number))).collect();
-    let wanted: [(u64, &[u8], i16); 7] = [
-        (0, b".file", -2),
-        (2, b"longer_than_eight", 1),
-        (4, b".text", 1),
-        (6, b".data", 2),
-        (8, b".bss", 3),
-        (10, b"five", -1),
-        (11, b"outside", 0),
+    let wanted: [(u64, &str, i16); 7] = [
+        (0, ".file", -2),
+        (2, "longer_than_eight", 1),
+        (4, ".text", 1),
+        (6, ".data", 2),
+        (8, ".bss", 3),
+        (10, "five", -1),
+        (11, "outside", 0),
     ];
     assert_eq!(found, wanted.map(Ok));
     let named = symbols.clone().named().unwrap();
@@ -34,7 +34,7 @@ fn objects_are_read() {
     let mut rest = symbols.clone();
     assert_eq!(rest.by_ref().take(5).count(), 5);
     let rest = rest.named().unwrap();
-    assert_eq!(rest.iter().map(|it| it.name).collect::<Vec<_>>(), [Ok(b"five".as_slice()), Ok(b"outside")]);
+    assert_eq!(rest.iter().map(|it| it.name).collect::<Vec<_>>(), [Ok("five"), Ok("outside")]);
     let file = symbols.get(0).unwrap();
     assert_eq!((file.storage_class, file.auxiliary()), (103, b"b.s\0\0\0\0\0\0\0\0\0\0\0\0\0\0\0".as_slice()));
     assert!(symbols.get(12).is_none());
@@ -57,9 +57,9 @@ fn damaged_objects_are_refused() {
     // Without a string table a long name has no text.
     let short = Coff::parse(&bytes[..0x17E]).unwrap().symbols().unwrap().unwrap();
     assert_eq!(short.get(2).unwrap().name(), Err(Error::STRING_TABLE));
-    assert_eq!(short.get(10).unwrap().name(), Ok(b"five".as_slice()));
+    assert_eq!(short.get(10).unwrap().name(), Ok("five"));
     let named: Vec<_> = short.named().unwrap().iter().map(|it| it.name).collect();
-    assert_eq!((named.len(), named[1], named[5]), (7, Err(Error::STRING_TABLE), Ok(b"five".as_slice())));
+    assert_eq!((named.len(), named[1], named[5]), (7, Err(Error::STRING_TABLE), Ok("five")));
     assert_eq!(Coff::parse(&[0; 20]).unwrap().symbols().unwrap().map(|it| it.count()), None);
     assert_eq!(Coff::parse(&[0; 20]).unwrap().long_section_names(), Ok(Vec::new()));
     assert_eq!(Coff::parse(&bytes[..0x193]).unwrap().long_section_names(), Err(Error::STRING_TABLE));
@@ -69,7 +69,7 @@ fn damaged_objects_are_refused() {
 fn many_names_in_one_text_are_read_together() {
     let bytes = object_with_names_in_one_text(300, 300, 400);
     let object = Coff::parse(&bytes).unwrap();
-    let text = [b'a'; 400];
+    let text = "a".repeat(400);
     let wanted: Vec<_> = (0..300).map(|i| Ok(&text[i..])).collect();
     let symbols = object.symbols().unwrap().unwrap();
     let alone: Vec<_> = (0..300).map(|i| symbols.get(i).unwrap().name()).collect();
@@ -128,7 +128,7 @@ fn symbols_of_images_are_read() {
     let image = Image::parse(&bytes, Mode::Strict).unwrap();
     let mut symbols = image.symbols().unwrap().unwrap();
     let symbol = symbols.next().unwrap().unwrap();
-    assert_eq!((symbol.name(), symbol.value, symbol.kind), (Ok(b".debug_line".as_slice()), 0x1234, 0x20));
+    assert_eq!((symbol.name(), symbol.value, symbol.kind), (Ok(".debug_line"), 0x1234, 0x20));
     assert!(symbols.next().is_none() && symbols.next().is_none());
     assert!(Image::parse(SMALL, Mode::Strict).unwrap().symbols().unwrap().is_none());
     let module = Image::parse_as(&bytes, Mode::Strict, Layout::Mapped).unwrap();

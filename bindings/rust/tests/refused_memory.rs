@@ -70,7 +70,7 @@ fn objects_are_read_as_far_as_there_is_memory() {
     }
     assert!(refusing(3, 1, || symbols.clone().named()).is_ok());
     assert!(refusing(3, 1, || object.long_section_names()).is_ok());
-    let text = [b'a'; 400];
+    let text = "a".repeat(400);
     for (granted, refused) in [(0, 1), (1, 1), (0, 2), (2, 1), (0, 7), (0, usize::MAX)] {
         let is_so = refusing(granted, refused, || {
             let wanted = (0..300).map(|i| Ok(&text[i..]));

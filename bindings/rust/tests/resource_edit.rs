@@ -132,7 +132,9 @@ fn version_information_keeps_what_is_not_set() {
 #[test]
 fn strings_are_set_by_their_names_without_case() {
     let mut version = VersionInfo::new(0x409);
-    for (name, text) in [("CompanyName", "A"), ("companyname", "B"), ("\u{4100}", "1"), ("\u{6100}", "2"), ("COMPANY", "3")] {
+    for (name, text) in
+        [("CompanyName", "A"), ("companyname", "B"), ("\u{4100}", "1"), ("\u{6100}", "2"), ("COMPANY", "3")]
+    {
         assert_eq!(version.set_string(name, text), Ok(1));
     }
     // One string of the two names, as VerQueryValue finds it; code units that differ in a letter's byte alone are others.
@@ -183,7 +185,8 @@ fn damaged(bytes: &[u8], seeds: &mut Seeds) -> Vec<u8> {
     copy
 }
 
-/// Whether the call for C writes an image with a resource of four bytes. After an error its room is as it was.
+/// Whether the call for C writes an image with a resource of four bytes. After an error its room is as it was, and the length too but
+/// where the room is too small.
 fn edits_by_call(image: &Image<'_>, length: usize) -> bool {
     let name = sys::ResourceName { id: 10, ..Default::default() };
     let content = sys::Range { offset: 0, length: 4 };
@@ -195,7 +198,8 @@ fn edits_by_call(image: &Image<'_>, length: usize) -> bool {
         let (room, length) = (room.as_mut_ptr(), room.len());
         sys::pe_c_edit(&view, &record, 1, data.as_ptr(), 4, room, length, &mut out)
     };
-    assert!(answer == 0 || (out == 0xA5 && room.iter().all(|it| *it == 0xA5)));
+    assert!(answer == 0 || room.iter().all(|it| *it == 0xA5));
+    assert!(answer == 0 || if answer == sys::ROOM { out > length as u64 } else { out == 0xA5 });
     answer == 0
 }
 

@@ -4,8 +4,7 @@
 use crate::facts::as_loaded;
 use crate::made::*;
 use pe_c::{
-    BoundForwarder, Error, Image, Layout, LibraryForwarder, Mode, ResourceDirectory, ResourceName, RichEntry, Text,
-    VersionName,
+    Error, Image, Layout, LibraryForwarder, Mode, ResourceDirectory, ResourceName, RichEntry, Text, VersionName,
 };
 
 fn strict(bytes: &[u8]) -> Image<'_> {
@@ -176,13 +175,15 @@ fn bound_imports_are_read() {
     let image = strict(&bytes);
     let imports: Vec<_> = image.bound_imports().unwrap().map(Result::unwrap).collect();
     let names: Vec<_> = imports.iter().map(|it| (it.name, it.time_date_stamp)).collect();
-    assert_eq!(names, [(b"one.dll".as_slice(), 0x3F00_0001), (b"six.dll", 0x3F00_0003)]);
+    assert_eq!(names, [("one.dll", 0x3F00_0001), ("six.dll", 0x3F00_0003)]);
     let forwarders: Vec<_> = imports[0].forwarders().map(Result::unwrap).collect();
-    assert_eq!(forwarders, [BoundForwarder { name: b"two.dll", time_date_stamp: 0x3F00_0002 }]);
+    let [forwarder] = forwarders[..] else { panic!("one forwarder") };
+    assert_eq!((forwarder.name, forwarder.time_date_stamp), ("two.dll", 0x3F00_0002));
     assert!(imports[1].forwarders().next().is_none());
     assert!(strict(SMALL).bound_imports().unwrap().next().is_none());
     let all: Vec<_> = image.bound_forwarders().unwrap().map(Result::unwrap).collect();
-    assert_eq!(all, [LibraryForwarder { library: b"one.dll", index: 0, forwarder: forwarders[0] }]);
+    let [one] = all[..] else { panic!("one forwarder") };
+    assert_eq!((one.library, one.index, one.forwarder), ("one.dll", 0, forwarder));
     assert!(strict(SMALL).bound_forwarders().unwrap().next().is_none());
 }
 
@@ -194,7 +195,7 @@ fn forwarders_one_by_one<'a>(image: &Image<'a>) -> Vec<Result<LibraryForwarder<'
             Ok(import) => items.extend(
                 import
                     .forwarders()
-                    .map(|it| it.map(|forwarder| LibraryForwarder { library: import.name, index, forwarder })),
+                    .map(|it| it.map(|forwarder| record!(LibraryForwarder::default(); library: import.name, index: index, forwarder: forwarder))),
             ),
             Err(error) => items.push(Err(error)),
         }
@@ -285,20 +286,20 @@ fn overlays_follow_the_sections() {
 fn long_section_names_are_read() {
     let name_of = |bytes: &[u8]| {
         let image = strict(bytes);
-        image.long_section_name(&image.sections()[0]).map(|it| it.map(<[u8]>::to_vec))
+        image.long_section_name(&image.sections()[0]).map(|it| it.map(str::to_owned))
     };
     let bytes = with_long_section_name();
     assert_eq!(strict(&bytes).sections()[0].name(), b"/4");
     assert_eq!(strict(&bytes).string_table(), Ok(Some(b"\x1C\0\0\0.debug_info\0.debug_line\0".as_slice())));
-    assert_eq!(name_of(&bytes), Ok(Some(b".debug_info".to_vec())));
+    assert_eq!(name_of(&bytes), Ok(Some(".debug_info".to_owned())));
     for (name, want) in [
-        (b"/16\0\0\0\0\0", Some(b".debug_line".as_slice())),
-        (b"//AAAAAE", Some(b".debug_info")),
+        (b"/16\0\0\0\0\0", Some(".debug_line")),
+        (b"//AAAAAE", Some(".debug_info")),
         (b"/28\0\0\0\0\0", None),
         (b".text\0\0\0", None),
     ] {
         let bytes = changed(with_long_section_name(), 0x148, name);
-        assert_eq!(name_of(&bytes), Ok(want.map(<[u8]>::to_vec)), "{name:?}");
+        assert_eq!(name_of(&bytes), Ok(want.map(str::to_owned)), "{name:?}");
     }
     assert_eq!((name_of(SMALL), strict(SMALL).string_table()), (Ok(None), Ok(None)));
     // a table that passes the end of the file, and symbols that do

@@ -48,7 +48,8 @@ fn numbers_of_other_widths() {
 /// stamps are of 1 January 1997 and of 1970.
 #[test]
 fn keys_before_pdb_7() {
-    let record = |signature, age, name_bytes| Pdb20 { offset: 0, signature, age, name_bytes };
+    let record =
+        |signature, age, name_bytes| record!(Pdb20::default(); signature: signature, age: age, name_bytes: name_bytes);
     let text = |it: Pdb20| it.path().map(|it| it.to_string());
     let first = record(0x32C9_A900, 0x1F, b"C:\\nt\\kernel32.PDB\0\0".as_slice());
     assert_eq!(text(first).unwrap(), "kernel32.PDB/32C9A9001F/kernel32.PDB");

@@ -145,7 +145,7 @@ fn zeros_are_numbers() {
     assert_eq!(bytes[at..at + 4], 0x1004u32.to_le_bytes());
     bytes[at..at + 4].fill(0);
     let second = |image: &Image| {
-        let found = image.exports().unwrap().map(Result::unwrap).find(|it| it.name == b"second").unwrap();
+        let found = image.exports().unwrap().map(Result::unwrap).find(|it| it.name == "second").unwrap();
         (found.rva, found.offset)
     };
     let file = strict(&bytes);
@@ -172,9 +172,9 @@ fn empty_texts_are_there() {
     }
     let image = strict(&bytes);
     let table = image.export_addresses().unwrap().unwrap();
-    assert_eq!(table.name(), Some(b"".as_slice()));
+    assert_eq!(table.name(), Some(""));
     let forwarders: Vec<_> = table.iter().map(|it| it.forwarder).collect();
-    assert_eq!(forwarders, [None, None, None, Some(b"".as_slice())]);
+    assert_eq!(forwarders, [None, None, None, Some("")]);
     // the name's RVA is 0: the DLL has none
     let directory = image.info().directory(DirectoryIndex::Export).unwrap().virtual_address;
     let at = offset(directory) as usize + 12;
@@ -187,7 +187,7 @@ fn empty_texts_are_there() {
     let image = strict(&bytes);
     let library = image.libraries().unwrap().next().unwrap().unwrap();
     let imports: Vec<_> = library.imports().map(|it| it.unwrap()).map(|it| (it.name, it.ordinal)).collect();
-    assert_eq!(imports, [(Some(b"".as_slice()), 42), (None, 17)]);
+    assert_eq!(imports, [(Some(""), 42), (None, 17)]);
 
     // a Repro record of a length alone, 0
     let mut bytes = with_debug();

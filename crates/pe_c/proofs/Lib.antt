@@ -66,6 +66,8 @@ pub mod FrameRuns
 pub mod FilledLists
 pub mod ListRuns
 pub mod ResourceEdits
+pub mod SignedFiles
+pub mod WrittenFiles
 pub mod ResourceRoots
 pub mod DumpEntries
 pub mod DumpRanges
@@ -102,3 +104,4 @@ pub mod NearMaps
 pub mod NearLists
 mod StepFailures
 mod UnwindFailures
+pub mod NamesPut

@@ -12,8 +12,10 @@ use Rattle.pe_rewrite.specs.RewriteRefusals as rewrites
 use Rattle.pe_version.specs.VersionRefusals.{VersionRefusal, block_of}
 use Rattle.pe_version.specs.VersionRefusals as versions
 use Rattle.pe_version.specs.WrittenBlocks.{BlockValue}
-use Rattle.pe_c.specs.ResourceEdits.{edited_at, headers_numbered, length_numbered, numbered, records_numbered, rewrite_number, written_numbered}
+use Rattle.pe_c.specs.ResourceEdits.{edited_at, records_numbered, rewrite_number}
+use Rattle.pe_c.specs.Signing.{headers_numbered}
 use Rattle.pe_c.specs.VersionWrites.{block_at, version_number, version_numbered}
+use Rattle.pe_c.specs.WrittenFiles.{length_numbered, numbered, written_numbered}
 use Rattle.pe_c.specs.declared.image.Image as images
 
 same_refusal : {X R : Type 0} (q r : R) → ◌≡◌ {A = Result X R} (Err q) (Err r) → q ≡ r

@@ -18,6 +18,7 @@ pub mod Modes
 pub mod Parts
 pub mod Plans
 pub mod Ranges
+pub mod WrittenFiles
 pub mod Runs
 pub mod Signing
 pub mod SignatureParts
@@ -27,6 +28,7 @@ pub mod NameWalks
 pub mod StackFrames
 pub mod WalkModules
 pub mod FrameCalls
+pub mod FunctionNames
 pub mod StackWalks
 pub mod Arm64StackWalks
 pub mod Texts

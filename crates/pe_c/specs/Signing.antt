@@ -1,6 +1,6 @@
 -- What calls return that a signing tool makes. They read the headers from the bytes, in the mode of the image that is
 -- passed.
-use Rattle.std.specs.Prelude.{◌≡◌, ℕ, ◌%◌, ◌==◌, List, flat_map, map, Result, Ok, Err, if◌then◌else◌}
+use Rattle.std.specs.Prelude.{◌≡◌, ℕ, ◌%◌, ◌==◌, List, flat_map, map, Result, Ok, if◌then◌else◌}
 use Rattle.pe_core.specs.Bytes.{range}
 use Rattle.pe_core.specs.Header.{HeaderView, header_at}
 use Rattle.pe_core.specs.Refusals.{Refusal, ◌>>=◌}
@@ -8,18 +8,18 @@ use Rattle.pe_sign.specs.Attaching.{attached_of, detached_of}
 use Rattle.pe_sign.specs.Checksum.{checksum_of, checksum_range_of}
 use Rattle.pe_sign.specs.Digest.{Covered, digest_of}
 use Rattle.pe_sign.specs.DigestRanges.{digest_ranges_of}
-use Rattle.pe_sign.specs.SignRefusals.{SignRefusal, Image, NoDirectory, TableNotLast, Headers, Section, TableOffset, TooLarge, of_image}
+use Rattle.pe_sign.specs.SignRefusals.{SignRefusal, Image, NoDirectory, TableNotLast, Headers, Section, TableOffset, TooLarge}
 use Rattle.pe_sign.specs.declared.attachment.Placement.{Placement}
 use Rattle.pe_sign.specs.declared.attachment.Placement.TheVariants.{After, InPlace}
 use Rattle.pe_sign.specs.declared.file_ranges.DigestRanges.{DigestRanges}
 use Rattle.pe_c.specs.HandsOut.{result_number}
 use Rattle.pe_c.specs.Modes.{mode_of_number}
 use Rattle.pe_c.specs.Ranges.{range_of}
+use Rattle.pe_c.specs.WrittenFiles.{numbered}
 use Rattle.pe_c.specs.declared.image.Image as images
 use Rattle.pe_c.specs.declared.ranges.Range.{Range}
 use Rattle.pe_c.specs.declared.signing.ChecksumField.{ChecksumField}
 use Rattle.pe_c.specs.declared.signing.Digest.{Digest}
-use Rattle.pe_c.specs.declared.results.TheConstants.{DONE}
 
 -- the number of a refusal of signing, written by tools/make_errors
 abbrev pub sign_number : SignRefusal → ℕ
@@ -31,19 +31,13 @@ sign_number Section = 204
 sign_number TableOffset = 205
 sign_number TooLarge = 206
 
--- DONE and the value; else the number of the refusal, and `out` is unchanged
-abbrev pub SignHandsOut : {Y : Type 0} → ℕ → Y → Y → Result Y SignRefusal → Type 0
-SignHandsOut number old new (Ok value) = (number ≡ DONE) × (new ≡ value)
-SignHandsOut number old new (Err refusal) = (number ≡ sign_number refusal) × (new ≡ old)
-
--- 0, the length of a file at `out` and the file in the room; else the number of the refusal, and both are unchanged
-abbrev pub SignHandsOutWritten : ℕ → ℕ → ℕ → List ℕ → List ℕ → Result (ℕ × List ℕ) SignRefusal → Type 0
-SignHandsOutWritten number old new room room_after (Ok file) = (number ≡ DONE) × (new ≡ file.0) × (room_after ≡ file.1)
-SignHandsOutWritten number old new room room_after (Err refusal) = (number ≡ sign_number refusal) × (new ≡ old) × (room_after ≡ room)
-
 -- the headers of the bytes, in the mode of an image
 abbrev pub headers_of : List ℕ → images.Image → Result HeaderView Refusal
 headers_of b image = header_at b (mode_of_number image.mode)
+
+-- the same, or the number of their refusal
+abbrev pub headers_numbered : List ℕ → images.Image → Result HeaderView ℕ
+headers_numbered b image = numbered result_number (headers_of b image)
 
 -- the ranges of a digest as callers get them
 abbrev pub digest_reported : DigestRanges → Digest
@@ -63,12 +57,13 @@ abbrev pub placement_of : ℕ → Placement
 placement_of n = if n % 2 == 0 then After else InPlace
 
 -- the image with a certificate
-abbrev pub attached_at : ℕ → List ℕ → images.Image → List ℕ → Result (List ℕ) SignRefusal
-attached_at placement b image certificate = of_image (headers_of b image) >>= λ h. attached_of (placement_of placement) b h certificate
+abbrev pub attached_at : ℕ → List ℕ → images.Image → List ℕ → Result (List ℕ) ℕ
+attached_at placement b image certificate =
+    headers_numbered b image >>= λ h. numbered sign_number (attached_of (placement_of placement) b h certificate)
 
 -- the image without certificates
-abbrev pub detached_at : List ℕ → images.Image → Result (List ℕ) SignRefusal
-detached_at b image = of_image (headers_of b image) >>= λ h. detached_of b h
+abbrev pub detached_at : List ℕ → images.Image → Result (List ℕ) ℕ
+detached_at b image = headers_numbered b image >>= λ h. numbered sign_number (detached_of b h)
 
 -- ---- the parts of a digest
 

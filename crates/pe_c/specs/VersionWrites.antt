@@ -4,7 +4,7 @@ use Rattle.pe_version.specs.VersionRefusals.{VersionRefusal, block_of}
 use Rattle.pe_version.specs.VersionRefusals as versions
 use Rattle.pe_version.specs.WrittenBlocks.{BlockValue}
 use Rattle.pe_c.specs.HandsOut.{result_number}
-use Rattle.pe_c.specs.ResourceEdits.{numbered}
+use Rattle.pe_c.specs.WrittenFiles.{numbered}
 
 -- the numbers of refusals, written by tools/make_errors
 abbrev pub version_number : VersionRefusal → ℕ

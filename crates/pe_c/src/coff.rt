@@ -115,7 +115,8 @@ fn coff_header_of(coff: &CoffFields) -> CoffHeader
     }
 }
 
-fn symbols_at(bytes: &[u8], coff: &CoffFields) -> Result<Option<SymbolWalk>>
+/// A walk over the symbols of a header, if it has any.
+pub fn symbols_at(bytes: &[u8], coff: &CoffFields) -> Result<Option<SymbolWalk>>
     ensures { answer_of result ≡ symbols_at bytes.now coff.now }
 {
     match coff_header_of(coff).symbols(bytes)? {
@@ -141,7 +142,8 @@ pub extern "C" fn pe_c_coff_symbols(bytes: &[u8], coff: &CoffFields, out: &mut S
     hand_out_some(symbols_at(bytes, coff), out)
 }
 
-fn coff_strings_at(bytes: &[u8], coff: &CoffFields) -> Result<Option<Range>>
+/// The range of the string table after them, if there is one.
+pub fn coff_strings_at(bytes: &[u8], coff: &CoffFields) -> Result<Option<Range>>
     ensures { answer_of result ≡ coff_strings_at bytes.now coff.now }
 {
     match coff_header_of(coff).strings(bytes)? {

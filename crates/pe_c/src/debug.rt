@@ -2,8 +2,8 @@
 //! where that is. Debuggers get the name and key of an image's PDB file from the CodeView record.
 //! https://learn.microsoft.com/windows/win32/debug/pe-format#the-debug-section
 //!
-//! A call that returns a record reads the first entry of its type and no other: what damages another entry, or the record of
-//! another type, makes no difference. `laws::debug` says so over all bytes.
+//! A record is read of the first entry of its type and of no other: what damages another entry, or the record of another type,
+//! makes no difference. `laws::debug` says so over all bytes.
 
 ghost use Rattle.std.specs.Prelude.{◌≡◌, IfOk};
 ghost use Rattle.pe_core.specs.Offsets.{IsWithin};
@@ -145,15 +145,15 @@ pub extern "C" fn pe_c_first_debug_entry(
 pub struct DebugRecords {
     /// That of `pe_c_symbol_key`.
     pub key: SymbolKey,
-    /// That of `pe_c_debug_pdb20`.
+    /// That of PDB 2.0 in the first CodeView entry.
     pub pdb20: Pdb20,
-    /// That of `pe_c_debug_repro`.
+    /// That of the first Repro entry.
     pub repro: Repro,
-    /// That of `pe_c_debug_pogo`.
+    /// That of the first POGO entry.
     pub pogo: Pogo,
-    /// Those of `pe_c_debug_vc_features`.
+    /// Those of the first VC feature entry.
     pub features: VCFeatureInfo,
-    /// Those of `pe_c_debug_characteristics`.
+    /// The flags of the first entry of extended DLL characteristics.
     pub characteristics: u32,
     /// The result of `key`.
     pub key_result: u32,
@@ -213,26 +213,6 @@ fn pdb20_at(view: &View, entry: Option<ImageDebugDirectory>) -> Result<Option<Pd
     }
 }
 
-fn first_pdb20(view: &View) -> Result<Option<Pdb20>>
-    ensures { answer_of result ≡ read_first pdb20_of IMAGE_DEBUG_TYPE_CODEVIEW view.now.bytes.now
-        view.now.image.now (directory_sections view.now 6) }
-{
-    pdb20_at(view, first_entry(view, IMAGE_DEBUG_TYPE_CODEVIEW)?)
-}
-
-/// Reads the record of the first CodeView entry: `NOTHING` where there is no such entry, or its record is not one of
-/// PDB 2.0.
-///
-/// Errors: those of `pe_c_first_debug_entry`, then those of `pe_c_pdb20_of`.
-#[unsafe(no_mangle)]
-pub extern "C" fn pe_c_debug_pdb20(view: &View, out: &mut Pdb20) -> u32
-    ensures { HandsOutIf result out.old out.new
-        (read_first pdb20_of IMAGE_DEBUG_TYPE_CODEVIEW view.now.bytes.now view.now.image.now
-        (directory_sections view.now 6)) }
-{
-    hand_out_some(first_pdb20(view), out)
-}
-
 /// The counts of VC features of an entry, if there is one.
 fn features_at(view: &View, entry: Option<ImageDebugDirectory>) -> Result<Option<VCFeatureInfo>>
     ensures { answer_of result
@@ -242,26 +222,6 @@ fn features_at(view: &View, entry: Option<ImageDebugDirectory>) -> Result<Option
         Some(entry) => features_of(view.bytes, view.image.mode, &entry),
         None => Ok(None),
     }
-}
-
-fn first_features(view: &View) -> Result<Option<VCFeatureInfo>>
-    ensures { answer_of result
-        ≡ read_first features_of IMAGE_DEBUG_TYPE_VC_FEATURE view.now.bytes.now view.now.image.now
-        (directory_sections view.now 6) }
-{
-    features_at(view, first_entry(view, IMAGE_DEBUG_TYPE_VC_FEATURE)?)
-}
-
-/// Reads the record of the first VC feature entry: `NOTHING` where there is no such entry.
-///
-/// Errors: those of `pe_c_first_debug_entry`, then those of `pe_c_vc_features_of`.
-#[unsafe(no_mangle)]
-pub extern "C" fn pe_c_debug_vc_features(view: &View, out: &mut VCFeatureInfo) -> u32
-    ensures { HandsOutIf result out.old out.new
-        (read_first features_of IMAGE_DEBUG_TYPE_VC_FEATURE view.now.bytes.now view.now.image.now
-        (directory_sections view.now 6)) }
-{
-    hand_out_some(first_features(view), out)
 }
 
 /// The extended DLL characteristics of an entry, if there is one.
@@ -275,30 +235,6 @@ fn characteristics_at(view: &View, entry: Option<ImageDebugDirectory>) -> Result
     }
 }
 
-fn first_characteristics(view: &View) -> Result<Option<u32>>
-    ensures { answer_of result
-        ≡ read_first characteristics_of IMAGE_DEBUG_TYPE_EX_DLLCHARACTERISTICS view.now.bytes.now
-        view.now.image.now (directory_sections view.now 6) }
-{
-    characteristics_at(
-        view,
-        first_entry(view, IMAGE_DEBUG_TYPE_EX_DLLCHARACTERISTICS)?,
-    )
-}
-
-/// Reads the extended DLL characteristics, `IMAGE_DLLCHARACTERISTICS_EX_` flags, of the first entry that has them:
-/// `NOTHING` where there is no such entry.
-///
-/// Errors: those of `pe_c_first_debug_entry`, then those of `pe_c_characteristics_of`.
-#[unsafe(no_mangle)]
-pub extern "C" fn pe_c_debug_characteristics(view: &View, out: &mut u32) -> u32
-    ensures { HandsOutIf result out.old out.new
-        (read_first characteristics_of IMAGE_DEBUG_TYPE_EX_DLLCHARACTERISTICS view.now.bytes.now
-        view.now.image.now (directory_sections view.now 6)) }
-{
-    hand_out_some(first_characteristics(view), out)
-}
-
 /// The Repro record of an entry, if there is one.
 fn repro_at(view: &View, entry: Option<ImageDebugDirectory>) -> Result<Option<Repro>>
     ensures { answer_of result
@@ -310,25 +246,6 @@ fn repro_at(view: &View, entry: Option<ImageDebugDirectory>) -> Result<Option<Re
     }
 }
 
-fn first_repro(view: &View) -> Result<Option<Repro>>
-    ensures { answer_of result ≡ read_first repro_of IMAGE_DEBUG_TYPE_REPRO view.now.bytes.now
-        view.now.image.now (directory_sections view.now 6) }
-{
-    repro_at(view, first_entry(view, IMAGE_DEBUG_TYPE_REPRO)?)
-}
-
-/// Reads the record of the first Repro entry: `NOTHING` where there is no such entry.
-///
-/// Errors: those of `pe_c_first_debug_entry`, then those of `pe_c_repro_of`.
-#[unsafe(no_mangle)]
-pub extern "C" fn pe_c_debug_repro(view: &View, out: &mut Repro) -> u32
-    ensures { HandsOutIf result out.old out.new
-        (read_first repro_of IMAGE_DEBUG_TYPE_REPRO view.now.bytes.now view.now.image.now
-        (directory_sections view.now 6)) }
-{
-    hand_out_some(first_repro(view), out)
-}
-
 /// The POGO record of an entry, if there is one.
 fn pogo_at(view: &View, entry: Option<ImageDebugDirectory>) -> Result<Option<Pogo>>
     ensures { answer_of result
@@ -338,26 +255,6 @@ fn pogo_at(view: &View, entry: Option<ImageDebugDirectory>) -> Result<Option<Pog
         Some(entry) => pogo_of(view.bytes, view.image.mode, &entry),
         None => Ok(None),
     }
-}
-
-fn first_pogo(view: &View) -> Result<Option<Pogo>>
-    ensures { answer_of result ≡ read_first pogo_of IMAGE_DEBUG_TYPE_POGO view.now.bytes.now
-        view.now.image.now (directory_sections view.now 6) }
-{
-    pogo_at(view, first_entry(view, IMAGE_DEBUG_TYPE_POGO)?)
-}
-
-/// Reads the record of the first POGO entry: `NOTHING` where there is no such entry, or its record has another
-/// signature.
-///
-/// Errors: those of `pe_c_first_debug_entry`, then those of `pe_c_pogo_of`.
-#[unsafe(no_mangle)]
-pub extern "C" fn pe_c_debug_pogo(view: &View, out: &mut Pogo) -> u32
-    ensures { HandsOutIf result out.old out.new
-        (read_first pogo_of IMAGE_DEBUG_TYPE_POGO view.now.bytes.now view.now.image.now
-        (directory_sections view.now 6)) }
-{
-    hand_out_some(first_pogo(view), out)
 }
 
 /// Reads the record of each entry, with a result of its own.
@@ -405,8 +302,8 @@ fn refuse_records(number: u32, out: &mut DebugRecords)
     out.characteristics_result = number;
 }
 
-/// Reads the record of the first entry of each type at once, as the calls above do, but by one pass over the entries. Always returns
-/// `DONE`: each record has a result of its own.
+/// Reads the record of the first entry of each type, by one pass over the entries. Always returns `DONE`: each record has a result of
+/// its own, that of `pe_c_first_debug_entry`, and then that of the call that reads the record of an entry.
 #[unsafe(no_mangle)]
 pub extern "C" fn pe_c_debug_data(view: &View, out: &mut DebugRecords) -> u32
     ensures done { result ≡ DONE }

@@ -336,7 +336,8 @@ fn headers_of(header: &Header) -> Headers
     }
 }
 
-fn read_headers(bytes: &[u8], mode: u32) -> Result<Headers>
+/// The headers of an image.
+pub fn read_headers(bytes: &[u8], mode: u32) -> Result<Headers>
     ensures { answer_of result ≡ headers_at bytes.now mode }
 {
     let header = Header::parse_with_opts(bytes, &options(mode))?;

@@ -8,10 +8,11 @@ ghost use Rattle.pe_core.specs.Header.{header_view};
 ghost use Rattle.pe_core.specs.Refusals.{ReturnsAs, answer_of};
 ghost use Rattle.pe_image.specs.CertificateLists.{certificate_views};
 ghost use Rattle.pe_image.specs.Writing.{ReturnsWritten};
-ghost use Rattle.pe_c.specs.HandsOut.{HandsOut, HandsOutWritten};
+ghost use Rattle.pe_c.specs.HandsOut.{HandsOutWritten};
 ghost use Rattle.pe_c.specs.ImageWrites.{certificates_of, certificates_written_at, image_length_at, image_written_at, whole_length_at, whole_written_at};
+ghost use Rattle.pe_c.specs.WrittenFiles.{HandsOutImage};
 
-use crate::results::{hand_out, options};
+use crate::results::{ROOM, hand_out, number_of, options};
 use crate::signing::headers_of;
 use crate::view::View;
 use pe_core::{Header, Result};
@@ -52,6 +53,7 @@ pub extern "C" fn pe_c_write_certificates(view: &View, room: &mut [u8], out: &mu
     hand_out(write_certificates(view, room), out)
 }
 
+/// How many bytes of a room the image needs: the greatest end of what is written.
 fn image_length(view: &View) -> Result<u64>
     ensures { answer_of result ≡ image_length_at view.now }
 {
@@ -63,16 +65,6 @@ fn image_length(view: &View) -> Result<u64>
         certificates: certificates_of(view, &header)?,
     };
     Ok(writer.written_len()? as u64)
-}
-
-/// Returns how many bytes of an array `pe_c_write_image` needs: the greatest end of what it writes.
-///
-/// Errors: those of `pe_c_write_image`, and `WRITE_FIT` only if no array is long enough.
-#[unsafe(no_mangle)]
-pub extern "C" fn pe_c_image_length(view: &View, out: &mut u64) -> u32
-    ensures { HandsOut result out.old out.new (image_length_at view.now) }
-{
-    hand_out(image_length(view), out)
 }
 
 fn write_image(view: &View, room: &mut [u8]) -> Result<u64>
@@ -89,22 +81,34 @@ fn write_image(view: &View, room: &mut [u8]) -> Result<u64>
 }
 
 /// Writes the image to the room: the headers, the sections as `pe_c_write_sections` does, padded to the file alignment, with
-/// their headers in the section table, and the certificates from the offset of their directory on. Puts to `out` the greatest of
+/// their headers in the section table, and the certificates from the offset of their directory on. Puts to `written` the greatest of
 /// three offsets: the start of the section table, the end of the data of the last section with the greatest raw pointer, the end
-/// of the certificates. Without a section the first may lie past the end of the room.
+/// of the certificates. Without a section the first may lie past the end of the room. Where the room is smaller than the greatest end of
+/// what is written all of it is unchanged, and `written` has that end.
 ///
 /// Errors: those of `pe_c_image`; in strict mode those of the certificates, as `pe_c_next_certificate` returns them;
 /// `NO_OPTIONAL_HEADER`; `WRITE_ALIGNMENT` unless the file alignment is a power of two; `WRITE_SYMBOLS` unless the pointer to COFF
-/// symbols is 0; `WRITE_OVERLAP`, `WRITE_SECTION`, `WRITE_FIT` as of `pe_c_write_sections`. After an error the room and `out` are
-/// unchanged.
+/// symbols is 0; `WRITE_OVERLAP`, `WRITE_SECTION` as of `pe_c_write_sections`; `WRITE_FIT` if no room is long enough; `ROOM`. After an
+/// error the room is unchanged, and after others than `ROOM` `written` too.
 #[unsafe(no_mangle)]
-pub extern "C" fn pe_c_write_image(view: &View, room: &mut [u8], out: &mut u64) -> u32
-    ensures { HandsOutWritten result out.old out.new room.old room.new
+pub extern "C" fn pe_c_write_image(view: &View, room: &mut [u8], written: &mut u64) -> u32
+    ensures { HandsOutImage result written.old written.new room.old room.new (image_length_at view.now)
         (image_written_at view.now room.old) }
 {
-    hand_out(write_image(view, room), out)
+    match image_length(view) {
+        Ok(length) => {
+            if length <= room.len() as u64 {
+                hand_out(write_image(view, room), written)
+            } else {
+                *written = length;
+                ROOM
+            }
+        }
+        Err(error) => number_of(&error),
+    }
 }
 
+/// How many bytes of a room the whole file needs.
 fn whole_length(view: &View) -> Result<u64>
     ensures { answer_of result ≡ whole_length_at view.now }
 {
@@ -116,17 +120,6 @@ fn whole_length(view: &View) -> Result<u64>
         certificates: certificates_of(view, &header)?,
     };
     Ok(writer.whole_len()? as u64)
-}
-
-/// Returns how many bytes of an array `pe_c_write_whole` needs: the length of the file, or the greatest end of what is written
-/// over it if that is greater.
-///
-/// Errors: those of `pe_c_write_whole`, and `WRITE_FIT` only if no array is long enough.
-#[unsafe(no_mangle)]
-pub extern "C" fn pe_c_whole_length(view: &View, out: &mut u64) -> u32
-    ensures { HandsOut result out.old out.new (whole_length_at view.now) }
-{
-    hand_out(whole_length(view), out)
 }
 
 fn write_whole(view: &View, room: &mut [u8]) -> Result<u64>
@@ -143,15 +136,26 @@ fn write_whole(view: &View, room: &mut [u8]) -> Result<u64>
 }
 
 /// Writes the whole file to the room, and over it the headers, the sections without zeros after them, and the certificates. So
-/// what none of these describes stays: COFF symbols, bytes between sections and after them. Puts to `out` the greater of the
-/// file's length and of what `pe_c_write_image` returns there.
+/// what none of these describes stays: COFF symbols, bytes between sections and after them. Puts to `written` the greater of the
+/// file's length and of what `pe_c_write_image` puts there. Where the room is smaller than the file, or than the greatest end of what is
+/// written over it, all of it is unchanged, and `written` has the greater of both.
 ///
-/// Errors: those of `pe_c_image`; in strict mode those of the certificates; `NO_OPTIONAL_HEADER`; `WRITE_OVERLAP`, `WRITE_SECTION`,
-/// `WRITE_FIT`. After an error the room and `out` are unchanged.
+/// Errors: those of `pe_c_image`; in strict mode those of the certificates; `NO_OPTIONAL_HEADER`; `WRITE_OVERLAP`, `WRITE_SECTION`;
+/// `WRITE_FIT` if no room is long enough; `ROOM`. After an error the room is unchanged, and after others than `ROOM` `written` too.
 #[unsafe(no_mangle)]
-pub extern "C" fn pe_c_write_whole(view: &View, room: &mut [u8], out: &mut u64) -> u32
-    ensures { HandsOutWritten result out.old out.new room.old room.new
+pub extern "C" fn pe_c_write_whole(view: &View, room: &mut [u8], written: &mut u64) -> u32
+    ensures { HandsOutImage result written.old written.new room.old room.new (whole_length_at view.now)
         (whole_written_at view.now room.old) }
 {
-    hand_out(write_whole(view, room), out)
+    match whole_length(view) {
+        Ok(length) => {
+            if length <= room.len() as u64 {
+                hand_out(write_whole(view, room), written)
+            } else {
+                *written = length;
+                ROOM
+            }
+        }
+        Err(error) => number_of(&error),
+    }
 }

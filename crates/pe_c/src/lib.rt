@@ -34,6 +34,7 @@ mod exports;
 mod failure;
 mod failure_numbers;
 mod frame_calls;
+mod function_names;
 mod guard_tables;
 mod headers;
 mod image;

@@ -4,16 +4,15 @@
 //! https://learn.microsoft.com/windows/win32/debug/pe-format#the-rsrc-section
 
 ghost use Rattle.std.specs.Prelude.{◌≡◌};
-ghost use Rattle.pe_core.specs.Header.{header_view};
 ghost use Rattle.pe_edit.specs.EditRefusals.{edit_kind_of};
 ghost use Rattle.pe_edit.specs.RecordRefusals.{record_kind_of};
 ghost use Rattle.pe_rewrite.specs.RewriteRefusals.{rewrite_kind_of};
-ghost use Rattle.pe_c.specs.ResourceEdits.{HandsOutByNumber, HandsOutFile, NumberReturns, NumberReturnsWritten, edit_number, edited_at, headers_numbered, length_numbered, record_number, records_numbered, rewrite_number, written_numbered};
+ghost use Rattle.pe_c.specs.ResourceEdits.{edit_number, edited_at, record_number, records_numbered, rewrite_number};
+ghost use Rattle.pe_c.specs.WrittenFiles.{HandsOutFile, NumberReturns, NumberReturnsWritten, length_numbered, written_numbered};
 
-use crate::results::{DONE, number_of};
-use crate::signing::headers_of;
+use crate::results::{DONE, WRITE_FIT, hand_out_length, number_of};
+use crate::signing::headers;
 use crate::view::View;
-use pe_core::Header;
 use pe_edit::{EditError, Leaves, RecordError, ResourceRecord, require_records};
 use pe_rewrite::{RewriteError, edited_len, write_edited};
 
@@ -65,17 +64,6 @@ fn number_of_record(error: &RecordError) -> u32
     }
 }
 
-/// The headers of the bytes, in the mode of an image, or the number of an error.
-fn headers<'a>(view: &View<'a>) -> Result<Header<'a>, u32>
-    ensures { NumberReturns header_view result (headers_numbered view.now.bytes.now
-        view.now.image.now) }
-{
-    match headers_of(view) {
-        Ok(header) => Ok(header),
-        Err(error) => Err(number_of(&error)),
-    }
-}
-
 /// Tests the records: the number of an error if they are no list of resources.
 fn tested(resources: &[ResourceRecord], data: &[u8]) -> Result<(), u32>
     ensures { NumberReturns (λ u. u) result (records_numbered data.now resources.now) }
@@ -86,6 +74,7 @@ fn tested(resources: &[ResourceRecord], data: &[u8]) -> Result<(), u32>
     }
 }
 
+/// The length of the file with these resources.
 fn edited_length(view: &View, resources: &[ResourceRecord], data: &[u8]) -> Result<u64, u32>
     ensures { NumberReturns (λ n. n) result
         (length_numbered (edited_at view.now.bytes.now view.now.image.now data.now resources.now)) }
@@ -95,28 +84,6 @@ fn edited_length(view: &View, resources: &[ResourceRecord], data: &[u8]) -> Resu
     match edited_len(view.bytes, &header, &Leaves::Records(resources, data)) {
         Ok(length) => Ok(length as u64),
         Err(error) => Err(number_of_rewrite(&error)),
-    }
-}
-
-/// Returns the length of the file that `pe_c_edit` writes with these arguments, which is that of the image or more.
-///
-/// Errors: those of `pe_c_edit`, but for that of the room.
-#[unsafe(no_mangle)]
-pub extern "C" fn pe_c_edited_length(
-    view: &View,
-    resources: &[ResourceRecord],
-    data: &[u8],
-    out: &mut u64,
-) -> u32
-    ensures { HandsOutByNumber result out.old out.new
-        (length_numbered (edited_at view.now.bytes.now view.now.image.now data.now resources.now)) }
-{
-    match edited_length(view, resources, data) {
-        Ok(length) => {
-            *out = length;
-            DONE
-        }
-        Err(number) => number,
     }
 }
 
@@ -139,32 +106,41 @@ fn edit_to(
     }
 }
 
-/// Writes the image with these resources in place of those that it has to the start of `room`, and its length to `out`. The rest
-/// of the room is unchanged. The resources are sorted by type, name and language: names before ids, names by their code units,
+/// Writes the image with these resources in place of those that it has to the start of `room`, and its length to `written`, which is that
+/// of the image or more. The rest of the room is unchanged. Where the room is smaller all of it is, and `written` has the length that it
+/// needs. The resources are sorted by type, name and language: names before ids, names by their code units,
 /// ids and languages by their numbers. Their names and contents are ranges of `data`.
 ///
 /// Errors: those of `pe_c_image`; `EDIT_RECORD`, `EDIT_NAMES`, `EDIT_CONTENTS`; `NO_OPTIONAL_HEADER`, `EDIT_NO_DIRECTORY`; `EDIT_SIGNED`;
 /// `EDIT_TOO_MANY`, `EDIT_NAME`, `EDIT_ORDER`, `EDIT_TABLES_TOO_LARGE`, `EDIT_TOO_LARGE`; `EDIT_HEADERS`, `SHORT` of the section
 /// table; `EDIT_ALIGNMENT`; of a new section `EDIT_IMAGE_TOO_LARGE`, `EDIT_NO_HEADER_ROOM`, `EDIT_SECTION`,
-/// `EDIT_SHARED_SECTION`, `EDIT_SYMBOLS`, `EDIT_OVERLAP`, `EDIT_DEBUG_DATA`; `WRITE_FIT` if the file does not fit into the room.
-/// After an error `room` is unchanged.
+/// `EDIT_SHARED_SECTION`, `EDIT_SYMBOLS`, `EDIT_OVERLAP`, `EDIT_DEBUG_DATA`; `ROOM` if the file does not fit into the room.
+/// After an error the room is unchanged, and after others than `ROOM` `written` too.
 #[unsafe(no_mangle)]
 pub extern "C" fn pe_c_edit(
     view: &View,
     resources: &[ResourceRecord],
     data: &[u8],
     room: &mut [u8],
-    out: &mut u64,
+    written: &mut u64,
 ) -> u32
-    ensures { HandsOutFile result out.old out.new room.old room.new
-        (written_numbered (edited_at view.now.bytes.now view.now.image.now data.now resources.now)
-        room.old) }
+    ensures { HandsOutFile result written.old written.new room.old room.new
+        (edited_at view.now.bytes.now view.now.image.now data.now resources.now) }
 {
+    if room.is_empty() {
+        return hand_out_length(edited_length(view, resources, data), 0, written);
+    }
     match edit_to(view, resources, data, room) {
         Ok(length) => {
-            *out = length as u64;
+            *written = length as u64;
             DONE
         }
-        Err(number) => number,
+        Err(number) => {
+            if number == WRITE_FIT {
+                hand_out_length(edited_length(view, resources, data), room.len(), written)
+            } else {
+                number
+            }
+        }
     }
 }

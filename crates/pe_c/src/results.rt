@@ -9,10 +9,11 @@ ghost use Rattle.pe_c.specs.Directories.{DirectoryHandsOut, directory_number};
 ghost use Rattle.pe_c.specs.HandsOut.{result_number, HandsOut, HandsOutIf};
 ghost use Rattle.pe_c.specs.Modes.{options_of};
 ghost use Rattle.pe_c.specs.ResourceLeaves.{TreeHandsOut, tree_number};
-ghost use Rattle.pe_c.specs.Signing.{SignHandsOut, sign_number};
+ghost use Rattle.pe_c.specs.Signing.{sign_number};
+ghost use Rattle.pe_c.specs.WrittenFiles.{HandsOutLength};
 ghost use Rattle.pe_directories.specs.DirectoryRefusals.{directory_answer, directory_kind_of};
 ghost use Rattle.pe_resource.specs.Leaves.{tree_answer, tree_kind_of};
-ghost use Rattle.pe_sign.specs.SignRefusals.{sign_answer_of, sign_kind_of};
+ghost use Rattle.pe_sign.specs.SignRefusals.{sign_kind_of};
 
 use pe_core::{Error, ParseMode, ParseOptions, Reason, Result};
 use pe_directories::DirectoryError;
@@ -44,6 +45,9 @@ pub const NOT_RISING: u32 = 105;
 
 /// More records are chained than a step takes.
 pub const LONG_CHAIN: u32 = 106;
+
+/// What is written does not fit its buffer: the number of `Reason::WriteFit`.
+pub const WRITE_FIT: u32 = 37;
 
 /// Returns the number of this ABI, which its name has too. The header and the cargo crate refer to that name, so that a
 /// program that was compiled for another ABI does not link. The number grows with each change that breaks callers.
@@ -198,19 +202,6 @@ pub fn hand_out_some<T: Copy>(given: Result<Option<T>>, out: &mut T) -> u32
     }
 }
 
-/// The same by an error of signing.
-pub fn hand_out_signed<T: Copy>(given: std::result::Result<T, SignError>, out: &mut T) -> u32
-    ensures { SignHandsOut result out.old out.new (sign_answer_of given) }
-{
-    match given {
-        Ok(value) => {
-            *out = value;
-            DONE
-        }
-        Err(error) => number_of_signing(&error),
-    }
-}
-
 /// The same of what may be absent, by an error of a directory.
 pub fn hand_out_found<T: Copy>(
     given: std::result::Result<Option<T>, DirectoryError>,
@@ -242,5 +233,19 @@ pub fn hand_out_leaf<T: Copy>(
         }
         Ok(None) => NOTHING,
         Err(error) => number_of_tree(&error),
+    }
+}
+
+/// Hands out the length of a file: `DONE` where a room of so many bytes has room for it, `ROOM` where not; or the number of an error,
+/// and then `out` is unchanged.
+pub fn hand_out_length(given: std::result::Result<u64, u32>, room: usize, out: &mut u64) -> u32
+    ensures { HandsOutLength result out.old out.new room given }
+{
+    match given {
+        Ok(length) => {
+            *out = length;
+            if length <= room as u64 { DONE } else { ROOM }
+        }
+        Err(number) => number,
     }
 }

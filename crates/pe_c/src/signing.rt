@@ -9,18 +9,19 @@
 ghost use Rattle.std.specs.Prelude.{◌≡◌};
 ghost use Rattle.pe_core.specs.Header.{header_view};
 ghost use Rattle.pe_core.specs.Refusals.{ReturnsAs, answer_of};
-ghost use Rattle.pe_sign.specs.Attaching.{SignReturnsWritten, length_of, written};
-ghost use Rattle.pe_sign.specs.SignRefusals.{sign_answer_of};
 ghost use Rattle.pe_c.specs.HandsOut.{HandsOut};
-ghost use Rattle.pe_c.specs.Signing.{SignHandsOut, SignHandsOutWritten, attached_at, checksum_at, detached_at, digest_at, digest_reported, headers_of, placement_of};
+ghost use Rattle.pe_c.specs.Signing.{attached_at, checksum_at, detached_at, digest_at, digest_reported, headers_numbered, headers_of, placement_of};
+ghost use Rattle.pe_c.specs.WrittenFiles.{HandsOutFile, NumberReturns, NumberReturnsWritten, length_numbered, written_numbered};
 
 use crate::ranges::{Range, range_of};
-use crate::results::{DONE, hand_out, hand_out_signed, number_of_signing, options};
+use crate::results::{
+    DONE, WRITE_FIT, hand_out, hand_out_length, number_of, number_of_signing, options,
+};
 use crate::view::View;
 use pe_core::Header;
 use pe_sign::{
-    DigestRanges, Placement, SignError, attach, attached_len, checksum, checksum_range, detach,
-    detached_len, digest_ranges,
+    DigestRanges, Placement, attach, attached_len, checksum, checksum_range, detach, detached_len,
+    digest_ranges,
 };
 
 /// What the Authenticode digest of an image covers: ranges of the file, and then zeros.
@@ -50,6 +51,17 @@ pub fn headers_of<'a>(view: &View<'a>) -> pe_core::Result<Header<'a>>
     ensures { ReturnsAs header_view result (headers_of view.now.bytes.now view.now.image.now) }
 {
     Header::parse_with_opts(view.bytes, &options(view.image.mode))
+}
+
+/// The headers of the bytes, in the mode of an image, or the number of an error.
+pub fn headers<'a>(view: &View<'a>) -> Result<Header<'a>, u32>
+    ensures { NumberReturns header_view result (headers_numbered view.now.bytes.now
+        view.now.image.now) }
+{
+    match headers_of(view) {
+        Ok(header) => Ok(header),
+        Err(error) => Err(number_of(&error)),
+    }
 }
 
 /// The ranges of a digest as callers get them.
@@ -122,122 +134,128 @@ fn placement_of(number: u32) -> Placement
     }
 }
 
-fn attached_length(view: &View, certificate: &[u8], placement: u32) -> Result<u64, SignError>
-    ensures { sign_answer_of result ≡ length_of
-        (attached_at placement view.now.bytes.now view.now.image.now certificate.now) }
+/// The length of the file with a certificate.
+fn attached_length(view: &View, certificate: &[u8], placement: u32) -> Result<u64, u32>
+    ensures { NumberReturns (λ n. n) result (length_numbered
+        (attached_at placement view.now.bytes.now view.now.image.now certificate.now)) }
 {
-    let header = headers_of(view)?;
-    let length = attached_len(view.bytes, &header, certificate, placement_of(placement))?;
-    Ok(length as u64)
+    let header = headers(view)?;
+    match attached_len(view.bytes, &header, certificate, placement_of(placement)) {
+        Ok(length) => Ok(length as u64),
+        Err(error) => Err(number_of_signing(&error)),
+    }
 }
 
-/// Returns the length of the file that `pe_c_attach` writes with these arguments.
-///
-/// Errors: those of `pe_c_attach`, but for that of the room.
-#[unsafe(no_mangle)]
-pub extern "C" fn pe_c_attached_length(
-    view: &View,
-    certificate: &[u8],
-    placement: u32,
-    out: &mut u64,
-) -> u32
-    ensures { SignHandsOut result out.old out.new
-        (length_of (attached_at placement view.now.bytes.now view.now.image.now certificate.now)) }
-{
-    hand_out_signed(attached_length(view, certificate, placement), out)
-}
-
-fn attach_to(
-    view: &View,
-    certificate: &[u8],
-    placement: u32,
-    room: &mut [u8],
-) -> Result<usize, SignError>
-    ensures { SignReturnsWritten result
-        (written (attached_at placement view.now.bytes.now view.now.image.now certificate.now)
-        room.old)
+fn attach_to(view: &View, certificate: &[u8], placement: u32, room: &mut [u8]) -> Result<usize, u32>
+    ensures { NumberReturnsWritten result
+        (written_numbered
+        (attached_at placement view.now.bytes.now view.now.image.now certificate.now) room.old)
         room.old room.new }
 {
-    let header = headers_of(view)?;
-    attach(
+    let header = headers(view)?;
+    match attach(
         view.bytes,
         &header,
         certificate,
         placement_of(placement),
         room,
-    )
+    ) {
+        Ok(length) => Ok(length),
+        Err(error) => Err(number_of_signing(&error)),
+    }
 }
 
-/// Attaches a certificate: writes the file with it to the start of `room`, and its length to `out`. The rest of the room is
-/// unchanged. The certificate is one or more entries of a certificate table (`WIN_CERTIFICATE`), each but the last with its
-/// padding to a multiple of eight bytes. It goes after those that are there if the placement is even, else in their place.
+/// Attaches a certificate: writes the file with it to the start of `room`, and its length to `written`. The rest of the room is
+/// unchanged. Where the room is too small all of it is, and `written` has the length that is needed. The certificate is one or more
+/// entries of a certificate table (`WIN_CERTIFICATE`), each but the last with its padding to a multiple of eight bytes. It goes after
+/// those that are there if the placement is even, else in their place.
 ///
 /// Errors: those of `pe_c_image`; `NO_OPTIONAL_HEADER`, `SIGN_NO_DIRECTORY`; `CERTIFICATE_TABLE`, `SIGN_TABLE_NOT_LAST`;
 /// `SIGN_HEADERS`, `SIGN_SECTION`; `SIGN_TABLE_OFFSET` if the placement is even; `SHORT`, `CERTIFICATE_SIZE` of the
-/// certificate; `SIGN_TOO_LARGE`; `WRITE_FIT` if the file does not fit into the room. After an error `room` is unchanged.
+/// certificate; `SIGN_TOO_LARGE`; `ROOM` if the file does not fit into the room. After an error the room is unchanged, and after others
+/// than `ROOM` `written` too.
 #[unsafe(no_mangle)]
 pub extern "C" fn pe_c_attach(
     view: &View,
     certificate: &[u8],
     placement: u32,
     room: &mut [u8],
-    out: &mut u64,
+    written: &mut u64,
 ) -> u32
-    ensures { SignHandsOutWritten result out.old out.new room.old room.new
-        (written (attached_at placement view.now.bytes.now view.now.image.now certificate.now)
-        room.old) }
+    ensures { HandsOutFile result written.old written.new room.old room.new
+        (attached_at placement view.now.bytes.now view.now.image.now certificate.now) }
 {
+    if room.is_empty() {
+        return hand_out_length(attached_length(view, certificate, placement), 0, written);
+    }
     match attach_to(view, certificate, placement, room) {
         Ok(length) => {
-            *out = length as u64;
+            *written = length as u64;
             DONE
         }
-        Err(error) => number_of_signing(&error),
+        Err(number) => {
+            if number == WRITE_FIT {
+                hand_out_length(
+                    attached_length(view, certificate, placement),
+                    room.len(),
+                    written,
+                )
+            } else {
+                number
+            }
+        }
     }
 }
 
-fn detached_length(view: &View) -> Result<u64, SignError>
-    ensures { sign_answer_of result ≡ length_of (detached_at view.now.bytes.now view.now.image.now) }
+/// The length of the file without certificates.
+fn detached_length(view: &View) -> Result<u64, u32>
+    ensures { NumberReturns (λ n. n) result (length_numbered
+        (detached_at view.now.bytes.now view.now.image.now)) }
 {
-    let header = headers_of(view)?;
-    let length = detached_len(view.bytes, &header)?;
-    Ok(length as u64)
+    let header = headers(view)?;
+    match detached_len(view.bytes, &header) {
+        Ok(length) => Ok(length as u64),
+        Err(error) => Err(number_of_signing(&error)),
+    }
 }
 
-/// Returns the length of the file that `pe_c_detach` writes with these arguments.
+fn detach_to(view: &View, room: &mut [u8]) -> Result<usize, u32>
+    ensures { NumberReturnsWritten result
+        (written_numbered (detached_at view.now.bytes.now view.now.image.now) room.old)
+        room.old room.new }
+{
+    let header = headers(view)?;
+    match detach(view.bytes, &header, room) {
+        Ok(length) => Ok(length),
+        Err(error) => Err(number_of_signing(&error)),
+    }
+}
+
+/// Detaches all certificates: writes the file without them to the start of `room`, and its length to `written`. The rest of the
+/// room is unchanged. Where the room is too small all of it is, and `written` has the length that is needed. An image without
+/// certificates stays as it is, but for its checksum.
 ///
-/// Errors: those of `pe_c_detach`, but for that of the room.
+/// Errors: those of `pe_c_attach` up to `SIGN_SECTION`; `ROOM` if the file does not fit into the room. After an error the room is
+/// unchanged, and after others than `ROOM` `written` too.
 #[unsafe(no_mangle)]
-pub extern "C" fn pe_c_detached_length(view: &View, out: &mut u64) -> u32
-    ensures { SignHandsOut result out.old out.new (length_of (detached_at view.now.bytes.now
-        view.now.image.now)) }
+pub extern "C" fn pe_c_detach(view: &View, room: &mut [u8], written: &mut u64) -> u32
+    ensures { HandsOutFile result written.old written.new room.old room.new
+        (detached_at view.now.bytes.now view.now.image.now) }
 {
-    hand_out_signed(detached_length(view), out)
-}
-
-fn detach_to(view: &View, room: &mut [u8]) -> Result<usize, SignError>
-    ensures { SignReturnsWritten result
-        (written (detached_at view.now.bytes.now view.now.image.now) room.old) room.old room.new }
-{
-    let header = headers_of(view)?;
-    detach(view.bytes, &header, room)
-}
-
-/// Detaches all certificates: writes the file without them to the start of `room`, and its length to `out`. The rest of the
-/// room is unchanged. An image without certificates stays as it is, but for its checksum.
-///
-/// Errors: those of `pe_c_attach` up to `SIGN_SECTION`; `WRITE_FIT` if the file does not fit into the room. After an error
-/// `room` is unchanged.
-#[unsafe(no_mangle)]
-pub extern "C" fn pe_c_detach(view: &View, room: &mut [u8], out: &mut u64) -> u32
-    ensures { SignHandsOutWritten result out.old out.new room.old room.new
-        (written (detached_at view.now.bytes.now view.now.image.now) room.old) }
-{
+    if room.is_empty() {
+        return hand_out_length(detached_length(view), 0, written);
+    }
     match detach_to(view, room) {
         Ok(length) => {
-            *out = length as u64;
+            *written = length as u64;
             DONE
         }
-        Err(error) => number_of_signing(&error),
+        Err(number) => {
+            if number == WRITE_FIT {
+                hand_out_length(detached_length(view), room.len(), written)
+            } else {
+                number
+            }
+        }
     }
 }

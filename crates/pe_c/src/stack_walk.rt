@@ -9,7 +9,7 @@ ghost use Rattle.pe_core.specs.Refusals.{answer_by};
 ghost use Rattle.pe_frame.specs.AddressRanges.{AreAscending, has_address};
 ghost use Rattle.pe_frame.specs.Arm64Walks as arm64;
 ghost use Rattle.pe_frame.specs.FrameWalks.{frame_left};
-ghost use Rattle.pe_frame.specs.Modules.{is_after_call_arm64_of, is_after_call_of, is_code_return_arm64_of, is_code_return_of, may_be_code_of, module_at, module_base, module_size, call_target_of};
+ghost use Rattle.pe_frame.specs.Modules.{is_after_call_arm64_of, is_after_call_of, is_code_return_arm64_of, is_code_of, is_code_return_of, is_unknown, module_at, module_base, module_size, call_target_of};
 ghost use Rattle.pe_frame.specs.Walks.{Calls, CallsIn, lookup_address};
 ghost use Rattle.pe_c.specs.FrameCalls.{HandsOutFrame, HandsOutFrames};
 ghost use Rattle.pe_c.specs.StackWalks.{after_frame, stack_walks};
@@ -131,12 +131,19 @@ fn ends_call_in(view: &ModuleView<'_>, address: u64) -> bool
     module_with(view, exceptions.as_ref()).is_after_call(address)
 }
 
-/// Whether an address of a module may be one of code.
-fn may_be_code_in(view: &ModuleView<'_>, address: u64) -> bool
+/// Whether an address of a module is one of an executable section.
+fn is_code_in(view: &ModuleView<'_>, address: u64) -> bool
     requires { address ≤ view.now.base + view.now.image.image.now.size_of_image }
-    ensures { result ≡ may_be_code_of (Some (module_of view.now)) address }
+    ensures { result ≡ is_code_of (Some (module_of view.now)) address }
 {
-    module_with(view, None).may_be_code(address)
+    module_with(view, None).is_code(address)
+}
+
+/// Whether the image of a module is not at hand.
+fn is_unknown(view: &ModuleView<'_>) -> bool
+    ensures { result ≡ is_unknown (module_of view.now) }
+{
+    module_with(view, None).is_unknown()
 }
 
 /// Whether an address, which may be the end of a module, is one after a call in an executable section of it.
@@ -301,9 +308,16 @@ impl<'a> CallSites for ViewedModules<'a> {
         }
     }
 
-    fn may_be_code(&self, address: u64) -> bool {
+    fn is_code(&self, address: u64) -> bool {
         match self.find(address) {
-            Some(view) => may_be_code_in(view, address),
+            Some(view) => is_code_in(view, address),
+            None => false,
+        }
+    }
+
+    fn is_in_unknown(&self, address: u64) -> bool {
+        match self.find(address) {
+            Some(view) => is_unknown(view),
             None => false,
         }
     }

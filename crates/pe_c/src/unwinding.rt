@@ -145,7 +145,7 @@ pub extern "C" fn pe_c_function_table(view: &View, out: &mut Range) -> u32
 
 /// The function that covers an RVA, in the bytes of a table.
 #[inline(always)]
-fn find(entries: &[u8], rva: u32) -> Option<RuntimeFunction>
+pub fn find(entries: &[u8], rva: u32) -> Option<RuntimeFunction>
     ensures { Finds (functions entries.now) rva result }
 {
     let mut counted = CountedTable::new(entries);

@@ -4,11 +4,11 @@
 
 ghost use Rattle.std.specs.Prelude.{◌≡◌};
 ghost use Rattle.pe_version.specs.VersionRefusals.{block_view, version_kind_of};
-ghost use Rattle.pe_c.specs.ResourceEdits.{HandsOutByNumber, HandsOutFile, NumberReturns, NumberReturnsWritten, length_numbered, written_numbered};
 ghost use Rattle.pe_c.specs.VersionWrites.{block_at, block_with, version_numbered, version_number};
+ghost use Rattle.pe_c.specs.WrittenFiles.{HandsOutFile, NumberReturns, NumberReturnsWritten, length_numbered, written_numbered};
 ghost use Rattle.pe_version.specs.VersionRecords.{records_version, version_at};
 
-use crate::results::{DONE, number_of};
+use crate::results::{DONE, WRITE_FIT, hand_out_length, number_of};
 use pe_resource::VsFixedFileInfo;
 use pe_version::{
     LanguageRecord, NewBlock, StringRecord, TableRecord, VersionError, VersionRecords, block_len,
@@ -27,41 +27,13 @@ fn number_of_version(error: &VersionError) -> u32
     }
 }
 
+/// The length of a block.
 fn block_length(block: &NewBlock<'_>) -> Result<u64, u32>
     ensures { NumberReturns (λ n. n) result (length_numbered (block_at (block_view block.now))) }
 {
     match block_len(block) {
         Ok(length) => Ok(length as u64),
         Err(error) => Err(number_of_version(&error)),
-    }
-}
-
-/// Returns the length of what `pe_c_write_block` writes with these arguments.
-///
-/// Errors: those of `pe_c_write_block`, but for that of the room.
-#[unsafe(no_mangle)]
-pub extern "C" fn pe_c_block_length(
-    key: &[u8],
-    is_text: u32,
-    value: &[u8],
-    children: &[u8],
-    out: &mut u64,
-) -> u32
-    ensures { HandsOutByNumber result out.old out.new
-        (length_numbered (block_at (block_with key.now is_text value.now children.now))) }
-{
-    let block = NewBlock {
-        key,
-        is_text: is_text != 0,
-        value,
-        children,
-    };
-    match block_length(&block) {
-        Ok(length) => {
-            *out = length;
-            DONE
-        }
-        Err(number) => number,
     }
 }
 
@@ -76,11 +48,13 @@ fn write_to(block: &NewBlock<'_>, room: &mut [u8]) -> Result<usize, u32>
 }
 
 /// Writes a block to the start of `room`, with zeros up to a multiple of four, where the next one starts, and its length with
-/// them to `out`. The rest of the room is unchanged. The key is UTF-16 code units, little-endian, without a final zero; a value
+/// them to `written`. The rest of the room is unchanged. Where the room is too small all of it is, and `written` has the length that is needed.
+/// The key is UTF-16 code units, little-endian, without a final zero; a value
 /// that is a text has a final zero.
 ///
 /// Errors: `BLOCK_KEY` if the key has an odd number of bytes or a code unit of zero; `BLOCK_TEXT` if the value is a text of an odd
-/// number of bytes; `BLOCK_TOO_LONG`; `WRITE_FIT` if the block does not fit into the room. After an error `room` is unchanged.
+/// number of bytes; `BLOCK_TOO_LONG`; `ROOM` if the block does not fit into the room. After an error the room is unchanged, and after
+/// others than `ROOM` `written` too.
 #[unsafe(no_mangle)]
 pub extern "C" fn pe_c_write_block(
     key: &[u8],
@@ -88,10 +62,10 @@ pub extern "C" fn pe_c_write_block(
     value: &[u8],
     children: &[u8],
     room: &mut [u8],
-    out: &mut u64,
+    written: &mut u64,
 ) -> u32
-    ensures { HandsOutFile result out.old out.new room.old room.new
-        (written_numbered (block_at (block_with key.now is_text value.now children.now)) room.old) }
+    ensures { HandsOutFile result written.old written.new room.old room.new
+        (block_at (block_with key.now is_text value.now children.now)) }
 {
     let block = NewBlock {
         key,
@@ -99,15 +73,25 @@ pub extern "C" fn pe_c_write_block(
         value,
         children,
     };
+    if room.is_empty() {
+        return hand_out_length(block_length(&block), 0, written);
+    }
     match write_to(&block, room) {
         Ok(length) => {
-            *out = length as u64;
+            *written = length as u64;
             DONE
         }
-        Err(number) => number,
+        Err(number) => {
+            if number == WRITE_FIT {
+                hand_out_length(block_length(&block), room.len(), written)
+            } else {
+                number
+            }
+        }
     }
 }
 
+/// The length of version information.
 fn version_length(value: &VersionRecords) -> Result<u64, u32>
     ensures { NumberReturns
         (λ n. n) result (length_numbered (version_numbered (records_version value.now))) }
@@ -115,37 +99,6 @@ fn version_length(value: &VersionRecords) -> Result<u64, u32>
     match version_len(value) {
         Ok(length) => Ok(length as u64),
         Err(error) => Err(number_of_version(&error)),
-    }
-}
-
-/// Returns the length of what `pe_c_write_version` writes with these arguments.
-///
-/// Errors: those of `pe_c_write_version`, but for that of the room.
-#[unsafe(no_mangle)]
-pub extern "C" fn pe_c_version_length(
-    fixed: &VsFixedFileInfo,
-    tables: &[TableRecord],
-    strings: &[StringRecord],
-    translations: &[LanguageRecord],
-    texts: &[u8],
-    out: &mut u64,
-) -> u32
-    ensures { HandsOutByNumber result out.old out.new (length_numbered (version_numbered
-        (version_at fixed.now tables.now strings.now translations.now texts.now))) }
-{
-    let value = VersionRecords {
-        fixed,
-        tables,
-        strings,
-        translations,
-        texts,
-    };
-    match version_length(&value) {
-        Ok(length) => {
-            *out = length;
-            DONE
-        }
-        Err(number) => number,
     }
 }
 
@@ -161,11 +114,13 @@ fn version_to(value: &VersionRecords, room: &mut [u8]) -> Result<usize, u32>
 }
 
 /// Writes version information, the content of a resource of type 16 (`RT_VERSION`), to the start of `room`, and its length to
-/// `out`. The rest of the room is unchanged. Names and texts are ranges of `texts`, the strings of a table a range of `strings`.
+/// `written`. The rest of the room is unchanged. Where the room is too small all of it is, and `written` has the length that is needed. Names and
+/// texts are ranges of `texts`, the strings of a table a range of `strings`.
 ///
 /// Errors: `SHORT` if a range is not inside its array; `BLOCK_TOO_LONG` of the tables by the lengths of names and texts alone, each
 /// counted as often as a table has it; of the blocks, each after those that it has, `BLOCK_KEY` if the name of a string has an odd
-/// number of bytes or a code unit of zero, `BLOCK_TEXT` if its text has an odd number of bytes, `BLOCK_TOO_LONG`; `WRITE_FIT` if it does not fit into the room. After an error `room` is unchanged.
+/// number of bytes or a code unit of zero, `BLOCK_TEXT` if its text has an odd number of bytes, `BLOCK_TOO_LONG`; `ROOM` if it does not fit into the
+/// room. After an error the room is unchanged, and after others than `ROOM` `written` too.
 #[unsafe(no_mangle)]
 pub extern "C" fn pe_c_write_version(
     fixed: &VsFixedFileInfo,
@@ -174,12 +129,10 @@ pub extern "C" fn pe_c_write_version(
     translations: &[LanguageRecord],
     texts: &[u8],
     room: &mut [u8],
-    out: &mut u64,
+    written: &mut u64,
 ) -> u32
-    ensures { HandsOutFile result out.old out.new room.old room.new (written_numbered
-        (version_numbered
-        (version_at fixed.now tables.now strings.now translations.now texts.now))
-        room.old) }
+    ensures { HandsOutFile result written.old written.new room.old room.new (version_numbered
+        (version_at fixed.now tables.now strings.now translations.now texts.now)) }
 {
     let value = VersionRecords {
         fixed,
@@ -188,11 +141,20 @@ pub extern "C" fn pe_c_write_version(
         translations,
         texts,
     };
+    if room.is_empty() {
+        return hand_out_length(version_length(&value), 0, written);
+    }
     match version_to(&value, room) {
         Ok(length) => {
-            *out = length as u64;
+            *written = length as u64;
             DONE
         }
-        Err(number) => number,
+        Err(number) => {
+            if number == WRITE_FIT {
+                hand_out_length(version_length(&value), room.len(), written)
+            } else {
+                number
+            }
+        }
     }
 }

@@ -14,9 +14,9 @@ use Rattle.pe_unwind.specs.declared.arm64.function.Arm64RuntimeFunction.{Arm64Ru
 use Rattle.pe_frame.specs.Arm64Packed.{is_canonical, packed_left, stepped_arm64_packed}
 use Rattle.pe_frame.specs.Arm64Steps.{StepsOutArm64}
 use Rattle.pe_frame.specs.Arm64Undoing.{caller_by_codes, entry_of, left_arm64, link_register, put_pc, returned_arm64, undone_codes}
-use Rattle.pe_frame.specs.Arm64Walks.{Calls, CallsBy, CallsByInfo, CallsFound, CallsIn, after_leaf, called_frame, frame_after, frame_of, has_called, is_bottom, jumped_frame, caller_of_leaf, leaf_is_guess, lookup_address, caller_outside, place_of, returned_to, scanned, stepped_out_packed, top_frame, without_records}
+use Rattle.pe_frame.specs.Arm64Walks.{Calls, CallsBy, CallsByInfo, CallsFound, CallsIn, after_leaf, called_frame, frame_after, frame_of, has_called, is_bottom, jumped_frame, caller_of_leaf, leaf_frame, leaf_if, leaf_is_guess, leaf_without_image, lookup_address, caller_outside, place_of, returned_to, scanned, stepped_out_packed, top_frame, without_records}
 use Rattle.pe_frame.specs.FrameWalks.{IsWalk, Process, starting_walk}
-use Rattle.pe_frame.specs.Modules.{is_after_call_arm64, is_after_call_arm64_in, is_after_call_arm64_of, is_code_of, is_code_return_arm64, is_code_return_arm64_of, is_executable, is_unknown, map_of_module, may_be_code, module_at}
+use Rattle.pe_frame.specs.Modules.{is_after_call_arm64, is_after_call_arm64_in, is_after_call_arm64_of, is_code, is_code_of, is_code_return_arm64, is_code_return_arm64_of, is_executable, is_unknown, map_of_module, may_end_call, module_at}
 use Rattle.pe_frame.specs.Walks.{by_records, end_at_0}
 use Rattle.pe_frame.specs.declared.arm64.entry.Arm64Entry.{Arm64Entry}
 use Rattle.pe_frame.specs.declared.arm64.registers.Arm64Registers.{Arm64Registers}
@@ -100,15 +100,27 @@ or_true : (a b : Bool) → a ≡ true → (a || b) ≡ true
 or_true true b is = refl
 or_true false b is = absurd (cc is)
 
-found_if : (memory : ℕ → Option ℕ) (modules : List Module) (guess other : Bool) (g : Arm64Registers) (b : Bool) (t : Arm64StackFrame) → option_or (cond b (Some (frame_of modules Leaf (guess || other) (after_leaf g))) None) (scanned memory modules g) ≡ Some t → IsLed modules guess t
-found_if memory modules guess other g true t is =
+leaf_when : (modules : List Module) (guess other : Bool) (g : Arm64Registers) (t : Arm64StackFrame) (b : Bool) → cond b (Some (frame_of modules Leaf (guess || other) (after_leaf g))) None ≡ Some t → IsLed modules guess t
+leaf_when modules guess other g t true is =
     let same : t ≡ frame_of modules Leaf (guess || other) (after_leaf g) = cc is in
     inr (guess || other, after_leaf g, or_true guess other, same)
-found_if memory modules guess other g false t is = inl (made_scan modules g _ t is)
+leaf_when modules guess other g t false is = absurd (cc is)
+
+made_leaf : (modules : List Module) (guess : Bool) (test : ℕ → Bool) (g : Arm64Registers) (t : Arm64StackFrame) → leaf_if modules guess test g ≡ Some t → IsLed modules guess t
+made_leaf modules guess test g t is =
+    leaf_when modules guess (not (is_code_return_arm64 modules (link_register g))) g t (test (link_register g)) is
+
+made_or : {X : Type 0} (a b : Option Arm64StackFrame) (t : Arm64StackFrame) → (a ≡ Some t → X) → (b ≡ Some t → X) → option_or a b ≡ Some t → X
+made_or (Some f) b t first second is = first is
+made_or None b t first second is = second is
 
 made_without : (memory : ℕ → Option ℕ) (modules : List Module) (guess : Bool) (g : Arm64Registers) (t : Arm64StackFrame) → without_records memory modules guess g ≡ Some t → IsLed modules guess t
 made_without memory modules guess g t is =
-    found_if memory modules guess (not (is_code_return_arm64 modules (link_register g))) g (is_after_call_arm64 modules (link_register g)) t is
+    let other = leaf_without_image modules guess g in
+    let scan = scanned memory modules g in
+    made_or (leaf_frame modules guess g) (option_or other scan) t (made_leaf modules guess (is_after_call_arm64 modules) g t)
+    (λ rest. made_or other scan t (made_leaf modules guess (may_end_call modules) g t) (λ by. inl (made_scan modules g _ t by)) rest)
+    is
 
 made_found : {X : Type 0} (o : Option Arm64StackFrame) (rest : Result Arm64StackFrame WalkEnd) (t : Arm64StackFrame) → (o ≡ Some t → X) → (Ok t ≡ rest → X) → Ok t ≡ option_map_or Ok o rest → X
 made_found (Some f) rest t found other is = let same : Some f ≡ Some t = cc is in found same
@@ -121,7 +133,7 @@ jumped_if modules u t false false is = absurd (cc is)
 
 made_jumped : (modules : List Module) (guess : Bool) (g : Arm64Registers) (t : Arm64StackFrame) → Ok t ≡ jumped_frame modules g → IsLed modules guess t
 made_jumped modules guess g t is =
-    let same = jumped_if modules (after_leaf g) t (link_register g == 0) (may_be_code modules (link_register g)) is in
+    let same = jumped_if modules (after_leaf g) t (link_register g == 0) (is_code modules (link_register g)) is in
     inr (true, after_leaf g, (λ given. refl), same)
 
 by_called : {X : Type 0} (b : Bool) (called waits answer : Result Arm64StackFrame WalkEnd) → answer ≡ cond b called waits → (answer ≡ called → X) → (b ≡ false → answer ≡ waits → X) → X
@@ -309,18 +321,42 @@ no_leaf modules g o t leaf is =
     let both_ways : Leaf ≡ Scanned = sym leaf ∙ ap (λ (f : Arm64StackFrame). f.way) found.1 in
     cc both_ways
 
-sure_leaf : (modules : List Module) (guess : Bool) (g : Arm64Registers) (t : Arm64StackFrame) (b : Bool) (scan : Option Arm64StackFrame) → is_after_call_arm64 modules (link_register g) ≡ b → (scan ≡ Some t → ⊥) → is_code_return_arm64 modules (t.registers).pc ≡ true → Ok t ≡ option_map_or Ok (option_or (cond b (Some (frame_of modules Leaf (guess || not (is_code_return_arm64 modules (link_register g))) (after_leaf g))) None) scan) (jumped_frame modules g) → t.is_guess ≡ guess
-sure_leaf modules guess g t true scan test none code is =
+sure_when : (modules : List Module) (guess : Bool) (g : Arm64Registers) (t : Arm64StackFrame) (b : Bool) → is_code_return_arm64 modules (t.registers).pc ≡ true → cond b (Some (frame_of modules Leaf (guess || not (is_code_return_arm64 modules (link_register g))) (after_leaf g))) None ≡ Some t → t.is_guess ≡ guess
+sure_when modules guess g t true code is =
     let same : t ≡ frame_of modules Leaf (guess || not (is_code_return_arm64 modules (link_register g))) (after_leaf g) = cc is in
     let here : is_code_return_arm64 modules (link_register g) ≡ true = subst (λ (u : Arm64Registers). is_code_return_arm64 modules u.pc ≡ true) (ap (λ (f : Arm64StackFrame). f.registers) same) code in
     ap (λ (f : Arm64StackFrame). f.is_guess) same ∙ or_false guess (is_code_return_arm64 modules (link_register g)) here
-sure_leaf modules guess g t false (Some f) test none code is =
-    let same : Some f ≡ Some t = cc is in absurd (none same)
-sure_leaf modules guess g t false None test none code is =
-    let same = jumped_if modules (after_leaf g) t (link_register g == 0) (may_be_code modules (link_register g)) is in
-    let here : is_code_return_arm64 modules (link_register g) ≡ true = subst (λ (u : Arm64Registers). is_code_return_arm64 modules u.pc ≡ true) (ap (λ (f : Arm64StackFrame). f.registers) same) code in
-    let call : is_after_call_arm64 modules (link_register g) ≡ true = call_of_code (module_at modules (link_register g - 1)) (link_register g) here in
-    absurd (cc (sym call ∙ test))
+sure_when modules guess g t false code is = absurd (cc is)
+
+no_call : (t : Arm64StackFrame) (b : Bool) → b ≡ true → cond b (Some t) None ≡ None → ⊥
+no_call t true call none = cc none
+no_call t false call none = cc call
+
+-- what a leaf function returns to where no call ends is no return address into code
+sure_after : (modules : List Module) (guess : Bool) (g : Arm64Registers) (t : Arm64StackFrame) → is_code_return_arm64 modules (t.registers).pc ≡ true → leaf_frame modules guess g ≡ None → Ok t ≡ jumped_frame modules g → ⊥
+sure_after modules guess g t code none is =
+    let link = link_register g in
+    let same = jumped_if modules (after_leaf g) t (link == 0) (is_code modules link) is in
+    let here : is_code_return_arm64 modules link ≡ true = subst (λ (u : Arm64Registers). is_code_return_arm64 modules u.pc ≡ true) (ap (λ (f : Arm64StackFrame). f.registers) same) code in
+    let call : is_after_call_arm64 modules link ≡ true = call_of_code (module_at modules (link - 1)) link here in
+    no_call (frame_of modules Leaf (guess || not (is_code_return_arm64 modules link)) (after_leaf g)) (is_after_call_arm64 modules link) call none
+
+or_none : (a b : Option Arm64StackFrame) → option_or a b ≡ None → a ≡ None
+or_none None b is = refl
+or_none (Some f) b is = absurd (cc is)
+
+found_or : {X : Type 0} (o : Option Arm64StackFrame) (rest : Result Arm64StackFrame WalkEnd) (t : Arm64StackFrame) → (o ≡ Some t → X) → (o ≡ None → Ok t ≡ rest → X) → Ok t ≡ option_map_or Ok o rest → X
+found_or (Some f) rest t found other is = let same : Some f ≡ Some t = cc is in found same
+found_or None rest t found other is = other refl is
+
+sure_without : (memory : ℕ → Option ℕ) (modules : List Module) (guess : Bool) (g : Arm64Registers) (t : Arm64StackFrame) → t.way ≡ Leaf → is_code_return_arm64 modules (t.registers).pc ≡ true → without_records memory modules guess g ≡ Some t → t.is_guess ≡ guess
+sure_without memory modules guess g t leaf returns is =
+    let link = link_register g in
+    let other = leaf_without_image modules guess g in
+    let scan = scanned memory modules g in
+    made_or (leaf_frame modules guess g) (option_or other scan) t (sure_when modules guess g t (is_after_call_arm64 modules link) returns)
+    (λ rest. made_or other scan t (sure_when modules guess g t (may_end_call modules link) returns) (λ by. absurd (no_leaf modules g _ t leaf by)) rest)
+    is
 
 pub leaf_keeps : (p : Process) (m : Module) (e : ExceptionView) (s t : Arm64StackFrame) → CallsFound p m e s (Ok None) (Ok t) → t.way ≡ Leaf → is_code_of (Some m) (lookup_address s) ≡ true → is_code_return_arm64 p.modules (t.registers).pc ≡ true → t.is_guess ≡ s.is_guess
 leaf_keeps p m e s t h leaf code returns =
@@ -328,10 +364,9 @@ leaf_keeps p m e s t h leaf code returns =
     let by_scan = scanned p.memory p.modules s.registers in
     let found = without_records p.memory p.modules guess s.registers in
     let rest = jumped_frame p.modules s.registers in
-    let none : by_scan ≡ Some t → ⊥ = no_leaf p.modules s.registers _ t leaf in
     let as_leaf : t.is_guess ≡ guess = by_called s.has_called (option_map_or Ok by_scan (Err ends.NoFunction)) (option_map_or Ok found rest) (Ok t) h
-    (λ at. made_found by_scan (Err ends.NoFunction) t (λ by. absurd (none by)) (λ other. absurd (cc other)) at)
-    (λ waits at. sure_leaf p.modules guess s.registers t (is_after_call_arm64 p.modules (link_register s.registers)) by_scan refl none returns at) in
+    (λ at. made_found by_scan (Err ends.NoFunction) t (λ by. absurd (no_leaf p.modules s.registers _ t leaf by)) (λ other. absurd (cc other)) at)
+    (λ waits at. found_or found rest t (sure_without p.memory p.modules guess s.registers t leaf returns) (λ none other. absurd (sure_after p.modules guess s.registers t returns (or_none (leaf_frame p.modules guess s.registers) _ none) other)) at) in
     as_leaf ∙ or_false s.is_guess (is_code_of (Some m) (lookup_address s)) code
 
 -- ---- a frame is a step
@@ -418,7 +453,7 @@ leaf_at_bottom memory modules guess s is =
     let by_scan = scanned memory modules s.registers in
     by_called s.has_called (option_map_or Ok by_scan (Err ends.NoFunction)) (option_map_or Ok found (jumped_frame modules s.registers)) (Err ends.Bottom) (sym is)
     (λ at. no_bottom by_scan (Err ends.NoFunction) (λ e. cc e) at)
-    (λ waits at. no_bottom found (jumped_frame modules s.registers) (no_end_at modules (after_leaf s.registers) (link == 0) (may_be_code modules link)) at)
+    (λ waits at. no_bottom found (jumped_frame modules s.registers) (no_end_at modules (after_leaf s.registers) (link == 0) (is_code modules link)) at)
 
 pub outside_at_bottom : (memory : ℕ → Option ℕ) (modules : List Module) (s : Arm64StackFrame) → caller_outside memory modules s ≡ Err ends.Bottom → ⊥
 outside_at_bottom memory modules s is =

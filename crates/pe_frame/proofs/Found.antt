@@ -9,13 +9,14 @@ use Rattle.pe_unwind.specs.ExceptionTable.{ExceptionView}
 use Rattle.pe_unwind.specs.UnwindRecord.{UnwindInfoView}
 use Rattle.pe_unwind.specs.declared.function_table.RuntimeFunction.{RuntimeFunction}
 use Rattle.pe_frame.specs.Jumps.{StepsInImage}
-use Rattle.pe_frame.specs.Modules.{is_after_call, is_after_call_in, is_after_call_of, is_code_of, is_code_return, is_code_return_of, is_executable, is_unknown, may_be_code, module_at, map_of_module}
+use Rattle.pe_frame.specs.Modules.{is_after_call, is_after_call_in, is_after_call_of, is_code_of, is_code_return, is_code_return_of, is_code, is_executable, is_unknown, may_end_call, module_at, map_of_module}
 use Rattle.pe_frame.specs.Undoing.{popped}
 use Rattle.pe_frame.specs.FrameWalks.{IsWalk, Process, starting_walk}
-use Rattle.pe_frame.specs.Walks.{Calls, CallsBy, CallsByPlan, CallsFound, CallsIn, after_leaf, by_records, code_of_frame, end_at_0, frame_after, frame_of, has_called, is_bottom, caller_of_leaf, leaf_frame, leaf_is_guess, lookup_address, caller_outside, returned_to, scanned, top_frame, without_records, called_in_gap, caller_in_gap, gap_return, scanned_by}
+use Rattle.pe_frame.specs.Walks.{Calls, CallsBy, CallsByPlan, CallsFound, CallsIn, after_leaf, by_records, code_of_frame, end_at_0, frame_after, frame_of, has_called, is_bottom, caller_of_leaf, leaf_frame, leaf_if, leaf_is_guess, leaf_without_image, lookup_address, caller_outside, returned_to, scanned, scanned_frame, top_frame, without_records, called_in_gap, caller_in_gap, scanned_in_gap}
 use Rattle.pe_frame.specs.declared.error.FrameError.{FrameError}
 use Rattle.pe_frame.specs.declared.modules.Module.{Module}
 use Rattle.pe_frame.specs.declared.registers.Registers.{Registers}
+use Rattle.pe_frame.specs.declared.scan.FoundCall.{FoundCall}
 use Rattle.pe_frame.specs.declared.walk.Gap.{Gap}
 use Rattle.pe_frame.specs.declared.walk.StackFrame.{StackFrame}
 use Rattle.pe_frame.specs.declared.walk.Way.{Way}
@@ -86,20 +87,27 @@ or_true : (a b : Bool) → a ≡ true → (a || b) ≡ true
 or_true true b is = refl
 or_true false b is = absurd (cc is)
 
-leaf_if : (modules : List Module) (guess other : Bool) (u : Registers) (t : StackFrame) (b : Bool) → cond b (Some (frame_of modules Leaf (guess || other) u)) None ≡ Some t → IsLed modules guess t
-leaf_if modules guess other u t true is =
+leaf_when : (modules : List Module) (guess other : Bool) (u : Registers) (t : StackFrame) (b : Bool) → cond b (Some (frame_of modules Leaf (guess || other) u)) None ≡ Some t → IsLed modules guess t
+leaf_when modules guess other u t true is =
     let same : t ≡ frame_of modules Leaf (guess || other) u = cc is in inr (guess || other, u, or_true guess other, same)
-leaf_if modules guess other u t false is = absurd (cc is)
+leaf_when modules guess other u t false is = absurd (cc is)
 
-made_leaf : (modules : List Module) (guess : Bool) (p : Result Registers FrameError) (t : StackFrame) → leaf_frame modules guess p ≡ Some t → IsLed modules guess t
-made_leaf modules guess (Ok u) t is = leaf_if modules guess (not (is_code_return modules u.rip)) u t (is_after_call modules u.rip) is
-made_leaf modules guess (Err e) t is = absurd (cc is)
+made_leaf : (modules : List Module) (guess : Bool) (test : ℕ → Bool) (p : Result Registers FrameError) (t : StackFrame) → leaf_if modules guess test p ≡ Some t → IsLed modules guess t
+made_leaf modules guess test (Ok u) t is = leaf_when modules guess (not (is_code_return modules u.rip)) u t (test u.rip) is
+made_leaf modules guess test (Err e) t is = absurd (cc is)
 
-made_scan : (modules : List Module) (g : Registers) (o : Option (ℕ × ℕ)) (t : StackFrame) → option_map (λ found. frame_of modules Scanned true (returned_to g found)) o ≡ Some t → IsScanned modules t
-made_scan modules g None t is = absurd (cc is)
-made_scan modules g (Some found) t is =
-    let same : t ≡ frame_of modules Scanned true (returned_to g found) = cc is in
-    (returned_to g found, same)
+made_frame : {X : Type 0} (modules : List Module) (frame : X → StackFrame) (o : Option X) (t : StackFrame) → ((x : X) → IsScanned modules (frame x)) → option_map frame o ≡ Some t → IsScanned modules t
+made_frame modules frame None t made is = absurd (cc is)
+made_frame modules frame (Some x) t made is =
+    let same : frame x ≡ t = cc is in subst (λ (f : StackFrame). IsScanned modules f) same (made x)
+
+made_scan : (memory : ℕ → Option ℕ) (modules : List Module) (g : Registers) (t : StackFrame) → scanned memory modules g ≡ Some t → IsScanned modules t
+made_scan memory modules g t is =
+    made_frame modules (scanned_frame modules g) _ t (λ found. (returned_to g found, refl)) is
+
+made_in_gap : (memory : ℕ → Option ℕ) (modules : List Module) (gap : Gap) (g : Registers) (t : StackFrame) → scanned_in_gap memory modules gap g ≡ Some t → IsScanned modules t
+made_in_gap memory modules gap g t is =
+    made_frame modules (λ (c : FoundCall). scanned_frame modules g (c.address, c.word)) _ t (λ c. (returned_to g (c.address, c.word), refl)) is
 
 made_or : {X : Type 0} (a b : Option StackFrame) (t : StackFrame) → (a ≡ Some t → X) → (b ≡ Some t → X) → option_or a b ≡ Some t → X
 made_or (Some f) b t first second is = first is
@@ -107,7 +115,12 @@ made_or None b t first second is = second is
 
 made_without : (memory : ℕ → Option ℕ) (modules : List Module) (guess : Bool) (g : Registers) (t : StackFrame) → without_records memory modules guess g ≡ Some t → IsLed modules guess t
 made_without memory modules guess g t is =
-    made_or (leaf_frame modules guess (popped memory g)) (scanned memory modules g) t (made_leaf modules guess (popped memory g) t) (λ by. inl (made_scan modules g _ t by)) is
+    let p = popped memory g in
+    let other = leaf_without_image modules guess p in
+    let scan = scanned memory modules g in
+    made_or (leaf_frame modules guess p) (option_or other scan) t (made_leaf modules guess (is_after_call modules) p t)
+    (λ rest. made_or other scan t (made_leaf modules guess (may_end_call modules) p t) (λ by. inl (made_scan memory modules g t by)) rest)
+    is
 
 made_found : {X : Type 0} (o : Option StackFrame) (rest : Result StackFrame WalkEnd) (t : StackFrame) → (o ≡ Some t → X) → (Ok t ≡ rest → X) → Ok t ≡ option_map_or Ok o rest → X
 made_found (Some f) rest t found other is = let same : Some f ≡ Some t = cc is in found same
@@ -120,7 +133,7 @@ jumped_if modules u t false false is = absurd (cc is)
 
 made_after : (modules : List Module) (guess : Bool) (p : Result Registers FrameError) (t : StackFrame) → Ok t ≡ after_leaf modules p → IsLed modules guess t
 made_after modules guess (Ok u) t is =
-    inr (true, u, (λ given. refl), jumped_if modules u t (u.rip == 0) (may_be_code modules u.rip) is)
+    inr (true, u, (λ given. refl), jumped_if modules u t (u.rip == 0) (is_code modules u.rip) is)
 made_after modules guess (Err e) t is = absurd (cc is)
 
 by_called : {X : Type 0} (b : Bool) (called waits answer : Result StackFrame WalkEnd) → answer ≡ cond b called waits → (answer ≡ called → X) → (b ≡ false → answer ≡ waits → X) → X
@@ -133,7 +146,7 @@ next_leaf memory modules guess s t given is =
     let rest = after_leaf modules (popped memory s.registers) in
     let by_scan = scanned memory modules s.registers in
     by_called s.has_called (option_map_or Ok by_scan (Err ends.NoFunction)) (option_map_or Ok found rest) (Ok t) is
-    (λ at. made_found by_scan (Err ends.NoFunction) t (λ by. next_scanned modules s t (made_scan modules s.registers _ t by)) (λ none. absurd (cc none)) at)
+    (λ at. made_found by_scan (Err ends.NoFunction) t (λ by. next_scanned modules s t (made_scan memory modules s.registers t by)) (λ none. absurd (cc none)) at)
     (λ waits at. next_led modules guess s t given waits (made_found found rest t (made_without memory modules guess s.registers t) (made_after modules guess (popped memory s.registers) t) at))
 
 made_if : {X : Type 0} (called : Bool) (leaf scan : Option StackFrame) (t : StackFrame) → option_or (cond called None leaf) scan ≡ Some t → (called ≡ false → leaf ≡ Some t → X) → (scan ≡ Some t → X) → X
@@ -143,14 +156,14 @@ made_if false leaf scan t is first second = made_or leaf scan t (first refl) sec
 next_in_gap : (memory : ℕ → Option ℕ) (modules : List Module) (guess : Bool) (gap : Gap) (s t : StackFrame) → (s.is_guess ≡ true → guess ≡ true) → Ok t ≡ caller_in_gap memory modules guess gap s → IsNext modules s t
 next_in_gap memory modules guess gap s t given is =
     let leaf = leaf_frame modules guess (popped memory s.registers) in
-    let scan = scanned_by memory modules (gap_return modules gap) s.registers in
+    let scan = scanned_in_gap memory modules gap s.registers in
     made_found (called_in_gap memory modules guess gap s) (caller_of_leaf memory modules guess s) t
-    (λ found. made_if s.has_called leaf scan t found (λ waits by. next_led modules guess s t given waits (made_leaf modules guess (popped memory s.registers) t by)) (λ by. next_scanned modules s t (made_scan modules s.registers _ t by)))
+    (λ found. made_if s.has_called leaf scan t found (λ waits by. next_led modules guess s t given waits (made_leaf modules guess (is_after_call modules) (popped memory s.registers) t by)) (λ by. next_scanned modules s t (made_in_gap memory modules gap s.registers t by)))
     (λ other. next_leaf memory modules guess s t given other)
     is
 
 outside_if : (memory : ℕ → Option ℕ) (modules : List Module) (s t : StackFrame) (b : Bool) → s.has_called ≡ b → cond b (scanned memory modules s.registers) (without_records memory modules true s.registers) ≡ Some t → IsNext modules s t
-outside_if memory modules s t true called is = next_scanned modules s t (made_scan modules s.registers _ t is)
+outside_if memory modules s t true called is = next_scanned modules s t (made_scan memory modules s.registers t is)
 outside_if memory modules s t false waits is =
     next_led modules true s t (λ before. refl) waits (made_without memory modules true s.registers t is)
 
@@ -232,56 +245,99 @@ call_of_code : (o : Option Module) (a : ℕ) → is_code_return_of o a ≡ true 
 call_of_code None a is = is
 call_of_code (Some m) a is = (both (is_executable m.sections.now (a - m.base - 1)) (is_after_call_in m a) is).1
 
-no_leaf : (modules : List Module) (g : Registers) (o : Option (ℕ × ℕ)) (t : StackFrame) → t.way ≡ Leaf → option_map (λ found. frame_of modules Scanned true (returned_to g found)) o ≡ Some t → ⊥
-no_leaf modules g o t leaf is =
-    let found = made_scan modules g o t is in
+no_leaf : (modules : List Module) (t : StackFrame) → t.way ≡ Leaf → IsScanned modules t → ⊥
+no_leaf modules t leaf found =
     let both_ways : Leaf ≡ Scanned = sym leaf ∙ way_of modules t Scanned true found.0 found.1 in
     cc both_ways
 
-sure_leaf : (modules : List Module) (guess : Bool) (u : Registers) (t : StackFrame) (b : Bool) (scan : Option StackFrame) → is_after_call modules u.rip ≡ b → (scan ≡ Some t → ⊥) → is_code_return modules (t.registers).rip ≡ true → Ok t ≡ option_map_or Ok (option_or (cond b (Some (frame_of modules Leaf (guess || not (is_code_return modules u.rip)) u)) None) scan) (after_leaf modules (Ok u)) → t.is_guess ≡ guess
-sure_leaf modules guess u t true scan test none code is =
+sure_when : (modules : List Module) (guess : Bool) (u : Registers) (t : StackFrame) (b : Bool) → is_code_return modules (t.registers).rip ≡ true → cond b (Some (frame_of modules Leaf (guess || not (is_code_return modules u.rip)) u)) None ≡ Some t → t.is_guess ≡ guess
+sure_when modules guess u t true code is =
     let same : t ≡ frame_of modules Leaf (guess || not (is_code_return modules u.rip)) u = cc is in
     let here = subst (λ (g : Registers). is_code_return modules g.rip ≡ true) (ap (λ (f : StackFrame). f.registers) same) code in
     ap (λ (f : StackFrame). f.is_guess) same ∙ or_false guess (is_code_return modules u.rip) here
-sure_leaf modules guess u t false (Some f) test none code is =
-    let same : Some f ≡ Some t = cc is in absurd (none same)
-sure_leaf modules guess u t false None test none code is =
-    let same = jumped_if modules u t (u.rip == 0) (may_be_code modules u.rip) is in
+sure_when modules guess u t false code is = absurd (cc is)
+
+sure_leaf : (modules : List Module) (guess : Bool) (test : ℕ → Bool) (p : Result Registers FrameError) (t : StackFrame) → is_code_return modules (t.registers).rip ≡ true → leaf_if modules guess test p ≡ Some t → t.is_guess ≡ guess
+sure_leaf modules guess test (Ok u) t code is = sure_when modules guess u t (test u.rip) code is
+sure_leaf modules guess test (Err e) t code is = absurd (cc is)
+
+no_call : (t : StackFrame) (b : Bool) → b ≡ true → cond b (Some t) None ≡ None → ⊥
+no_call t true call none = cc none
+no_call t false call none = cc call
+
+-- what a leaf function returns to where no call ends is no return address into code
+sure_after : (modules : List Module) (guess : Bool) (p : Result Registers FrameError) (t : StackFrame) → is_code_return modules (t.registers).rip ≡ true → leaf_frame modules guess p ≡ None → Ok t ≡ after_leaf modules p → ⊥
+sure_after modules guess (Ok u) t code none is =
+    let same = jumped_if modules u t (u.rip == 0) (is_code modules u.rip) is in
     let here = subst (λ (g : Registers). is_code_return modules g.rip ≡ true) (ap (λ (f : StackFrame). f.registers) same) code in
     let call : is_after_call modules u.rip ≡ true = call_of_code (module_at modules (u.rip - 1)) u.rip here in
-    absurd (cc (sym call ∙ test))
+    no_call (frame_of modules Leaf (guess || not (is_code_return modules u.rip)) u) (is_after_call modules u.rip) call none
+sure_after modules guess (Err e) t code none is = cc is
 
-sure_popped : (modules : List Module) (guess : Bool) (p : Result Registers FrameError) (t : StackFrame) (scan : Option StackFrame) → (scan ≡ Some t → ⊥) → is_code_return modules (t.registers).rip ≡ true → Ok t ≡ option_map_or Ok (option_or (leaf_frame modules guess p) scan) (after_leaf modules p) → t.is_guess ≡ guess
-sure_popped modules guess (Ok u) t scan none code is = sure_leaf modules guess u t (is_after_call modules u.rip) scan refl none code is
-sure_popped modules guess (Err e) t scan none code is =
-    made_found scan (Err (ends.Step e)) t (λ by. absurd (none by)) (λ other. absurd (cc other)) is
+or_none : (a b : Option StackFrame) → option_or a b ≡ None → a ≡ None
+or_none None b is = refl
+or_none (Some f) b is = absurd (cc is)
+
+found_or : {X : Type 0} (o : Option StackFrame) (rest : Result StackFrame WalkEnd) (t : StackFrame) → (o ≡ Some t → X) → (o ≡ None → Ok t ≡ rest → X) → Ok t ≡ option_map_or Ok o rest → X
+found_or (Some f) rest t found other is = let same : Some f ≡ Some t = cc is in found same
+found_or None rest t found other is = other refl is
+
+sure_without : (memory : ℕ → Option ℕ) (modules : List Module) (guess : Bool) (g : Registers) (t : StackFrame) → t.way ≡ Leaf → is_code_return modules (t.registers).rip ≡ true → without_records memory modules guess g ≡ Some t → t.is_guess ≡ guess
+sure_without memory modules guess g t leaf returns is =
+    let p = popped memory g in
+    let other = leaf_without_image modules guess p in
+    let scan = scanned memory modules g in
+    made_or (leaf_frame modules guess p) (option_or other scan) t (sure_leaf modules guess (is_after_call modules) p t returns)
+    (λ rest. made_or other scan t (sure_leaf modules guess (may_end_call modules) p t returns) (λ by. absurd (no_leaf modules t leaf (made_scan memory modules g t by))) rest)
+    is
 
 sure_called : (memory : ℕ → Option ℕ) (modules : List Module) (guess : Bool) (s t : StackFrame) → Ok t ≡ caller_of_leaf memory modules guess s → t.way ≡ Leaf → is_code_return modules (t.registers).rip ≡ true → t.is_guess ≡ guess
 sure_called memory modules guess s t h leaf returns =
     let by_scan = scanned memory modules s.registers in
     let found = without_records memory modules guess s.registers in
-    let rest = after_leaf modules (popped memory s.registers) in
-    let none : by_scan ≡ Some t → ⊥ = no_leaf modules s.registers _ t leaf in
-    by_called s.has_called (option_map_or Ok by_scan (Err ends.NoFunction)) (option_map_or Ok found rest) (Ok t) h
-    (λ at. made_found by_scan (Err ends.NoFunction) t (λ by. absurd (none by)) (λ other. absurd (cc other)) at)
-    (λ waits at. sure_popped modules guess (popped memory s.registers) t by_scan none returns at)
-
-alone : (o : Option StackFrame) (rest : Result StackFrame WalkEnd) (t : StackFrame) → o ≡ Some t → Ok t ≡ option_map_or Ok (option_or o None) rest
-alone (Some f) rest t is = cc
-alone None rest t is = absurd (cc is)
+    let p = popped memory s.registers in
+    by_called s.has_called (option_map_or Ok by_scan (Err ends.NoFunction)) (option_map_or Ok found (after_leaf modules p)) (Ok t) h
+    (λ at. made_found by_scan (Err ends.NoFunction) t (λ by. absurd (no_leaf modules t leaf (made_scan memory modules s.registers t by))) (λ other. absurd (cc other)) at)
+    (λ waits at. found_or found (after_leaf modules p) t (sure_without memory modules guess s.registers t leaf returns) (λ none other. absurd (sure_after modules guess p t returns (or_none (leaf_frame modules guess p) _ none) other)) at)
 
 sure_in_gap : (memory : ℕ → Option ℕ) (modules : List Module) (guess : Bool) (gap : Gap) (s t : StackFrame) → Ok t ≡ caller_in_gap memory modules guess gap s → t.way ≡ Leaf → is_code_return modules (t.registers).rip ≡ true → t.is_guess ≡ guess
 sure_in_gap memory modules guess gap s t h leaf returns =
-    let popped_leaf = leaf_frame modules guess (popped memory s.registers) in
-    let scan = scanned_by memory modules (gap_return modules gap) s.registers in
+    let p = popped memory s.registers in
+    let scan = scanned_in_gap memory modules gap s.registers in
     made_found (called_in_gap memory modules guess gap s) (caller_of_leaf memory modules guess s) t
-    (λ found. made_if s.has_called popped_leaf scan t found (λ waits by. sure_popped modules guess (popped memory s.registers) t None (λ none. cc none) returns (alone popped_leaf (after_leaf modules (popped memory s.registers)) t by)) (λ by. absurd (no_leaf modules s.registers _ t leaf by)))
+    (λ found. made_if s.has_called (leaf_frame modules guess p) scan t found (λ waits by. sure_leaf modules guess (is_after_call modules) p t returns by) (λ by. absurd (no_leaf modules t leaf (made_in_gap memory modules gap s.registers t by))))
     (λ other. sure_called memory modules guess s t other leaf returns)
     h
 
 pub leaf_keeps : (memory : ℕ → Option ℕ) (modules : List Module) (m : Module) (e : ExceptionView) (s t : StackFrame) → CallsFound memory modules m e s None (Ok t) → t.way ≡ Leaf → is_code_of (Some m) (lookup_address s) ≡ true → is_code_return modules (t.registers).rip ≡ true → t.is_guess ≡ s.is_guess
 leaf_keeps memory modules m e s t h leaf code returns =
     sure_in_gap memory modules (leaf_is_guess m s) h.0 s t h.2 leaf returns ∙ or_false s.is_guess (is_code_of (Some m) (lookup_address s)) code
+
+-- ---- the caller of a leaf function whose image is not at hand
+
+no_return : (modules : List Module) (a : ℕ) (b : Bool) → is_code_return modules a ≡ b → is_after_call modules a ≡ false → b ≡ false
+no_return modules a true at none =
+    let call : is_after_call modules a ≡ true = call_of_code (module_at modules (a - 1)) a at in absurd (cc (sym call ∙ none))
+no_return modules a false at none = refl
+
+or_not : (a b : Bool) → b ≡ false → (a || not b) ≡ true
+or_not true b is = refl
+or_not false true is = absurd (cc is)
+or_not false false is = refl
+
+without_first : (memory : ℕ → Option ℕ) (modules : List Module) (guess : Bool) (g u : Registers) → popped memory g ≡ Ok u → is_after_call modules u.rip ≡ false → may_end_call modules u.rip ≡ true → without_records memory modules guess g ≡ Some (frame_of modules Leaf true u)
+without_first memory modules guess g u pops none may =
+    let sure : (guess || not (is_code_return modules u.rip)) ≡ true =
+    or_not guess (is_code_return modules u.rip) (no_return modules u.rip (is_code_return modules u.rip) refl none) in
+    rw (pops, none, may, sure) refl
+
+pub leaf_first : (memory : ℕ → Option ℕ) (modules : List Module) (guess : Bool) (s : StackFrame) (u : Registers) → s.has_called ≡ false → popped memory s.registers ≡ Ok u → is_after_call modules u.rip ≡ false → may_end_call modules u.rip ≡ true → caller_of_leaf memory modules guess s ≡ Ok (frame_of modules Leaf true u)
+leaf_first memory modules guess s u waits pops none may =
+    rw (waits, without_first memory modules guess s.registers u pops none may) refl
+
+pub outside_first : (memory : ℕ → Option ℕ) (modules : List Module) (s : StackFrame) (u : Registers) → s.has_called ≡ false → popped memory s.registers ≡ Ok u → is_after_call modules u.rip ≡ false → may_end_call modules u.rip ≡ true → caller_outside memory modules s ≡ Ok (frame_of modules Leaf true u)
+outside_first memory modules s u waits pops none may =
+    rw (waits, without_first memory modules true s.registers u pops none may) refl
 
 -- ---- the bottom
 
@@ -324,7 +380,7 @@ no_end_at modules u false true is = cc is
 no_end_at modules u false false is = cc is
 
 no_end_of_leaf : (modules : List Module) (p : Result Registers FrameError) → Err ends.Bottom ≡ after_leaf modules p → ⊥
-no_end_of_leaf modules (Ok u) is = no_end_at modules u (u.rip == 0) (may_be_code modules u.rip) is
+no_end_of_leaf modules (Ok u) is = no_end_at modules u (u.rip == 0) (is_code modules u.rip) is
 no_end_of_leaf modules (Err e) is = cc is
 
 pub leaf_at_bottom : (memory : ℕ → Option ℕ) (modules : List Module) (guess : Bool) (s : StackFrame) → caller_of_leaf memory modules guess s ≡ Err ends.Bottom → ⊥

@@ -15,7 +15,7 @@ use Rattle.pe_frame.specs.Arm64Packed.{stepped_arm64_packed}
 use Rattle.pe_frame.specs.Arm64Steps.{StepsOutArm64}
 use Rattle.pe_frame.specs.Arm64Undoing.{link_register, put_pc, put_sp, stripped}
 use Rattle.pe_frame.specs.FrameWalks.{FrameWalk, Process, state_of}
-use Rattle.pe_frame.specs.Modules.{is_after_call_arm64, is_code_of, is_code_return_arm64, is_unknown, map_of_module, may_be_code, module_at}
+use Rattle.pe_frame.specs.Modules.{is_after_call_arm64, is_code, is_code_of, is_code_return_arm64, is_unknown, map_of_module, may_end_call, module_at}
 use Rattle.pe_frame.specs.Scans.{first_return, most_words}
 use Rattle.pe_frame.specs.Walks.{IsUnreadable, end_at_0}
 use Rattle.pe_frame.specs.declared.arm64.registers.Arm64Registers.{Arm64Registers}
@@ -73,26 +73,35 @@ scanned memory modules g =
 abbrev pub after_leaf : Arm64Registers → Arm64Registers
 after_leaf g = put_pc g (link_register g)
 
--- Its frame, if a call ends there. It is a guess where that call is in no executable section, as bytes of data that look like one.
-abbrev pub leaf_frame : List Module → Bool → Arm64Registers → Option Arm64StackFrame
-leaf_frame modules guess g =
-    if is_after_call_arm64 modules (link_register g)
+-- Its frame, if a test of that holds. It is a guess where no call in an executable section ends there, as after bytes of data that
+-- look like one.
+abbrev pub leaf_if : List Module → Bool → (ℕ → Bool) → Arm64Registers → Option Arm64StackFrame
+leaf_if modules guess test g =
+    if test (link_register g)
     then Some (frame_of modules Leaf (guess || not (is_code_return_arm64 modules (link_register g))) (after_leaf g)) else None
+
+-- if a call ends there
+abbrev pub leaf_frame : List Module → Bool → Arm64Registers → Option Arm64StackFrame
+leaf_frame modules guess g = leaf_if modules guess (is_after_call_arm64 modules) g
+
+-- if the image is not at hand that would say whether one does
+abbrev pub leaf_without_image : List Module → Bool → Arm64Registers → Option Arm64StackFrame
+leaf_without_image modules guess g = leaf_if modules guess (may_end_call modules) g
 
 -- The frame that is found from registers without records: that of the caller of a leaf function, else by a scan. Whether the first
 -- is a guess depends on what says that the function is a leaf function.
 abbrev pub without_records : (ℕ → Option ℕ) → List Module → Bool → Arm64Registers → Option Arm64StackFrame
-without_records memory modules guess g = option_or (leaf_frame modules guess g) (scanned memory modules g)
+without_records memory modules guess g =
+    option_or (leaf_frame modules guess g) (option_or (leaf_without_image modules guess g) (scanned memory modules g))
 
 -- ---- its caller, or why there is none
 
 -- The caller of a frame that has not called, where neither a call nor a scan leads on: the frame may be one of a leaf function that
--- was jumped to, so that it returns to code which no call precedes, or into a module whose image is not at hand. It returns to no 0
--- that is known for the bottom, and to no data.
+-- was jumped to, so that it returns to code which no call precedes. It returns to no 0 that is known for the bottom, and to no data.
 abbrev pub jumped_frame : List Module → Arm64Registers → Result Arm64StackFrame WalkEnd
 jumped_frame modules g =
     if link_register g == 0 then Err ends.Zero
-    else (if may_be_code modules (link_register g) then Ok (frame_of modules Leaf true (after_leaf g)) else Err ends.NoReturnAddress)
+    else (if is_code modules (link_register g) then Ok (frame_of modules Leaf true (after_leaf g)) else Err ends.NoReturnAddress)
 
 -- The caller of a frame in no function of its module, by whether it is a guess that this is one of a leaf function. A leaf function
 -- calls nothing: that of a frame which has called is found by a scan alone.

@@ -104,17 +104,29 @@ abbrev pub is_code_of : Option Module → ℕ → Bool
 is_code_of None a = false
 is_code_of (Some m) a = is_executable m.sections.now (a - m.base)
 
+-- an address is one of an executable section, on each machine
+abbrev pub is_code : List Module → ℕ → Bool
+is_code modules a = is_code_of (module_at modules a) a
+
 -- The image of a module is not at hand: no sections say where its code is.
 abbrev pub is_unknown : Module → Bool
 is_unknown m = length m.sections.now == 0
 
-abbrev pub may_be_code_of : Option Module → ℕ → Bool
-may_be_code_of None a = false
-may_be_code_of (Some m) a = is_unknown m || is_executable m.sections.now (a - m.base)
+-- the image of the module that has an address is not at hand
+abbrev pub is_unknown_of : Option Module → Bool
+is_unknown_of None = false
+is_unknown_of (Some m) = is_unknown m
 
--- An address may be one of code, on each machine: it is one of an executable section, or in a module whose image is not at hand.
-abbrev pub may_be_code : List Module → ℕ → Bool
-may_be_code modules a = may_be_code_of (module_at modules a) a
+abbrev pub is_in_unknown : List Module → ℕ → Bool
+is_in_unknown modules a = is_unknown_of (module_at modules a)
+
+-- Windows keeps the addresses below this one free in each process.
+abbrev pub lowest_address : ℕ
+lowest_address = 65536
+
+-- A call may end at an address, on each machine: the image that has the last byte before it, and would say so, is not at hand.
+abbrev pub may_end_call : List Module → ℕ → Bool
+may_end_call modules a = nat_le lowest_address a && is_in_unknown modules (a - 1)
 
 -- ---- return addresses on ARM64, where a call has four bytes
 

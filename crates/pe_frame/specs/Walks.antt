@@ -1,7 +1,7 @@
 -- Walks of a stack on x64: from the frame of a function to that of its caller, through the modules of a process.
 use Rattle.std.specs.Prelude.{◌≡◌, ℕ, ◌+◌, ◌-◌, ◌==◌, ◌&&◌, ◌||◌, not, Bool, true, false, if◌then◌else◌, List, [], Option, Some, None, Result, Ok, Err, nat_le}
 use Rattle.std.specs.List.{AllByRecursion}
-use Rattle.std.specs.Option.{is_none, option_map, option_map_or, option_or}
+use Rattle.std.specs.Option.{is_none, option_and_then, option_map, option_map_or, option_or}
 use Rattle.pe_core.specs.Refusals.{Refusal, kind_of}
 use Rattle.pe_core.specs.SectionMap.{rounded_up}
 use Rattle.pe_unwind.specs.ExceptionTable.{ExceptionView, table_of}
@@ -13,8 +13,8 @@ use Rattle.pe_unwind.specs.declared.function_table.RuntimeFunction.{RuntimeFunct
 use Rattle.pe_plan.specs.ShortPlans.{PlansShort}
 use Rattle.pe_frame.specs.FrameWalks.{FrameWalk, Process, state_of}
 use Rattle.pe_frame.specs.Jumps.{StepsInImage}
-use Rattle.pe_frame.specs.Modules.{module_at, map_of_module, code_in, is_after_call, is_code_of, is_code_return, is_unknown, may_be_code, call_target}
-use Rattle.pe_frame.specs.Scans.{first_return, most_words}
+use Rattle.pe_frame.specs.Modules.{module_at, map_of_module, code_in, is_after_call, is_code, is_code_of, is_code_return, is_unknown, may_end_call, call_target}
+use Rattle.pe_frame.specs.Scans.{first_return, highest_call, most_words}
 use Rattle.pe_frame.specs.Steps.{ErrorKind, error_kind}
 use Rattle.pe_frame.specs.Undoing.{stack_pointer, popped, put_register, put_rip}
 use Rattle.pe_frame.specs.declared.error.FrameError.{FrameError}
@@ -71,27 +71,36 @@ code_return modules w = if is_code_return modules w then Some w else None
 abbrev pub returned_to : Registers → (ℕ × ℕ) → Registers
 returned_to g found = put_rip (put_register g RSP (found.0 + 8)) found.1
 
--- The frame that a scan of the stack finds, which is a guess: by the first word from the stack pointer on, rounded up to 8, that
--- is a return address. `returns` says of a number which one it is.
-abbrev pub scanned_by : (ℕ → Option ℕ) → List Module → (ℕ → Option ℕ) → Registers → Option StackFrame
-scanned_by memory modules returns g =
-    option_map (λ found. frame_of modules Scanned true (returned_to g found))
-    (first_return most_words memory returns (rounded_up (stack_pointer g) 8))
+-- the frame that a scan of the stack finds by a return address and where it stands: a guess
+abbrev pub scanned_frame : List Module → Registers → (ℕ × ℕ) → StackFrame
+scanned_frame modules g found = frame_of modules Scanned true (returned_to g found)
 
+-- that of the first word from the stack pointer on, rounded up to 8, that is a return address
 abbrev pub scanned : (ℕ → Option ℕ) → List Module → Registers → Option StackFrame
-scanned memory modules g = scanned_by memory modules (code_return modules) g
+scanned memory modules g =
+    option_map (scanned_frame modules g) (first_return most_words memory (code_return modules) (rounded_up (stack_pointer g) 8))
 
--- The caller of a leaf function, which has the return address at the stack pointer, if a call ends at that. It is a guess where that
--- call is in no executable section, as bytes of data that look like one.
+-- The caller of a leaf function, which has the return address at the stack pointer, if a test of that holds. It is a guess where no
+-- call in an executable section ends there, as after bytes of data that look like one.
+abbrev pub leaf_if : List Module → Bool → (ℕ → Bool) → Result Registers FrameError → Option StackFrame
+leaf_if modules guess test (Ok u) =
+    if test u.rip then Some (frame_of modules Leaf (guess || not (is_code_return modules u.rip)) u) else None
+leaf_if modules guess test (Err e) = None
+
+-- if a call ends there
 abbrev pub leaf_frame : List Module → Bool → Result Registers FrameError → Option StackFrame
-leaf_frame modules guess (Ok u) =
-    if is_after_call modules u.rip then Some (frame_of modules Leaf (guess || not (is_code_return modules u.rip)) u) else None
-leaf_frame modules guess (Err e) = None
+leaf_frame modules guess popped = leaf_if modules guess (is_after_call modules) popped
+
+-- if the image is not at hand that would say whether one does
+abbrev pub leaf_without_image : List Module → Bool → Result Registers FrameError → Option StackFrame
+leaf_without_image modules guess popped = leaf_if modules guess (may_end_call modules) popped
 
 -- The frame that is found from registers without records: that of the caller of a leaf function, else by a scan. Whether the first
 -- is a guess depends on what says that the function is a leaf function.
 abbrev pub without_records : (ℕ → Option ℕ) → List Module → Bool → Registers → Option StackFrame
-without_records memory modules guess g = option_or (leaf_frame modules guess (popped memory g)) (scanned memory modules g)
+without_records memory modules guess g =
+    option_or (leaf_frame modules guess (popped memory g))
+    (option_or (leaf_without_image modules guess (popped memory g)) (scanned memory modules g))
 
 -- ---- its caller, or why there is none
 
@@ -130,12 +139,11 @@ CallsByPlan memory modules m e f s (Ok (Some plan)) answer =
     × (answer ≡ frame_after memory modules s.is_guess left)
 
 -- The caller of a frame that has not called, where neither a call nor a scan leads on: the frame may be one of a leaf function that
--- was jumped to, so that it returns to code which no call precedes, or into a module whose image is not at hand. It returns to no 0
--- that is known for the bottom, and to no data.
+-- was jumped to, so that it returns to code which no call precedes. It returns to no 0 that is known for the bottom, and to no data.
 abbrev pub after_leaf : List Module → Result Registers FrameError → Result StackFrame WalkEnd
 after_leaf modules (Ok u) =
     if u.rip == 0 then Err ends.Zero
-    else (if may_be_code modules u.rip then Ok (frame_of modules Leaf true u) else Err ends.NoReturnAddress)
+    else (if is_code modules u.rip then Ok (frame_of modules Leaf true u) else Err ends.NoReturnAddress)
 after_leaf modules (Err e) = Err (ends.Step e)
 
 -- The caller of a frame in no function of its module, by whether it is a guess that this is one of a leaf function. A leaf function
@@ -162,16 +170,23 @@ IsGap m e s gap =
 abbrev pub is_in_gap : Gap → ℕ → Bool
 is_in_gap gap a = nat_le a gap.last && nat_le (gap.last - a) gap.before
 
--- the return address that a number is, if its call leads there
-abbrev pub gap_return : List Module → Gap → ℕ → Option ℕ
-gap_return modules gap w = if option_map_or (is_in_gap gap) (call_target modules w) false then Some w else None
+-- where the call leads that ends at a number, if it leads there
+abbrev pub gap_target : List Module → Gap → ℕ → Option ℕ
+gap_target modules gap w =
+    option_and_then (λ target. if is_in_gap gap target then Some target else None) (call_target modules w)
+
+-- The frame that a scan finds by the call into the gap that leads highest: to the start that is nearest before the frame.
+abbrev pub scanned_in_gap : (ℕ → Option ℕ) → List Module → Gap → Registers → Option StackFrame
+scanned_in_gap memory modules gap g =
+    option_map (λ c. scanned_frame modules g (c.address, c.word))
+    (highest_call most_words memory (gap_target modules gap) (rounded_up (stack_pointer g) 8))
 
 -- What is looked for first: the caller of a leaf function, if a call ends at its return address, then the frame that a scan finds
--- by the first call into the gap.
+-- by a call into the gap.
 abbrev pub called_in_gap : (ℕ → Option ℕ) → List Module → Bool → Gap → StackFrame → Option StackFrame
 called_in_gap memory modules guess gap s =
     option_or (if s.has_called then None else leaf_frame modules guess (popped memory s.registers))
-    (scanned_by memory modules (gap_return modules gap) s.registers)
+    (scanned_in_gap memory modules gap s.registers)
 
 -- its caller, without such a frame as in any other code
 abbrev pub caller_in_gap : (ℕ → Option ℕ) → List Module → Bool → Gap → StackFrame → Result StackFrame WalkEnd

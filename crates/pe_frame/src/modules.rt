@@ -6,7 +6,7 @@ ghost use Rattle.std.specs.Option.{option_map};
 ghost use Rattle.pe_core.specs.SectionMap.{offset_in};
 ghost use Rattle.pe_frame.specs.AddressRanges.{AreAscending, IsOverlap};
 ghost use Rattle.pe_frame.specs.SectionIndexes.{sections_by};
-ghost use Rattle.pe_frame.specs.Modules.{bytes_or_none, module_base, module_size, module_at, map_of_module, code_alignment, code_at, code_in, follows_call, is_after_call_in, is_after_call, is_after_call_arm64_in, is_after_call_arm64, executes, is_executable, is_code_of, is_code_return, is_code_return_of, is_code_return_arm64, is_code_return_arm64_of, is_unknown, may_be_code, may_be_code_of, call_target, call_target_of};
+ghost use Rattle.pe_frame.specs.Modules.{bytes_or_none, module_base, module_size, module_at, map_of_module, code_alignment, code_at, code_in, follows_call, is_after_call_in, is_after_call, is_after_call_arm64_in, is_after_call_arm64, executes, is_executable, is_code_of, is_code_return, is_code_return_of, is_code_return_arm64, is_code_return_arm64_of, is_code, is_in_unknown, is_unknown, call_target, call_target_of};
 
 use crate::address_ranges::{AddressRange, first_overlap, has_address, range_with};
 use crate::arm64::is_call_arm64;
@@ -203,14 +203,6 @@ impl<'a> Module<'a> {
         self.sections.is_empty()
     }
 
-    /// Whether an address of the module may be one of code: it is one of an executable section, or the image is not at hand.
-    pub fn may_be_code(&self, address: u64) -> bool
-        requires { address ≤ self.now.base + self.now.size }
-        ensures { result ≡ may_be_code_of (Some self.now) address }
-    {
-        self.is_unknown() || self.is_code(address)
-    }
-
     /// Whether an address, which may be the end of the module, is one after a call in an executable section. Asked is the last section
     /// that starts at or before the last byte of the call, found by halving: in a valid image no other has it.
     pub fn is_code_return(&self, address: u64) -> bool
@@ -327,12 +319,22 @@ impl<'a> Modules<'a> {
         }
     }
 
-    /// Whether an address may be one of code: it is one of an executable section, or in a module whose image is not at hand.
-    pub(crate) fn may_be_code(&self, address: u64) -> bool
-        ensures { result ≡ may_be_code self.now.modules.now address }
+    /// Whether an address is one of an executable section.
+    pub(crate) fn is_code(&self, address: u64) -> bool
+        ensures { result ≡ is_code self.now.modules.now address }
     {
         match self.find(address) {
-            Some(module) => module.may_be_code(address),
+            Some(module) => module.is_code(address),
+            None => false,
+        }
+    }
+
+    /// Whether an address is in a module whose image is not at hand.
+    pub(crate) fn is_in_unknown(&self, address: u64) -> bool
+        ensures { result ≡ is_in_unknown self.now.modules.now address }
+    {
+        match self.find(address) {
+            Some(module) => module.is_unknown(),
             None => false,
         }
     }

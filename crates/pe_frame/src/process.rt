@@ -3,7 +3,7 @@
 ghost use Rattle.std.specs.Prelude.{◌≡◌, List, OnErr};
 ghost use Rattle.pe_frame.specs.Arm64Walks as arm64;
 ghost use Rattle.pe_frame.specs.FrameWalks.{frame_left};
-ghost use Rattle.pe_frame.specs.Modules.{is_after_call, is_after_call_arm64, is_code_return, is_code_return_arm64, may_be_code, call_target};
+ghost use Rattle.pe_frame.specs.Modules.{is_after_call, is_after_call_arm64, is_code, is_code_return, is_code_return_arm64, is_in_unknown, call_target};
 ghost use Rattle.pe_frame.specs.Walks.{Calls};
 ghost use Rattle.pe_frame.specs.declared.modules.Module.{Module};
 
@@ -29,9 +29,13 @@ pub trait CallSites {
     fn target_of_call(&self, address: u64) -> Option<u64>
         ensures { result ≡ call_target (list self.now) address };
 
-    /// Whether an address may be one of code, on each machine: one of an executable section, or in a module whose image is not at hand.
-    fn may_be_code(&self, address: u64) -> bool
-        ensures { result ≡ may_be_code (list self.now) address };
+    /// Whether an address is one of an executable section, on each machine.
+    fn is_code(&self, address: u64) -> bool
+        ensures { result ≡ is_code (list self.now) address };
+
+    /// Whether an address is in a module whose image is not at hand.
+    fn is_in_unknown(&self, address: u64) -> bool
+        ensures { result ≡ is_in_unknown (list self.now) address };
 
     /// Whether an address is one after a call on ARM64.
     fn ends_call_arm64(&self, address: u64) -> bool
@@ -82,9 +86,13 @@ impl<'a> CallSites for Modules<'a> {
         self.call_target(address)
     }
 
-    fn may_be_code(&self, address: u64) -> bool {
+    fn is_code(&self, address: u64) -> bool {
         // The method of the type comes before that of the trait.
-        Modules::may_be_code(self, address)
+        Modules::is_code(self, address)
+    }
+
+    fn is_in_unknown(&self, address: u64) -> bool {
+        Modules::is_in_unknown(self, address)
     }
 
     fn ends_call_arm64(&self, address: u64) -> bool {

@@ -7,20 +7,21 @@
 //!
 //! What is a return address is a fact of the bytes before it: a call ends there. Records lead to interrupted code too, where a
 //! dispatcher of exceptions saved the registers without a machine frame. After a call of a null pointer the frame is in no module:
-//! its return address is at the stack pointer, if a call ends at that. Where neither leads on, the stack is scanned: first for a
-//! call of the function itself, which starts between the entries of the function table around it, then for any call.
+//! its return address is at the stack pointer, if a call ends at that, or if its module has no image that would say so. Where neither
+//! leads on, the stack is scanned: first for the call of the function itself, which starts between the entries of the function table
+//! around it, then for any call.
 //!
 //! What is found so may be wrong, and so may all that follows. Each frame says whether it is such a guess, and a stack is called whole
 //! only where none is.
 
-ghost use Rattle.std.specs.Prelude.{◌≡◌, ◌≤◌, ◌<◌, ◌+◌, ◌-◌, Ok, Err, IsTrue, OnErr, true};
+ghost use Rattle.std.specs.Prelude.{◌≡◌, ◌≤◌, ◌<◌, ◌+◌, ◌-◌, ◌^◌, Ok, Err, IsTrue, OnErr, true};
 ghost use Rattle.std.specs.Option.{is_none, option_map};
 ghost use Rattle.std.specs.Iterator.{at_most};
 ghost use Rattle.pe_frame.specs.AddressRanges.{has_address};
 ghost use Rattle.pe_frame.specs.InPlace.{changed_with};
 ghost use Rattle.pe_frame.specs.FrameWalks.{frame_left};
-ghost use Rattle.pe_frame.specs.Modules.{module_base, module_size};
-ghost use Rattle.pe_frame.specs.Walks.{has_called, frame_of, lookup_address, code_of_frame, code_return, scanned, leaf_frame, without_records, is_bottom, end_at_0, after_leaf, caller_of_leaf, caller_outside, caller_without_table, leaf_is_guess, frame_after, CallsFound, CallsIn, scanned_by, IsGap, is_in_gap, gap_return, called_in_gap, caller_in_gap};
+ghost use Rattle.pe_frame.specs.Modules.{may_end_call, module_base, module_size};
+ghost use Rattle.pe_frame.specs.Walks.{has_called, frame_of, lookup_address, code_of_frame, code_return, scanned, leaf_frame, without_records, is_bottom, end_at_0, after_leaf, caller_of_leaf, caller_outside, caller_without_table, leaf_is_guess, frame_after, CallsFound, CallsIn, scanned_frame, IsGap, is_in_gap, gap_target, scanned_in_gap, called_in_gap, caller_in_gap, leaf_without_image};
 ghost use Rattle.pe_frame.specs.declared.modules.Module.{Module};
 
 use crate::error::FrameError;
@@ -33,8 +34,11 @@ use crate::plan::Stopped;
 use crate::position::{WalkFrame, WalkPosition};
 use crate::process::{CallSites, LoadedModules};
 use crate::registers::{RSP, Registers};
-use crate::scan::{ReturnWords, first_return_above};
+use crate::scan::{CallTargets, ReturnWords, first_return_above, highest_call_above};
 use pe_unwind::{ExceptionData, RuntimeFunction, search, search_start};
+
+/// The addresses below this one, 64 KB, are free in each process of Windows.
+const LOWEST_ADDRESS: u64 = 0x1_0000;
 
 /// How a frame was found.
 #[derive(Clone, Copy, Debug, PartialEq, Eq)]
@@ -47,9 +51,9 @@ pub enum Way {
     Leaf,
     /// An interrupt stopped it: the records of the frame before it show what the processor pushed.
     Interrupt,
-    /// By a scan of the stack, where no records led on. It is the first word whose call leads to the code without records in
-    /// which the frame before it is, or if there is none, the first that is after a call in executable code. It may be a return
-    /// address that was left there, so this frame and those after it may be wrong.
+    /// By a scan of the stack, where no records led on. It is the word whose call leads to the code without records in which the
+    /// frame before it is, to the nearest address before that, or if there is none, the first that is after a call in executable
+    /// code. It may be a return address that was left there, so this frame and those after it may be wrong.
     Scanned,
 }
 
@@ -174,9 +178,9 @@ struct Gap {
     before: u64,
 }
 
-/// The return addresses of calls into such code.
+/// The calls into such code.
 #[derive(Drop)]
-struct GapReturns<'a, L> {
+struct GapCalls<'a, L> {
     modules: &'a L,
     gap: Gap,
 }
@@ -188,32 +192,31 @@ fn is_in_gap(gap: Gap, address: u64) -> bool
     address <= gap.last && gap.last - address <= gap.before
 }
 
-impl<'a, L: CallSites> ReturnWords for GapReturns<'a, L> {
-    ghost returns = { λ r. gap_return (L.list r.modules.now) r.gap };
+impl<'a, L: CallSites> CallTargets for GapCalls<'a, L> {
+    ghost targets = { λ c. gap_target (L.list c.modules.now) c.gap };
 
-    fn return_of(&self, word: u64) -> Option<u64> {
+    fn target_of(&self, word: u64) -> Option<u64> {
         match self.modules.target_of_call(word) {
-            Some(target) if is_in_gap(self.gap, target) => Some(word),
+            Some(target) if is_in_gap(self.gap, target) => Some(target),
             _ => None,
         }
     }
 }
 
-/// The frame that a scan of the stack finds, by what says which of its words are return addresses.
-fn scanned_by<R: ReturnWords, L: CallSites, M: Memory>(
-    returns: &R,
+/// The frame that a scan of the stack finds by a return address, which stands at an address of the stack.
+fn scanned_frame<L: CallSites>(
     modules: &L,
-    memory: &M,
     registers: &Registers,
-) -> Option<StackFrame>
-    ensures { result ≡ scanned_by
-        (M.word memory.now) (L.list modules.now) (R.returns returns.now) registers.now }
+    address: u64,
+    word: u64,
+) -> StackFrame
+    requires { address + 8 < 2 ^ 64 }
+    ensures { result ≡ scanned_frame (L.list modules.now) registers.now (address, word) }
 {
-    let (address, word) = first_return_above(returns, memory, registers.general[RSP])?;
     let mut caller = *registers;
     caller.general[RSP] = address + SIZE_OF_WORD;
     caller.rip = word;
-    Some(frame_of(modules, Way::Scanned, true, caller))
+    frame_of(modules, Way::Scanned, true, caller)
 }
 
 /// The frame that a scan of the stack finds by any call.
@@ -224,7 +227,30 @@ fn scanned<L: CallSites, M: Memory>(
 ) -> Option<StackFrame>
     ensures { result ≡ scanned (M.word memory.now) (L.list modules.now) registers.now }
 {
-    scanned_by(&CodeReturns { modules }, modules, memory, registers)
+    let returns = CodeReturns { modules };
+    let (address, word) = first_return_above(&returns, memory, registers.general[RSP])?;
+    Some(scanned_frame(modules, registers, address, word))
+}
+
+/// The frame that a scan of the stack finds by the call into code that no entry covers which leads highest there.
+fn scanned_in_gap<L: CallSites, M: Memory>(
+    modules: &L,
+    gap: Gap,
+    memory: &M,
+    registers: &Registers,
+) -> Option<StackFrame>
+    ensures { result ≡ scanned_in_gap (M.word memory.now) (L.list modules.now) gap registers.now }
+{
+    let calls = GapCalls { modules, gap };
+    let call = highest_call_above(&calls, memory, registers.general[RSP])?;
+    Some(scanned_frame(modules, registers, call.address, call.word))
+}
+
+/// Whether no image is at hand that would say whether a call ends at an address.
+pub(crate) fn may_end_call<L: CallSites>(modules: &L, address: u64) -> bool
+    ensures { result ≡ may_end_call (L.list modules.now) address }
+{
+    LOWEST_ADDRESS <= address && modules.is_in_unknown(address - 1)
 }
 
 /// The frame of the caller of a leaf function, if a call ends where it returns to.
@@ -244,6 +270,23 @@ fn leaf_frame<L: CallSites>(
     }
 }
 
+/// The same if no image is at hand that would say whether one does.
+fn leaf_without_image<L: CallSites>(
+    modules: &L,
+    is_guess: bool,
+    popped: &Result<Registers, FrameError>,
+) -> Option<StackFrame>
+    ensures { result ≡ leaf_without_image (L.list modules.now) is_guess popped.now }
+{
+    match popped {
+        Ok(registers) if may_end_call(modules, registers.rip) => {
+            let is_guess = is_guess || !modules.ends_code_call(registers.rip);
+            Some(frame_of(modules, Way::Leaf, is_guess, *registers))
+        }
+        _ => None,
+    }
+}
+
 /// The frame that is found from registers without records, by whether it is a guess that their function is a leaf function. Out of
 /// line, as few frames are found so.
 #[inline(never)]
@@ -255,7 +298,11 @@ fn without_records<L: CallSites, M: Memory>(
 ) -> Option<StackFrame>
     ensures { result ≡ without_records (M.word memory.now) (L.list modules.now) is_guess registers.now }
 {
-    match leaf_frame(modules, is_guess, &leaf(*registers, memory)) {
+    let popped = leaf(*registers, memory);
+    if let Some(frame) = leaf_frame(modules, is_guess, &popped) {
+        return Some(frame);
+    }
+    match leaf_without_image(modules, is_guess, &popped) {
         Some(frame) => Some(frame),
         None => scanned(modules, memory, registers),
     }
@@ -288,7 +335,7 @@ pub(crate) fn end_at_0(is_guess: bool) -> WalkEnd
     }
 }
 
-/// The frame of the caller of a leaf function to which no call led, if it returns to what may be code.
+/// The frame of the caller of a leaf function to which no call led, if it returns to code.
 fn after_leaf<L: CallSites>(
     modules: &L,
     popped: Result<Registers, FrameError>,
@@ -297,7 +344,7 @@ fn after_leaf<L: CallSites>(
 {
     match popped {
         Ok(registers) if registers.rip == 0 => Err(WalkEnd::Zero),
-        Ok(registers) if modules.may_be_code(registers.rip) => {
+        Ok(registers) if modules.is_code(registers.rip) => {
             Ok(frame_of(modules, Way::Leaf, true, registers))
         }
         Ok(_) => Err(WalkEnd::NoReturnAddress),
@@ -359,12 +406,7 @@ fn called_in_gap<L: CallSites, M: Memory>(
             return Some(caller);
         }
     }
-    scanned_by(
-        &GapReturns { modules, gap },
-        modules,
-        memory,
-        &frame.registers,
-    )
+    scanned_in_gap(modules, gap, memory, &frame.registers)
 }
 
 /// The frame of the caller of a frame in code that no entry covers.
@@ -643,11 +685,12 @@ impl WalkFrame for StackFrame {
 /// as many frames as the caller asks for. `end` says which. Only past an interrupt does the stack pointer not have to rise.
 ///
 /// In the top frame, and in one that was interrupted, the return address of code that no records describe is the word at the stack
-/// pointer, if a call ends at it, else the first of 128 words from there on that is after a call in an executable section. In a
-/// module, where neither is, it is the word at the stack pointer, if that may be an address of code: of an executable section, or in a
-/// module whose image is not at hand. In a frame that has called it is the first such word after a call. Between two entries of a
-/// function table the first word whose call, E8, leads there, up to the frame, comes before all others after a call but that at the
-/// stack pointer. Where none is found, a walk that comes to 0 says `Zero`.
+/// pointer, if a call ends at it or it lies in a module whose image is not at hand, else the first of 128 words from there on that is
+/// after a call in an executable section. In a module, where none is, it is the word at the stack pointer, if that is an address of
+/// an executable section. In a frame that has called it is the first such word after a call. Between two entries of a function table
+/// the word whose call, E8, leads there, up to the frame, comes before all others after a call but that at the stack pointer: of
+/// several the one whose call leads highest, to the nearest start of a function. Where none is found, a walk that comes to 0 says
+/// `Zero`.
 #[derive(Drop)]
 pub struct StackFrames<'a, M> {
     modules: Modules<'a>,

@@ -4,6 +4,7 @@ pub mod FullMemory
 pub mod Headline
 pub mod IndexCuts
 pub mod IndexHalves
+pub mod NearestNames
 pub mod NoMemory
 pub mod RunBytes
 pub mod RunSteps

@@ -1,6 +1,7 @@
 pub mod DumpMemory
 pub mod Images
 pub mod MemoryRuns
+pub mod Names
 pub mod RangeIndexes
 pub mod ThreadContexts
 pub mod ThreadWalks

@@ -1,6 +1,6 @@
 //! What the definitions that contracts cite say together.
 
-ghost use Rattle.std.specs.Prelude.{◌≡◌, ◌+◌, ◌-◌, ◌/◌, ◌<◌, ◌^◌, ℕ, Err, List, None, Ok, Some, false, length, slice_index, true};
+ghost use Rattle.std.specs.Prelude.{◌≡◌, ◌+◌, ◌-◌, ◌/◌, ◌<◌, ◌≤◌, ◌^◌, ℕ, Err, List, None, Ok, Some, false, length, slice_index, true};
 ghost use Rattle.pe_core.specs.declared.options.ParseOptions.{ParseOptions};
 ghost use Rattle.pe_frame.specs.Arm64Walks as arm64;
 ghost use Rattle.pe_frame.specs.FrameWalks.{IsWalk, starting_walk};
@@ -24,7 +24,11 @@ ghost use Rattle.pe_minidump.specs.declared.thread.Thread.{Thread};
 ghost use Rattle.pe_stacks.specs.DumpMemory.{IsFirst64, has64, listed_all, offset64, pieces_of, start64};
 ghost use Rattle.pe_stacks.specs.Images.{Fits, ModuleImageView, image_of};
 ghost use Rattle.pe_stacks.specs.MemoryRuns.{AreRuns, bytes_at};
+ghost use Rattle.pe_stacks.specs.Names.{Names};
 ghost use Rattle.pe_stacks.specs.ThreadContexts.{context_at, raised_at, thread_context};
+ghost use Rattle.pe_stacks.specs.declared.names.FunctionStart.{FunctionStart};
+ghost use Rattle.pe_stacks.specs.declared.names.FunctionStart.TheVariants.{NoTable, Starts};
+ghost use Rattle.pe_stacks.specs.declared.names.NamedFunction.{NamedFunction};
 
 /// An image is taken only if its time stamp and its size are those of the module.
 pub fn images_match()
@@ -88,4 +92,14 @@ pub fn exceptions_come_first()
         thread_context context_arm64 d t ≡ context_at context_arm64 d t.thread_context }
     ensures own_arm64 { (d : DumpView) (t : Thread) →
         raised_at d t ≡ None → thread_context context_arm64 d t ≡ context_at context_arm64 d t.thread_context }
+{}
+
+/// Where the function table has a function at an RVA, what names the RVA starts in that function, at or before the RVA, and an export
+/// starts with the function. A name that is only the nearest one is of an image without a function table.
+pub fn names_stay_in_their_function()
+    ensures inside { (symbols exports : List ℕ) (start rva : ℕ) (n : NamedFunction) → start ≤ rva →
+        Names symbols exports (Starts start) rva (Some n) →
+        (start ≤ n.start) × (n.start ≤ rva) × (n.is_export ≡ true → n.start ≡ start) }
+    ensures nearest { (symbols exports : List ℕ) (function : FunctionStart) (rva : ℕ) (n : NamedFunction) →
+        Names symbols exports function rva (Some n) → n.is_nearest ≡ true → function ≡ NoTable }
 {}

@@ -61,9 +61,16 @@ impl<'a, A: Allocator + Copy + Drop> CallSites for IndexedModules<'a, A> {
         }
     }
 
-    fn may_be_code(&self, address: u64) -> bool {
+    fn is_code(&self, address: u64) -> bool {
         match self.find(address) {
-            Some(module) => module.may_be_code(address),
+            Some(module) => module.is_code(address),
+            None => false,
+        }
+    }
+
+    fn is_in_unknown(&self, address: u64) -> bool {
+        match self.find(address) {
+            Some(module) => module.is_unknown(),
             None => false,
         }
     }

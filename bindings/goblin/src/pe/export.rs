@@ -169,14 +169,14 @@ fn unknown(count: usize) -> error::Result<ExportAddressTable> {
 /// Reads the entries of the table of RVAs that are not known from exports with a name. The calls are made without sections, by which
 /// no forwarder's text is looked for: all of them may lie in one long text.
 fn add_unnamed(bytes: &[u8], table: &sys::AddressTable, entries: &mut [ExportAddressTableEntry]) -> error::Result<()> {
-    let (mut next, mut room) = (0, raw::room::<_, TAKEN>());
+    let (mut next, mut room) = (0, [sys::Exported::default(); TAKEN]);
     while let Some(known) = entries.get(next..).and_then(|it| it.iter().position(|it| *it == UNKNOWN)) {
         next += known;
         let rest = entries.get_mut(next..).unwrap_or_default();
         let count = rest.iter().take(TAKEN).take_while(|it| **it == UNKNOWN).count();
         let (mut index, part) = (next as u64, room.get_mut(..count).unwrap_or_default());
-        let found = View::of_bytes(bytes).list_export_addresses(table, &mut index, part)?;
-        for (entry, found) in rest.iter_mut().zip(found) {
+        let written = View::of_bytes(bytes).list_export_addresses(table, &mut index, &mut [], part)?;
+        for (entry, found) in rest.iter_mut().zip(room.get(..written).unwrap_or_default()) {
             *entry = entry_of(found.is_forwarder != 0, found.rva);
         }
         next += count;

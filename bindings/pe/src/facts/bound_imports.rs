@@ -27,10 +27,10 @@ pub struct Forwarder<'a> {
 
 entry!(Forwarder<'_>, "forwarders");
 
-fn forwarder_of<'a>(found: BoundForwarder<'a>, of_dll: &[u8], budget: &mut Budget) -> Option<Forwarder<'a>> {
+fn forwarder_of<'a>(found: BoundForwarder<'a>, of_dll: &str, budget: &mut Budget) -> Option<Forwarder<'a>> {
     // A table has the name of the DLL that forwards in each row.
     let cost = ENTRY + of_dll.len() + found.name.len();
-    let name = Name(found.name);
+    let name = Name::of(found.name);
     budget.takes(cost).then(|| Forwarder { name, name_lower: name.lower(), stamp: Stamp::of(found.time_date_stamp) })
 }
 
@@ -38,8 +38,8 @@ fn bound_of<'a>(found: BoundImport<'a>, budget: &mut Budget) -> Option<Bound<'a>
     budget.takes(ENTRY + found.name.len()).then(|| {
         let forwarders = List::limited(found.forwarders(), |it| forwarder_of(it, found.name, budget));
         Bound {
-            name: Name(found.name),
-            name_lower: Name(found.name).lower(),
+            name: Name::of(found.name),
+            name_lower: Name::of(found.name).lower(),
             stamp: Stamp::of(found.time_date_stamp),
             forwarders: Part::Present(budget.inside(forwarders)),
         }

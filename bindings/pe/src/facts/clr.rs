@@ -61,13 +61,13 @@ pub struct Stream<'a> {
 entry!(Stream<'_>, "streams");
 
 fn stream_of(stream: MetadataStream<'_>) -> Stream<'_> {
-    let MetadataStream { name, content, offset, size } = stream;
+    let MetadataStream { name, content, offset, size, .. } = stream;
     Stream { name: Name(name), offset, size, is_there: content.is_some() }
 }
 
 fn metadata_of(found: FoundMetadata<'_>) -> Metadata<'_> {
     Metadata {
-        version: Name(found.version()),
+        version: Name::of(found.version()),
         format_version: format!("{}.{}", found.major_version, found.minor_version),
         streams: Part::Present(List::of(found.streams(), stream_of)),
         tables: assembly::of(&found),

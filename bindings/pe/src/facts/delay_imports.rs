@@ -27,11 +27,11 @@ pub struct Import<'a> {
     pub ordinal: Option<u32>,
 }
 
-fn import_of<'a>(function: DelayedFunction<'a>, library: &[u8], budget: &mut Budget) -> Option<Import<'a>> {
+fn import_of<'a>(function: DelayedFunction<'a>, library: &str, budget: &mut Budget) -> Option<Import<'a>> {
     let (hint, ordinal) = hint_or_ordinal(function.name, function.ordinal);
     // A table of imports has the DLL's name in each row.
-    budget.takes(ENTRY + library.len() + function.name.map_or(0, <[u8]>::len)).then(|| Import {
-        name: function.name.map(Name),
+    budget.takes(ENTRY + library.len() + function.name.map_or(0, str::len)).then(|| Import {
+        name: function.name.map(Name::of),
         hint,
         ordinal,
     })
@@ -41,8 +41,8 @@ fn library_of<'a>(found: DelayImport<'a, 'a>, budget: &mut Budget) -> Option<Lib
     budget.takes(ENTRY + found.name.len()).then(|| {
         let functions = List::limited(found.functions(), |it| import_of(it, found.name, budget));
         Library {
-            name: Name(found.name),
-            name_lower: Name(found.name).lower(),
+            name: Name::of(found.name),
+            name_lower: Name::of(found.name).lower(),
             stamp: Stamp::of(found.descriptor().time_date_stamp),
             functions: Part::Present(budget.inside(functions)),
         }

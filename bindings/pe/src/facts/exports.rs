@@ -44,7 +44,7 @@ fn exports_of<'a>(image: &'a Image<'_>) -> Result<Option<Exports<'a>>, Error> {
     let mut names = names.into_iter().peekable();
     let (mut entries, mut budget) = (Vec::new(), Budget::of(image));
     for (index, entry) in (0..).zip(table.iter()).filter(|(_, entry)| entry.rva != 0) {
-        if !budget.takes(ENTRY + entry.forwarder.map_or(0, <[u8]>::len)) {
+        if !budget.takes(ENTRY + entry.forwarder.map_or(0, str::len)) {
             is_limited = true;
             break;
         }
@@ -55,10 +55,10 @@ fn exports_of<'a>(image: &'a Image<'_>) -> Result<Option<Exports<'a>>, Error> {
             ordinal: entry.ordinal,
             rva: entry.rva,
             names: own.map(|(_, name)| name).collect(),
-            forwarder: entry.forwarder.map(Name),
+            forwarder: entry.forwarder.map(Name::of),
         });
     }
-    let name = table.name().map(Name);
+    let name = table.name().map(Name::of);
     let name_lower = name.and_then(|it| it.lower());
     Ok(Some(Exports { name, name_lower, ordinal_base: table.ordinal_base(), entries, is_limited }))
 }
@@ -74,7 +74,7 @@ fn names_of<'a>(exports: pe_c::Exports<'_, 'a>, mut budget: Budget) -> Result<Na
         if is_limited {
             break;
         }
-        names.push((export.index, Name(export.name)));
+        names.push((export.index, Name::of(export.name)));
     }
     // Names of one entry stay in their order.
     names.sort_by_key(|(index, _)| *index);

@@ -43,7 +43,7 @@ fn stem_of(library: &str) -> &str {
 
 fn function_of(library: &str, import: &Import<'_>) -> Option<String> {
     match import.name {
-        Some(name) => Some(std::str::from_utf8(name).ok()?.to_lowercase()),
+        Some(name) => Some(name.to_lowercase()),
         None => {
             let known = ordinals::name_of(library, import.ordinal).map(str::to_lowercase);
             Some(known.unwrap_or_else(|| format!("ord{}", import.ordinal)))
@@ -60,7 +60,7 @@ fn imphash_of(image: &Image<'_>) -> Option<(String, &'static str)> {
         if library.has_unmapped_list() {
             of = "address_tables";
         }
-        let name = std::str::from_utf8(library.name).ok()?.to_lowercase();
+        let name = library.name.to_lowercase();
         for import in imports::functions_of(&library) {
             let text = format!("{}.{}", stem_of(&name), function_of(&name, &import.ok()?)?);
             left = left.checked_sub(text.len())?;

@@ -28,18 +28,18 @@ pub struct Import<'a> {
 }
 
 /// The number of an import: the hint of one by name, or the ordinal of one without.
-pub fn hint_or_ordinal(name: Option<&[u8]>, number: u32) -> (Option<u32>, Option<u32>) {
+pub fn hint_or_ordinal(name: Option<&str>, number: u32) -> (Option<u32>, Option<u32>) {
     match name {
         Some(_) => (Some(number), None),
         None => (None, Some(number)),
     }
 }
 
-fn import_of<'a>(import: pe_c::Import<'a>, library: &[u8], budget: &mut Budget) -> Option<Import<'a>> {
+fn import_of<'a>(import: pe_c::Import<'a>, library: &str, budget: &mut Budget) -> Option<Import<'a>> {
     let (hint, ordinal) = hint_or_ordinal(import.name, import.ordinal);
     // A table of imports has the DLL's name in each row.
-    budget.takes(ENTRY + library.len() + import.name.map_or(0, <[u8]>::len)).then(|| Import {
-        name: import.name.map(Name),
+    budget.takes(ENTRY + library.len() + import.name.map_or(0, str::len)).then(|| Import {
+        name: import.name.map(Name::of),
         hint,
         ordinal,
         slot_rva: import.rva,
@@ -58,7 +58,10 @@ pub fn functions_of<'a>(library: &pe_c::Library<'a, 'a>) -> pe_c::Imports<'a, 'a
 fn lookup_table_error_of(library: &pe_c::Library<'_, '_>) -> Option<Refusal> {
     let start = library.raw().lookup_table_rva;
     let said = || {
-        format!("lookup table of {} at RVA {start:#x}: unmapped, so its address table is listed", Name(library.name))
+        format!(
+            "lookup table of {} at RVA {start:#x}: unmapped, so its address table is listed",
+            Name::of(library.name)
+        )
     };
     (library.has_unmapped_list() && start != 0).then(|| Refusal { said: Some(said()), ..Error::UNMAPPED.into() })
 }
@@ -73,8 +76,8 @@ pub fn of<'a>(image: &'a Image<'_>) -> Part<List<Library<'a>>> {
         budget.takes(ENTRY + library.name.len()).then(|| {
             let functions = List::limited(functions_of(&library), |it| import_of(it, library.name, &mut budget));
             Library {
-                name: Name(library.name),
-                name_lower: Name(library.name).lower(),
+                name: Name::of(library.name),
+                name_lower: Name::of(library.name).lower(),
                 functions: Part::Present(budget.inside(functions)),
                 lookup_table_error: lookup_table_error_of(&library),
             }

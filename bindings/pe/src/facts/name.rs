@@ -16,6 +16,11 @@ impl fmt::Display for Name<'_> {
 }
 
 impl<'a> Name<'a> {
+    /// A name that is UTF-8.
+    pub fn of(text: &'a str) -> Self {
+        Name(text.as_bytes())
+    }
+
     /// In lower case, as the names of DLLs are compared. Null where it is not UTF-8.
     pub fn lower(&self) -> Option<String> {
         std::str::from_utf8(self.0).ok().map(str::to_lowercase)

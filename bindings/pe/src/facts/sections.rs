@@ -49,16 +49,16 @@ pub fn of<'a>(image: &'a Image<'_>, has_hashes: bool) -> Vec<Section<'a>> {
 }
 
 /// The long names of an image's sections. Without a string table, or one that is refused, the name of the header is what there is.
-fn long_names_of<'a>(image: &'a Image<'_>) -> impl FnMut(&'a pe_c::Section) -> Option<&'a [u8]> {
+fn long_names_of<'a>(image: &'a Image<'_>) -> impl FnMut(&'a pe_c::Section) -> Option<&'a str> {
     let mut indices = 0..LONG_NAMES;
     move |section| indices.next().and_then(|_| image.long_section_name(section).ok().flatten())
 }
 
 fn names<'a>(
     sections: &'a [pe_c::Section],
-    mut long_name: impl FnMut(&'a pe_c::Section) -> Option<&'a [u8]>,
+    mut long_name: impl FnMut(&'a pe_c::Section) -> Option<&'a str>,
 ) -> Vec<Name<'a>> {
-    sections.iter().map(|it| Name(long_name(it).unwrap_or(it.name()))).collect()
+    sections.iter().map(|it| long_name(it).map_or(Name(it.name()), Name::of)).collect()
 }
 
 /// The names of the sections alone.
@@ -91,7 +91,7 @@ pub fn of_other<'a>(other: &'a Other<'_>, has_hashes: bool) -> Vec<Section<'a>> 
 
 /// The long names of an object's sections, until too many bytes are read for them: many could lead to one long string, or to
 /// one that does not end.
-fn long_names_of_object<'a>(object: &'a Coff<'_>) -> impl FnMut(&'a pe_c::Section) -> Option<&'a [u8]> {
+fn long_names_of_object<'a>(object: &'a Coff<'_>) -> impl FnMut(&'a pe_c::Section) -> Option<&'a str> {
     let mut budget = Budget::without_rvas(object.bytes());
     let length = object.string_table().ok().flatten().map_or(0, <[u8]>::len);
     let mut is_limited = false;
@@ -100,7 +100,7 @@ fn long_names_of_object<'a>(object: &'a Coff<'_>) -> impl FnMut(&'a pe_c::Sectio
             return None;
         }
         let name = object.long_section_name(section).ok().flatten();
-        is_limited = !budget.takes(name.map_or(length, <[u8]>::len));
+        is_limited = !budget.takes(name.map_or(length, str::len));
         name.filter(|_| !is_limited)
     }
 }
@@ -135,14 +135,14 @@ impl<'a> Content<'a> {
 
 /// What a section header becomes, by its long name and by its entropy and hash.
 fn with<'a>(
-    mut long_name: impl FnMut(&'a pe_c::Section) -> Option<&'a [u8]>,
+    mut long_name: impl FnMut(&'a pe_c::Section) -> Option<&'a str>,
     mut content: impl FnMut(&'a pe_c::Section) -> (Option<f64>, Option<String>),
 ) -> impl FnMut(&'a pe_c::Section) -> Section<'a> {
     move |section| {
         let (entropy, sha256_hex) = content(section);
         Section {
             name: Name(section.name()),
-            long_name: long_name(section).map(Name),
+            long_name: long_name(section).map(Name::of),
             rva: section.virtual_address,
             virtual_size: section.virtual_size,
             file_offset: section.pointer_to_raw_data,

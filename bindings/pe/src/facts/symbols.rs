@@ -49,7 +49,7 @@ pub fn of<'a>(
             let length = name.len() + section.map_or(0, |it| it.0.len());
             budget.takes(ENTRY + length).then(|| Symbol {
                 index: symbol.index,
-                name: Name(name),
+                name: Name::of(name),
                 value: symbol.value,
                 section_number: symbol.section_number,
                 section,

@@ -9,6 +9,7 @@ use crate::new_file::Target;
 use crate::stack::{self, Asked, Known, Told};
 use crate::tables::Table;
 use crate::Status;
+use std::io::{self, Write};
 use std::path::Path;
 
 /// The columns of frames in their order here: the place before the address, since a narrow screen shows the first ones.
@@ -21,11 +22,11 @@ pub fn write_to(file: (&Path, &[u8]), known: &Known, asked: Asked, to: &Target) 
     let (path, bytes) = file;
     let told = stack::told(path, bytes, known, asked);
     let status = if told.is_refused() { Status::Refused } else { Status::Done };
-    files::deliver(page_of(&told, bytes.len()).as_bytes(), to, status)
+    files::deliver_written(to, status, &mut |out| write_page(&told, bytes.len(), out))
 }
 
-fn page_of(told: &Told, size: usize) -> String {
-    let mut html = Html::new();
+fn write_page(told: &Told, size: usize, out: &mut dyn Write) -> io::Result<()> {
+    let mut html = Html::to(out);
     let name = Path::new(&told.origin.file).file_name().map(|it| it.to_string_lossy()).unwrap_or_default();
     head(&name, &mut html);
     html.markup("<header><h1>").text(&name).markup("</h1><p>minidump · ").text(grouped(size as u64));
@@ -33,28 +34,41 @@ fn page_of(told: &Told, size: usize) -> String {
     let mut refused = told.refusals();
     refused.extend(told.damaged_tables().map(|(_, it)| ("function table of a module", it)));
     warnings(&refused, &[], &mut html);
-    let mut main = Html::new();
-    list("crash", "Crash", stack::text::summary(told), &mut main);
-    threads(told, &mut main);
-    if let Some(modules) = told.modules.present() {
-        table("modules", "Modules", &stack::text::modules_of(&modules.entries), &mut main);
-    }
-    if let Some(unloaded) = told.unloaded_modules.present() {
-        table("unloaded", "Unloaded modules", &stack::text::unloaded_of(&unloaded.entries), &mut main);
-    }
     filter(&mut html);
-    html.markup("<nav aria-label=Contents><ul class=contents>");
-    for (id, title) in main.parts() {
-        html.markup("<li><a href=\"#").markup(id).markup("\">").markup(title).markup("</a></li>");
-    }
-    html.markup("</ul></nav><main>").append(main);
+    // The list of the parts stands before them, so they are made twice, and only one is in memory.
+    let mut unwritten = Html::unwritten();
+    parts(told, &mut unwritten);
+    contents(&unwritten, &mut html);
+    html.markup("<main>");
+    parts(told, &mut html);
     html.markup("</main><footer>What is said of the dump comes from calls of the library for C (");
     html.text(crate::arguments::ARCHIVE).markup("). Names of codes are the program&#39;s own.");
     end(html)
 }
 
+/// All parts of the page.
+fn parts(told: &Told, html: &mut Html<'_>) {
+    list("crash", "Crash", stack::text::summary(told), html);
+    threads(told, html);
+    if let Some(modules) = told.modules.present() {
+        table("modules", "Modules", &stack::text::modules_of(&modules.entries), html);
+    }
+    if let Some(unloaded) = told.unloaded_modules.present() {
+        table("unloaded", "Unloaded modules", &stack::text::unloaded_of(&unloaded.entries), html);
+    }
+}
+
+/// Links to all parts that are on the page.
+fn contents(main: &Html<'_>, html: &mut Html<'_>) {
+    html.markup("<nav aria-label=Contents><ul class=contents>");
+    for (id, title) in main.parts() {
+        html.markup("<li><a href=\"#").markup(id).markup("\">").markup(title).markup("</a></li>");
+    }
+    html.markup("</ul></nav>");
+}
+
 /// The stacks, each with its frames and how it ended, the crashed one first.
-fn threads(told: &Told, html: &mut Html) {
+fn threads(told: &Told, html: &mut Html<'_>) {
     let threads = told.threads.entries();
     if threads.is_empty() {
         return;
@@ -75,7 +89,7 @@ fn threads(told: &Told, html: &mut Html) {
 }
 
 /// The rows of the frames of a thread, as many as the page still takes.
-fn rows(frames: &Table, thread: usize, left: &mut usize, html: &mut Html) {
+fn rows(frames: &Table, thread: usize, left: &mut usize, html: &mut Html<'_>) {
     let shown = frames.rows.len().min(*left);
     *left -= shown;
     if shown < frames.rows.len() {

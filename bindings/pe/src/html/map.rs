@@ -63,7 +63,7 @@ fn length_of(hundredths: u64) -> String {
     format!("{}.{:02}%", hundredths / 100, hundredths % 100)
 }
 
-pub fn of(regions: &[Region], image: &Image<'_>, html: &mut Html) {
+pub fn of(regions: &[Region], image: &Image<'_>, html: &mut Html<'_>) {
     let length = image.bytes().len() as u64;
     html.markup("<section class=map aria-labelledby=map><h2 id=map>Map of the file</h2>");
     html.markup("<svg class=lanes width=\"100%\" height=168 role=group aria-label=\"Map of the file by offsets\">");
@@ -79,7 +79,7 @@ pub fn of(regions: &[Region], image: &Image<'_>, html: &mut Html) {
 }
 
 /// Draws the regions that cover the file, or those that lie in it; the longest if they are too many.
-fn lane(regions: &[Region], is_cover: bool, length: u64, html: &mut Html) {
+fn lane(regions: &[Region], is_cover: bool, length: u64, html: &mut Html<'_>) {
     let mut drawn: Vec<(usize, &Region)> =
         regions.iter().enumerate().filter(|(_, it)| it.kind.is_cover() == is_cover).collect();
     drawn.sort_by_key(|(_, it)| it.range.start.wrapping_sub(it.range.end));
@@ -120,7 +120,7 @@ fn title_of(region: &Region) -> String {
 }
 
 /// The entropy of equal parts of the file, as an area.
-fn entropy(image: &Image<'_>, html: &mut Html) {
+fn entropy(image: &Image<'_>, html: &mut Html<'_>) {
     let mut counts = ByteCounts::of(image.bytes());
     let length = image.bytes().len() as u64;
     let steps = STEPS.min(length.max(1));
@@ -138,7 +138,7 @@ fn entropy(image: &Image<'_>, html: &mut Html) {
 }
 
 /// File offsets below the lanes.
-fn axis(length: u64, html: &mut Html) {
+fn axis(length: u64, html: &mut Html<'_>) {
     for quarter in 0..=4 {
         let anchor = ["start", "middle", "middle", "middle", "end"][quarter as usize];
         // A narrow page has no room for five numbers.
@@ -148,7 +148,7 @@ fn axis(length: u64, html: &mut Html) {
     }
 }
 
-fn legend(regions: &[Region], html: &mut Html) {
+fn legend(regions: &[Region], html: &mut Html<'_>) {
     html.markup("<ul class=legend>");
     for kind in Kind::ALL {
         if regions.iter().any(|it| it.kind == kind) {

@@ -60,7 +60,7 @@ fn rows_of(facts: &Facts) -> Vec<Row> {
 }
 
 /// Each name, and whether the image asks for it.
-fn hardening_of(facts: &Facts, html: &mut Html) {
+fn hardening_of(facts: &Facts, html: &mut Html<'_>) {
     let Some(hardening) = &facts.hardening else { return };
     html.markup(
         "<h2 id=hardening>Hardening, as the image asks for it; no signature is verified</h2><ul class=hardening>",
@@ -76,7 +76,7 @@ fn hardening_of(facts: &Facts, html: &mut Html) {
     html.markup("</ul>");
 }
 
-pub fn of(facts: &Facts, html: &mut Html) {
+pub fn of(facts: &Facts, html: &mut Html<'_>) {
     let rows = rows_of(facts);
     if rows.is_empty() {
         return;

@@ -39,6 +39,7 @@ fn frame_of(frame: &pe_c::Frame<DumpRegisters>, loaded: &Loaded<'_>, has_registe
         sp_va: frame.registers.sp(),
         module,
         offset,
+        function: None,
         way: way_of(frame.way),
         has_called: frame.has_called,
         is_guess: frame.is_guess,

@@ -5,7 +5,7 @@ use super::told::Module;
 use super::{name_of, Loaded, PDB_RECORD};
 use crate::facts::{List, Refusal, Stamp};
 use pe_c::sys::{DumpModule, DumpVersion, ImageInfo};
-use pe_c::{DirectoryIndex, Dump, Image, ImageSource, SymbolKey};
+use pe_c::{DirectoryIndex, Dump, Image, ImageSource, NameTable, SymbolKey};
 
 /// `VS_FFI_SIGNATURE`: a module has a version.
 const FIXED_VERSION: u32 = 0xFEEF_04BD;
@@ -15,6 +15,10 @@ pub fn of(dump: &Dump<'_>, loaded: &Loaded<'_>, files: &Images<'_>) -> List<Modu
     let told = modules.map(|(index, (module, path))| {
         let source = loaded.images.image(index).map(|it| it.source);
         let is_file = source == Some(ImageSource::Found);
+        let refused = |table: NameTable| {
+            let mut tables = loaded.images.image(index)?.image.refused_name_tables();
+            tables.find(|it| it.0 == table).map(|it| Refusal::from(it.1))
+        };
         Module {
             name: path.as_deref().map(|it| name_of(it).to_string()),
             path: path.clone(),
@@ -27,6 +31,9 @@ pub fn of(dump: &Dump<'_>, loaded: &Loaded<'_>, files: &Images<'_>) -> List<Modu
             symbol_server_path: path.as_deref().and_then(|it| own_path_of(module, it)),
             image: source.map(source_of),
             image_file: files.path_of(module).filter(|_| is_file).map(|it| it.to_string_lossy().into_owned()),
+            symbols_error: refused(NameTable::Symbols),
+            strings_error: refused(NameTable::Strings),
+            exports_error: refused(NameTable::Exports),
             function_table_error: loaded.images.image(index).and_then(|it| damage_of(&it.image)),
         }
     });

@@ -6,7 +6,10 @@ use crate::escape::escaped;
 use crate::facts::{counted, Named};
 use crate::page::{Page, Style};
 use crate::show::time_of;
-use crate::tables::{number, text, Row, Table};
+use crate::tables::{number, text, Column, Row, Table};
+
+/// How many characters of the name of a function are shown.
+const FUNCTION: usize = 120;
 
 pub fn of(told: &Told, style: Style) -> String {
     let mut page = Page::new(style);
@@ -19,6 +22,9 @@ pub fn of(told: &Told, style: Style) -> String {
     }
     for (module, refusal) in told.damaged_tables() {
         page.warning(format_args!("function table of {}: {refusal}; its whole entries serve", name_or(&module.name)));
+    }
+    for (module, part, refusal) in told.damaged_names() {
+        page.warning(format_args!("{part} of {}: {refusal}; they name no frame", name_or(&module.name)));
     }
     told.threads.entries().iter().for_each(|it| thread_of(it, &mut page));
     if let Some(modules) = told.modules.present().filter(|it| !it.entries.is_empty()) {
@@ -120,21 +126,50 @@ pub fn title_of(thread: &Thread) -> String {
     format!("thread {}{name}{crashed}", thread.id)
 }
 
+/// A name of a function, cut where it is long: JSON has it whole.
+fn function_name(name: &str) -> String {
+    match name.char_indices().nth(FUNCTION) {
+        Some((end, _)) => format!("{}..", escaped(&name[..end])),
+        None => escaped(name),
+    }
+}
+
+/// The frames of a thread. What names them has a column where anything does.
 pub fn frames_of(thread: &Thread) -> Table {
+    let is_named = thread.frames.iter().any(|it| it.function.is_some());
     let rows = thread.frames.iter().enumerate().map(|(index, it)| {
-        vec![
-            index.to_string(),
-            format!("{:#018x}", it.ip_va),
-            place_of(&it.module, it.offset, it.ip_va),
-            if it.is_guess { format!("{}, a guess", it.way) } else { it.way.to_string() },
-        ]
+        let function = is_named.then(|| it.function_text(function_name));
+        let place = place_of(&it.module, it.offset, it.ip_va);
+        let way = if it.is_guess { format!("{}, a guess", it.way) } else { it.way.to_string() };
+        [index.to_string(), format!("{:#018x}", it.ip_va), place].into_iter().chain(function).chain([way]).collect()
     });
-    Table::new(&[number("frame"), number("address"), text("place"), text("found by")], rows)
+    let function = is_named.then(|| text("function"));
+    let heads = [number("frame"), number("address"), text("place")].into_iter().chain(function);
+    let heads: Vec<Column> = heads.chain([text("found by")]).collect();
+    Table::new(&heads, rows)
+}
+
+/// The same with frames of a recursion in one line: those after the first that differ in their stack alone.
+fn folded(table: Table) -> Table {
+    let is_same = |one: &[String], other: &[String]| one[1..] == other[1..];
+    let mut rows: Vec<Vec<String>> = Vec::new();
+    for same in table.rows.chunk_by(|one, other| is_same(one, other)) {
+        rows.push(same[0].clone());
+        match same.len() - 1 {
+            more @ 0..=2 => rows.extend(same[1..=more].iter().cloned()),
+            more => {
+                let mut row = vec![String::new(); table.columns.len()];
+                row[2] = format!(".. {more} more like it");
+                rows.push(row);
+            }
+        }
+    }
+    Table { rows, ..table }
 }
 
 fn thread_of(thread: &Thread, page: &mut Page) {
     page.heading(&title_of(thread));
-    page.table(&frames_of(thread));
+    page.table(&folded(frames_of(thread)));
     for (index, frame) in thread.frames.iter().enumerate() {
         let registers = frame.registers.iter().flatten().map(|(name, value)| format!("{name} {value:#x}"));
         let registers: Vec<String> = registers.collect();

@@ -118,6 +118,8 @@ pub struct Frame {
     pub sp_va: u64,
     pub module: Option<String>,
     pub offset: Option<u64>,
+    /// What names it, in the image of the module. Null where nothing does, as without an image.
+    pub function: Option<Function>,
     /// How it was found: `top`, `records`, `leaf`, `interrupt`, `scanned`.
     pub way: &'static str,
     /// Whether its function has called: then `ip_va` is the return address.
@@ -126,6 +128,21 @@ pub struct Frame {
     pub is_guess: bool,
     /// By name; null unless they are asked for.
     pub registers: Option<BTreeMap<String, u64>>,
+}
+
+/// What names a frame: a COFF symbol in its function, or the export that starts it.
+#[derive(Debug, Serialize)]
+pub struct Function {
+    /// As its source has it, of C++ and Rust; else as the image has it. Null where it is not text, or is longer than 4,095 bytes.
+    pub name: Option<String>,
+    /// As the image has it.
+    pub raw_name: Option<String>,
+    /// How far after its start the address is.
+    pub offset: u32,
+    /// `symbol`, `export`.
+    pub source: &'static str,
+    /// Whether it is only the last name before the address, in an image without a function table.
+    pub is_nearest: bool,
 }
 
 #[derive(Debug, Serialize)]
@@ -147,6 +164,10 @@ pub struct Module {
     pub image_file: Option<String>,
     /// Why the function table of its image is refused: walks then take the whole entries that are there.
     pub function_table_error: Option<Refusal>,
+    /// Why its symbols, the strings with their longer names, or its exports are refused: they then name no frame.
+    pub symbols_error: Option<Refusal>,
+    pub strings_error: Option<Refusal>,
+    pub exports_error: Option<Refusal>,
 }
 entry!(Module, "modules");
 
@@ -210,6 +231,15 @@ impl Told {
     /// The modules whose function tables are refused. That refuses nothing of the dump: their whole entries serve.
     pub fn damaged_tables(&self) -> impl Iterator<Item = (&Module, &Refusal)> {
         self.modules.entries().iter().filter_map(|it| Some((it, it.function_table_error.as_ref()?)))
+    }
+
+    /// The modules whose images have tables of names that are refused: what they are, and why.
+    pub fn damaged_names(&self) -> impl Iterator<Item = (&Module, &'static str, &Refusal)> {
+        self.modules.entries().iter().flat_map(|it| {
+            let errors =
+                [("symbols", &it.symbols_error), ("strings", &it.strings_error), ("exports", &it.exports_error)];
+            errors.into_iter().filter_map(move |(part, error)| Some((it, part, error.as_ref()?)))
+        })
     }
 
     /// The stacks that did not end at their bottom, nor where no more was asked for.

@@ -3,17 +3,12 @@ INNER(rich_entries, pe_c_rich_header_info, pe_c_range, it->entries, pe_c_rich_en
 INNER(pogo_entries, pe_c_pogo, pe_c_range, it->entries, pe_c_pogo_entry, pe_c_next_pogo_entry(BYTES, &walk, &item), ROW_OF(pogo_entry))
 INNER(unwind_codes, pe_c_record, pe_c_walk, it->codes, pe_c_code, pe_c_next_code(BYTES, &walk, &item), ROW_OF(code))
 INNER(arm64_scopes, pe_c_arm64_record, pe_c_range, it->scopes, pe_c_arm64_scope, pe_c_next_arm64_scope(BYTES, &walk, &item), ROW_OF(arm64_scope))
-INNER_OF(delayed_functions, pe_c_delay_import, pe_c_delayed_functions, it->functions, pe_c_delayed_function, pe_c_list_delayed_functions_together(VIEW, walk, runs, run_count, items, most, count), ROW_OF(delayed_function))
+INNER_OF(delayed_functions, pe_c_delay_import, pe_c_delayed_functions, it->functions, pe_c_delayed_function, pe_c_list_delayed_functions(VIEW, walk, runs, run_count, items, most, count), ROW_OF(delayed_function))
 INNER(relocations_of, pe_c_relocation_block, pe_c_range, it->entries, pe_c_relocation, pe_c_next_relocation(BYTES, it->page_rva, &walk, &item), ROW_OF(relocation))
 INNER(metadata_streams, pe_c_metadata, pe_c_metadata_streams, it->streams, pe_c_metadata_stream, pe_c_next_metadata_stream(BYTES, &walk, &item), ROW_OF(metadata_stream))
 ONE(all_headers, pe_c_headers_info, pe_c_headers(BYTES, self->info.mode, &item), ROW_OF(headers_info))
 ONE(rich_header, pe_c_rich_header_info, pe_c_rich_header(BYTES, &item), ROW_OF(rich_header_info))
 ONE(symbol_key, pe_c_key, pe_c_symbol_key(VIEW, &item), ROW_OF(key))
-ONE(pdb20, pe_c_pdb20, pe_c_debug_pdb20(VIEW, &item), ROW_OF(pdb20))
-ONE(vc_features, pe_c_vc_features, pe_c_debug_vc_features(VIEW, &item), ROW_OF(vc_features))
-ONE(extended_dll_characteristics, uint32_t, pe_c_debug_characteristics(VIEW, &item), N(item))
-ONE(repro, pe_c_repro, pe_c_debug_repro(VIEW, &item), ROW_OF(repro))
-ONE(pogo, pe_c_pogo, pe_c_debug_pogo(VIEW, &item), ROW_OF(pogo))
 ONE(overlay, pe_c_range, pe_c_overlay(VIEW, &item), view_of(self, item))
 ONE(tls, pe_c_tls_directory, pe_c_tls(VIEW, &item), ROW_OF(tls_directory))
 ONE(load_config, pe_c_load_config_directory, pe_c_load_config(VIEW, &item), ROW_OF(load_config_directory))
@@ -25,8 +20,15 @@ ONE(fixed_version, pe_c_version, pe_c_fixed_version(VIEW, &item), ROW_OF(version
 ONE(version_content, pe_c_range, pe_c_version_blocks(VIEW, &item), view_of(self, item))
 ONE(manifest, pe_c_range, pe_c_manifest(VIEW, &item), view_of(self, item))
 ONE(dump, pe_c_dump_info, pe_c_dump(BYTES, &item), ROW_OF(dump_info))
-LIST_OF(imports, pe_c_libraries, pe_c_import_libraries(VIEW, &walk), pe_c_library, pe_c_list_libraries_together(VIEW, walk, runs, run_count, items, most, count), ROW_OF(library))
-LIST_OF(delay_imports, pe_c_range, pe_c_delay_imports(VIEW, &walk), pe_c_delay_import, pe_c_list_delay_imports_together(VIEW, walk, runs, run_count, items, most, count), ROW_OF(delay_import))
+FIRST(pdb20, pe_c_pdb20, 2, pe_c_pdb20_of, ROW_OF(pdb20))
+FIRST(vc_features, pe_c_vc_features, 12, pe_c_vc_features_of, ROW_OF(vc_features))
+FIRST(pogo, pe_c_pogo, 13, pe_c_pogo_of, ROW_OF(pogo))
+FIRST(repro, pe_c_repro, 16, pe_c_repro_of, ROW_OF(repro))
+FIRST(extended_dll_characteristics, uint32_t, 20, pe_c_characteristics_of, N(item))
+FIRST(embedded_pdb, pe_c_embedded_pdb, 17, pe_c_embedded_pdb_of, ROW_OF(embedded_pdb))
+FIRST(pdb_checksum, pe_c_pdb_checksum, 19, pe_c_pdb_checksum_of, ROW_OF(pdb_checksum))
+LIST_OF(imports, pe_c_libraries, pe_c_import_libraries(VIEW, &walk), pe_c_library, pe_c_list_libraries(VIEW, walk, runs, run_count, items, most, count), ROW_OF(library))
+LIST_OF(delay_imports, pe_c_range, pe_c_delay_imports(VIEW, &walk), pe_c_delay_import, pe_c_list_delay_imports(VIEW, walk, runs, run_count, items, most, count), ROW_OF(delay_import))
 LIST(debug_entries, pe_c_range, pe_c_debug_entries(VIEW, &walk), pe_c_debug_entry, pe_c_next_debug_entry(BYTES, &walk, &item), ROW_OF(debug_entry))
 LIST_OF(resources, pe_c_resource_walk, pe_c_resource_leaves(VIEW, &walk), pe_c_resource_leaf, pe_c_list_resource_leaves(VIEW, walk, items, most, count), ROW_OF(resource_leaf))
 LIST(te_debug_entries, pe_c_range, pe_c_te_debug_entries(BYTES, &self->te, &walk), pe_c_debug_entry, pe_c_next_te_debug_entry(BYTES, &self->te, &walk, &item), ROW_OF(debug_entry))
@@ -79,11 +81,6 @@ CONTEXT(dump_context_arm64, pe_c_arm64_context, pe_c_dump_context_arm64(BYTES, &
     {"all_headers", (PyCFunction)all_headers, METH_NOARGS, NULL}, \
     {"rich_header", (PyCFunction)rich_header, METH_NOARGS, NULL}, \
     {"symbol_key", (PyCFunction)symbol_key, METH_NOARGS, NULL}, \
-    {"pdb20", (PyCFunction)pdb20, METH_NOARGS, NULL}, \
-    {"vc_features", (PyCFunction)vc_features, METH_NOARGS, NULL}, \
-    {"extended_dll_characteristics", (PyCFunction)extended_dll_characteristics, METH_NOARGS, NULL}, \
-    {"repro", (PyCFunction)repro, METH_NOARGS, NULL}, \
-    {"pogo", (PyCFunction)pogo, METH_NOARGS, NULL}, \
     {"overlay", (PyCFunction)overlay, METH_NOARGS, NULL}, \
     {"tls", (PyCFunction)tls, METH_NOARGS, NULL}, \
     {"load_config", (PyCFunction)load_config, METH_NOARGS, NULL}, \
@@ -95,6 +92,13 @@ CONTEXT(dump_context_arm64, pe_c_arm64_context, pe_c_dump_context_arm64(BYTES, &
     {"version_content", (PyCFunction)version_content, METH_NOARGS, NULL}, \
     {"manifest", (PyCFunction)manifest, METH_NOARGS, NULL}, \
     {"dump", (PyCFunction)dump, METH_NOARGS, NULL}, \
+    {"pdb20", (PyCFunction)pdb20, METH_NOARGS, NULL}, \
+    {"vc_features", (PyCFunction)vc_features, METH_NOARGS, NULL}, \
+    {"pogo", (PyCFunction)pogo, METH_NOARGS, NULL}, \
+    {"repro", (PyCFunction)repro, METH_NOARGS, NULL}, \
+    {"extended_dll_characteristics", (PyCFunction)extended_dll_characteristics, METH_NOARGS, NULL}, \
+    {"embedded_pdb", (PyCFunction)embedded_pdb, METH_NOARGS, NULL}, \
+    {"pdb_checksum", (PyCFunction)pdb_checksum, METH_NOARGS, NULL}, \
     {"imports", (PyCFunction)imports, METH_NOARGS, NULL}, \
     {"delay_imports", (PyCFunction)delay_imports, METH_NOARGS, NULL}, \
     {"debug_entries", (PyCFunction)debug_entries, METH_NOARGS, NULL}, \

@@ -440,7 +440,7 @@ static uint32_t next_of_table(Image *self, pe_c_import_walk *walk, pe_c_import *
     return entry ? pe_c_next_import(VIEW, walk, item) : PE_C_NOTHING;
 }
 
-LISTED(list_imports, pe_c_list_imports_together(VIEW, walk, runs, run_count, items, most, count))
+LISTED(list_imports, pe_c_list_imports(VIEW, walk, runs, run_count, items, most, count))
 
 /* The imports of a library: those that its address table names where its lookup table is unmapped. */
 static PyObject *imports_of(Image *self, Rows *outer, const pe_c_library *it)
@@ -557,6 +557,16 @@ static int is_open(Image *self)
         return answer(rows.result == PE_C_DONE ? row : NULL, &rows); \
     }
 
+/* The record of the first debug entry of a type. */
+#define FIRST(name, Item, type, call, row) \
+    static uint32_t first_##name(Image *self, Item *out) \
+    { \
+        pe_c_debug_entry entry = PE_C_EMPTY; \
+        uint32_t result = pe_c_first_debug_entry(VIEW, type, &entry); \
+        return result == PE_C_DONE ? call(BYTES, self->info.mode, &entry, out) : result; \
+    } \
+    ONE(name, Item, first_##name(self, &item), row)
+
 /* A list: `start` starts its walk, and `call` goes on. */
 #define LIST_BY(opened, name, Walk, start, Item, call, row) \
     METHOD(name) \
@@ -600,19 +610,6 @@ static uint32_t certificate_table(Image *self, pe_c_range *out)
 
 LIST(certificates, pe_c_range, certificate_table(self, &walk), pe_c_certificate,
      pe_c_next_certificate(BYTES, &walk, &item), ROW_OF(certificate))
-
-/* The record of the first debug entry of a type that no call reads by the image. */
-#define OF_ENTRY(name, Item, type, call) \
-    static uint32_t name(Image *self, Item *out) \
-    { \
-        pe_c_debug_entry entry = PE_C_EMPTY; \
-        uint32_t result = pe_c_first_debug_entry(VIEW, type, &entry); \
-        return result == PE_C_DONE ? call(BYTES, self->info.mode, &entry, out) : result; \
-    }
-OF_ENTRY(first_embedded_pdb, pe_c_embedded_pdb, 17, pe_c_embedded_pdb_of)
-OF_ENTRY(first_pdb_checksum, pe_c_pdb_checksum, 19, pe_c_pdb_checksum_of)
-ONE(embedded_pdb, pe_c_embedded_pdb, first_embedded_pdb(self, &item), ROW_OF(embedded_pdb))
-ONE(pdb_checksum, pe_c_pdb_checksum, first_pdb_checksum(self, &item), ROW_OF(pdb_checksum))
 
 /* ---- COFF objects and TE images */
 
@@ -738,7 +735,7 @@ static void add_one_by_one(Rows *rows, const pe_c_exports *part, const pe_c_addr
     }
 }
 
-LISTED(list_exports, pe_c_list_exports_together(VIEW, walk, runs, run_count, items, most, count))
+LISTED(list_exports, pe_c_list_exports(VIEW, walk, runs, run_count, items, most, count))
 
 /* The exports with a name, in the order of the names. */
 static void add_named(Rows *rows, const pe_c_exports *all, const pe_c_address_table *table, uint8_t *is_named)
@@ -1280,9 +1277,9 @@ static PyObject *write_version(PyObject *Py_UNUSED(module), PyObject *arguments)
     memcpy(&numbers, PyBytes_AsString(fixed), length < sizeof numbers ? length : sizeof numbers);
 #define VERSION &numbers, RECORDS(tables, pe_c_version_table), RECORDS(strings, pe_c_version_string), \
                 RECORDS(translations, pe_c_version_language), RECORDS(texts, uint8_t)
-    uint32_t result = pe_c_version_length(VERSION, &size);
-    PyObject *version = result == PE_C_DONE ? PyBytes_FromStringAndSize(NULL, (Py_ssize_t)size) : Py_NewRef(Py_None);
-    if (version && result == PE_C_DONE)
+    uint32_t result = pe_c_write_version(VERSION, NULL, 0, &size);
+    PyObject *version = result == PE_C_ROOM ? PyBytes_FromStringAndSize(NULL, (Py_ssize_t)size) : Py_NewRef(Py_None);
+    if (version && result == PE_C_ROOM)
         result = pe_c_write_version(VERSION, (uint8_t *)PyBytes_AsString(version), (size_t)size, &size);
     return version ? Py_BuildValue("(Nk)", version, (unsigned long)result) : NULL;
 }
@@ -1402,14 +1399,11 @@ static uint32_t sections_of(Image *self, size_t most)
     return result;
 }
 
-/* Reads the headers, without the GIL: no one else has the image yet. Returns the library's result, or PE_C_MEMORY with an
- * exception. */
+/* Reads the headers, and many sections without the GIL: no one else has the image yet. What takes microseconds keeps it, since threads
+ * that open small files would wait for it longer than the call takes. Returns the library's result, or PE_C_MEMORY with an exception. */
 static uint32_t reads(Image *self, unsigned int mode)
 {
-    uint32_t result;
-    Py_BEGIN_ALLOW_THREADS
-    result = headers_of(self, mode);
-    Py_END_ALLOW_THREADS
+    uint32_t result = headers_of(self, mode);
     if (result != PE_C_DONE)
         return result;
     size_t count = self->info.number_of_sections, most = self->kind == KIND_IMAGE && count >= MANY_SECTIONS ? 4 * count : 0;
@@ -1419,6 +1413,8 @@ static uint32_t reads(Image *self, unsigned int mode)
         PyErr_NoMemory();
         return PE_C_MEMORY;
     }
+    if (count < MANY_SECTIONS)
+        return sections_of(self, most);
     Py_BEGIN_ALLOW_THREADS
     result = sections_of(self, most);
     Py_END_ALLOW_THREADS
@@ -1471,7 +1467,7 @@ static PyObject *text_of(PyObject *Py_UNUSED(module), PyObject *argument)
 static PyMethodDef methods[] = {
     MADE_METHODS
     {"sections", (PyCFunction)section_headers, METH_NOARGS, NULL}, {"close", (PyCFunction)close_image, METH_NOARGS, NULL},
-    WITHOUT(headers), WITHOUT(clr_metadata), WITHOUT(embedded_pdb), WITHOUT(pdb_checksum), WITHOUT(bound_imports),
+    WITHOUT(headers), WITHOUT(clr_metadata), WITHOUT(bound_imports),
     WITHOUT(relocations), WITHOUT(certificates), WITHOUT(exports), WITHOUT(functions), WITHOUT(arm64_functions),
     WITHOUT(function_table),
     WITHOUT(coff_header), WITHOUT(coff_strings), WITHOUT(symbols), WITHOUT(te_header), WITHOUT(te_symbol_key),

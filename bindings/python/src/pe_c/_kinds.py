@@ -323,8 +323,8 @@ class Way(enum.IntEnum):
     """an interrupt stopped it: the records before it show what the processor pushed, on ARM64 what the
     operating system saved"""
     SCANNED = 4
-    """by a scan of the stack, where no records led on: at the first call of the code without records, on x64,
-    else at the first call. It may be wrong, and those after it"""
+    """by a scan of the stack, where no records led on: at the call that leads nearest into the code without
+    records, on x64, else at the first call. It may be wrong, and those after it"""
 
 
 class End(enum.IntEnum):

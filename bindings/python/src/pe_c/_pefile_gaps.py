@@ -7,7 +7,6 @@ from __future__ import annotations
 EXPORT = "the module has no offsets of the parts of an export"
 LENGTHS = "the library for C returns version blocks without their lengths and offsets"
 CONFIG = "pefile joins the names of two fields of PE32; each has its own here"
-RESERVED = "the library for C does not return what is reserved"
 DYNAMIC = "the library for C does not read dynamic relocations"
 WRITER = "the module writes certificates and resources alone: Image.attach, Image.detach, ResourceEditor"
 DUMP = "pe_c.Image.to_dict() has all values"
@@ -33,11 +32,8 @@ GAPS: dict[str, str] = {
     **_all(BOUND, "bound struct_iat struct_table", "ImportData."),
     **_all(BOUND, "ForwarderString Function Ordinal AddressOfData", "IMAGE_THUNK_DATA."),
     **_all(NAMES, "hint_name_table_rva ordinal_offset", "ImportData."),
-    **_all(NAMES, "OffsetModuleName NumberOfModuleForwarderRefs", "IMAGE_BOUND_IMPORT_DESCRIPTOR."),
-    **_all(NAMES, "OffsetModuleName Reserved", "IMAGE_BOUND_FORWARDER_REF."),
     **_all(INSIDE, "Data", "IMAGE_BASE_RELOCATION_ENTRY."),
     **_all(INSIDE, "struct", "RelocationData."),
-    **_all(RESERVED, "Reserved2 Reserved3", "IMAGE_LOAD_CONFIG_DIRECTORY."),
     **_all(CONFIG, "GuardRFVerifyStackPointerFunctionPointerI", "IMAGE_LOAD_CONFIG_DIRECTORY."),
     **_all(DYNAMIC, "dynamic_relocations", "LoadConfigData."),
     **_all(DYNAMIC, "has_dynamic_relocs parse_dynamic_relocations", "PE."),
@@ -56,7 +52,6 @@ GAPS: dict[str, str] = {
                    "PrologEpilogOpSaveXMMFar PrologEpilogOpPushFrame PrologEpilogOpEpilogMarker PrologEpilogOpsFactory"),
     **_all(MISC, "DataType Length Unicode Reserved1 Reserved2 Data", "IMAGE_DEBUG_MISC."),
     **_all(WRITER, "AddressSet set_flags set_format set_bitfields_format"),
-    **_all(DUMP, "print_info dump_info dump_dict", "PE."),
     **_all(DUMP, "dump dump_dict", "StructureWithBitfields."),
     **_all(DUMP, "Dump main"),
     **_all(PARTS, "parse_sections parse_exceptions_directory parse_directory_bound_imports parse_directory_tls "

@@ -1,8 +1,12 @@
 /* The methods that write a file, or an image as loaded. _core.c, whose macros they take, includes them. */
 
-/* A file of so many bytes that a call writes without the GIL, or none after an error. */
+/* A file that a call writes without the GIL, after one without room that says how long it is; or none after an error. */
 #define WRITTEN(call, ...) \
-    PyObject *file = rows.result == PE_C_DONE ? PyBytes_FromStringAndSize(NULL, (Py_ssize_t)size) : NULL; \
+    PyObject *file = NULL; \
+    uint64_t size = 0; \
+    rows.result = call(__VA_ARGS__, NULL, 0, &size); \
+    if (rows.result == PE_C_ROOM || rows.result == PE_C_DONE) \
+        file = PyBytes_FromStringAndSize(NULL, (Py_ssize_t)size); \
     if (file) { \
         uint8_t *room = (uint8_t *)PyBytes_AsString(file); \
         Py_BEGIN_ALLOW_THREADS \
@@ -18,20 +22,16 @@ static PyObject *attach(Image *self, PyObject *arguments)
     const char *certificate;
     Py_ssize_t length;
     unsigned int placement;
-    uint64_t size = 0;
     if (!PyArg_ParseTuple(arguments, "y#I", &certificate, &length, &placement))
         return NULL;
     OPEN
     const uint8_t *bytes = (const uint8_t *)certificate;
-    rows.result = pe_c_attached_length(VIEW, bytes, (size_t)length, placement, &size);
     WRITTEN(pe_c_attach, VIEW, bytes, (size_t)length, placement)
 }
 
 METHOD(detach)
 {
-    uint64_t size = 0;
     OPEN
-    rows.result = pe_c_detached_length(VIEW, &size);
     WRITTEN(pe_c_detach, VIEW)
 }
 
@@ -39,7 +39,6 @@ METHOD(detach)
 static PyObject *edited(Image *self, PyObject *arguments)
 {
     PyObject *records, *data;
-    uint64_t size = 0;
     if (!PyArg_ParseTuple(arguments, "SS", &records, &data))
         return NULL;
     OPEN
@@ -47,9 +46,7 @@ static PyObject *edited(Image *self, PyObject *arguments)
     const pe_c_resource *all = (const pe_c_resource *)PyBytes_AsString(records);
     const uint8_t *bytes = (const uint8_t *)PyBytes_AsString(data);
     size_t count = (size_t)PyBytes_Size(records) / sizeof *all, length = (size_t)PyBytes_Size(data);
-#define EDIT VIEW, all, count, bytes, length
-    rows.result = pe_c_edited_length(EDIT, &size);
-    WRITTEN(pe_c_edit, EDIT)
+    WRITTEN(pe_c_edit, VIEW, all, count, bytes, length)
 }
 
 static uint32_t map_by(const pe_c_view *view, uint64_t difference, uint8_t *room, size_t length, uint64_t *size)
@@ -62,7 +59,7 @@ static uint32_t map_by(const pe_c_view *view, uint64_t difference, uint8_t *room
  * image has no base relocations. */
 static PyObject *mapped(Image *self, PyObject *argument)
 {
-    uint64_t difference = PyLong_AsUnsignedLongLongMask(argument), size = self->info.size_of_image;
+    uint64_t difference = PyLong_AsUnsignedLongLongMask(argument);
     if (PyErr_Occurred())
         return NULL;
     OPEN

@@ -4,7 +4,7 @@ Names and values are those of pefile 2023.2.7, so names of DLLs and functions ar
 its attribute is asked for first, so fast_load makes no difference, and an image without one has no such attribute, as
 in pefile. A name that is not here is in the table of _pefile_gaps.py with why, and asking for it raises NotInPeC, an
 AttributeError: there are no values that stand for what was not read. An image is changed by `set_..` and by what is
-assigned to fields of headers and of resource directories, and `write` returns it; what was read before stays as it is.
+assigned to fields of headers and directories, and `write` returns it; what was read before stays as it is.
 
 PE(..) raises PEFormatError where the headers are refused. After that methods raise PEFormatError alone, and no
 attribute raises but AttributeError. """
@@ -128,7 +128,28 @@ def _optional(address: str, base_of_data: str) -> list[tuple[str, list[str]]]:
         ("I", "LoaderFlags NumberOfRvaAndSizes"))
 
 
-# The fields of structures as they stand in the file, of those whose place is known.
+def _load_config(address: str, process: tuple[tuple[str, str], ...]) -> list[tuple[str, list[str]]]:
+    return _layout(
+        ("I", "Size TimeDateStamp"), ("H", "MajorVersion MinorVersion"),
+        ("I", "GlobalFlagsClear GlobalFlagsSet CriticalSectionDefaultTimeout"),
+        (address, "DeCommitFreeBlockThreshold DeCommitTotalFreeThreshold LockPrefixTable MaximumAllocationSize "
+         "VirtualMemoryThreshold"), *process, ("H", "CSDVersion Reserved1"),
+        (address, "EditList SecurityCookie SEHandlerTable SEHandlerCount GuardCFCheckFunctionPointer "
+         "GuardCFDispatchFunctionPointer GuardCFFunctionTable GuardCFFunctionCount"), ("I", "GuardFlags"),
+        ("H", "CodeIntegrityFlags CodeIntegrityCatalog"), ("I", "CodeIntegrityCatalogOffset CodeIntegrityReserved"),
+        (address, "GuardAddressTakenIatEntryTable GuardAddressTakenIatEntryCount GuardLongJumpTargetTable "
+         "GuardLongJumpTargetCount DynamicValueRelocTable CHPEMetadataPointer GuardRFFailureRoutine "
+         "GuardRFFailureRoutineFunctionPointer"), ("I", "DynamicValueRelocTableOffset"),
+        ("H", "DynamicValueRelocTableSection Reserved2"), (address, "GuardRFVerifyStackPointerFunctionPointer"),
+        ("I", "HotPatchTableOffset Reserved3"), (address, "EnclaveConfigurationPointer"))
+
+
+def _tls(address: str) -> list[tuple[str, list[str]]]:
+    return _layout((address, "StartAddressOfRawData EndAddressOfRawData AddressOfIndex AddressOfCallBacks"),
+                   ("I", "SizeOfZeroFill Characteristics"))
+
+
+# The fields of structures as they stand in the file. Of those that are different in PE32+ that form has 64 at its end.
 _LAYOUTS = {
     "IMAGE_DOS_HEADER": _layout(
         ("H", "e_magic e_cblp e_cp e_crlc e_cparhdr e_minalloc e_maxalloc e_ss e_sp e_csum e_ip e_cs e_lfarlc e_ovno"),
@@ -139,6 +160,32 @@ _LAYOUTS = {
         ("H", "SizeOfOptionalHeader Characteristics")),
     "IMAGE_OPTIONAL_HEADER": _optional("I", "BaseOfData"), "IMAGE_OPTIONAL_HEADER64": _optional("Q", ""),
     "IMAGE_DATA_DIRECTORY": _layout(("I", "VirtualAddress Size")),
+    "IMAGE_IMPORT_DESCRIPTOR": _layout(
+        ("I", "OriginalFirstThunk,Characteristics TimeDateStamp ForwarderChain Name FirstThunk")),
+    "IMAGE_DELAY_IMPORT_DESCRIPTOR": _layout(("I", "grAttrs szName phmod pIAT pINT pBoundIAT pUnloadIAT dwTimeStamp")),
+    "IMAGE_BOUND_IMPORT_DESCRIPTOR": _layout(("I", "TimeDateStamp"), ("H", "OffsetModuleName NumberOfModuleForwarderRefs")),
+    "IMAGE_BOUND_FORWARDER_REF": _layout(("I", "TimeDateStamp"), ("H", "OffsetModuleName Reserved")),
+    "IMAGE_EXPORT_DIRECTORY": _layout(
+        ("I", "Characteristics TimeDateStamp"), ("H", "MajorVersion MinorVersion"),
+        ("I", "Name Base NumberOfFunctions NumberOfNames AddressOfFunctions AddressOfNames AddressOfNameOrdinals")),
+    "IMAGE_DEBUG_DIRECTORY": _layout(
+        ("I", "Characteristics TimeDateStamp"), ("H", "MajorVersion MinorVersion"),
+        ("I", "Type SizeOfData AddressOfRawData PointerToRawData")),
+    "IMAGE_BASE_RELOCATION": _layout(("I", "VirtualAddress SizeOfBlock")),
+    "RUNTIME_FUNCTION": _layout(("I", "BeginAddress EndAddress UnwindData")),
+    "IMAGE_TLS_DIRECTORY": _tls("I"), "IMAGE_TLS_DIRECTORY64": _tls("Q"),
+    "IMAGE_LOAD_CONFIG_DIRECTORY": _load_config("I", (("I", "ProcessHeapFlags ProcessAffinityMask"),)),
+    "IMAGE_LOAD_CONFIG_DIRECTORY64": _load_config("Q", (("Q", "ProcessAffinityMask"), ("I", "ProcessHeapFlags"))),
+    "CV_INFO_PDB20": _layout(("I", "CvHeaderSignature CvHeaderOffset Signature Age"), ("s", "PdbFileName")),
+    "CV_INFO_PDB70": _layout(
+        ("4s", "CvSignature"), ("I", "Signature_Data1"), ("H", "Signature_Data2 Signature_Data3"),
+        ("B", "Signature_Data4 Signature_Data5"), ("6s", "Signature_Data6"), ("I", "Age"), ("s", "PdbFileName")),
+    "VS_VERSIONINFO": _layout(("H", "Length ValueLength Type")), "StringFileInfo": _layout(("H", "Length ValueLength Type")),
+    "VarFileInfo": _layout(("H", "Length ValueLength Type")), "StringTable": _layout(("H", "Length ValueLength Type")),
+    "Var": _layout(("H", "Length ValueLength Type")),
+    "VS_FIXEDFILEINFO": _layout(
+        ("I", "Signature StrucVersion FileVersionMS FileVersionLS ProductVersionMS ProductVersionLS FileFlagsMask FileFlags "
+         "FileOS FileType FileSubtype FileDateMS FileDateLS")),
     "IMAGE_RESOURCE_DIRECTORY": _layout(
         ("I", "Characteristics TimeDateStamp"), ("H", "MajorVersion MinorVersion NumberOfNamedEntries NumberOfIdEntries")),
     "IMAGE_RESOURCE_DIRECTORY_ENTRY": _layout(("I", "Name OffsetToData")),
@@ -159,8 +206,10 @@ def _time(stamp: int) -> str:
 
 def _dumped(name: str, value: Any) -> str:
     """The value of a field as `dump` shows it."""
+    if name.startswith("Signature_Data"):
+        return f"{value:<8X}" if isinstance(value, int) else str(value.hex().upper())
     if isinstance(value, int):
-        return f"0x{value:<8X}{_time(value) if name == 'TimeDateStamp' else ''}"
+        return f"0x{value:<8X}{_time(value) if name in ('TimeDateStamp', 'dwTimeStamp') else ''}"
     return "".join(chr(it) if 0x20 < it < 0x7F else f"\\x{it:02x}" for it in value.rstrip(b"\0"))
 
 
@@ -174,7 +223,9 @@ class Structure:
     entry: dict[bytes | None, str]
 
     def __init__(self, structure: str, offset: int | None = None, /, **fields: Any) -> None:
-        self.__dict__.update(fields, name=structure, _structure=structure, _offset=offset, _fields=tuple(fields), _changed=set())
+        sizes = {name: len(value) for name, value in fields.items() if isinstance(value, bytes)}
+        self.__dict__.update(fields, name=structure, _structure=structure, _offset=offset, _fields=tuple(fields), _changed=set(),
+                             _sizes=sizes)
 
     def __setattr__(self, name: str, value: Any) -> None:
         if name in self.__dict__.get("_fields", ()):
@@ -182,7 +233,7 @@ class Structure:
         self.__dict__[name] = value
 
     def __getattr__(self, name: str) -> Any:
-        structure = self.__dict__.get("_structure", "").replace("HEADER64", "HEADER")
+        structure = self.__dict__.get("_structure", "").removesuffix("64")
         field, table, start = _FLAGS.get(structure, ("", {}, "-"))
         if name.startswith(start) and name in table:
             return bool(getattr(self, field) & table[name])
@@ -204,8 +255,10 @@ class Structure:
 
     def _layout(self, what: str) -> list[tuple[str, list[str]]]:
         if self._structure not in _LAYOUTS:
-            raise NotInPeC(f"{self.name}.{what}", "it is known of headers alone")
-        return _LAYOUTS[self._structure]
+            raise NotInPeC(f"{self.name}.{what}", "the layout of this structure is not known here")
+        # A load configuration may be shorter, and the name of a PDB has the length that the file says.
+        there = [it for it in _LAYOUTS[self._structure] if it[1][0] in self.__dict__]
+        return [(f"{self._sizes[names[0]]}s" if code == "s" else code, names) for code, names in there]
 
     def sizeof(self) -> int:
         """The bytes of the structure in the file."""
@@ -245,7 +298,7 @@ class Structure:
         for name, offset in self._offsets("dump_dict").items():
             value = getattr(self, name)
             if isinstance(value, int):
-                value = f"0x{value:<8X}{_time(value)}" if name == "TimeDateStamp" else value
+                value = _dumped(name, value) if name in ("TimeDateStamp", "dwTimeStamp") else value
             else:
                 value = "".join(chr(it) if chr(it) in string.printable else f"\\x{it:02x}" for it in value)
             found[name] = {"FileOffset": start + offset, "Offset": offset, "Value": value}
@@ -483,6 +536,17 @@ def _fields(names: dict[str, str], row: Any) -> dict[str, Any]:
 # ---- directories
 
 
+def _start(pe: PE, name: str) -> int | None:
+    """The file offset of a directory, or None where it is not mapped."""
+    directories, index = pe.OPTIONAL_HEADER.DATA_DIRECTORY, DIRECTORY_ENTRY[name]
+    return pe._image.offset_of(directories[index].VirtualAddress) if index < len(directories) else None
+
+
+def _each(start: int | None, i: int, size: int) -> int | None:
+    """The file offset of an entry of a table."""
+    return None if start is None else start + i * size
+
+
 def _imports(pe: PE, rows: typing.Iterable[Any], rva_of: Any) -> typing.Iterator[ImportData]:
     """The imports of a DLL. Those of ordinal 0 are not imports to pefile."""
     base = pe.OPTIONAL_HEADER.ImageBase
@@ -506,11 +570,11 @@ def _with_names(dll: bytes, imports: list[ImportData]) -> list[ImportData]:
 
 def _read_imports(pe: PE) -> list[ImportDescData]:
     width = 8 if pe._image.is_64 else 4
-    found = []
-    for row in pe._image.imports:
+    found, start = [], _start(pe, "IMAGE_DIRECTORY_ENTRY_IMPORT")
+    for number, row in enumerate(pe._image.imports):
         slots = row.address_table_rva
         table = slots if row.has_unmapped_list else row.lookup_table_rva or slots
-        descriptor = Structure("IMAGE_IMPORT_DESCRIPTOR", None, OriginalFirstThunk=row.lookup_table_rva,
+        descriptor = Structure("IMAGE_IMPORT_DESCRIPTOR", _each(start, number, 20), OriginalFirstThunk=row.lookup_table_rva,
                                Characteristics=row.lookup_table_rva, TimeDateStamp=row.time_date_stamp,
                                ForwarderChain=row.forwarder_chain, Name=row.name_rva, FirstThunk=row.address_table_rva)
         dll = _bytes(row.name) or b""
@@ -522,12 +586,12 @@ def _read_imports(pe: PE) -> list[ImportDescData]:
 
 def _read_delay_imports(pe: PE) -> list[ImportDescData]:
     width = 8 if pe._image.is_64 else 4
-    found = []
-    for row in pe._image.delay_imports:
+    found, start = [], _start(pe, "IMAGE_DIRECTORY_ENTRY_DELAY_IMPORT")
+    for number, row in enumerate(pe._image.delay_imports):
         it = row.descriptor
         base = 0 if it.attributes & 1 else pe.OPTIONAL_HEADER.ImageBase
         table, slots = it.import_name_table - base, it.import_address_table - base
-        descriptor = Structure("IMAGE_DELAY_IMPORT_DESCRIPTOR", None, grAttrs=it.attributes, szName=it.name,
+        descriptor = Structure("IMAGE_DELAY_IMPORT_DESCRIPTOR", _each(start, number, 32), grAttrs=it.attributes, szName=it.name,
                                phmod=it.module_handle, pIAT=it.import_address_table, pINT=it.import_name_table,
                                pBoundIAT=it.bound_import_address_table, pUnloadIAT=it.unload_information_table,
                                dwTimeStamp=it.time_date_stamp)
@@ -570,7 +634,7 @@ def _read_exports(pe: PE) -> ExportDirData | None:
     symbols = [ExportData(pe=pe, ordinal=it.ordinal, address=it.rva, name=_bytes(name), forwarder=_bytes(it.forwarder))
                for name, it in _counted_exports(pe)]
     it = pe._value("export_directory")
-    directory = Structure("IMAGE_EXPORT_DIRECTORY", None, Characteristics=it.characteristics, TimeDateStamp=it.time_date_stamp,
+    directory = Structure("IMAGE_EXPORT_DIRECTORY", _start(pe, "IMAGE_DIRECTORY_ENTRY_EXPORT"), Characteristics=it.characteristics, TimeDateStamp=it.time_date_stamp,
                           MajorVersion=it.major_version, MinorVersion=it.minor_version, Name=it.name, Base=it.base,
                           NumberOfFunctions=it.number_of_functions, NumberOfNames=it.number_of_names,
                           AddressOfFunctions=it.address_of_functions, AddressOfNames=it.address_of_names,
@@ -578,9 +642,9 @@ def _read_exports(pe: PE) -> ExportDirData | None:
     return ExportDirData(struct=directory, symbols=symbols, name=_bytes(table.name))
 
 
-def _pdb70(key: _rows.SymbolKey) -> Structure:
+def _pdb70(key: _rows.SymbolKey, offset: int) -> Structure:
     one, two, three, four, five = struct.unpack_from("<IHHBB", key.guid)
-    return Structure("CV_INFO_PDB70", None, CvSignature=b"RSDS", Signature_Data1=one, Signature_Data2=two, Signature_Data3=three,
+    return Structure("CV_INFO_PDB70", offset, CvSignature=b"RSDS", Signature_Data1=one, Signature_Data2=two, Signature_Data3=three,
                      Signature_Data4=four, Signature_Data5=five, Signature_Data6=key.guid[10:],
                      Signature_Data6_value=int.from_bytes(key.guid[10:], "big"), Age=key.age, PdbFileName=key.raw_name,
                      Signature_String=f"{one:08X}{two:04X}{three:04X}{key.guid[8:].hex().upper()}{key.age:X}")
@@ -592,18 +656,20 @@ def _read_record(pe: PE, row: _rows.DebugEntry) -> Structure | None:
         return None
     key, number, _ = pe._image._read("codeview", row.pointer_to_raw_data, row.size_of_data)
     if key is not None:
-        return _pdb70(key)
+        return _pdb70(key, row.pointer_to_raw_data)
     old = pe._value("pdb20") if number == 0 else None
-    return None if old is None else Structure("CV_INFO_PDB20", None, CvHeaderSignature=0x3031424E, CvHeaderOffset=old.offset,
-                                              Signature=old.signature, Age=old.age, PdbFileName=_bytes(old.name + "\0"))
+    return None if old is None else Structure(
+        "CV_INFO_PDB20", row.pointer_to_raw_data, CvHeaderSignature=0x3031424E, CvHeaderOffset=old.offset,
+        Signature=old.signature, Age=old.age, PdbFileName=_bytes(old.name + "\0"))
 
 
 def _read_debug(pe: PE) -> list[DebugData]:
-    return [DebugData(struct=Structure("IMAGE_DEBUG_DIRECTORY", None, Characteristics=it.characteristics,
+    start = _start(pe, "IMAGE_DIRECTORY_ENTRY_DEBUG")
+    return [DebugData(struct=Structure("IMAGE_DEBUG_DIRECTORY", _each(start, i, 28), Characteristics=it.characteristics,
                                        TimeDateStamp=it.time_date_stamp, MajorVersion=it.major_version,
                                        MinorVersion=it.minor_version, Type=it.data_type, SizeOfData=it.size_of_data,
                                        AddressOfRawData=it.address_of_raw_data, PointerToRawData=it.pointer_to_raw_data),
-                      entry=_read_record(pe, it)) for it in pe._image.debug_entries]
+                      entry=_read_record(pe, it)) for i, it in enumerate(pe._image.debug_entries)]
 
 
 _TOP_BIT = 0x80000000
@@ -705,16 +771,26 @@ class _Tree:
 
 
 def _read_relocations(pe: PE) -> list[BaseRelocationData]:
-    return [BaseRelocationData(struct=Structure("IMAGE_BASE_RELOCATION", None, VirtualAddress=row.page_rva,
-                                                SizeOfBlock=row.size_of_block),
-                               entries=[RelocationData(type=it.kind, base_rva=row.page_rva, rva=it.rva) for it in row.entries])
-            for row in pe._image.relocations]
+    found, offset = [], _start(pe, "IMAGE_DIRECTORY_ENTRY_BASERELOC")
+    for row in pe._image.relocations:
+        block = Structure("IMAGE_BASE_RELOCATION", offset, VirtualAddress=row.page_rva, SizeOfBlock=row.size_of_block)
+        entries = [RelocationData(type=it.kind, base_rva=row.page_rva, rva=it.rva) for it in row.entries]
+        found.append(BaseRelocationData(struct=block, entries=entries))
+        offset = _each(offset, 1, row.size_of_block)
+    return found
+
+
+def _wide(pe: PE, name: str, offset: int | None, **fields: Any) -> Structure:
+    """A structure that is different in PE32+."""
+    made = Structure(f"{name}{'64' * pe._image.is_64}", offset, **fields)
+    made.name = name
+    return made
 
 
 def _read_tls(pe: PE) -> TlsData | None:
     it = pe._value("tls")
-    return None if it is None else TlsData(struct=Structure(
-        "IMAGE_TLS_DIRECTORY", None, StartAddressOfRawData=it.start_address_of_raw_data,
+    return None if it is None else TlsData(struct=_wide(
+        pe, "IMAGE_TLS_DIRECTORY", _start(pe, "IMAGE_DIRECTORY_ENTRY_TLS"), StartAddressOfRawData=it.start_address_of_raw_data,
         EndAddressOfRawData=it.end_address_of_raw_data, AddressOfIndex=it.address_of_index,
         AddressOfCallBacks=it.address_of_callbacks, SizeOfZeroFill=it.size_of_zero_fill, Characteristics=it.characteristics))
 
@@ -737,21 +813,48 @@ def _read_load_config(pe: PE) -> LoadConfigData | None:
     fields = {name: getattr(it, own) for name, own in _CONFIG.items()}
     fields.update((name, pe._image.load_config_field(i)) for i, name in enumerate(_CONFIG_FIELDS))
     there = {name: value for name, value in fields.items() if value is not None}
-    return LoadConfigData(struct=Structure("IMAGE_LOAD_CONFIG_DIRECTORY", None, **there))
+    made = _wide(pe, "IMAGE_LOAD_CONFIG_DIRECTORY", _start(pe, "IMAGE_DIRECTORY_ENTRY_LOAD_CONFIG"), **there)
+    return LoadConfigData(struct=_with_reserved(pe, made))
+
+
+def _with_reserved(pe: PE, config: Structure) -> Structure:
+    """With the numbers that are reserved, which stand between others."""
+    offset = 0
+    for code, (name, *_) in _LAYOUTS[config._structure]:
+        size = struct.calcsize("<" + code)
+        if name in ("Reserved2", "Reserved3") and config._offset is not None and offset + size <= config.Size:
+            data = pe.__data__[config._offset + offset:config._offset + offset + size]
+            if len(data) == size:
+                config.__dict__[name], = struct.unpack("<" + code, data)
+        offset += size
+    return config
 
 
 def _read_bound_imports(pe: PE) -> list[BoundImportDescData]:
-    def of(name: str, stamp: int) -> Structure:
-        return Structure(name, None, TimeDateStamp=stamp)
-    return [BoundImportDescData(struct=of("IMAGE_BOUND_IMPORT_DESCRIPTOR", row.time_date_stamp), name=_bytes(row.name),
-                                entries=[BoundImportRefData(struct=of("IMAGE_BOUND_FORWARDER_REF", it.time_date_stamp),
-                                                            name=_bytes(it.name)) for it in row.forwarders])
-            for row in pe._image.bound_imports]
+    rows = pe._image.bound_imports
+    # The directory's address is a file offset too, since it stands in the headers.
+    directory = pe.OPTIONAL_HEADER.DATA_DIRECTORY[DIRECTORY_ENTRY["IMAGE_DIRECTORY_ENTRY_BOUND_IMPORT"]] if rows else None
+    places = iter(range(directory.VirtualAddress if directory else 0, len(pe.__data__) - 7, 8))
+
+    def of(name: str, stamp: int, last: str) -> Structure:
+        offset = next(places, None)
+        more = {}
+        if offset is not None:
+            _, more["OffsetModuleName"], more[last] = struct.unpack_from("<IHH", pe.__data__, offset)
+        return Structure(name, offset, TimeDateStamp=stamp, **more)
+    found = []
+    for row in rows:
+        own = of("IMAGE_BOUND_IMPORT_DESCRIPTOR", row.time_date_stamp, "NumberOfModuleForwarderRefs")
+        entries = [BoundImportRefData(struct=of("IMAGE_BOUND_FORWARDER_REF", it.time_date_stamp, "Reserved"), name=_bytes(it.name))
+                   for it in row.forwarders]
+        found.append(BoundImportDescData(struct=own, name=_bytes(row.name), entries=entries))
+    return found
 
 
 def _read_exceptions(pe: PE) -> list[ExceptionsDirEntryData]:
-    return [ExceptionsDirEntryData(struct=Structure("RUNTIME_FUNCTION", None, BeginAddress=it.begin, EndAddress=it.end,
-                                                    UnwindData=it.unwind)) for it in pe._image.functions]
+    start = _start(pe, "IMAGE_DIRECTORY_ENTRY_EXCEPTION")
+    return [ExceptionsDirEntryData(struct=Structure("RUNTIME_FUNCTION", _each(start, i, 12), BeginAddress=it.begin, EndAddress=it.end,
+                                                    UnwindData=it.unwind)) for i, it in enumerate(pe._image.functions)]
 
 
 def _read_rich(pe: PE) -> RichHeader | None:
@@ -965,6 +1068,20 @@ class PE:
         getattr(self, "DIRECTORY_ENTRY_EXPORT", None)
         return [*map(str, self._image.warnings), *self._limits]
 
+    def dump_dict(self) -> dict[str, Any]:
+        """All that was read as values, by the names of the sections of dump_info."""
+        from . import _pefile_dump
+        return _pefile_dump.dump_dict(self)
+
+    def dump_info(self, dump: None = None, encoding: str = "ascii") -> str:
+        """All that was read as text, a section for each part. Its texts are ASCII, whatever the encoding is."""
+        from . import _pefile_dump
+        return _pefile_dump.dump_info(self)
+
+    def print_info(self, encoding: str = "utf-8") -> None:
+        """Prints dump_info."""
+        print(self.dump_info(encoding=encoding))
+
     def show_warnings(self) -> None:
         for it in self.get_warnings():
             print(">", it)
@@ -1088,9 +1205,9 @@ class PE:
         """Does nothing: the data of sections are those of the file."""
 
     def write(self, filename: str | os.PathLike[str] | None = None) -> bytearray | None:
-        """The file with what was set in its bytes, and assigned to fields of headers and of resource directories; into a file
-        where that is named. Raises NotInPeC where a field of another structure was assigned, whose place the library for C does
-        not return, or a string of a version."""
+        """The file with what was set in its bytes, and assigned to fields of headers and directories; into a file where that is
+        named. Raises NotInPeC where a field of version information was assigned, or a string of it, and of a directory that is not
+        mapped: their places are not known."""
         data = bytearray(self.__data__)
         headers = [self.DOS_HEADER, self.NT_HEADERS, self.FILE_HEADER, self.OPTIONAL_HEADER, *self.OPTIONAL_HEADER.DATA_DIRECTORY,
                    *self.sections]

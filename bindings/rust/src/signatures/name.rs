@@ -12,6 +12,19 @@ use core::iter::FusedIterator;
 
 /// A name: of an issuer or a subject. Its text is that of [RFC 4514](https://www.rfc-editor.org/rfc/rfc4514), as
 /// `CN=A,OU=Two+O=Probe,C=DE`: the relative distinguished names in reverse order, and `<damaged>` in place of what is refused.
+///
+/// ```
+/// # #[path = "../../tests/made/mod.rs"] mod made;
+/// # let bytes = made::signature();
+/// use pe_c::{KnownOid, Signature};
+///
+/// let signature = Signature::parse(&bytes)?;
+/// let certificate = signature.certificates().next().expect("it has a certificate")?;
+/// let subject = certificate.subject();
+/// assert_eq!(subject.to_string(), "CN=A,OU=Two+O=Probe,C=DE");
+/// assert_eq!(subject.get(KnownOid::COMMON_NAME).as_deref(), Some("A"));
+/// # Ok::<(), Box<dyn std::error::Error>>(())
+/// ```
 #[derive(Clone, Copy, PartialEq, Eq)]
 pub struct Name<'a> {
     der: &'a [u8],

@@ -29,6 +29,18 @@ macro_rules! object_ids {
 }
 
 /// An object identifier that this library knows.
+///
+/// ```
+/// # #[path = "../../tests/made/mod.rs"] mod made;
+/// # let bytes = made::signature();
+/// use pe_c::{KnownOid, Signature};
+///
+/// let signature = Signature::parse(&bytes)?;
+/// let signed = signature.content_type();
+/// assert_eq!(signed, KnownOid::SPC_INDIRECT_DATA);
+/// assert_eq!((signed.to_string().as_str(), KnownOid::SPC_INDIRECT_DATA.name()), ("1.3.6.1.4.1.311.2.1.4", "SPC_INDIRECT_DATA"));
+/// # Ok::<(), Box<dyn std::error::Error>>(())
+/// ```
 #[derive(Clone, Copy, Debug, PartialEq, Eq, PartialOrd, Ord, Hash)]
 pub struct KnownOid(u32);
 

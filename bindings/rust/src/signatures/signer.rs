@@ -9,6 +9,19 @@ use alloc::string::String;
 /// A signer of a signature, or a counter-signature, `SignerInfo`. A verifier takes the certificate of this issuer and serial number,
 /// compares [`message_digest`](Signer::message_digest) with the digest of what is signed, and checks the signature over
 /// [`signed_bytes`](Signer::signed_bytes).
+///
+/// ```
+/// # #[path = "../../tests/made/mod.rs"] mod made;
+/// # let bytes = made::signature();
+/// use pe_c::Signature;
+///
+/// let signature = Signature::parse(&bytes)?;
+/// let signer = signature.signers().next().expect("it has a signer")?;
+/// assert_eq!((signer.issuer().to_string().as_str(), signer.serial()), ("CN=R", [4, 3].as_slice()));
+/// let certificate = signature.certificate_of(&signer).expect("its certificate is there");
+/// assert_eq!(certificate.subject().to_string(), "CN=A,OU=Two+O=Probe,C=DE");
+/// # Ok::<(), Box<dyn std::error::Error>>(())
+/// ```
 #[derive(Clone, Copy)]
 pub struct Signer<'a> {
     bytes: &'a [u8],

@@ -7,6 +7,19 @@ use crate::sys;
 use core::fmt;
 
 /// A time in UTC. Its text is that of [RFC 3339](https://www.rfc-editor.org/rfc/rfc3339): `2026-11-27T01:00:04Z`.
+///
+/// ```
+/// # #[path = "../../tests/made/mod.rs"] mod made;
+/// # let bytes = made::signature();
+/// use pe_c::Signature;
+///
+/// let signature = Signature::parse(&bytes)?;
+/// let signer = signature.signers().next().expect("it has a signer")?;
+/// let stamp = signer.time_stamps().next().expect("it has a time stamp")?.time_stamp()?.expect("it is one");
+/// assert_eq!(stamp.time()?.to_string(), "2023-11-14T22:13:20Z");
+/// assert_eq!(stamp.time()?.unix(), 1_700_000_000);
+/// # Ok::<(), Box<dyn std::error::Error>>(())
+/// ```
 #[derive(Clone, Copy, Debug, PartialEq, Eq, PartialOrd, Ord, Hash)]
 pub struct Time {
     /// 0 to 9999.

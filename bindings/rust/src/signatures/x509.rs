@@ -13,6 +13,20 @@ const TAGGED_STRING_0: u32 = 0x80;
 
 /// A certificate of X.509: whose key it is, by whose word, and when it is valid
 /// ([RFC 5280](https://www.rfc-editor.org/rfc/rfc5280), 4.1). An entry of the certificate table is a [`Certificate`](crate::Certificate).
+///
+/// ```
+/// # #[path = "../../tests/made/mod.rs"] mod made;
+/// # let bytes = made::signature();
+/// use pe_c::Signature;
+///
+/// let signature = Signature::parse(&bytes)?;
+/// for certificate in signature.certificates() {
+///     let certificate = certificate?;
+///     assert_eq!(certificate.not_before()?.to_string(), "2026-11-27T01:00:04Z");
+///     assert_eq!(certificate.key_usage()?, Some(0x80)); // digitalSignature
+/// }
+/// # Ok::<(), Box<dyn std::error::Error>>(())
+/// ```
 #[derive(Clone, Copy)]
 pub struct X509<'a> {
     bytes: &'a [u8],

@@ -152,7 +152,7 @@ fn read_symbols(symbols: Option<Symbols>, seen: &mut Seen) {
         let Some(symbol) = seen.item(symbol) else { continue };
         assert_eq!(symbols.get(symbol.index).map(|it| it.name()), Some(symbol.name()));
         if let Some(name) = seen.counted(symbol.name()) {
-            seen.touch(name);
+            seen.touch(name.as_bytes());
         }
         seen.touch(symbol.auxiliary());
         seen.print(&*symbol);
@@ -168,7 +168,7 @@ pub fn read_others(bytes: &[u8], seen: &mut Seen) {
             let alone = object.long_section_name(section);
             assert_eq!(names.as_ref().map(|it| it[i]), alone.as_ref().copied());
             if let Some(name) = seen.counted(alone).flatten() {
-                seen.touch(name);
+                seen.touch(name.as_bytes());
             }
         }
         if let Some(table) = seen.counted(object.string_table()).flatten() {
@@ -494,8 +494,8 @@ fn read_exports(image: &Image, seen: &mut Seen) {
     if let Some(exports) = seen.item(image.exports()) {
         for export in exports.take(seen.most) {
             if let Some(export) = seen.item(export) {
-                seen.touch(export.name);
-                seen.touch(export.forwarder.unwrap_or_default());
+                seen.touch(export.name.as_bytes());
+                seen.touch(export.forwarder.unwrap_or_default().as_bytes());
             }
         }
     }
@@ -503,10 +503,10 @@ fn read_exports(image: &Image, seen: &mut Seen) {
 
 fn read_addresses(image: &Image, seen: &mut Seen) {
     if let Some(table) = seen.keep(image.export_addresses()) {
-        seen.touch(table.name().unwrap_or_default());
+        seen.touch(table.name().unwrap_or_default().as_bytes());
         for entry in table.iter().take(seen.most) {
             seen.print(&entry);
-            seen.touch(entry.forwarder.unwrap_or_default());
+            seen.touch(entry.forwarder.unwrap_or_default().as_bytes());
         }
     }
 }
@@ -519,11 +519,11 @@ fn read_imports(image: &Image, seen: &mut Seen) {
         let Some(library) = seen.item(library) else {
             continue;
         };
-        seen.touch(library.name);
+        seen.touch(library.name.as_bytes());
         seen.print(&library.imports());
         for import in library.imports().take(seen.most) {
             if let Some(import) = seen.item(import) {
-                seen.touch(import.name.unwrap_or_default());
+                seen.touch(import.name.unwrap_or_default().as_bytes());
             }
         }
     }
@@ -534,11 +534,11 @@ fn read_delay_imports(image: &Image, seen: &mut Seen) {
         let Some(import) = seen.item(import) else {
             continue;
         };
-        seen.touch(import.name);
+        seen.touch(import.name.as_bytes());
         seen.print(&import.functions());
         for function in import.functions().take(seen.most) {
             if let Some(function) = seen.item(function) {
-                seen.touch(function.name.unwrap_or_default());
+                seen.touch(function.name.unwrap_or_default().as_bytes());
             }
         }
     }
@@ -625,11 +625,11 @@ fn read_bound_imports(image: &Image, seen: &mut Seen) {
         let Some(import) = seen.item(import) else {
             continue;
         };
-        seen.touch(import.name);
+        seen.touch(import.name.as_bytes());
         seen.print(&import.forwarders());
         for forwarder in import.forwarders().take(seen.most) {
             if let Some(forwarder) = seen.item(forwarder) {
-                seen.touch(forwarder.name);
+                seen.touch(forwarder.name.as_bytes());
             }
         }
     }
@@ -646,7 +646,7 @@ fn read_names(image: &Image, seen: &mut Seen) {
     }
     for section in image.sections().iter().take(seen.most) {
         if let Some(name) = seen.counted(image.long_section_name(section)).flatten() {
-            seen.touch(name);
+            seen.touch(name.as_bytes());
         }
     }
 }

@@ -76,7 +76,8 @@ pub extern "C" fn pe_c_arm64_table(view: &View, out: &mut Range) -> u32
     hand_out_some(table_of(view), out)
 }
 
-fn find(view: &View, table: &Range, rva: u32) -> Result<Option<Arm64RuntimeFunction>>
+/// The function of a table that covers an RVA.
+pub fn find(view: &View, table: &Range, rva: u32) -> Result<Option<Arm64RuntimeFunction>>
     ensures { LocatesArm64In (length_by (map_of view.now) view.now.bytes.now)
         (bytes_at view.now.bytes.now table.now) rva (answer_of result) }
 {

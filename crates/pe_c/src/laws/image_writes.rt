@@ -10,8 +10,8 @@ ghost use Rattle.pe_c.specs.declared.view.View.{View};
 
 /// Where `PE::parse_with_opts` of pe_image returns an image with its certificates, and a view has what `pe_c_image` and
 /// `pe_c_sections` return of the same bytes in the same mode, `pe_c_write_certificates`, `pe_c_write_image` and `pe_c_write_whole`
-/// write what `PE::write_certificates`, `write_into` and `write_whole` of that image write, with the same number or error, and
-/// `pe_c_image_length` and `pe_c_whole_length` return what `PE::written_len` and `whole_len` return.
+/// write what `PE::write_certificates`, `write_into` and `write_whole` of that image write, with the same number or error; and the last
+/// two need the lengths that `PE::written_len` and `whole_len` return.
 pub fn images_are_written_as_by_pe()
     ensures certificates { (b old : List ℕ) (o : ParseOptions) (x : ImageView) (v : View) →
         o.parse_attribute_certificates ≡ true → IsImage b o (Ok x) → IsViewOf b (mode_of o) v →

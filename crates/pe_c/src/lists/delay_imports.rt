@@ -66,30 +66,14 @@ fn list_libraries(
     number
 }
 
-/// Lists the DLLs of a walk, as `pe_c_next_delay_import` returns them, and moves the walk past them.
+/// Lists the DLLs of a walk, as `pe_c_next_delay_import` returns them, and moves the walk past them. The names are read together: with
+/// one of `runs` for each of `entries`, or more, a call takes about as long as to sort these and to read each byte a few times,
+/// however many of the names share a text. With less room further names are read to their end each. What is in `runs` after the call
+/// is left open.
 ///
 /// Errors: `ROOM` where `entries` is empty; those of `pe_c_next_delay_import`.
 #[unsafe(no_mangle)]
 pub extern "C" fn pe_c_list_delay_imports(
-    view: &View,
-    walk: &mut Range,
-    entries: &mut [DelayLibrary],
-    written: &mut u64,
-) -> u32
-    ensures { HandsOutList (Numbered directory_number (StepsDelayLibraries
-        (map_of view.now) view.now.bytes.now view.now.image.now))
-        result walk.old walk.new entries.old entries.new written.old written.new }
-{
-    list_libraries(&NamedView::alone(view), walk, entries, written)
-}
-
-/// Lists what `pe_c_list_delay_imports` does, and reads the names together: with one of `runs` for each of `entries`, or more, a
-/// call takes about as long as to sort these and to read each byte a few times, however many of the names share a text. With less
-/// room further names are read to their end each. What is in `runs` after the call is left open.
-///
-/// Errors: as `pe_c_list_delay_imports`.
-#[unsafe(no_mangle)]
-pub extern "C" fn pe_c_list_delay_imports_together(
     view: &View,
     walk: &mut Range,
     runs: &mut [Run],
@@ -155,31 +139,15 @@ fn list_functions(
     number
 }
 
-/// Lists what is imported of a DLL, as `pe_c_next_delayed_function` returns it, and moves the walk past it.
+/// Lists what is imported of a DLL, as `pe_c_next_delayed_function` returns it, and moves the walk past it. The names are read together:
+/// with one of `runs` for each of `entries`, or more, a call takes about as long as to sort these and to read each byte a few times,
+/// however many of the names share a text. With less room further names are read to their end each. What is in `runs` after the call
+/// is left open.
 ///
 /// Errors: `ROOM` where `entries` is empty; those of `pe_c_next_delayed_function`.
-#[unsafe(no_mangle)]
-pub extern "C" fn pe_c_list_delayed_functions(
-    view: &View,
-    walk: &mut DelayedFunctions,
-    entries: &mut [DelayedFunction],
-    written: &mut u64,
-) -> u32
-    ensures { HandsOutList (Numbered directory_number (StepsDelayedFunctions
-        (map_of view.now) view.now.bytes.now view.now.image.now))
-        result walk.old walk.new entries.old entries.new written.old written.new }
-{
-    list_functions(&NamedView::alone(view), walk, entries, written)
-}
-
-/// Lists what `pe_c_list_delayed_functions` does, and reads the names together: with one of `runs` for each of `entries`, or more, a
-/// call takes about as long as to sort these and to read each byte a few times, however many of the names share a text. With less
-/// room further names are read to their end each. What is in `runs` after the call is left open.
-///
-/// Errors: as `pe_c_list_delayed_functions`.
 #[tactic(auto, using(crate::proofs::NearMaps::no_window))]
 #[unsafe(no_mangle)]
-pub extern "C" fn pe_c_list_delayed_functions_together(
+pub extern "C" fn pe_c_list_delayed_functions(
     view: &View,
     walk: &mut DelayedFunctions,
     runs: &mut [Run],

@@ -138,23 +138,6 @@ fn list_exports(
     }
 }
 
-/// Lists the exports of a walk that have a name, as `pe_c_next_export` returns them, and moves the walk past them.
-///
-/// Errors: `ROOM` where `entries` is empty; `SHORT` where the tables are not inside the bytes.
-#[unsafe(no_mangle)]
-pub extern "C" fn pe_c_list_exports(
-    view: &View,
-    walk: &mut Exports,
-    entries: &mut [Export],
-    written: &mut u64,
-) -> u32
-    ensures { HandsOutList (Numbered result_number
-        (StepsExports (map_of view.now) view.now.bytes.now))
-        result walk.old walk.new entries.old entries.new written.old written.new }
-{
-    list_exports(&NamedView::alone(view), walk, entries, written)
-}
-
 /// An image of which the texts of the next exports are read together, if they cost much else.
 fn texts_of<'a>(view: &'a View<'a>, walk: &Exports, runs: &'a mut [Run]) -> NamedView<'a>
     ensures { result.view.now ≡ view.entry.now }
@@ -166,14 +149,14 @@ fn texts_of<'a>(view: &'a View<'a>, walk: &Exports, runs: &'a mut [Run]) -> Name
     NamedView::together(view, &mut runs[..count])
 }
 
-/// Lists what `pe_c_list_exports` does, and reads names and forwarders' texts together that share much: with two of `runs` for each
-/// entry that the name table has left, or more, a call takes about as long as to sort these and to read each byte a few times,
-/// however many of them share a text. With less room further ones are read to their end each. What is in `runs` after the call is
-/// left open.
+/// Lists the exports of a walk that have a name, as `pe_c_next_export` returns them, and moves the walk past them. Names and forwarders'
+/// texts that share much are read together: with two of `runs` for each entry that the name table has left, or more, a call takes
+/// about as long as to sort these and to read each byte a few times, however many of them share a text. With less room further ones
+/// are read to their end each. What is in `runs` after the call is left open.
 ///
-/// Errors: as `pe_c_list_exports`.
+/// Errors: `ROOM` where `entries` is empty; `SHORT` where the tables are not inside the bytes.
 #[unsafe(no_mangle)]
-pub extern "C" fn pe_c_list_exports_together(
+pub extern "C" fn pe_c_list_exports(
     view: &View,
     walk: &mut Exports,
     runs: &mut [Run],
@@ -287,22 +270,4 @@ pub fn list_addresses(
         }
         Err(_) => list_addresses_outside(&Addresses { names, table }, next, entries, written),
     }
-}
-
-/// Lists the entries of an address table from an index on, as `pe_c_export_at` reads them, and moves `next` past them.
-///
-/// Errors: `ROOM` where `entries` is empty; `SHORT` where the table is not inside the bytes.
-#[unsafe(no_mangle)]
-pub extern "C" fn pe_c_list_export_addresses(
-    view: &View,
-    table: &AddressTable,
-    next: &mut u64,
-    entries: &mut [Exported],
-    written: &mut u64,
-) -> u32
-    ensures { HandsOutList (Numbered result_number (StepsByIndex (exported_at
-        (map_of view.now) view.now.bytes.now table.now)))
-        result next.old next.new entries.old entries.new written.old written.new }
-{
-    list_addresses(&NamedView::alone(view), table, next, entries, written)
 }

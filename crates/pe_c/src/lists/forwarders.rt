@@ -1,4 +1,4 @@
-//! The list of all exports by their index, of which the texts of forwarders are read together: `KERNEL32.DLL` has some hundred, and a
+//! The list of all exports by their index. The texts of forwarders among them are read together: `KERNEL32.DLL` has some hundred, and a
 //! hostile file lets all its exports be forwarders with one text.
 
 ghost use Rattle.std.specs.Prelude.{◌≡◌, ◌≤◌, length};
@@ -28,6 +28,9 @@ fn put_forwarders(
     ensures { result ≤ length room.new }
 {
     let mut count = 0;
+    if room.is_empty() {
+        return count;
+    }
     let Ok(addresses) = slice_of(view.bytes, &table.addresses) else {
         return count;
     };
@@ -62,13 +65,14 @@ fn named_forwarders<'a>(
     NamedView::together(view, &mut room[..count])
 }
 
-/// Lists what `pe_c_list_export_addresses` does, and reads the texts of forwarders together: with one of `runs` for each of `entries`,
-/// or more, a call takes about as long as to sort these and to read each byte a few times, however many of the forwarders share a
-/// text. With less room further ones are read to their end each. What is in `runs` after the call is left open.
+/// Lists the entries of an address table from an index on, as `pe_c_export_at` reads them, and moves `next` past them. The texts of
+/// forwarders are read together: with one of `runs` for each of `entries`, or more, a call takes about as long as to sort these and to
+/// read each byte a few times, however many of the forwarders share a text. With less room further ones are read to their end each.
+/// What is in `runs` after the call is left open.
 ///
-/// Errors: as `pe_c_list_export_addresses`.
+/// Errors: `ROOM` where `entries` is empty; `SHORT` where the table is not inside the bytes.
 #[unsafe(no_mangle)]
-pub extern "C" fn pe_c_list_export_addresses_together(
+pub extern "C" fn pe_c_list_export_addresses(
     view: &View,
     table: &AddressTable,
     next: &mut u64,

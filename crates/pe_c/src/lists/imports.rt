@@ -64,24 +64,6 @@ fn list_libraries(
     number
 }
 
-/// Lists the libraries of a walk, as `pe_c_next_library` returns them, and moves the walk past them.
-///
-/// Errors: `ROOM` where `entries` is empty; those of `pe_c_next_library`.
-#[unsafe(no_mangle)]
-pub extern "C" fn pe_c_list_libraries(
-    view: &View,
-    walk: &mut Libraries,
-    entries: &mut [Library],
-    written: &mut u64,
-) -> u32
-    ensures { HandsOutList (Numbered result_number
-        (StepsLibraries (map_of view.now)
-        (entry_size (view.now.image.now.width == 64)) view.now.bytes.now))
-        result walk.old walk.new entries.old entries.new written.old written.new }
-{
-    list_libraries(&NamedView::alone(view), walk, entries, written)
-}
-
 /// An image of which the names and lists of the next libraries are read together: a half of the room is for each.
 fn named_libraries<'a>(view: &'a View<'a>, walk: &Libraries, room: &'a mut [Run]) -> NamedView<'a>
     ensures { result.view.now ≡ view.entry.now }
@@ -93,14 +75,14 @@ fn named_libraries<'a>(view: &'a View<'a>, walk: &Libraries, room: &'a mut [Run]
     NamedView::with_lists(view, &mut name_room[..names], &mut list_room[..lists])
 }
 
-/// Lists what `pe_c_list_libraries` does, and reads the names together, and the ends of the lists of imports: with two of `runs`
-/// for each library that is left, or more, a call takes about as long as to sort these and to read each byte a few times,
-/// however many of the names and lists share a text or a list. With less room further ones are read to their end each. What is in
-/// `runs` after the call is left open.
+/// Lists the libraries of a walk, as `pe_c_next_library` returns them, and moves the walk past them. The names are read together, and
+/// the ends of the lists of imports: with two of `runs` for each library that is left, or more, a call takes about as long as to sort
+/// these and to read each byte a few times, however many of the names and lists share a text or a list. With less room further ones
+/// are read to their end each. What is in `runs` after the call is left open.
 ///
-/// Errors: as `pe_c_list_libraries`.
+/// Errors: `ROOM` where `entries` is empty; those of `pe_c_next_library`.
 #[unsafe(no_mangle)]
-pub extern "C" fn pe_c_list_libraries_together(
+pub extern "C" fn pe_c_list_libraries(
     view: &View,
     walk: &mut Libraries,
     runs: &mut [Run],
@@ -159,32 +141,15 @@ fn list_imports(
     number
 }
 
-/// Lists the imports of a library, as `pe_c_next_import` returns them, and moves the walk past them.
+/// Lists the imports of a library, as `pe_c_next_import` returns them, and moves the walk past them. The names are read together: with
+/// one of `runs` for each import that is left, or more, a call takes about as long as to sort these and to read each byte once or
+/// twice, however many of the names share a text. With less room further names are read to their end each. What is in `runs` after
+/// the call is left open.
 ///
 /// Errors: `ROOM` where `entries` is empty; those of `pe_c_next_import`.
-#[unsafe(no_mangle)]
-pub extern "C" fn pe_c_list_imports(
-    view: &View,
-    walk: &mut Imports,
-    entries: &mut [Import],
-    written: &mut u64,
-) -> u32
-    ensures { HandsOutList (Numbered result_number
-        (StepsImports (map_of view.now)
-        (entry_size (view.now.image.now.width == 64)) view.now.bytes.now))
-        result walk.old walk.new entries.old entries.new written.old written.new }
-{
-    list_imports(&NamedView::alone(view), walk, entries, written)
-}
-
-/// Lists what `pe_c_list_imports` does, and reads the names together: with one of `runs` for each import that is left, or more,
-/// a call takes about as long as to sort these and to read each byte once or twice, however many of the names share a text. With
-/// less room further names are read to their end each. What is in `runs` after the call is left open.
-///
-/// Errors: as `pe_c_list_imports`.
 #[tactic(auto, using(crate::proofs::NearMaps::no_window))]
 #[unsafe(no_mangle)]
-pub extern "C" fn pe_c_list_imports_together(
+pub extern "C" fn pe_c_list_imports(
     view: &View,
     walk: &mut Imports,
     runs: &mut [Run],

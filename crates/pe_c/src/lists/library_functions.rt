@@ -73,7 +73,7 @@ fn list_library_functions(
 /// Errors: `ROOM` where `entries` is empty; those of `pe_c_next_delayed_function`, and of `pe_c_next_delay_import`, in the order
 /// of the walk. After an error the walk is over.
 #[unsafe(no_mangle)]
-pub extern "C" fn pe_c_list_all_delayed_functions_together(
+pub extern "C" fn pe_c_list_all_delayed_functions(
     view: &View,
     walk: &mut LibraryFunctions,
     runs: &mut [Run],

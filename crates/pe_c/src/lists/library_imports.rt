@@ -78,7 +78,7 @@ fn list_library_imports(
 /// Errors: `ROOM` where `entries` is empty; those of `pe_c_next_import`, and of `pe_c_next_library`, in the order of the walk. After
 /// an error the walk is over.
 #[unsafe(no_mangle)]
-pub extern "C" fn pe_c_list_all_imports_together(
+pub extern "C" fn pe_c_list_all_imports(
     view: &View,
     walk: &mut LibraryImports,
     runs: &mut [Run],

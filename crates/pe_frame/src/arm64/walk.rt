@@ -16,7 +16,7 @@ ghost use Rattle.pe_core.specs.Refusals.{answer_by};
 ghost use Rattle.pe_unwind.specs.Arm64Record.{info_view};
 ghost use Rattle.pe_unwind.specs.Arm64Unwinding.{info_by};
 ghost use Rattle.pe_frame.specs.AddressRanges.{has_address};
-ghost use Rattle.pe_frame.specs.Arm64Walks.{frame_of, code_return, scanned, leaf_frame, without_records, lookup_address, place_of, jumped_frame, caller_of_leaf, caller_outside, caller_without_table, leaf_is_guess, is_bottom, called_frame, frame_after, stepped_out_packed, CallsByInfo, CallsFound, CallsIn};
+ghost use Rattle.pe_frame.specs.Arm64Walks.{frame_of, code_return, scanned, leaf_frame, leaf_without_image, without_records, lookup_address, place_of, jumped_frame, caller_of_leaf, caller_outside, caller_without_table, leaf_is_guess, is_bottom, called_frame, frame_after, stepped_out_packed, CallsByInfo, CallsFound, CallsIn};
 ghost use Rattle.pe_frame.specs.Modules.{map_of_module, module_base, module_size};
 
 use super::registers::{Arm64Registers, LINK_REGISTER};
@@ -28,7 +28,7 @@ use crate::modules::{Module, ModuleMap, Modules};
 use crate::position::{WalkFrame, WalkPosition};
 use crate::process::{CallSites, LoadedModules};
 use crate::scan::{ReturnWords, first_return_above};
-use crate::walk::{WalkEnd, Way, end_at_0};
+use crate::walk::{WalkEnd, Way, end_at_0, may_end_call};
 use pe_unwind::{Arm64RuntimeFunction, ExceptionData};
 
 /// The bytes of an instruction.
@@ -139,6 +139,23 @@ fn leaf_frame<L: CallSites>(
     }
 }
 
+/// The same if no image is at hand that would say whether one does.
+fn leaf_without_image<L: CallSites>(
+    modules: &L,
+    is_guess: bool,
+    registers: &Arm64Registers,
+) -> Option<Arm64StackFrame>
+    ensures { result ≡ leaf_without_image (L.list modules.now) is_guess registers.now }
+{
+    let address = registers.general[LINK_REGISTER];
+    if may_end_call(modules, address) {
+        let is_guess = is_guess || !modules.ends_code_call_arm64(address);
+        Some(frame_of(modules, Way::Leaf, is_guess, leaf_arm64(*registers)))
+    } else {
+        None
+    }
+}
+
 /// The frame that is found from registers without records, by whether it is a guess that their function is a leaf function.
 fn without_records<L: CallSites, M: Memory>(
     modules: &L,
@@ -148,13 +165,16 @@ fn without_records<L: CallSites, M: Memory>(
 ) -> Option<Arm64StackFrame>
     ensures { result ≡ without_records (M.word memory.now) (L.list modules.now) is_guess registers.now }
 {
-    match leaf_frame(modules, is_guess, registers) {
+    if let Some(frame) = leaf_frame(modules, is_guess, registers) {
+        return Some(frame);
+    }
+    match leaf_without_image(modules, is_guess, registers) {
         Some(frame) => Some(frame),
         None => scanned(modules, memory, registers),
     }
 }
 
-/// The frame of the caller of a leaf function to which no call led, if it returns to what may be code.
+/// The frame of the caller of a leaf function to which no call led, if it returns to code.
 fn jumped_frame<L: CallSites>(
     modules: &L,
     registers: &Arm64Registers,
@@ -165,7 +185,7 @@ fn jumped_frame<L: CallSites>(
     if address == 0 {
         return Err(WalkEnd::Zero);
     }
-    if modules.may_be_code(address) {
+    if modules.is_code(address) {
         return Ok(frame_of(modules, Way::Leaf, true, leaf_arm64(*registers)));
     }
     Err(WalkEnd::NoReturnAddress)
@@ -409,10 +429,10 @@ impl WalkFrame for Arm64StackFrame {
 /// operating system's own it may be anywhere.
 ///
 /// In the top frame, and in one that was interrupted, the return address of code that no unwind data describe is the link register,
-/// if a call ends at it, else the first of 128 words from the stack pointer on that is, without its signature, after a call in an
-/// executable section. In a module, where neither is, it is the link register, if that may be an address of code: of an executable
-/// section, or in a module whose image is not at hand. In a frame that has called it is the first such word after a call. Where none
-/// is found, a walk that comes to 0 says `Zero`.
+/// if a call ends at it or it lies in a module whose image is not at hand, else the first of 128 words from the stack pointer on that
+/// is, without its signature, after a call in an executable section. In a module, where none is, it is the link register, if that is
+/// an address of an executable section. In a frame that has called it is the first such word after a call. Where none is found, a walk
+/// that comes to 0 says `Zero`.
 #[derive(Drop)]
 pub struct Arm64StackFrames<'a, M> {
     modules: Modules<'a>,

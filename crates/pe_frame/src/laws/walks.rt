@@ -7,13 +7,15 @@ ghost use Rattle.pe_unwind.specs.ExceptionTable.{ExceptionView};
 ghost use Rattle.pe_unwind.specs.UnwindRecord.{UnwindInfoView};
 ghost use Rattle.pe_unwind.specs.declared.function_table.RuntimeFunction.{RuntimeFunction};
 ghost use Rattle.pe_frame.specs.Epilogs.{epilog_at};
-ghost use Rattle.pe_frame.specs.Scans.{IsFirstReturn, first_return, most_words, return_at};
+ghost use Rattle.pe_frame.specs.Scans.{IsFirstReturn, IsHighestCall, call_at, first_return, highest_call, most_words, return_at};
 ghost use Rattle.pe_frame.specs.Steps.{Steps};
 ghost use Rattle.pe_frame.specs.FrameWalks.{FrameWalk, IsWalk, Process, starting_walk};
-ghost use Rattle.pe_frame.specs.Modules.{is_code_of, is_code_return};
-ghost use Rattle.pe_frame.specs.Walks.{AreSortedModules, Calls, CallsByPlan, CallsFound, by_records, end_kind, has_called, lookup_address, caller_of_leaf, caller_outside, top_frame, walk_of, without_records, StepsFromFrame, caller_in_gap};
+ghost use Rattle.pe_frame.specs.Undoing.{popped};
+ghost use Rattle.pe_frame.specs.Modules.{is_after_call, is_code_of, is_code_return, may_end_call};
+ghost use Rattle.pe_frame.specs.Walks.{AreSortedModules, Calls, CallsByPlan, CallsFound, by_records, end_kind, frame_of, has_called, lookup_address, caller_of_leaf, caller_outside, top_frame, walk_of, without_records, StepsFromFrame, caller_in_gap};
 ghost use Rattle.pe_frame.specs.declared.modules.Module.{Module};
 ghost use Rattle.pe_frame.specs.declared.registers.Registers.{Registers};
+ghost use Rattle.pe_frame.specs.declared.scan.FoundCall.{FoundCall};
 ghost use Rattle.pe_frame.specs.declared.walk.Gap.{Gap};
 ghost use Rattle.pe_frame.specs.declared.walk.StackFrame.{StackFrame};
 ghost use Rattle.pe_frame.specs.declared.walk.StackFrames.{StackFrames};
@@ -75,6 +77,32 @@ pub fn scans_find_the_first()
     ensures none { (memory returns : ℕ → Option ℕ) (start k : ℕ) →
         first_return most_words memory returns start ≡ None → k < most_words →
         return_at memory returns (start + 8 * k) ≡ None }
+{}
+
+/// A scan for calls that lead somewhere, as into the code without records in which a frame is, finds the one that leads highest, and of
+/// several that lead there the first, of the 128 words from an address on (`highest`). Where it finds none, no such call ends at one
+/// of them (`none`).
+pub fn scans_find_the_call_that_leads_highest()
+    ensures highest { (memory targets : ℕ → Option ℕ) (start : ℕ) (c : FoundCall) →
+        highest_call most_words memory targets start ≡ Some c →
+        IsHighestCall most_words memory targets start c }
+    ensures none { (memory targets : ℕ → Option ℕ) (start k : ℕ) →
+        highest_call most_words memory targets start ≡ None → k < most_words →
+        call_at memory targets (start + 8 * k) ≡ None }
+{}
+
+/// What a leaf function returns to in a module whose image is not at hand, so that no bytes say whether a call ends there, is its
+/// caller before any that a scan would find, as a guess: from code of a module that no records describe (`leaf`), and from code in no
+/// module (`outside`).
+pub fn callers_without_images_come_before_scans()
+    ensures leaf { (memory : ℕ → Option ℕ) (modules : List Module) (guess : Bool) (s : StackFrame) (u : Registers) →
+        s.has_called ≡ false → popped memory s.registers ≡ Ok u →
+        is_after_call modules u.rip ≡ false → may_end_call modules u.rip ≡ true →
+        caller_of_leaf memory modules guess s ≡ Ok (frame_of modules Leaf true u) }
+    ensures outside { (memory : ℕ → Option ℕ) (modules : List Module) (s : StackFrame) (u : Registers) →
+        s.has_called ≡ false → popped memory s.registers ≡ Ok u →
+        is_after_call modules u.rip ≡ false → may_end_call modules u.rip ≡ true →
+        caller_outside memory modules s ≡ Ok (frame_of modules Leaf true u) }
 {}
 
 /// Each frame says whether it has called, by its way and the bytes before its instruction pointer (`called`). From a frame that has

@@ -1,0 +1,15 @@
+use Rattle.std.proofs.Common.{subst}
+use Rattle.pe_c.specs.ExportAddresses.{exported_at}
+use Rattle.pe_c.specs.HandsOut.{result_number}
+use Rattle.pe_c.specs.Lists.{HandsOutList, Numbered, StepsByIndex}
+use Rattle.pe_c.specs.Views.{map_of}
+use Rattle.pe_c.specs.declared.view.View.{View}
+use Rattle.pe_c.proofs.lists.forwarders.pe_c_list_export_addresses.Goals as goal
+
+-- the image is the same, whatever of it is read together
+pub returns : goal.returns
+returns c =
+    subst
+    (λ (v : View). HandsOutList (Numbered result_number (StepsByIndex (exported_at (map_of v) v.bytes.now c.args.table.now))) c.list_addresses.result c.args.next.now c.list_addresses.new.next c.args.entries.now c.list_addresses.new.entries c.args.written.now c.list_addresses.new.written)
+    c.named_forwarders-names.ensures
+    c.list_addresses.ensures

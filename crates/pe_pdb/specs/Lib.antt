@@ -1,0 +1,4 @@
+pub mod Refusals
+pub mod Places
+pub mod Msf
+pub mod Streams

@@ -1,0 +1,63 @@
+//! Why a PDB, or a part of one, is not read.
+
+/// Why a PDB, or a part of it, is not read. A stream, a record or a line table that is refused leaves all others as they are.
+#[derive(Clone, Copy, Debug, PartialEq, thiserror::Error)]
+pub enum PdbError {
+    /// A record of fixed size is truncated: how many bytes it has, and how many there are.
+    #[error("record truncated: {needed} bytes needed, {length} left")]
+    Short {
+        needed: usize,
+        length: usize,
+    },
+    /// A PDB 2.0, as compilers before 2002 wrote them: its blocks have another layout.
+    #[error("a PDB 2.0, which has another layout")]
+    Pdb20,
+    /// A portable PDB of .NET: metadata, without blocks.
+    #[error("a portable PDB of .NET, which has another layout")]
+    PortablePdb,
+    /// The first 32 bytes are not those of a PDB 7.0.
+    #[error("not a PDB 7.0")]
+    Magic,
+    /// The size of a block, which is none of 512, 1024, 2048, 4096, 8192, 16384, 32768.
+    #[error("invalid block size {0}")]
+    BlockSize(u32),
+    /// The file is shorter than its blocks: how many there are, and how many bytes the file has.
+    #[error("{blocks} blocks pass the end of the file, {length} bytes")]
+    FileSize {
+        blocks: u32,
+        length: usize,
+    },
+    /// The blocks that list the blocks of the directory are more than the superblock has room for: the size of the directory in
+    /// bytes.
+    #[error("directory of {0} bytes is larger than the superblock can list")]
+    BlockMap(u32),
+    /// A block of the directory, of its list, or of a stream is not in the file: how many blocks the file has.
+    #[error("a block lies outside of the file, which has {0} blocks")]
+    Block(u32),
+    /// The directory is shorter than what it lists: the number of streams, or the index of the stream whose blocks pass its end, and
+    /// how many numbers of 4 bytes it has.
+    #[error("directory of {words} numbers is too short for stream {stream}")]
+    Directory {
+        stream: u32,
+        words: usize,
+    },
+    /// There is no stream with this index.
+    #[error("no stream {0}")]
+    NoStream(u32),
+    /// A stream has more blocks than the file: its index, and how many bytes it says that it has.
+    #[error("stream {stream} of {size} bytes has more blocks than the file")]
+    StreamSize {
+        stream: u32,
+        size: u32,
+    },
+    /// A read outside of a stream: the offset, how many bytes, and how many the stream has.
+    #[error("{needed} bytes at offset {offset} of a stream of {length} bytes")]
+    Outside {
+        offset: usize,
+        needed: usize,
+        length: usize,
+    },
+}
+
+/// The result of a call that may fail with `PdbError`.
+pub type Result<T> = std::result::Result<T, PdbError>;

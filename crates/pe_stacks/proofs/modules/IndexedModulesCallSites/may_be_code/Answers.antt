@@ -1,7 +1,0 @@
-use Rattle.std.proofs.Common.{sym, arith}
-use Rattle.pe_frame.proofs.Lookups.{in_module}
-use Rattle.pe_stacks.proofs.modules.IndexedModulesCallSites.may_be_code.Goals as goal
-
-pub may_be_code-requires : goal.may_be_code-requires
-may_be_code-requires g c =
-    in_module c.args.self.now.modules.ranges.now c.args.address c.args.address c.in-Some.module.now (sym c.in-Some.ensures) (omega arith)
