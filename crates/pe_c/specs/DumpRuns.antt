@@ -5,7 +5,7 @@ use Rattle.pe_core.specs.Refusals.{Short}
 use Rattle.pe_frame.specs.MemoryLists.{are_inside, lists_byte}
 use Rattle.pe_frame.specs.declared.memory_list.MemoryPiece.{MemoryPiece}
 use Rattle.pe_stacks.specs.MemoryRuns.{PutsRuns, end_low, has_rooms}
-use Rattle.pe_stacks.specs.declared.range_index.RangeEntry.{RangeEntry}
+use Rattle.pe_core.specs.declared.range_index.RangeEntry.{RangeEntry}
 use Rattle.pe_c.specs.HandsOut.{result_number}
 use Rattle.pe_c.specs.declared.ranges.Range.{Range}
 use Rattle.pe_c.specs.declared.results.TheConstants.{DONE, ROOM}

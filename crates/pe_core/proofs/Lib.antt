@@ -3,6 +3,10 @@ pub mod Comparisons
 pub mod NoMemory
 pub mod Ranges
 pub mod Map
+pub mod RangeCuts
+pub mod RangeHalves
+pub mod RangeFounds
+pub mod SplitRooms
 pub mod SectionCuts
 pub mod SectionHalves
 pub mod SectionWindows

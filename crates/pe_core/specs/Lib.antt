@@ -25,6 +25,7 @@ pub mod ExportSteps
 pub mod ExportAddresses
 pub mod Imports
 pub mod ImportSteps
+pub mod RangeIndexes
 pub mod SectionPieces
 pub mod SectionIndex
 pub mod SectionWindow

@@ -1,9 +1,6 @@
 -- Tables of address ranges, each with a start and a size, and what has an address in them.
-use Rattle.std.specs.Prelude.{ℕ, zero, suc, ◌+◌, ◌-◌, ◌^◌, ◌≤◌, ◌<◌, ◌&&◌, nat_le, nat_lt, Bool, true, List, [], ◌∷◌, length, slice_index_or, Option, Some, None, if◌then◌else◌}
-
--- a range has this address
-abbrev pub has_address : {X : Type 0} → (X → ℕ) → (X → ℕ) → ℕ → X → Bool
-has_address start size a x = nat_le (start x) a && nat_lt a (start x + size x)
+pub use Rattle.pe_core.specs.RangeIndexes.{has_address}
+use Rattle.std.specs.Prelude.{ℕ, zero, suc, ◌+◌, ◌-◌, ◌^◌, ◌≤◌, ◌<◌, ◌&&◌, nat_le, Bool, true, List, [], ◌∷◌, length, slice_index_or, Option, Some, None, if◌then◌else◌}
 
 -- of the first n ranges each ends at or before the start of each later one
 abbrev pub FirstAscend : {X : Type 0} → (X → ℕ) → (X → ℕ) → List X → ℕ → Type 0

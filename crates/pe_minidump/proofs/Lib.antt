@@ -3,6 +3,4 @@ pub mod Sums
 pub mod Firsts
 pub mod Streams
 pub mod Registers
-pub mod IndexCuts
-pub mod IndexHalves
 pub mod IndexFirsts

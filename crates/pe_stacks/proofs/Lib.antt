@@ -1,12 +1,8 @@
 pub mod AppendedRuns
-pub mod Founds
 pub mod FullMemory
 pub mod Headline
-pub mod IndexCuts
-pub mod IndexHalves
 pub mod NearestNames
 pub mod NoMemory
 pub mod RunBytes
 pub mod RunSteps
-pub mod SplitRooms
 pub mod Walked

@@ -15,12 +15,12 @@ use Rattle.pe_frame.specs.MemoryLists.{lists_byte}
 use Rattle.pe_frame.specs.declared.memory_list.MemoryPiece.{MemoryPiece}
 use Rattle.pe_frame.proofs.Lookups.{ends_before, found_none, has_it, is_within, starts_after}
 use Rattle.pe_stacks.specs.MemoryRuns.{AreApart, AreRuns, IsBefore, IsRunOf, addresses_of, appended, continued, end_low, is_followed, joined, no_run, offset_in, part_of}
-use Rattle.pe_stacks.specs.RangeIndexes.{Indexes, Rises, number_at}
-use Rattle.pe_stacks.specs.declared.range_index.RangeEntry.{RangeEntry}
+use Rattle.pe_core.specs.RangeIndexes.{Indexes, Rises, number_at}
+use Rattle.pe_core.specs.declared.range_index.RangeEntry.{RangeEntry}
 use Rattle.std.specs.Prelude.{◌==◌}
 use Rattle.pe_stacks.proofs.AppendedRuns.{appended-none, appended-some, continued-last, last_view, two}
-use Rattle.pe_stacks.proofs.Founds.{index_found, index_none, index_within}
-use Rattle.pe_stacks.proofs.IndexCuts.{last_starts, none_starts, same_start}
+use Rattle.pe_core.proofs.RangeFounds.{index_found, index_none, index_within}
+use Rattle.pe_core.proofs.RangeCuts.{last_starts, none_starts, same_start}
 
 abbrev st : MemoryPiece → ℕ
 st p = p.start

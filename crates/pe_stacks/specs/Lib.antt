@@ -2,6 +2,5 @@ pub mod DumpMemory
 pub mod Images
 pub mod MemoryRuns
 pub mod Names
-pub mod RangeIndexes
 pub mod ThreadContexts
 pub mod ThreadWalks

@@ -6,7 +6,7 @@ use Rattle.pe_core.specs.Bytes.{range}
 use Rattle.pe_frame.specs.AddressRanges.{AreAscending}
 use Rattle.pe_frame.specs.MemoryLists.{are_inside, lists_byte}
 use Rattle.pe_frame.specs.declared.memory_list.MemoryPiece.{MemoryPiece}
-use Rattle.pe_stacks.specs.declared.range_index.RangeEntry.{RangeEntry}
+use Rattle.pe_core.specs.declared.range_index.RangeEntry.{RangeEntry}
 
 -- where in the file the byte at an address is: that of the first piece that has one there
 abbrev pub offset_in : List MemoryPiece → ℕ → Option ℕ

@@ -4,10 +4,11 @@
 ghost use Rattle.std.specs.Prelude.{◌≡◌, ◌<◌, length, IfErr, IfOk, IfSome, slice_index_or};
 ghost use Rattle.std.specs.List.{find};
 ghost use Rattle.std.specs.Option.{option_map};
+ghost use Rattle.pe_core.specs.RangeIndexes.{Indexes};
 ghost use Rattle.pe_frame.specs.AddressRanges.{has_address};
-ghost use Rattle.pe_stacks.specs.RangeIndexes.{Indexes};
 
-use crate::range_index::{RangeEntry, number_at, put_entries};
+use crate::range_index::Stated;
+use pe_core::{RangeEntry, index_of, number_at};
 use pe_frame::AddressRange;
 use std::alloc::{AllocError, Allocator};
 
@@ -19,25 +20,6 @@ pub struct IndexedRanges<'r, R: AddressRange, A: Allocator + Drop> {
     ghost index: { Indexes R.start_of R.size_of 0 ranges.now entries.items },
 }
 
-/// The index of ranges: two entries for each.
-pub(crate) fn index_of<R: AddressRange, A: Allocator + Copy + Drop>(
-    alloc: A,
-    ranges: &[R],
-) -> Result<Vec<RangeEntry, A>, AllocError>
-    ensures made { IfOk result (λ v. Indexes R.start_of R.size_of 0 ranges.now v.items) }
-    ensures refused { IfErr result (λ e. 0 < length ranges.now) }
-{
-    let Some(count) = ranges.len().checked_mul(2) else {
-        return Err(AllocError);
-    };
-    let mut entries = Vec::new(alloc);
-    entries.resize(count, RangeEntry::default())?;
-    let mut spare = Vec::new(alloc);
-    spare.resize(count, RangeEntry::default())?;
-    put_entries(ranges, 0, &mut entries, &mut spare);
-    Ok(entries)
-}
-
 impl<'r, R: AddressRange, A: Allocator + Copy + Drop> IndexedRanges<'r, R, A> {
     /// These ranges, with an index of them that is made in n log n steps and has two entries of 16 bytes for each, and while it is
     /// made as many more. Error: memory runs out, which it does not where there are no ranges.
@@ -45,7 +27,7 @@ impl<'r, R: AddressRange, A: Allocator + Copy + Drop> IndexedRanges<'r, R, A> {
         ensures made { IfOk result (λ v. v.ranges.now ≡ ranges.entry.now) }
         ensures refused { IfErr result (λ e. 0 < length ranges.entry.now) }
     {
-        let entries = index_of(alloc, ranges)?;
+        let entries = index_of(alloc, &Stated, ranges)?;
         Ok(IndexedRanges { ranges, entries })
     }
 

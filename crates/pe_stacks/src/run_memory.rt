@@ -10,9 +10,9 @@ ghost use Rattle.pe_frame.specs.AddressRanges.{AreAscending};
 ghost use Rattle.pe_frame.specs.MemoryLists.{are_inside, lists_byte};
 ghost use Rattle.pe_stacks.specs.MemoryRuns.{AreRuns, bytes_at};
 
-use crate::ranges::index_of;
+use crate::range_index::Stated;
 use crate::runs::put_runs;
-use pe_core::Result;
+use pe_core::{Result, index_of};
 use pe_frame::{MemoryList, MemoryPiece, first_with};
 use std::alloc::Allocator;
 
@@ -36,7 +36,7 @@ impl<'a, A: Allocator + Copy + Drop> MemoryRuns<'a, A> {
         ensures memory { IfErr result (λ e. kind_of e ≡ Memory → 0 < length pieces.now) }
     {
         MemoryList::new(bytes, pieces)?;
-        let entries = index_of(alloc, pieces)?;
+        let entries = index_of(alloc, &Stated, pieces)?;
         let mut runs = Vec::new(alloc);
         runs.resize(entries.len(), MemoryPiece::default())?;
         let count = put_runs(pieces, &entries, &mut runs);

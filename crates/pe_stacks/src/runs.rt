@@ -5,9 +5,10 @@
 ghost use Rattle.std.specs.Prelude.{◌≡◌, ◌+◌, ◌<◌, ◌≤◌, ◌^◌, IsTrue, length, take};
 ghost use Rattle.pe_frame.specs.MemoryLists.{lists_byte};
 ghost use Rattle.pe_stacks.specs.MemoryRuns.{AreRuns, IsRunOf, PutsRuns, addresses_of, appended, end_low, is_followed, part_of};
-ghost use Rattle.pe_stacks.specs.RangeIndexes.{Indexes};
+ghost use Rattle.pe_core.specs.RangeIndexes.{Indexes};
 
-use crate::range_index::{RangeEntry, put_index};
+use crate::range_index::put_index;
+use pe_core::RangeEntry;
 use pe_frame::MemoryPiece;
 
 /// How many addresses there are from the start of an entry up to that of the next one, or of the last entry to the last address.

@@ -1,7 +1,7 @@
 use Rattle.std.proofs.Common.{◌<◌, ◌-◌, ◌^◌, length, inl, inr, arith, rules, sym, subst, ◌∙◌, get_or}
 use Rattle.pe_frame.specs.declared.memory_list.MemoryPiece.{MemoryPiece}
 use Rattle.pe_stacks.specs.MemoryRuns.{IsRunOf}
-use Rattle.pe_stacks.specs.declared.range_index.RangeEntry.{RangeEntry}
+use Rattle.pe_core.specs.declared.range_index.RangeEntry.{RangeEntry}
 use Rattle.pe_stacks.proofs.RunSteps.{named_has, named_within, no_run_of, part_run_of}
 use Rattle.pe_stacks.proofs.runs.run_of.Goals as goal
 use Rattle.pe_stacks.proofs.runs.run_of.Goals.{then-entry-eq0-via-then-entry-eq0, then-entry-eq0-via-else-entry-eq0+then-most-eq0}

@@ -1,7 +1,7 @@
 use Rattle.std.proofs.Common.{List, arith, ap, sym, ◌∙◌}
-use Rattle.pe_stacks.specs.declared.range_index.RangeEntry.{RangeEntry}
-use Rattle.pe_stacks.specs.RangeIndexes.{number_at}
-use Rattle.pe_stacks.proofs.Founds.{index_found, index_none, index_within}
+use Rattle.pe_core.specs.declared.range_index.RangeEntry.{RangeEntry}
+use Rattle.pe_core.specs.RangeIndexes.{number_at}
+use Rattle.pe_core.proofs.RangeFounds.{index_found, index_none, index_within}
 use Rattle.pe_stacks.proofs.ranges.IndexedRanges.position.Goals as goal
 
 pub returns-then-number-eq0-clause-found : goal.returns-then-number-eq0-clause-found

@@ -3,7 +3,7 @@ use Rattle.pe_frame.specs.MemoryLists.{are_inside}
 use Rattle.pe_frame.specs.declared.memory_list.MemoryPiece.{MemoryPiece}
 use Rattle.pe_stacks.specs.MemoryRuns.{AreRuns}
 use Rattle.pe_stacks.proofs.RunBytes.{all_low}
-use Rattle.pe_stacks.proofs.SplitRooms.{take_front}
+use Rattle.pe_core.proofs.SplitRooms.{take_front}
 use Rattle.pe_stacks.proofs.run_memory.MemoryRuns.new.Goals as goal
 
 pub put_runs-count-requires-clause-low : goal.put_runs-count-requires-clause-low

@@ -1,9 +1,8 @@
 -- Lookup by an index is lookup in turn.
 use Rattle.std.proofs.Common.{◌≡◌, ℕ, suc, ◌+◌, ◌-◌, ◌<◌, ◌^◌, Bool, true, false, cond, List, [], ◌∷◌, length, get_or, Some, None, refl, arith, sym, ◌∙◌}
 use Rattle.std.specs.List.{find}
-use Rattle.pe_frame.specs.AddressRanges.{has_address}
-use Rattle.pe_stacks.specs.declared.range_index.RangeEntry.{RangeEntry}
-use Rattle.pe_stacks.specs.RangeIndexes.{Indexes, first_number, number_at}
+use Rattle.pe_core.specs.declared.range_index.RangeEntry.{RangeEntry}
+use Rattle.pe_core.specs.RangeIndexes.{Indexes, has_address, first_number, number_at}
 
 module _ {X : Type 0} (start size : X → ℕ) (a : ℕ) where
   -- what is found, by the number of a range in a list that starts with the index o
