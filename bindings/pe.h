@@ -395,6 +395,7 @@ enum pe_c_result {
     PE_C_BAD_OPERATION = 104,       /* unwind operation cannot be undone */
     PE_C_NOT_RISING = 105,          /* stack pointer of the caller is not above that of the function */
     PE_C_LONG_CHAIN = 106,          /* more than 32 unwind records are chained */
+    PE_C_OUT_OF_ORDER = 107,        /* pieces of memory overlap or do not ascend */
     PE_C_SIGN_NO_DIRECTORY = 201,   /* image has no certificate directory */
     PE_C_SIGN_TABLE_NOT_LAST = 202, /* certificate table ends before the end of the file */
     PE_C_SIGN_HEADERS = 203,        /* headers end after the start of the certificates or the end of the file */
@@ -534,6 +535,7 @@ static inline const char *pe_c_message(uint32_t number)
     case PE_C_BAD_OPERATION: return "unwind operation cannot be undone";
     case PE_C_NOT_RISING: return "stack pointer of the caller is not above that of the function";
     case PE_C_LONG_CHAIN: return "more than 32 unwind records are chained";
+    case PE_C_OUT_OF_ORDER: return "pieces of memory overlap or do not ascend";
     case PE_C_SIGN_NO_DIRECTORY: return "image has no certificate directory";
     case PE_C_SIGN_TABLE_NOT_LAST: return "certificate table ends before the end of the file";
     case PE_C_SIGN_HEADERS: return "headers end after the start of the certificates or the end of the file";
@@ -4055,14 +4057,13 @@ uint32_t pe_c_memory_runs(const pe_c_memory_piece *pieces, size_t piece_count, p
     PE_C_RESULT(7);
 
 /* Writes to `found`, for each of the ranges that are asked for, whose offset is an address and whose length how many bytes
- * from it on at most, the range of `memory` where these bytes are: those of the first piece that has the address, up to its
- * end. Where no piece has it the range has no bytes. `written` is how many ranges are asked for; the rest of `found` is
- * unchanged. In what pe_c_memory_runs writes a range ends at the first address that the dump has no byte of, or has
- * elsewhere: so the images of modules are found that the dump's own memory has, for pe_c_image with PE_C_MAPPED. The pieces
- * are tested once a call; where they overlap or are in no order, all of them for each range too, and in what
- * pe_c_memory_runs writes a search by halves finds each.
- * Errors, which change nothing: PE_C_SHORT if a piece is not inside `memory`; PE_C_ROOM where there is room for fewer ranges
- * than are asked for. */
+ * from it on at most, the range of `memory` where these bytes are: those of the run that has the address, up to its end.
+ * Where no run has it the range has no bytes. `written` is how many ranges are asked for; the rest of `found` is unchanged. A
+ * range ends at the first address that the dump has no byte of, or has elsewhere: so the images of modules are found that the
+ * dump's own memory has, for pe_c_image with PE_C_MAPPED. The pieces are runs, as pe_c_memory_runs writes them: they are
+ * tested once a call, and a search by halves finds each range.
+ * Errors, which change nothing: PE_C_SHORT if a piece is not inside `memory`; PE_C_OUT_OF_ORDER if pieces overlap or do not
+ * ascend; PE_C_ROOM where there is room for fewer ranges than are asked for. */
 uint32_t pe_c_memory_ranges(const uint8_t *memory, size_t memory_length, const pe_c_memory_piece *pieces, size_t piece_count,
                             const pe_c_range *asked, size_t asked_count, pe_c_range *found, size_t found_count,
                             uint64_t *written) PE_C_RESULT(9);

@@ -4,7 +4,7 @@
 use super::made::{SHORT, of_range, range};
 use crate::dump::memory_runs::{pe_c_memory_ranges, pe_c_memory_runs};
 use crate::ranges::Range;
-use crate::results::{DONE, ROOM};
+use crate::results::{DONE, OUT_OF_ORDER, ROOM};
 use pe_frame::MemoryPiece;
 use pe_stacks::RangeEntry;
 use std::test::Fail;
@@ -137,27 +137,26 @@ fn ranges_of_addresses_are_found(rt: HostRuntime) -> Result<(), Fail> {
         of_range(found[4]),
     ];
     assert_eq!(rt; places, [[0x44, 4], [0, 0], [0x5F, 1], [0x40, 3], [7, 8]]);
-    // In pieces in any order it is the first that has the address, up to its end.
-    let asked = [range(0x2004, 100)];
-    assert_eq!(rt;
-        pe_c_memory_ranges(&memory, &five_pieces(), &asked, &mut found, &mut written),
-        DONE
-    );
-    assert_eq!(rt; (written, of_range(found[0])), (1, [0x14, 12]));
     Ok(())
 }
 
 #[test]
 fn ranges_that_are_refused_change_nothing(rt: HostRuntime) -> Result<(), Fail> {
-    let (memory, list) = ([0; 0x60], five_pieces());
+    let (mut entries, mut runs, mut count) = ([LEFT_ENTRY; 20], [LEFT; 10], 9);
+    let _done = pe_c_memory_runs(&five_pieces(), &mut entries, &mut runs, &mut count);
+    let (memory, list) = ([0; 0x60], &runs[..5]);
     let asked = [range(0x2004, 100), range(0x1000, 1)];
     let (mut found, mut written) = ([range(7, 8); 2], 9);
     assert_eq!(rt;
-        pe_c_memory_ranges(&memory[..0x5F], &list, &asked, &mut found, &mut written),
+        pe_c_memory_ranges(&memory[..0x5F], list, &asked, &mut found, &mut written),
         SHORT
     );
     assert_eq!(rt;
-        pe_c_memory_ranges(&memory, &list, &asked, &mut found[..1], &mut written),
+        pe_c_memory_ranges(&memory, &five_pieces(), &asked, &mut found[..1], &mut written),
+        OUT_OF_ORDER
+    );
+    assert_eq!(rt;
+        pe_c_memory_ranges(&memory, list, &asked, &mut found[..1], &mut written),
         ROOM
     );
     assert_eq!(rt; (written, of_range(found[0])), (9, [7, 8]));

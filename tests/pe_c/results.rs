@@ -156,6 +156,7 @@ fn results_have_texts(rt: HostRuntime) {
     check_text(&rt, 104, "unwind operation cannot be undone");
     check_text(&rt, 105, "stack pointer of the caller is not above");
     check_text(&rt, 106, "more than 32 unwind records are chained");
+    check_text(&rt, 107, "pieces of memory overlap or do not ascend");
     check_text(&rt, 201, "image has no certificate directory");
     check_text(
         &rt,
@@ -213,7 +214,7 @@ fn results_have_texts(rt: HostRuntime) {
     for unknown in [
         39,
         99,
-        107,
+        108,
         200,
         207,
         300,

@@ -165,8 +165,8 @@ fn memory_of_lies(bytes: &[u8], random: &mut Random, number: u64) {
         sys::pe_c_memory_ranges(
             start,
             length,
-            pieces.as_ptr(),
-            4,
+            runs.as_ptr(),
+            if made == sys::DONE { count as usize } else { 0 },
             asked.as_ptr(),
             4,
             found.as_mut_ptr(),

@@ -293,6 +293,9 @@ errors! {
     NOT_RISING = 105;
     /// More than 32 unwind records are chained.
     LONG_CHAIN = 106;
+    // Of the memory of a dump.
+    /// Pieces of memory overlap or do not ascend.
+    OUT_OF_ORDER = 107;
 }
 
 impl Error {

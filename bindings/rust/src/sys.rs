@@ -4848,17 +4848,16 @@ extern "C" {
         written: *mut u64,
     ) -> u32;
     /// Writes to `found`, for each of the ranges that are asked for, whose offset is an address and whose length how
-    /// many bytes from it on at most, the range of `memory` where these bytes are: those of the first piece that has
-    /// the address, up to its end.
+    /// many bytes from it on at most, the range of `memory` where these bytes are: those of the run that has the
+    /// address, up to its end.
     ///
-    /// Where no piece has it the range has no bytes. `written` is how many ranges are asked for; the rest of `found` is
-    /// unchanged. In what [`pe_c_memory_runs`] writes a range ends at the first address that the dump has no byte of,
-    /// or has elsewhere: so the images of modules are found that the dump's own memory has, for [`pe_c_image`] with
-    /// [`MAPPED`]. The pieces are tested once a call; where they overlap or are in no order, all of them for each range
-    /// too, and in what [`pe_c_memory_runs`] writes a search by halves finds each.
+    /// Where no run has it the range has no bytes. `written` is how many ranges are asked for; the rest of `found` is
+    /// unchanged. A range ends at the first address that the dump has no byte of, or has elsewhere: so the images of
+    /// modules are found that the dump's own memory has, for [`pe_c_image`] with [`MAPPED`]. The pieces are runs, as
+    /// [`pe_c_memory_runs`] writes them: they are tested once a call, and a search by halves finds each range.
     ///
-    /// Errors, which change nothing: [`Error::SHORT`] if a piece is not inside `memory`; [`ROOM`] where there is room
-    /// for fewer ranges than are asked for.
+    /// Errors, which change nothing: [`Error::SHORT`] if a piece is not inside `memory`; [`Error::OUT_OF_ORDER`] if
+    /// pieces overlap or do not ascend; [`ROOM`] where there is room for fewer ranges than are asked for.
     pub fn pe_c_memory_ranges(
         memory: *const u8,
         memory_length: usize,

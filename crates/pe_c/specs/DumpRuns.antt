@@ -2,13 +2,13 @@
 use Rattle.std.specs.Prelude.{◌≡◌, ℕ, ◌+◌, ◌-◌, Bool, true, false, List, drop, length, map, min, nat_le, take, Option, Some, None}
 use Rattle.std.specs.List.{find}
 use Rattle.pe_core.specs.Refusals.{Short}
-use Rattle.pe_frame.specs.MemoryLists.{are_inside, lists_byte}
+use Rattle.pe_frame.specs.MemoryLists.{are_inside, ascend, lists_byte}
 use Rattle.pe_frame.specs.declared.memory_list.MemoryPiece.{MemoryPiece}
 use Rattle.pe_stacks.specs.MemoryRuns.{PutsRuns, end_low, has_rooms}
 use Rattle.pe_core.specs.declared.range_index.RangeEntry.{RangeEntry}
 use Rattle.pe_c.specs.HandsOut.{result_number}
 use Rattle.pe_c.specs.declared.ranges.Range.{Range}
-use Rattle.pe_c.specs.declared.results.TheConstants.{DONE, ROOM}
+use Rattle.pe_c.specs.declared.results.TheConstants.{DONE, OUT_OF_ORDER, ROOM}
 
 -- by whether the pieces end below offset 2^64, and whether the rooms have room for what is written: else nothing changes
 abbrev pub HandsOutRunsIf : Bool → Bool → List MemoryPiece → ℕ → List RangeEntry × List MemoryPiece → List RangeEntry × List MemoryPiece → ℕ × ℕ → Type 0
@@ -28,13 +28,14 @@ part_in r (Some p) = record { offset = p.offset + (r.offset - p.start); length =
 abbrev pub range_in : List MemoryPiece → Range → Range
 range_in pieces r = part_in r (find (lists_byte r.offset) pieces)
 
--- by whether each piece lies in the memory, and whether there is room for all: else nothing changes
-abbrev pub FindsRangesIf : Bool → Bool → List MemoryPiece → List Range → ℕ → List Range × List Range → ℕ × ℕ → Type 0
-FindsRangesIf true true pieces asked number (old, new) (before, after) =
+-- by whether each piece lies in the memory, whether they ascend, and whether there is room for all: else nothing changes
+abbrev pub FindsRangesIf : Bool → Bool → Bool → List MemoryPiece → List Range → ℕ → List Range × List Range → ℕ × ℕ → Type 0
+FindsRangesIf true true true pieces asked number (old, new) (before, after) =
     (number ≡ DONE) × (take (length asked) new ≡ map (range_in pieces) asked) × (drop (length asked) new ≡ drop (length asked) old) × (after ≡ length asked)
-FindsRangesIf true false pieces asked number (old, new) (before, after) = (number ≡ ROOM) × (new ≡ old) × (after ≡ before)
-FindsRangesIf false room pieces asked number (old, new) (before, after) = (number ≡ result_number Short) × (new ≡ old) × (after ≡ before)
+FindsRangesIf true true false pieces asked number (old, new) (before, after) = (number ≡ ROOM) × (new ≡ old) × (after ≡ before)
+FindsRangesIf true false room pieces asked number (old, new) (before, after) = (number ≡ OUT_OF_ORDER) × (new ≡ old) × (after ≡ before)
+FindsRangesIf false rises room pieces asked number (old, new) (before, after) = (number ≡ result_number Short) × (new ≡ old) × (after ≡ before)
 
 abbrev pub FindsRanges : List ℕ → List MemoryPiece → List Range → ℕ → List Range × List Range → ℕ × ℕ → Type 0
 FindsRanges memory pieces asked number (old, new) written =
-    FindsRangesIf (are_inside memory pieces) (nat_le (length asked) (length old)) pieces asked number (old, new) written
+    FindsRangesIf (are_inside memory pieces) (ascend pieces) (nat_le (length asked) (length old)) pieces asked number (old, new) written

@@ -62,6 +62,7 @@ other_texts =
     codes "unwind operation cannot be undone" ∷
     codes "stack pointer of the caller is not above that of the function" ∷
     codes "more than 32 unwind records are chained" ∷
+    codes "pieces of memory overlap or do not ascend" ∷
     []
 
 unfoldable pub other_text : ℕ → List ℕ

@@ -46,6 +46,9 @@ pub const NOT_RISING: u32 = 105;
 /// More records are chained than a step takes.
 pub const LONG_CHAIN: u32 = 106;
 
+/// Pieces of memory overlap or do not ascend, where runs are wanted.
+pub const OUT_OF_ORDER: u32 = 107;
+
 /// What is written does not fit its buffer: the number of `Reason::WriteFit`.
 pub const WRITE_FIT: u32 = 37;
 

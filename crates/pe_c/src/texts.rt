@@ -6,7 +6,7 @@ ghost use Rattle.pe_c.specs.declared.results.TheConstants.{NOTHING};
 ghost use Rattle.pe_c.specs.Texts.{refusal_text, other_text, result_text, sign_text, directory_text, tree_text, edit_text, signature_text, dump_text};
 
 use crate::ended_texts::put_truncated;
-use crate::results::{BAD_ADDRESS, BAD_OPERATION, LONG_CHAIN, MISSING, NOT_RISING, NOTHING, ROOM};
+use crate::results::{BAD_ADDRESS, BAD_OPERATION, LONG_CHAIN, MISSING, NOT_RISING, NOTHING, OUT_OF_ORDER, ROOM};
 
 /// The number of the first error of signing.
 const SIGNING: u32 = 201;
@@ -89,6 +89,7 @@ fn other_text(number: u32) -> &'static str
         BAD_OPERATION => "unwind operation cannot be undone",
         NOT_RISING => "stack pointer of the caller is not above that of the function",
         LONG_CHAIN => "more than 32 unwind records are chained",
+        OUT_OF_ORDER => "pieces of memory overlap or do not ascend",
         _ => "unknown result",
     }
 }

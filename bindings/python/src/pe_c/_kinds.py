@@ -95,6 +95,8 @@ class Kind(enum.IntEnum):
     """stack pointer of the caller is not above that of the function"""
     LONG_CHAIN = 106
     """more than 32 unwind records are chained"""
+    OUT_OF_ORDER = 107
+    """pieces of memory overlap or do not ascend"""
     SIGN_NO_DIRECTORY = 201
     """image has no certificate directory"""
     SIGN_TABLE_NOT_LAST = 202

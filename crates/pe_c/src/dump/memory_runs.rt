@@ -4,13 +4,12 @@
 
 ghost use Rattle.std.specs.Prelude.{◌≡◌, ◌+◌, ◌-◌, ◌≤◌, ◌^◌, IsTrue, Some, drop, length, map, nat_le, take};
 ghost use Rattle.pe_core.specs.Bytes.{holds};
-ghost use Rattle.pe_frame.specs.AddressRanges.{AreAscending};
-ghost use Rattle.pe_frame.specs.MemoryLists.{are_inside, lists_byte};
+ghost use Rattle.pe_frame.specs.MemoryLists.{are_inside, ascend, lists_byte};
 ghost use Rattle.pe_c.specs.DumpRuns.{FindsRanges, HandsOutRuns, part_in, range_in};
 ghost use Rattle.pe_stacks.specs.MemoryRuns.{end_low};
 
 use crate::ranges::{NO_BYTES, Range};
-use crate::results::{DONE, ROOM, number_of};
+use crate::results::{DONE, OUT_OF_ORDER, ROOM, number_of};
 use pe_core::Error;
 use pe_frame::{MemoryList, MemoryPiece, first_overlap, first_with};
 use pe_stacks::{RangeEntry, put_memory_runs};
@@ -70,13 +69,22 @@ fn part_of(memory: &[u8], piece: &MemoryPiece, asked: &Range) -> Range
     }
 }
 
+/// Whether each piece starts at or after the end of the one before it.
+#[tactic(auto, using(pe_frame::proofs::Lookups::decided))]
+fn ascend(pieces: &[MemoryPiece]) -> bool
+    ensures { result ≡ ascend pieces.now }
+{
+    first_overlap(pieces).is_none()
+}
+
 /// Where the bytes of a range of addresses are.
-fn range_in(memory: &[u8], pieces: &[MemoryPiece], is_ascending: bool, asked: &Range) -> Range
-    requires ascending { IsTrue is_ascending → AreAscending (λ p. p.start) (λ p. p.length) pieces.now }
+#[tactic(auto, using(pe_frame::proofs::Lookups::test_ascends))]
+fn range_in(memory: &[u8], pieces: &[MemoryPiece], asked: &Range) -> Range
+    requires ascending { IsTrue (ascend pieces.now) }
     requires inside { IsTrue (are_inside memory.now pieces.now) }
     ensures { result ≡ range_in pieces.now asked.now }
 {
-    match first_with(pieces, is_ascending, asked.offset) {
+    match first_with(pieces, true, asked.offset) {
         Some(piece) => part_of(memory, piece, asked),
         None => NO_BYTES,
     }
@@ -84,26 +92,25 @@ fn range_in(memory: &[u8], pieces: &[MemoryPiece], is_ascending: bool, asked: &R
 
 /// Writes to `found` where the bytes of each of these ranges of addresses are.
 fn put_ranges(memory: &[u8], pieces: &[MemoryPiece], asked: &[Range], found: &mut [Range])
+    requires ascending { IsTrue (ascend pieces.now) }
     requires inside { IsTrue (are_inside memory.now pieces.now) }
     requires room { length asked.now ≤ length found.old }
     ensures found { take (length asked.now) found.new ≡ map (range_in pieces.now) asked.now }
     ensures rest { drop (length asked.now) found.new ≡ drop (length asked.now) found.old }
 {
-    let is_ascending = first_overlap(pieces).is_none();
     for i in 0..asked.len() {
-        found[i] = range_in(memory, pieces, is_ascending, &asked[i]);
+        found[i] = range_in(memory, pieces, &asked[i]);
     }
 }
 
 /// Writes to `found`, for each of the ranges that are asked for, an address and how many bytes from it on at most, the range of
-/// `memory` where these bytes are: those of the first piece that has the address, up to its end. Where no piece has it the range has
-/// no bytes. `written` is how many. Of runs, as `pe_c_memory_runs` writes them, a range ends at the first address of which the dump
-/// has no byte, or where the dump has it elsewhere: so the images of modules that the dump's own memory has are found. The pieces
-/// are tested once a call; where they overlap or are in no order, all of them for each range too, and in runs a search by halves
-/// finds each.
+/// `memory` where these bytes are: those of the run that has the address, up to its end. Where no run has it the range has no
+/// bytes. `written` is how many. A range ends at the first address of which the dump has no byte, or where the dump has it
+/// elsewhere: so the images of modules that the dump's own memory has are found. The pieces are runs, as `pe_c_memory_runs` writes
+/// them: they are tested once a call, and a search by halves finds each range.
 ///
-/// Errors, which change nothing: `SHORT` if a piece does not lie in `memory`; `ROOM` where there is room for fewer than are asked
-/// for.
+/// Errors, which change nothing: `SHORT` if a piece does not lie in `memory`; `OUT_OF_ORDER` if pieces overlap or do not ascend;
+/// `ROOM` where there is room for fewer than are asked for.
 #[unsafe(no_mangle)]
 pub extern "C" fn pe_c_memory_ranges(
     memory: &[u8],
@@ -116,6 +123,9 @@ pub extern "C" fn pe_c_memory_ranges(
 {
     if let Err(error) = MemoryList::new(memory, pieces) {
         return number_of(&error);
+    }
+    if !ascend(pieces) {
+        return OUT_OF_ORDER;
     }
     if found.len() < asked.len() {
         return ROOM;

@@ -1,7 +1,7 @@
 //! The numbers of the results that are no error of a library below, by which definitions name them.
 
 ghost use Rattle.std.specs.Prelude.{◌≡◌};
-ghost use Rattle.pe_c.specs.declared.results.TheConstants.{BAD_ADDRESS, BAD_OPERATION, DONE, LONG_CHAIN, MISSING, NOTHING, NOT_RISING, ROOM};
+ghost use Rattle.pe_c.specs.declared.results.TheConstants.{BAD_ADDRESS, BAD_OPERATION, DONE, LONG_CHAIN, MISSING, NOTHING, NOT_RISING, OUT_OF_ORDER, ROOM};
 
 /// What a call returns that succeeded, that found nothing, or for which an array of the caller is too small; and the errors of a
 /// step of a stack walk.
@@ -14,4 +14,5 @@ pub fn constants_of_results()
     ensures bad_operation { BAD_OPERATION ≡ 104 }
     ensures not_rising { NOT_RISING ≡ 105 }
     ensures long_chain { LONG_CHAIN ≡ 106 }
+    ensures out_of_order { OUT_OF_ORDER ≡ 107 }
 {}
