@@ -55,11 +55,8 @@ fn program(size_of_table: u32) -> Vec<u8> {
     made.image()
 }
 
-/// What is said of a dump with a thread at this RVA of such an image, with these words on its stack, in JSON and in text, with this
-/// status. Its second module has no image.
-fn crash_of(test: &str, (size_of_table, rva): (u32, u64), stack: &[u64], wanted: i32) -> (Value, String) {
-    let folder = Folder::new(test);
-    folder.file("a.exe", &program(size_of_table));
+/// A dump with a thread at this RVA of such an image, with these words on its stack. Its second module has no image.
+fn stopped_at(rva: u64, stack: &[u64]) -> Vec<u8> {
     let words: Vec<u8> = stack.iter().flat_map(|it| it.to_le_bytes()).collect();
     let data = [made::context(0x1_8000_0000 + rva, 0x2_0000), words].concat();
     let streams = [
@@ -68,7 +65,23 @@ fn crash_of(test: &str, (size_of_table, rva): (u32, u64), stack: &[u64], wanted:
         made::modules(&[(0x1_8000_0000, 0x6000, 0, 0, [0, 0]), (OTHER, 0x1000, 9, 0, [0, 0])]),
         made::pieces(&[(0x2_0000, 8 * stack.len() as u32, made::DUMP_DATA + 1232)]),
     ];
-    let dump = folder.file("a.dmp", &made::dump_of(&streams, &data));
+    made::dump_of(&streams, &data)
+}
+
+/// The page of such a dump of a thread at the call.
+fn page_of(test: &str, stack: &[u64]) -> String {
+    let folder = Folder::new(test);
+    folder.file("a.exe", &program(12));
+    let dump = folder.file("a.dmp", &stopped_at(0x1010, stack));
+    run(&["report", &dump, "-", "--images", folder.0.to_str().unwrap()]).0
+}
+
+/// What is said of a dump with a thread at this RVA of such an image, with these words on its stack, in JSON and in text, with this
+/// status.
+fn crash_of(test: &str, (size_of_table, rva): (u32, u64), stack: &[u64], wanted: i32) -> (Value, String) {
+    let folder = Folder::new(test);
+    folder.file("a.exe", &program(size_of_table));
+    let dump = folder.file("a.dmp", &stopped_at(rva, stack));
     let [json, text] = [&["--json"][..], &[]].map(|more| {
         let (out, complaints, status) =
             run(&[&["stack", &dump, "--images", folder.0.to_str().unwrap()], more].concat());
@@ -134,6 +147,116 @@ fn a_stack_is_whole_only_without_a_guess() {
         assert_eq!((json!(found), &thread["end"]), (frames, &json!(end)), "{test}");
         assert!(text.contains(words), "{text}");
     }
+}
+
+/// A recursion of two functions, and of one: 3,000 frames are one line, and three where a run is too short to be folded.
+#[test]
+fn a_recursion_is_shown_once() {
+    let frames = |returns: &[u64]| -> Vec<u64> {
+        let of = |it: &u64| [0, 0, 0, 0, 0xB0, if *it == 0 { 0 } else { 0x1_8000_0000 + it }];
+        returns.iter().chain(&[0]).flat_map(of).collect()
+    };
+    // The call at 0x1010 and the same function's code at 0x1018, which no call ends at.
+    let (a, b) = (0x1010, 0x1018);
+    let cases: [(&str, Vec<u64>, &[&str], &[&str]); 5] = [
+        ("fold-one", [a; 99].to_vec(), &["0  ", "1  ", ".. 98 more like it"], &["2  ", "frames"]),
+        ("fold-two", [a, b].repeat(49), &["2  ", ".. 48 times more: frames 1 to 2"], &["3  ", "like it"]),
+        ("fold-odd", [[a, b].repeat(40), vec![a]].concat(), &[".. 39 times more: frames 1 to 2", "81  "], &["80  "]),
+        ("fold-few", vec![a; 3], &["0  ", "1  ", "2  ", "3  "], &[".."]),
+        ("fold-three", [a, a, b].repeat(20), &["3  ", ".. 19 times more: frames 1 to 3"], &["4  ", "like it"]),
+    ];
+    let page = page_of("fold-page", &frames(&[a; 99]));
+    assert!(page.contains("<span class=count>100</span>") && page.contains("<td>.. 98 more like it</td>"), "{page}");
+    assert!(page.contains("<tr id=frame-0-1>") && !page.contains("<tr id=frame-0-2>"), "{page}");
+    for (test, returns, there, absent) in cases {
+        let stack = frames(&returns);
+        let (said, text) = crash_of(test, (12, a), &stack, 0);
+        let all = said["threads"][0]["frames"].as_array().unwrap();
+        assert_eq!(all.len(), 1 + returns.len(), "{test}");
+        let (_, thread) = text.split_once("thread 36").unwrap();
+        let (thread, _) = thread.split_once("modules").unwrap();
+        let lines: Vec<&str> = thread.lines().map(str::trim_start).collect();
+        let has =
+            |it: &&str| lines.iter().any(|line| line.starts_with(*it) || line.contains(*it) && it.starts_with('.'));
+        assert!(there.iter().all(|it| has(it)), "{test}: {there:?} {text}");
+        assert!(!absent.iter().any(|it| has(it)), "{test}: {absent:?} {text}");
+    }
+}
+
+/// A dump of a crash in the first of modules with these paths, whose stack goes through the modules with these numbers; and whether it
+/// says the registers of the crash.
+fn through(paths: &[&str], callers: &[usize], has_registers: bool) -> Vec<u8> {
+    let base = |index: usize| 0x1_8000_0000 + 0x10_0000 * index as u64;
+    let returns = callers.iter().map(|it| base(*it) + 0x1010).chain([0]);
+    let stack: Vec<u8> = returns.flat_map(|it| [0, 0, 0, 0, 0xB0, it]).flat_map(u64::to_le_bytes).collect();
+    let mut data = [made::context(base(0) + 0x1010, 0x2_0000), stack.clone()].concat();
+    let mut names = Vec::new();
+    for path in paths {
+        names.push(if path.is_empty() { 0 } else { made::DUMP_DATA + data.len() as u32 });
+        let units: Vec<u8> = path.encode_utf16().flat_map(u16::to_le_bytes).collect();
+        data.extend([made::words(&[units.len() as u32]), units, vec![0; 2]].concat());
+    }
+    let modules: Vec<_> = names.iter().enumerate().map(|(it, name)| (base(it), 0x6000, 0, *name, [0, 0])).collect();
+    let mut raised = made::words(&[0x24, 0, 0xC000_0005, 0, 0, 0, 0x8000_1010, 1, 0, 0]);
+    raised.resize(160, 0);
+    raised.extend(made::words(&[if has_registers { 1232 } else { 1 }, made::DUMP_DATA]));
+    let streams = [
+        made::x64_system(),
+        made::threads(&[(0x24, made::DUMP_DATA)]),
+        made::modules(&modules),
+        made::pieces(&[(0x2_0000, stack.len() as u32, made::DUMP_DATA + 1232)]),
+        (6, raised),
+    ];
+    made::dump_of(&streams, &data)
+}
+
+/// What is said, in JSON and in text, of a crash through each of these modules.
+fn crash_through(test: &str, paths: &[&str], more: &[&str], has_registers: bool) -> (Value, String) {
+    let folder = Folder::new(test);
+    folder.file("a.exe", &program(12));
+    let callers: Vec<usize> = (1..paths.len()).collect();
+    let dump = folder.file("a.dmp", &through(paths, &callers, has_registers));
+    let page = run(&["report", &dump, "-", "--images", folder.0.to_str().unwrap()]).0;
+    let words = [&["stack", &dump, "--images", folder.0.to_str().unwrap()], more].concat();
+    let (json, text) = (run(&[&words[..], &["--json"]].concat()).0, run(&words).0);
+    assert!(!more.is_empty() || page.contains("<dt>not Windows</dt>") == text.contains("not Windows"), "{page}");
+    (serde_json::from_str(&json).unwrap(), text)
+}
+
+#[test]
+fn the_first_frame_outside_windows_is_named() {
+    let ntdll = r"C:\Windows\System32\ntdll.dll";
+    let user = r"C:\windows\SYSTEM32\user32.dll";
+    let (own, near) = (r"C:\app\a.exe", r"C:\WindowsApps\b.dll");
+    let cases: [(&str, &[&str], &[&str], Value); 9] = [
+        ("outside", &[ntdll, user, own, near], &[], json!(2)),
+        ("outside-near", &[ntdll, near, own], &[], json!(1)),
+        ("outside-top", &[own, ntdll], &[], json!(0)),
+        ("outside-none", &[ntdll, user], &[], json!(null)),
+        // Of a Windows directory elsewhere.
+        ("outside-elsewhere", &[r"D:\W\system32\NTDLL.DLL", r"d:\w\b.dll", user], &[], json!(2)),
+        ("outside-no-ntdll", &[user, own], &[], json!(null)),
+        ("outside-other-ntdll", &[r"C:\app\ntdll.dll", own], &[], json!(null)),
+        // The module of a frame before it has no path.
+        ("outside-no-path", &[ntdll, "", own], &[], json!(null)),
+        ("outside-few", &[ntdll, user, own], &["--frames", "2"], json!(null)),
+    ];
+    for (test, paths, more, wanted) in cases {
+        let (said, text) = crash_through(test, paths, more, true);
+        let found = &said["first_frame_outside_windows"];
+        assert_eq!(found["frame"], wanted, "{test}: {said}");
+        assert_eq!(text.contains("not Windows"), !wanted.is_null(), "{test}: {text}");
+        if test == "outside" {
+            assert_eq!(*found, json!({"thread_id": 36, "frame": 2, "windows_directory": r"C:\Windows"}));
+            let words =
+                r"not Windows   frame 2: a.exe+0x1010; the first of thread 36 in a module that is not below C:\Windows";
+            assert!(text.contains(words), "{text}");
+        }
+    }
+    let (said, _) = crash_through("outside-registers", &[ntdll, own], &[], false);
+    assert_eq!(said["first_frame_outside_windows"], json!(null));
+    assert_eq!(said["exception"]["registers_error"]["name"], "DUMP_CONTEXT_SIZE");
+    assert_eq!(said["threads"][0]["frames"].as_array().unwrap().len(), 2);
 }
 
 #[test]
@@ -382,17 +505,25 @@ fn text_is_a_screen_that_names_forge_nothing_in() {
     assert!(out.contains("  warning       dump: "), "{out}");
 }
 
-/// The line of JSON that the schema is checked against, `golden/stack.txt`, which `UPDATE_GOLDEN=1` writes anew.
+/// The lines of JSON that the schema is checked against, and a text, `golden/stack.txt`, which `UPDATE_GOLDEN=1` writes anew.
 #[test]
-fn json_is_the_golden_line() {
+fn what_is_said_is_the_golden_text() {
     let folder = Folder::new("stack-golden");
-    fs::write(folder.0.join("dump.dmp"), made::full_dump(made::X64)).unwrap();
-    let ran = std::process::Command::new(env!("CARGO_BIN_EXE_pe"))
-        .args(["stack", "dump.dmp", "--registers", "--json"])
-        .current_dir(&folder.0)
-        .output()
-        .unwrap();
-    let said = format!("$ pe stack dump.dmp --registers --json\n{}", String::from_utf8(ran.stdout).unwrap());
+    folder.file("dump.dmp", &made::full_dump(made::X64));
+    let paths = [r"C:\Windows\System32\ntdll.dll", r"C:\app\a.exe"];
+    folder.file("crash.dmp", &through(&paths, &[&[0][..], &[1; 40]].concat(), true));
+    fs::create_dir(folder.0.join("images")).unwrap();
+    folder.file("images/a.exe", &program(12));
+    let said_by = |words: &[&str]| {
+        let ran = Command::new(env!("CARGO_BIN_EXE_pe")).args(words).current_dir(&folder.0).output().unwrap();
+        format!("$ pe {}\n{}", words.join(" "), String::from_utf8(ran.stdout).unwrap())
+    };
+    let said = [
+        said_by(&["stack", "dump.dmp", "--registers", "--json"]),
+        said_by(&["stack", "crash.dmp", "--images", "images"]),
+        said_by(&["stack", "crash.dmp", "--images", "images", "--frames", "3", "--json"]),
+    ]
+    .concat();
     let path = concat!(env!("CARGO_MANIFEST_DIR"), "/tests/golden/stack.txt");
     if std::env::var_os("UPDATE_GOLDEN").is_some() {
         fs::write(path, &said).unwrap();
