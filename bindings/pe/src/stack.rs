@@ -6,6 +6,7 @@ mod files;
 mod folded;
 mod frames;
 mod functions;
+pub mod missing;
 mod modules;
 mod outside;
 pub mod text;

@@ -522,6 +522,9 @@ fn what_is_said_is_the_golden_text() {
         said_by(&["stack", "dump.dmp", "--registers", "--json"]),
         said_by(&["stack", "crash.dmp", "--images", "images"]),
         said_by(&["stack", "crash.dmp", "--images", "images", "--frames", "3", "--json"]),
+        said_by(&["key", "--missing", "crash.dmp"]),
+        said_by(&["key", "--missing", "crash.dmp", "--images", "images"]),
+        said_by(&["key", "--missing", "dump.dmp", "--json"]),
     ]
     .concat();
     let path = concat!(env!("CARGO_MANIFEST_DIR"), "/tests/golden/stack.txt");
@@ -529,6 +532,98 @@ fn what_is_said_is_the_golden_text() {
         fs::write(path, &said).unwrap();
     }
     assert_eq!(said, fs::read_to_string(path).unwrap());
+}
+
+/// What a dump's modules lack, as kinds and paths, with these folders.
+fn missing_in(dump: &str, folders: &[(&str, &str)]) -> Vec<(String, String)> {
+    let words: Vec<&str> = folders.iter().flat_map(|(name, folder)| [*name, *folder]).collect();
+    let (out, complaints, status) = run(&[&["key", "--missing", "--json", dump], &words[..]].concat());
+    assert_eq!((complaints.as_str(), status), ("", 0));
+    let said: Value = serde_json::from_str(&out).unwrap();
+    let text = |it: &Value, name: &str| it[name].as_str().unwrap_or("none").to_string();
+    said["missing"].as_array().unwrap().iter().map(|it| (text(it, "kind"), text(it, "symbol_server_path"))).collect()
+}
+
+/// An image is known by its headers, and a PDB by the path that a symbol server has. The paths are those of `pe key`.
+#[test]
+fn what_modules_lack_is_listed() {
+    let folder = Folder::new("missing");
+    let dump = folder.file("a.dmp", &made::full_dump(made::X64));
+    let root = folder.0.to_str().unwrap();
+    let pdb = ("PDB".to_string(), "a.pdb/497B72F6390A44FC878E5A2D63B6CC4B1/a.pdb".to_string());
+    let image = ("image".to_string(), "a.exe/000000006000/a.exe".to_string());
+    assert_eq!(run(&["key", &folder.file("a.exe", &made::with_debug())]).0.matches(pdb.1.as_str()).count(), 1);
+    fs::remove_file(folder.0.join("a.exe")).unwrap();
+    assert_eq!(missing_in(&dump, &[]), [image.clone(), pdb.clone()]);
+    assert_eq!(missing_in(&dump, &[("--images", root), ("--symbols", root)]), [image.clone(), pdb.clone()]);
+    // The file stands elsewhere, or is a folder.
+    for path in ["a.pdb", "a.pdb/497B72F6390A44FC878E5A2D63B6CC4B1", "x/a.pdb/497B72F6390A44FC878E5A2D63B6CC4B2"] {
+        let there = folder.0.join(path);
+        fs::create_dir_all(&there).unwrap();
+        fs::write(there.join("b.pdb"), b"").unwrap();
+    }
+    assert_eq!(missing_in(&dump, &[("--symbols", root)]), [image.clone(), pdb.clone()]);
+    let store = folder.0.join("store/A.PDB/497b72f6390a44fc878e5a2d63b6cc4b1");
+    fs::create_dir_all(&store).unwrap();
+    fs::write(store.join("a.Pdb"), b"").unwrap();
+    assert_eq!(missing_in(&dump, &[("--symbols", root)]), [image.clone()]);
+    assert_eq!(missing_in(&dump, &[("--images", root)]), [image]);
+    folder.file("another.bin", &made::with_functions());
+    assert_eq!(missing_in(&dump, &[("--symbols", root)]).len(), 1);
+    assert_eq!(missing_in(&dump, &[("--images", root)]), []);
+    // An image at its path there counts for its path.
+    fs::remove_file(folder.0.join("another.bin")).unwrap();
+    fs::create_dir_all(folder.0.join("a.exe/000000006000")).unwrap();
+    folder.file("a.exe/000000006000/a.exe", b"of no bytes that are read");
+    assert_eq!(missing_in(&dump, &[("--symbols", root)]), []);
+}
+
+#[test]
+fn an_image_that_the_memory_has_whole_is_not_missing() {
+    let folder = Folder::new("missing-memory");
+    let mut loaded = made::with_functions();
+    loaded.resize(0x6000, 0);
+    for (length, wanted) in [(0x6000, 1), (0x5000, 2)] {
+        let streams = [
+            made::x64_system(),
+            made::modules(&[(0x1_8000_0000, 0x6000, 0, 0, [0, 0])]),
+            made::pieces(&[(0x1_8000_0000, length, made::DUMP_DATA)]),
+        ];
+        let dump = folder.file("a.dmp", &made::dump_of(&streams, &loaded));
+        assert_eq!(missing_in(&dump, &[]).len(), wanted);
+    }
+}
+
+#[test]
+fn what_is_not_known_of_modules_is_said() {
+    let folder = Folder::new("missing-none");
+    let dump = folder.file("a.dmp", &made::dump());
+    let nothing = |kind: &str| (kind.to_string(), "none".to_string());
+    assert_eq!(missing_in(&dump, &[]), [nothing("image"), nothing("PDB")]);
+    let text = run(&["key", "--missing", &dump]).0;
+    assert!(
+        text.contains("none of ? at 0x180000000: the dump names no PDB of version 7.0 with a file's name"),
+        "{text}"
+    );
+    // Modules that are one image lack it once.
+    let many = folder.file("b.dmp", &with_modules(3));
+    let found = missing_in(&many, &[]);
+    assert_eq!((found.len(), found[0].1.starts_with("nnn")), (4, true), "{found:?}");
+    let (out, complaints, status) = run(&["key", "--missing", "--json", &folder.file("c.dmp", b"MZ")]);
+    let said: Value = serde_json::from_str(&out).unwrap();
+    assert_eq!(
+        (&said["error"]["name"], &said["missing"], &said["modules"]),
+        (&json!("SHORT"), &json!(null), &json!(null))
+    );
+    assert_eq!((complaints.as_str(), status), ("", 1));
+    let none = folder.0.join("nowhere");
+    let (_, complaints, status) = run(&["key", "--missing", &dump, "--symbols", none.to_str().unwrap()]);
+    assert!(complaints.contains("nowhere: No such file or directory") && status == 3, "{complaints}");
+    for words in
+        [&["key", &dump, "--images", "x"][..], &["key", "--missing", &dump, &dump], &["key", "--missing", "-r", &dump]]
+    {
+        assert_eq!(run(words).2, 2, "{words:?}");
+    }
 }
 
 /// What a traced call opens, relative to the folder that it runs in. The loader's files and the system's are absolute.
@@ -548,7 +643,7 @@ fn no_path_of_a_dump_is_opened() {
     folder.file("images/other.exe", &made::with_functions());
     let words =
         ["-f", "-qq", "-e", "trace=open,openat,openat2,connect,execve", "-o", "calls", env!("CARGO_BIN_EXE_pe")];
-    for command in [["stack", "a.dmp", "--json"], ["report", "a.dmp", "page.html"]] {
+    for command in [["stack", "a.dmp", "--json"], ["report", "a.dmp", "page.html"], ["key", "a.dmp", "--missing"]] {
         let mut traced = Command::new("strace");
         traced.args(words).args(command).args(["--images", "images"]).current_dir(&folder.0);
         match traced.output() {
@@ -559,7 +654,10 @@ fn no_path_of_a_dump_is_opened() {
         // The page is written to a temporary file first.
         let mut opened: Vec<&str> = calls.lines().filter_map(opened_by).filter(|it| !it.starts_with(".pe-")).collect();
         opened.sort_unstable();
-        assert_eq!(opened, ["a.dmp", "images", "images/other.exe", "images/other.exe"]);
+        // The start of an image is read first. A folder is listed for its images, and for what is laid out as on a symbol server.
+        let folders = if command[0] == "key" { 2 } else { 1 };
+        let wanted = [&["a.dmp"][..], &["images"].repeat(folders), &["images/other.exe"; 2]].concat();
+        assert_eq!(opened, wanted);
         assert_eq!((calls.matches("execve(").count(), calls.matches("connect(").count()), (1, 0));
     }
 }
