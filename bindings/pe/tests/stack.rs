@@ -149,42 +149,54 @@ fn a_stack_is_whole_only_without_a_guess() {
     }
 }
 
-/// A recursion of two functions, and of one: 3,000 frames are one line, and three where a run is too short to be folded.
+/// The RVAs that the frames of a recursion return to, and the lines of its frames: the number of each that is shown, and what is
+/// said of those that are not.
+type Recursion<'a> = (&'a str, Vec<u64>, &'a [&'a str]);
+
+/// Each run of frames that comes again is shown once. Three frames more take three lines, and what is said of them one.
 #[test]
 fn a_recursion_is_shown_once() {
-    let frames = |returns: &[u64]| -> Vec<u64> {
-        let of = |it: &u64| [0, 0, 0, 0, 0xB0, if *it == 0 { 0 } else { 0x1_8000_0000 + it }];
-        returns.iter().chain(&[0]).flat_map(of).collect()
+    let stack_of = |returns: &[u64]| -> Vec<u64> {
+        let frame = |it: &u64| [0, 0, 0, 0, 0xB0, if *it == 0 { 0 } else { 0x1_8000_0000 + it }];
+        returns.iter().chain(&[0]).flat_map(frame).collect()
     };
-    // The call at 0x1010 and the same function's code at 0x1018, which no call ends at.
-    let (a, b) = (0x1010, 0x1018);
-    let cases: [(&str, Vec<u64>, &[&str], &[&str]); 5] = [
-        ("fold-one", [a; 99].to_vec(), &["0  ", "1  ", ".. 98 more like it"], &["2  ", "frames"]),
-        ("fold-two", [a, b].repeat(49), &["2  ", ".. 48 times more: frames 1 to 2"], &["3  ", "like it"]),
-        ("fold-odd", [[a, b].repeat(40), vec![a]].concat(), &[".. 39 times more: frames 1 to 2", "81  "], &["80  "]),
-        ("fold-few", vec![a; 3], &["0  ", "1  ", "2  ", "3  "], &[".."]),
-        ("fold-three", [a, a, b].repeat(20), &["3  ", ".. 19 times more: frames 1 to 3"], &["4  ", "like it"]),
+    // The top frame, whose row says so, is like no other.
+    let (a, b, c) = (0x1010, 0x1018, 0x1014);
+    let many: Vec<u64> = (0x1008..0x1019).collect();
+    let cases: [Recursion; 7] = [
+        ("fold-one", vec![a; 99], &["0", "1", ".. 98 more like it"]),
+        ("fold-few", vec![a; 3], &["0", "1", "2", "3"]),
+        ("fold-two", [a, b].repeat(49), &["0", "1", "2", ".. 48 times more: frames 1 to 2"]),
+        ("fold-odd", [a, b, a, b, a, b, a].to_vec(), &["0", "1", "2", ".. 2 times more: frames 1 to 2", "7"]),
+        ("fold-three", [c, a, a, b].repeat(20), &["0", "1", "2", "3", "4", ".. 19 times more: frames 1 to 4"]),
+        (
+            "fold-apart",
+            [vec![a; 9], vec![c], vec![b; 9]].concat(),
+            &["0", "1", ".. 8 more like it", "10", "11", ".. 8 more like it"],
+        ),
+        // A run of 17 frames is longer than those that are looked for.
+        ("fold-long", many.repeat(3), &[]),
     ];
-    let page = page_of("fold-page", &frames(&[a; 99]));
+    for (test, returns, wanted) in cases {
+        let (said, text) = crash_of(test, (12, a), &stack_of(&returns), 0);
+        assert_eq!(said["threads"][0]["frames"].as_array().unwrap().len(), 1 + returns.len(), "{test}");
+        let (_, thread) = text.split_once("found by\n").unwrap();
+        let (thread, _) = thread.split_once("  end ").unwrap();
+        let line = |it: &str| match it.trim_start() {
+            it if it.starts_with("..") => it.to_string(),
+            it => it.split(' ').next().unwrap_or_default().to_string(),
+        };
+        let found: Vec<String> = thread.lines().map(line).collect();
+        let all: Vec<String> = (0..=returns.len()).map(|it| it.to_string()).collect();
+        assert!(if wanted.is_empty() { found == all } else { found == wanted }, "{test}: {found:?}");
+    }
+    let page = page_of("fold-page", &stack_of(&[a; 99]));
     assert!(page.contains("<span class=count>100</span>") && page.contains("<td>.. 98 more like it</td>"), "{page}");
     assert!(page.contains("<tr id=frame-0-1>") && !page.contains("<tr id=frame-0-2>"), "{page}");
-    for (test, returns, there, absent) in cases {
-        let stack = frames(&returns);
-        let (said, text) = crash_of(test, (12, a), &stack, 0);
-        let all = said["threads"][0]["frames"].as_array().unwrap();
-        assert_eq!(all.len(), 1 + returns.len(), "{test}");
-        let (_, thread) = text.split_once("thread 36").unwrap();
-        let (thread, _) = thread.split_once("modules").unwrap();
-        let lines: Vec<&str> = thread.lines().map(str::trim_start).collect();
-        let has =
-            |it: &&str| lines.iter().any(|line| line.starts_with(*it) || line.contains(*it) && it.starts_with('.'));
-        assert!(there.iter().all(|it| has(it)), "{test}: {there:?} {text}");
-        assert!(!absent.iter().any(|it| has(it)), "{test}: {absent:?} {text}");
-    }
 }
 
-/// A dump of a crash in the first of modules with these paths, whose stack goes through the modules with these numbers; and whether it
-/// says the registers of the crash.
+/// A dump of a crash in the first of modules with these paths, whose stack goes through the modules with these numbers; and whether
+/// it says the registers of the crash.
 fn through(paths: &[&str], callers: &[usize], has_registers: bool) -> Vec<u8> {
     let base = |index: usize| 0x1_8000_0000 + 0x10_0000 * index as u64;
     let returns = callers.iter().map(|it| base(*it) + 0x1010).chain([0]);
@@ -566,8 +578,9 @@ fn what_modules_lack_is_listed() {
     let store = folder.0.join("store/A.PDB/497b72f6390a44fc878e5a2d63b6cc4b1");
     fs::create_dir_all(&store).unwrap();
     fs::write(store.join("a.Pdb"), b"").unwrap();
-    assert_eq!(missing_in(&dump, &[("--symbols", root)]), [image.clone()]);
-    assert_eq!(missing_in(&dump, &[("--images", root)]), [image]);
+    let of_image = [image];
+    assert_eq!(missing_in(&dump, &[("--symbols", root)]), of_image);
+    assert_eq!(missing_in(&dump, &[("--images", root)]), of_image);
     folder.file("another.bin", &made::with_functions());
     assert_eq!(missing_in(&dump, &[("--symbols", root)]).len(), 1);
     assert_eq!(missing_in(&dump, &[("--images", root)]), []);

@@ -1,5 +1,5 @@
-//! `pe key --missing`: which images and PDB files of a minidump's modules are not found, as a symbol server spells them. An image is
-//! looked for as `pe stack` looks for it; both are in folders that are laid out as symbol servers are. Those folders are listed, and
+//! `pe key --missing`: which images and PDB files of a minidump's modules are not found, as a symbol server spells them. An image
+//! is looked for as `pe stack` looks for it, and both in folders that are laid out as symbol servers are. The folders are listed, and
 //! what stands in the dump is compared with the lists: no path of it is opened.
 
 use super::told::Module;

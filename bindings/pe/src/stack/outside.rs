@@ -1,6 +1,6 @@
-//! The first frame of the crashed thread in a module that is not of Windows. A module is of Windows where its path in the dump's list of
-//! modules is below the Windows directory, the folder whose `System32` has the `ntdll.dll` of that list. A reader looks there first; what
-//! the cause is, no rule says.
+//! The first frame of the crashed thread in a module that is not of Windows. A module is of Windows where its path in the dump's
+//! list of modules is below the Windows directory, the folder whose `System32` has the `ntdll.dll` of that list. A reader looks
+//! there first; what the cause is, no rule says.
 
 use super::told::{Outside, Thread};
 
@@ -22,8 +22,8 @@ fn is_below(path: &str, folder: &str) -> bool {
     parts.is_some_and(|(start, rest)| start.eq_ignore_ascii_case(folder) && rest.starts_with('\\'))
 }
 
-/// The frame, by the paths of modules. Frames in no module are passed. None where there is no such frame, the Windows directory is not
-/// known, or a frame before it is in a module without a path.
+/// The frame, by the paths of modules. Frames in no module are skipped. None where there is no such frame, the Windows directory is
+/// not known, or a frame before it is in a module without a path.
 pub fn first_of(threads: &[Thread], paths: &[Option<String>]) -> Option<Outside> {
     let thread = threads.iter().find(|it| it.is_crashed)?;
     let windows = windows_of(paths)?;
