@@ -614,10 +614,8 @@ fn what_is_not_known_of_modules_is_said() {
     let nothing = |kind: &str| (kind.to_string(), "none".to_string());
     assert_eq!(missing_in(&dump, &[]), [nothing("image"), nothing("PDB")]);
     let text = run(&["key", "--missing", &dump]).0;
-    assert!(
-        text.contains("none of ? at 0x180000000: the dump names no PDB of version 7.0 with a file's name"),
-        "{text}"
-    );
+    let words = "  no PDB        1 module: 0x180000000; the dump names no PDB of version 7.0 with a file's name\n";
+    assert!(text.contains(words) && text.contains("  no image      1 module: 0x180000000; "), "{text}");
     // Modules that are one image lack it once.
     let many = folder.file("b.dmp", &with_modules(3));
     let found = missing_in(&many, &[]);

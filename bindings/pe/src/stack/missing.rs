@@ -17,6 +17,12 @@ use std::path::{Path, PathBuf};
 /// How many parts a path on a symbol server has: NAME/KEY/NAME.
 const PARTS: usize = 3;
 
+/// What has no path, and why.
+const WITHOUT_PATH: [(&str, &str, &str); 2] = [
+    ("no image", "image", "the dump has no file's name of them"),
+    ("no PDB", "PDB", "the dump names no PDB of version 7.0 with a file's name"),
+];
+
 /// What is below the folders that the user names.
 pub struct Stores {
     images: Known,
@@ -126,8 +132,16 @@ fn text_of(missing: &Missing) -> String {
         page.warning(refusal);
     }
     for it in missing.missing.entries() {
-        let path = it.symbol_server_path.as_deref().map(escaped);
-        page.row(it.kind, path.unwrap_or_else(|| without_path(it)));
+        if let Some(path) = &it.symbol_server_path {
+            page.row(it.kind, escaped(path));
+        }
+    }
+    for (label, kind, why) in WITHOUT_PATH {
+        let of_kind = missing.missing.entries().iter().filter(|it| it.kind == kind && it.symbol_server_path.is_none());
+        let modules: Vec<String> = of_kind.map(name_of).collect();
+        if !modules.is_empty() {
+            page.row(label, format!("{}: {}; {why}", counted(modules.len(), "module"), modules.join(", ")));
+        }
     }
     if let Some(modules) = missing.modules {
         let named = missing.missing.entries().iter().filter(|it| it.symbol_server_path.is_some());
@@ -141,12 +155,7 @@ fn text_of(missing: &Missing) -> String {
     page.into_text()
 }
 
-/// Why no path is said.
-fn without_path(wanted: &Wanted) -> String {
-    let module = wanted.module.as_deref().map_or("?".to_string(), escaped);
-    let why = match wanted.kind {
-        "image" => "the dump has no file's name of it",
-        _ => "the dump names no PDB of version 7.0 with a file's name",
-    };
-    format!("none of {module} at {:#x}: {why}", wanted.base_va)
+/// A module by its name, or by its address.
+fn name_of(wanted: &Wanted) -> String {
+    wanted.module.as_deref().map_or(format!("{:#x}", wanted.base_va), escaped)
 }
