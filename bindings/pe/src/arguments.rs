@@ -18,6 +18,7 @@ pub const EXAMPLES: &str = "  pe program.exe                        what it is, 
   pe unwind program.exe 1a2b            how the function at an RVA is unwound
   pe stack crash.dmp --images C:/App    why a process crashed, and the stacks of its threads
   pe key program.exe                    where a symbol server has its PDB and itself
+  pe key --missing crash.dmp            which of these its modules lack
   pe digest program.exe                 what its signature signs, as SHA-256
   pe verify program.exe                 by whom and when it was signed, and whether digests and signatures fit
   pe extract program.exe manifest -     its manifest, on standard output
@@ -239,10 +240,12 @@ pub enum Command {
         #[command(flatten)]
         output: Output,
     },
-    /// Show where a symbol server has the PDB of an image, and the image.
+    /// Show where a symbol server has the PDB of an image, and the image; or which of these a minidump's modules lack.
     Key {
         #[command(flatten)]
         files: Files,
+        #[command(flatten)]
+        missing: Missing,
         #[command(flatten)]
         reading: Reading,
         #[command(flatten)]
@@ -438,6 +441,20 @@ pub enum Command {
     },
     /// Write the man page to standard output.
     Man,
+}
+
+/// What of a minidump's modules is looked for, and where.
+#[derive(Args, Clone, Debug)]
+pub struct Missing {
+    /// FILE is a minidump: the images and PDB files of its modules that are not found. No path that stands in it is opened.
+    #[arg(long, conflicts_with_all = ["recursive", "verbose", "strict", "mapped", "no_hashes"])]
+    pub missing: bool,
+    /// A folder below which the images of modules are, or a file, as of `pe stack`.
+    #[arg(long, value_name = "FOLDER", requires = "missing")]
+    pub images: Vec<PathBuf>,
+    /// A folder that is laid out as a symbol server is, with PDB files and images as NAME/KEY/NAME.
+    #[arg(long, value_name = "FOLDER", requires = "missing")]
+    pub symbols: Vec<PathBuf>,
 }
 
 /// Which stacks are shown, and how much of them.

@@ -30,7 +30,7 @@ mod tables;
 mod unwind;
 mod verify;
 
-use arguments::{Arguments, Command, Files, Hashing, Output, Reading, Walk};
+use arguments::{Arguments, Command, Files, Hashing, Missing, Output, Reading, Walk};
 use clap::error::ErrorKind;
 use clap::{CommandFactory, Parser, ValueEnum};
 use extract::ExtractedPart;
@@ -40,6 +40,7 @@ use files::Report;
 use page::Style;
 use pe_c::{Error, Image, Placement};
 use serde::Serialize;
+use stack::missing::Stores;
 use std::io::{self, Write};
 use std::path::{Path, PathBuf};
 use std::process::ExitCode;
@@ -137,7 +138,12 @@ fn run_command(command: &Command, out: &mut dyn Write) -> io::Result<Status> {
             let how = How { reading, has_hashes: true, is_json: output.json };
             compare([before.as_path(), after.as_path()], how, out)
         }
-        Command::Key { files, reading, hashing, output } => show_keys(files, How::of(reading, hashing, output), out),
+        Command::Key { files, missing, output, .. } if missing.missing => {
+            show_missing(files, missing, output.json, out)
+        }
+        Command::Key { files, reading, hashing, output, .. } => {
+            show_keys(files, How::of(reading, hashing, output), out)
+        }
         Command::Digest { files, reading, output } => {
             refuse_mapped(reading, "a digest");
             files::each(files, out, |path, bytes| {
@@ -180,6 +186,15 @@ fn show_keys(files: &Files, how: How, out: &mut dyn Write) -> io::Result<Status>
         false => Said::apart(show::keys(facts, style), facts),
     };
     files::each(files, out, |path, bytes| shown(path, bytes, how.reading, &wanted, text))
+}
+
+/// `pe key --missing`: what the modules of a minidump lack.
+fn show_missing(files: &Files, missing: &Missing, is_json: bool, out: &mut dyn Write) -> io::Result<Status> {
+    let [dump] = files.files.as_slice() else { misused("--missing takes one minidump") };
+    let there = files::are_there(&missing.images).max(files::are_there(&missing.symbols));
+    let stores = Stores::below(&missing.images, &missing.symbols);
+    let status = files::one(dump, out, |bytes, out| stack::missing::write(dump, bytes, &stores, is_json, out))?;
+    Ok(status.max(there))
 }
 
 /// `pe show`, of its words: as CSV where a table is named, or `Some(None)`, the one of the part.

@@ -3,9 +3,12 @@
 //! is shown than a dump of its size has room for: a frame shows the start of its module's name.
 
 mod files;
+mod folded;
 mod frames;
 mod functions;
+pub mod missing;
 mod modules;
+mod outside;
 pub mod text;
 mod told;
 
@@ -149,14 +152,22 @@ fn told_of(dump: &Dump<'_>, path: &Path, known: &Known, asked: Asked) -> Told {
     let loaded = images.as_ref().map(|images| Loaded { images, paths: &paths });
     let loaded = loaded.as_ref();
     let memory = loaded.map_or_else(|_| memory_of(&DumpMemory::new(dump)), |it| memory_of(it.images.memory()));
+    let system = system_of(dump, &mut texts);
+    let exception: Part<Exception> =
+        dump.exception().map(|it| it.map(|it| exception_of(dump, &it, loaded.ok()))).into();
+    let threads = threads_of(dump, loaded.ok(), asked, &mut texts);
+    // Without the registers of the crash its frames may be of the code that wrote the dump.
+    let has_registers = exception.present().is_some_and(|it| it.registers_error.is_none());
+    let first = has_registers.then(|| outside::first_of(threads.entries(), &paths));
     let told = Told {
         origin: Origin::of(path),
         written: Written(Some(Stamp::of(dump.info().time_date_stamp))),
         flags: Some(dump.info().flags),
-        system: system_of(dump, &mut texts),
+        system,
         process: process_of(dump),
-        exception: dump.exception().map(|it| it.map(|it| exception_of(dump, &it, loaded.ok()))).into(),
-        threads: threads_of(dump, loaded.ok(), asked, &mut texts),
+        exception,
+        first_frame_outside_windows: first.flatten(),
+        threads,
         unloaded_modules: unloaded_of(dump, &mut texts),
         modules: match loaded {
             Ok(_) if !matches!(dump.modules(), Ok(Some(_))) => Part::Absent,

@@ -55,11 +55,8 @@ fn program(size_of_table: u32) -> Vec<u8> {
     made.image()
 }
 
-/// What is said of a dump with a thread at this RVA of such an image, with these words on its stack, in JSON and in text, with this
-/// status. Its second module has no image.
-fn crash_of(test: &str, (size_of_table, rva): (u32, u64), stack: &[u64], wanted: i32) -> (Value, String) {
-    let folder = Folder::new(test);
-    folder.file("a.exe", &program(size_of_table));
+/// A dump with a thread at this RVA of such an image, with these words on its stack. Its second module has no image.
+fn stopped_at(rva: u64, stack: &[u64]) -> Vec<u8> {
     let words: Vec<u8> = stack.iter().flat_map(|it| it.to_le_bytes()).collect();
     let data = [made::context(0x1_8000_0000 + rva, 0x2_0000), words].concat();
     let streams = [
@@ -68,7 +65,23 @@ fn crash_of(test: &str, (size_of_table, rva): (u32, u64), stack: &[u64], wanted:
         made::modules(&[(0x1_8000_0000, 0x6000, 0, 0, [0, 0]), (OTHER, 0x1000, 9, 0, [0, 0])]),
         made::pieces(&[(0x2_0000, 8 * stack.len() as u32, made::DUMP_DATA + 1232)]),
     ];
-    let dump = folder.file("a.dmp", &made::dump_of(&streams, &data));
+    made::dump_of(&streams, &data)
+}
+
+/// The page of such a dump of a thread at the call.
+fn page_of(test: &str, stack: &[u64]) -> String {
+    let folder = Folder::new(test);
+    folder.file("a.exe", &program(12));
+    let dump = folder.file("a.dmp", &stopped_at(0x1010, stack));
+    run(&["report", &dump, "-", "--images", folder.0.to_str().unwrap()]).0
+}
+
+/// What is said of a dump with a thread at this RVA of such an image, with these words on its stack, in JSON and in text, with this
+/// status.
+fn crash_of(test: &str, (size_of_table, rva): (u32, u64), stack: &[u64], wanted: i32) -> (Value, String) {
+    let folder = Folder::new(test);
+    folder.file("a.exe", &program(size_of_table));
+    let dump = folder.file("a.dmp", &stopped_at(rva, stack));
     let [json, text] = [&["--json"][..], &[]].map(|more| {
         let (out, complaints, status) =
             run(&[&["stack", &dump, "--images", folder.0.to_str().unwrap()], more].concat());
@@ -134,6 +147,128 @@ fn a_stack_is_whole_only_without_a_guess() {
         assert_eq!((json!(found), &thread["end"]), (frames, &json!(end)), "{test}");
         assert!(text.contains(words), "{text}");
     }
+}
+
+/// The RVAs that the frames of a recursion return to, and the lines of its frames: the number of each that is shown, and what is
+/// said of those that are not.
+type Recursion<'a> = (&'a str, Vec<u64>, &'a [&'a str]);
+
+/// Each run of frames that comes again is shown once. Three frames more take three lines, and what is said of them one.
+#[test]
+fn a_recursion_is_shown_once() {
+    let stack_of = |returns: &[u64]| -> Vec<u64> {
+        let frame = |it: &u64| [0, 0, 0, 0, 0xB0, if *it == 0 { 0 } else { 0x1_8000_0000 + it }];
+        returns.iter().chain(&[0]).flat_map(frame).collect()
+    };
+    // The top frame, whose row says so, is like no other.
+    let (a, b, c) = (0x1010, 0x1018, 0x1014);
+    let many: Vec<u64> = (0x1008..0x1019).collect();
+    let cases: [Recursion; 7] = [
+        ("fold-one", vec![a; 99], &["0", "1", ".. 98 more like it"]),
+        ("fold-few", vec![a; 3], &["0", "1", "2", "3"]),
+        ("fold-two", [a, b].repeat(49), &["0", "1", "2", ".. 48 times more: frames 1 to 2"]),
+        ("fold-odd", [a, b, a, b, a, b, a].to_vec(), &["0", "1", "2", ".. 2 times more: frames 1 to 2", "7"]),
+        ("fold-three", [c, a, a, b].repeat(20), &["0", "1", "2", "3", "4", ".. 19 times more: frames 1 to 4"]),
+        (
+            "fold-apart",
+            [vec![a; 9], vec![c], vec![b; 9]].concat(),
+            &["0", "1", ".. 8 more like it", "10", "11", ".. 8 more like it"],
+        ),
+        // A run of 17 frames is longer than those that are looked for.
+        ("fold-long", many.repeat(3), &[]),
+    ];
+    for (test, returns, wanted) in cases {
+        let (said, text) = crash_of(test, (12, a), &stack_of(&returns), 0);
+        assert_eq!(said["threads"][0]["frames"].as_array().unwrap().len(), 1 + returns.len(), "{test}");
+        let (_, thread) = text.split_once("found by\n").unwrap();
+        let (thread, _) = thread.split_once("  end ").unwrap();
+        let line = |it: &str| match it.trim_start() {
+            it if it.starts_with("..") => it.to_string(),
+            it => it.split(' ').next().unwrap_or_default().to_string(),
+        };
+        let found: Vec<String> = thread.lines().map(line).collect();
+        let all: Vec<String> = (0..=returns.len()).map(|it| it.to_string()).collect();
+        assert!(if wanted.is_empty() { found == all } else { found == wanted }, "{test}: {found:?}");
+    }
+    let page = page_of("fold-page", &stack_of(&[a; 99]));
+    assert!(page.contains("<span class=count>100</span>") && page.contains("<td>.. 98 more like it</td>"), "{page}");
+    assert!(page.contains("<tr id=frame-0-1>") && !page.contains("<tr id=frame-0-2>"), "{page}");
+}
+
+/// A dump of a crash in the first of modules with these paths, whose stack goes through the modules with these numbers; and whether
+/// it says the registers of the crash.
+fn through(paths: &[&str], callers: &[usize], has_registers: bool) -> Vec<u8> {
+    let base = |index: usize| 0x1_8000_0000 + 0x10_0000 * index as u64;
+    let returns = callers.iter().map(|it| base(*it) + 0x1010).chain([0]);
+    let stack: Vec<u8> = returns.flat_map(|it| [0, 0, 0, 0, 0xB0, it]).flat_map(u64::to_le_bytes).collect();
+    let mut data = [made::context(base(0) + 0x1010, 0x2_0000), stack.clone()].concat();
+    let mut names = Vec::new();
+    for path in paths {
+        names.push(if path.is_empty() { 0 } else { made::DUMP_DATA + data.len() as u32 });
+        let units: Vec<u8> = path.encode_utf16().flat_map(u16::to_le_bytes).collect();
+        data.extend([made::words(&[units.len() as u32]), units, vec![0; 2]].concat());
+    }
+    let modules: Vec<_> = names.iter().enumerate().map(|(it, name)| (base(it), 0x6000, 0, *name, [0, 0])).collect();
+    let mut raised = made::words(&[0x24, 0, 0xC000_0005, 0, 0, 0, 0x8000_1010, 1, 0, 0]);
+    raised.resize(160, 0);
+    raised.extend(made::words(&[if has_registers { 1232 } else { 1 }, made::DUMP_DATA]));
+    let streams = [
+        made::x64_system(),
+        made::threads(&[(0x24, made::DUMP_DATA)]),
+        made::modules(&modules),
+        made::pieces(&[(0x2_0000, stack.len() as u32, made::DUMP_DATA + 1232)]),
+        (6, raised),
+    ];
+    made::dump_of(&streams, &data)
+}
+
+/// What is said, in JSON and in text, of a crash through each of these modules.
+fn crash_through(test: &str, paths: &[&str], more: &[&str], has_registers: bool) -> (Value, String) {
+    let folder = Folder::new(test);
+    folder.file("a.exe", &program(12));
+    let callers: Vec<usize> = (1..paths.len()).collect();
+    let dump = folder.file("a.dmp", &through(paths, &callers, has_registers));
+    let page = run(&["report", &dump, "-", "--images", folder.0.to_str().unwrap()]).0;
+    let words = [&["stack", &dump, "--images", folder.0.to_str().unwrap()], more].concat();
+    let (json, text) = (run(&[&words[..], &["--json"]].concat()).0, run(&words).0);
+    assert!(!more.is_empty() || page.contains("<dt>not Windows</dt>") == text.contains("not Windows"), "{page}");
+    (serde_json::from_str(&json).unwrap(), text)
+}
+
+#[test]
+fn the_first_frame_outside_windows_is_named() {
+    let ntdll = r"C:\Windows\System32\ntdll.dll";
+    let user = r"C:\windows\SYSTEM32\user32.dll";
+    let (own, near) = (r"C:\app\a.exe", r"C:\WindowsApps\b.dll");
+    let cases: [(&str, &[&str], &[&str], Value); 9] = [
+        ("outside", &[ntdll, user, own, near], &[], json!(2)),
+        ("outside-near", &[ntdll, near, own], &[], json!(1)),
+        ("outside-top", &[own, ntdll], &[], json!(0)),
+        ("outside-none", &[ntdll, user], &[], json!(null)),
+        // Of a Windows directory elsewhere.
+        ("outside-elsewhere", &[r"D:\W\system32\NTDLL.DLL", r"d:\w\b.dll", user], &[], json!(2)),
+        ("outside-no-ntdll", &[user, own], &[], json!(null)),
+        ("outside-other-ntdll", &[r"C:\app\ntdll.dll", own], &[], json!(null)),
+        // The module of a frame before it has no path.
+        ("outside-no-path", &[ntdll, "", own], &[], json!(null)),
+        ("outside-few", &[ntdll, user, own], &["--frames", "2"], json!(null)),
+    ];
+    for (test, paths, more, wanted) in cases {
+        let (said, text) = crash_through(test, paths, more, true);
+        let found = &said["first_frame_outside_windows"];
+        assert_eq!(found["frame"], wanted, "{test}: {said}");
+        assert_eq!(text.contains("not Windows"), !wanted.is_null(), "{test}: {text}");
+        if test == "outside" {
+            assert_eq!(*found, json!({"thread_id": 36, "frame": 2, "windows_directory": r"C:\Windows"}));
+            let words =
+                r"not Windows   frame 2: a.exe+0x1010; the first of thread 36 in a module that is not below C:\Windows";
+            assert!(text.contains(words), "{text}");
+        }
+    }
+    let (said, _) = crash_through("outside-registers", &[ntdll, own], &[], false);
+    assert_eq!(said["first_frame_outside_windows"], json!(null));
+    assert_eq!(said["exception"]["registers_error"]["name"], "DUMP_CONTEXT_SIZE");
+    assert_eq!(said["threads"][0]["frames"].as_array().unwrap().len(), 2);
 }
 
 #[test]
@@ -382,22 +517,124 @@ fn text_is_a_screen_that_names_forge_nothing_in() {
     assert!(out.contains("  warning       dump: "), "{out}");
 }
 
-/// The line of JSON that the schema is checked against, `golden/stack.txt`, which `UPDATE_GOLDEN=1` writes anew.
+/// The lines of JSON that the schema is checked against, and a text, `golden/stack.txt`, which `UPDATE_GOLDEN=1` writes anew.
 #[test]
-fn json_is_the_golden_line() {
+fn what_is_said_is_the_golden_text() {
     let folder = Folder::new("stack-golden");
-    fs::write(folder.0.join("dump.dmp"), made::full_dump(made::X64)).unwrap();
-    let ran = std::process::Command::new(env!("CARGO_BIN_EXE_pe"))
-        .args(["stack", "dump.dmp", "--registers", "--json"])
-        .current_dir(&folder.0)
-        .output()
-        .unwrap();
-    let said = format!("$ pe stack dump.dmp --registers --json\n{}", String::from_utf8(ran.stdout).unwrap());
+    folder.file("dump.dmp", &made::full_dump(made::X64));
+    let paths = [r"C:\Windows\System32\ntdll.dll", r"C:\app\a.exe"];
+    folder.file("crash.dmp", &through(&paths, &[&[0][..], &[1; 40]].concat(), true));
+    fs::create_dir(folder.0.join("images")).unwrap();
+    folder.file("images/a.exe", &program(12));
+    let said_by = |words: &[&str]| {
+        let ran = Command::new(env!("CARGO_BIN_EXE_pe")).args(words).current_dir(&folder.0).output().unwrap();
+        format!("$ pe {}\n{}", words.join(" "), String::from_utf8(ran.stdout).unwrap())
+    };
+    let said = [
+        said_by(&["stack", "dump.dmp", "--registers", "--json"]),
+        said_by(&["stack", "crash.dmp", "--images", "images"]),
+        said_by(&["stack", "crash.dmp", "--images", "images", "--frames", "3", "--json"]),
+        said_by(&["key", "--missing", "crash.dmp"]),
+        said_by(&["key", "--missing", "crash.dmp", "--images", "images"]),
+        said_by(&["key", "--missing", "dump.dmp", "--json"]),
+    ]
+    .concat();
     let path = concat!(env!("CARGO_MANIFEST_DIR"), "/tests/golden/stack.txt");
     if std::env::var_os("UPDATE_GOLDEN").is_some() {
         fs::write(path, &said).unwrap();
     }
     assert_eq!(said, fs::read_to_string(path).unwrap());
+}
+
+/// What a dump's modules lack, as kinds and paths, with these folders.
+fn missing_in(dump: &str, folders: &[(&str, &str)]) -> Vec<(String, String)> {
+    let words: Vec<&str> = folders.iter().flat_map(|(name, folder)| [*name, *folder]).collect();
+    let (out, complaints, status) = run(&[&["key", "--missing", "--json", dump], &words[..]].concat());
+    assert_eq!((complaints.as_str(), status), ("", 0));
+    let said: Value = serde_json::from_str(&out).unwrap();
+    let text = |it: &Value, name: &str| it[name].as_str().unwrap_or("none").to_string();
+    said["missing"].as_array().unwrap().iter().map(|it| (text(it, "kind"), text(it, "symbol_server_path"))).collect()
+}
+
+/// An image is known by its headers, and a PDB by the path that a symbol server has. The paths are those of `pe key`.
+#[test]
+fn what_modules_lack_is_listed() {
+    let folder = Folder::new("missing");
+    let dump = folder.file("a.dmp", &made::full_dump(made::X64));
+    let root = folder.0.to_str().unwrap();
+    let pdb = ("PDB".to_string(), "a.pdb/497B72F6390A44FC878E5A2D63B6CC4B1/a.pdb".to_string());
+    let image = ("image".to_string(), "a.exe/000000006000/a.exe".to_string());
+    assert_eq!(run(&["key", &folder.file("a.exe", &made::with_debug())]).0.matches(pdb.1.as_str()).count(), 1);
+    fs::remove_file(folder.0.join("a.exe")).unwrap();
+    assert_eq!(missing_in(&dump, &[]), [image.clone(), pdb.clone()]);
+    assert_eq!(missing_in(&dump, &[("--images", root), ("--symbols", root)]), [image.clone(), pdb.clone()]);
+    // The file stands elsewhere, or is a folder.
+    for path in ["a.pdb", "a.pdb/497B72F6390A44FC878E5A2D63B6CC4B1", "x/a.pdb/497B72F6390A44FC878E5A2D63B6CC4B2"] {
+        let there = folder.0.join(path);
+        fs::create_dir_all(&there).unwrap();
+        fs::write(there.join("b.pdb"), b"").unwrap();
+    }
+    assert_eq!(missing_in(&dump, &[("--symbols", root)]), [image.clone(), pdb.clone()]);
+    let store = folder.0.join("store/A.PDB/497b72f6390a44fc878e5a2d63b6cc4b1");
+    fs::create_dir_all(&store).unwrap();
+    fs::write(store.join("a.Pdb"), b"").unwrap();
+    let of_image = [image];
+    assert_eq!(missing_in(&dump, &[("--symbols", root)]), of_image);
+    assert_eq!(missing_in(&dump, &[("--images", root)]), of_image);
+    folder.file("another.bin", &made::with_functions());
+    assert_eq!(missing_in(&dump, &[("--symbols", root)]).len(), 1);
+    assert_eq!(missing_in(&dump, &[("--images", root)]), []);
+    // An image at its path there counts for its path.
+    fs::remove_file(folder.0.join("another.bin")).unwrap();
+    fs::create_dir_all(folder.0.join("a.exe/000000006000")).unwrap();
+    folder.file("a.exe/000000006000/a.exe", b"of no bytes that are read");
+    assert_eq!(missing_in(&dump, &[("--symbols", root)]), []);
+}
+
+#[test]
+fn an_image_that_the_memory_has_whole_is_not_missing() {
+    let folder = Folder::new("missing-memory");
+    let mut loaded = made::with_functions();
+    loaded.resize(0x6000, 0);
+    for (length, wanted) in [(0x6000, 1), (0x5000, 2)] {
+        let streams = [
+            made::x64_system(),
+            made::modules(&[(0x1_8000_0000, 0x6000, 0, 0, [0, 0])]),
+            made::pieces(&[(0x1_8000_0000, length, made::DUMP_DATA)]),
+        ];
+        let dump = folder.file("a.dmp", &made::dump_of(&streams, &loaded));
+        assert_eq!(missing_in(&dump, &[]).len(), wanted);
+    }
+}
+
+#[test]
+fn what_is_not_known_of_modules_is_said() {
+    let folder = Folder::new("missing-none");
+    let dump = folder.file("a.dmp", &made::dump());
+    let nothing = |kind: &str| (kind.to_string(), "none".to_string());
+    assert_eq!(missing_in(&dump, &[]), [nothing("image"), nothing("PDB")]);
+    let text = run(&["key", "--missing", &dump]).0;
+    let words = "  no PDB        1 module: 0x180000000; the dump names no PDB of version 7.0 with a file's name\n";
+    assert!(text.contains(words) && text.contains("  no image      1 module: 0x180000000; "), "{text}");
+    // Modules that are one image lack it once.
+    let many = folder.file("b.dmp", &with_modules(3));
+    let found = missing_in(&many, &[]);
+    assert_eq!((found.len(), found[0].1.starts_with("nnn")), (4, true), "{found:?}");
+    let (out, complaints, status) = run(&["key", "--missing", "--json", &folder.file("c.dmp", b"MZ")]);
+    let said: Value = serde_json::from_str(&out).unwrap();
+    assert_eq!(
+        (&said["error"]["name"], &said["missing"], &said["modules"]),
+        (&json!("SHORT"), &json!(null), &json!(null))
+    );
+    assert_eq!((complaints.as_str(), status), ("", 1));
+    let none = folder.0.join("nowhere");
+    let (_, complaints, status) = run(&["key", "--missing", &dump, "--symbols", none.to_str().unwrap()]);
+    assert!(complaints.contains("nowhere: No such file or directory") && status == 3, "{complaints}");
+    for words in
+        [&["key", &dump, "--images", "x"][..], &["key", "--missing", &dump, &dump], &["key", "--missing", "-r", &dump]]
+    {
+        assert_eq!(run(words).2, 2, "{words:?}");
+    }
 }
 
 /// What a traced call opens, relative to the folder that it runs in. The loader's files and the system's are absolute.
@@ -417,7 +654,7 @@ fn no_path_of_a_dump_is_opened() {
     folder.file("images/other.exe", &made::with_functions());
     let words =
         ["-f", "-qq", "-e", "trace=open,openat,openat2,connect,execve", "-o", "calls", env!("CARGO_BIN_EXE_pe")];
-    for command in [["stack", "a.dmp", "--json"], ["report", "a.dmp", "page.html"]] {
+    for command in [["stack", "a.dmp", "--json"], ["report", "a.dmp", "page.html"], ["key", "a.dmp", "--missing"]] {
         let mut traced = Command::new("strace");
         traced.args(words).args(command).args(["--images", "images"]).current_dir(&folder.0);
         match traced.output() {
@@ -428,7 +665,10 @@ fn no_path_of_a_dump_is_opened() {
         // The page is written to a temporary file first.
         let mut opened: Vec<&str> = calls.lines().filter_map(opened_by).filter(|it| !it.starts_with(".pe-")).collect();
         opened.sort_unstable();
-        assert_eq!(opened, ["a.dmp", "images", "images/other.exe", "images/other.exe"]);
+        // The start of an image is read first. A folder is listed for its images, and for what is laid out as on a symbol server.
+        let folders = if command[0] == "key" { 2 } else { 1 };
+        let wanted = [&["a.dmp"][..], &["images"].repeat(folders), &["images/other.exe"; 2]].concat();
+        assert_eq!(opened, wanted);
         assert_eq!((calls.matches("execve(").count(), calls.matches("connect(").count()), (1, 0));
     }
 }

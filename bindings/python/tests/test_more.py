@@ -8,6 +8,7 @@ import gc
 import io
 import os
 import pathlib
+import pickle
 import random
 import struct
 import subprocess
@@ -20,7 +21,7 @@ from unittest import mock
 
 import hostile
 import pe_c
-from pe_c import End, Kind, KnownOid, Way, _dump, _signature, pefile
+from pe_c import End, Kind, KnownOid, Way, _dump, _functions, _signature, pefile
 from pe_c._signature import dotted
 
 HERE = os.path.dirname(os.path.abspath(__file__))
@@ -590,6 +591,155 @@ class Dumps(unittest.TestCase):
                         dump.stack(thread, lambda module: image)
                     except pe_c.Error:
                         pass
+
+
+class Names(unittest.TestCase):
+    """Names of functions by symbols that are added to functions.bin, whose functions are 0x5000 to 0x5010, 0x5010 to 0x5020 and 0x5020 to
+    0x5028. Its one section starts at 0x1000."""
+
+    # Of each symbol the name, the RVA, the type (0x20: a function) and the class (2: external, 3: static).
+    SYMBOLS = ((b"outer", 0x5000, 0x20, 2), (b"inner", 0x5006, 0x20, 3), (b"label", 0x5008, 0, 2), (b"_Z5otherv", 0x5010, 0x20, 2),
+               (b"\xff", 0x5020, 0x20, 2))
+
+    def image(self, symbols=SYMBOLS, past=0):
+        """The image with these symbols, all of whose names are in the string table, or so many bytes past it."""
+        data = bytearray(bytes_of("functions.bin"))
+        table, strings = b"", b""
+        for name, rva, kind, storage in symbols:
+            table += struct.pack("<IIIhHBB", 0, 4 + len(strings) + past, rva - 0x1000, 1, kind, storage, 0)
+            strings += name + b"\0"
+        struct.pack_into("<II", data, struct.unpack_from("<I", data, 60)[0] + 12, len(data), len(symbols))
+        return pe_c.Image(bytes(data) + table + struct.pack("<I", 4 + len(strings)) + strings)
+
+    def test_addresses(self):
+        asked = [(0x5005, False), (0x5006, True), (0x500A, False), (0x5010, True), (0x5010, False), (0x5021, False), (0x5028, False),
+                 (0x6000, False), (-1, False), (1 << 32, True)]
+        names = self.image().function_names(asked)
+        self.assertEqual([tuple(it) if it else None for it in names],
+                         [("outer", 0x5000, 5, False, False), ("outer", 0x5000, 6, False, False), ("inner", 0x5006, 4, False, False),
+                          ("inner", 0x5006, 10, False, False), ("_Z5otherv", 0x5010, 0, False, False), (None, 0x5020, 1, False, False),
+                          None, None, None, None])
+        self.assertEqual(self.image().function_names(iter(())), ())
+        self.assertEqual(pickle.loads(pickle.dumps(names[0])), names[0])
+
+    def test_exports(self):
+        """Without a function table the nearest name counts, and says so."""
+        image = pe_c.Image(bytes_of("exports.bin"))
+        self.assertEqual([(it.name, it.rva) for it in image.exports[:2]], [("first", 0x90000), ("second", 0x1004)])
+        names = image.function_names([(0x1003, False), (0x1004, False), (0x1004, True), (0x90000, True), (0x90001, True)])
+        self.assertEqual([it and (it.name, it.offset, it.is_export, it.is_nearest) for it in names],
+                         [None, ("second", 0, True, True), None, ("second", 0x8EFFC, True, True), ("first", 1, True, True)])
+
+    def test_refused_tables(self):
+        self.assertEqual(self.image().refused_name_tables, {})
+        data = bytearray(self.image().memory)
+        # The string table is longer than the file.
+        data[-34:-30] = struct.pack("<I", 1 << 20)
+        image = pe_c.Image(bytes(data))
+        self.assertEqual([(name, error.kind) for name, error in image.refused_name_tables.items()], [("strings", Kind.STRING_TABLE)])
+        self.assertEqual(tuple(image.function_names([(0x5000, False)])[0])[:2], (None, 0x5000))
+        stack = pe_c.walk(Stacks().registers(BASE + 0x5000, 0x20000), [(image, BASE)], bytes(8), [(0x20000, 0, 8)], 1)
+        warning, = stack.warnings
+        self.assertEqual((warning.part, warning.error.kind), (f"strings of the module at 0x{BASE:x}", Kind.STRING_TABLE))
+        self.assertTrue(str(warning).endswith(": they name no frame"), warning)
+
+    def test_frames(self):
+        words = [0] * 4 + [0x20070, BASE + 0x5014] + [0] * 6
+        memory = struct.pack(f"<{len(words)}Q", *words)
+        registers = Stacks().registers(BASE + 0x5008, 0x20000, rbp=0x20040)
+        stack = pe_c.walk(registers, [(self.image(), BASE)], memory, [(0x20000, 0, len(memory))], 10)
+        self.assertEqual([it.function and (it.function.name, it.function.offset) for it in stack.frames], [("inner", 2), ("_Z5otherv", 4)])
+        # Without an image, and in no module, nothing has a name.
+        stack = pe_c.walk(registers, [(0x6000, BASE)], memory, [(0x20000, 0, len(memory))], 10)
+        self.assertEqual([it.function for it in stack.frames], [None])
+
+    def test_a_return_address_after_a_module(self):
+        """It may be the first address of the next module: the byte before it is that of the call."""
+        image = self.image(((b"last", 0x5010, 0x20, 2),))
+        names = _functions.Names((image._core, pe_c.Image(bytes_of("exports.bin"))._core),
+                                 _functions.Places([(BASE, 0x5018), (BASE + 0x5018, 0x1004)]))
+        rows = [pe_c.StackFrame((Stacks().registers(BASE + rva, 0), 0, 0, is_return, 0, 0, False, None))
+                for rva, is_return in ((0x5018, True), (0x5018, False), (0x5018 + 0x1004, True), (0x5018 + 0x1004, False))]
+        asked = names.unread(rows)
+        self.assertEqual(asked, {0: [(0x5018, True)], 1: [(0, False), (0x1004, True)]})
+        for module, addresses in asked.items():
+            names.read(module, addresses)
+        self.assertEqual([it.function and it.function.name for it in names.named(rows)], ["last", None, None, None])
+        self.assertEqual(names.unread(rows), {})
+
+    def test_arm64(self):
+        data = bytearray(bytes_of("arm64_functions.bin"))
+        struct.pack_into("<II", data, struct.unpack_from("<I", data, 60)[0] + 12, len(data), 1)
+        image = pe_c.Image(bytes(data) + struct.pack("<8sIhHBBI", b"packed", 0x4000, 1, 0x20, 2, 0, 4))
+        registers = pe_c.Arm64Registers(((0,) * 31, (0,) * 8, 0x20000, BASE + 0x5004))
+        top = pe_c.walk(registers, [(image, BASE)], bytes(8), [(0x20000, 0, 8)], 1)
+        self.assertEqual([tuple(it.function) for it in top.frames], [("packed", 0x5000, 4, False, False)])
+
+    def test_places(self):
+        """An address is that of the first module that has it."""
+        chance = random.Random(5)
+        for _ in range(300):
+            modules = [(chance.randrange(60), chance.randrange(20)) for _ in range(chance.randrange(9))]
+            places = _functions.Places(modules)
+            for address in range(-1, 85):
+                wanted = next((i for i, (base, size) in enumerate(modules) if base <= address < base + size), None)
+                self.assertEqual(places.at(address), wanted, (modules, address))
+        self.assertEqual(_functions.Places([((1 << 64) - 1, 1)]).at((1 << 64) - 1), 0)
+
+
+NAMES_OF = _functions.names_of
+
+
+def with_image(image):
+    """A look-up of the image for each module of a dump, a list of how many names of it are read at a time, and what fills that."""
+    read = []
+    def names_of(core, addresses, most=None):
+        read.append(len(addresses))
+        return NAMES_OF(core, addresses, most)
+    return (lambda module: image), read, mock.patch.object(_functions, "names_of", names_of)
+
+
+class NamesOfDumps(unittest.TestCase):
+    """Both threads of x64.dmp are at the start of the first function."""
+
+    def setUp(self):
+        self.image = Names().image()
+        self.dump = pe_c.Dump(bytes_of("x64.dmp"))
+
+    def names(self, stack):
+        return [it.function and it.function.name for it in stack.frames]
+
+    def test_names_are_read_once(self):
+        look_up, read, patched = with_image(self.image)
+        with patched:
+            stacks = self.dump.stacks(look_up)
+            self.assertEqual([self.names(it) for it in stacks], [["outer"], ["outer"]])
+            self.assertEqual(read, [1])
+            self.assertEqual(self.names(self.dump.stack(self.dump.threads[1], look_up)), ["outer"])
+            self.assertEqual(read, [1])
+        self.assertEqual([it.frames.is_limited for it in stacks], [False, False])
+
+    def test_a_thread_without_registers(self):
+        data = bytearray(bytes_of("x64.dmp"))
+        directory = struct.unpack_from("<I", data, 12)[0]
+        at = next(at for i in range(12) for kind, _, at in [struct.unpack_from("<III", data, directory + 12 * i)] if kind == 3)
+        # The location of the second thread's context, whose size is none.
+        struct.pack_into("<I", data, at + 4 + 48 + 40, 7)
+        first, second = pe_c.Dump(bytes(data)).stacks(lambda module: self.image)
+        self.assertEqual((self.names(first), second.kind), (["outer"], Kind.DUMP_CONTEXT_SIZE))
+        self.assertEqual(pe_c.Dump(bytes(data)).stacks(most=0)[0].frames, ())
+
+    def test_names_have_a_bound(self):
+        """Names of an image with many symbols cost frames: what has no name then is no frame without one in silence."""
+        look_up, read, patched = with_image(self.image)
+        with mock.patch.object(_dump, "NAMES_A_FRAME", 1), mock.patch.object(_dump, "MOST_FRAMES", 8), patched:
+            found = pe_c.Dump(bytes_of("x64.dmp")).stack(self.dump.threads[0], look_up)
+            self.assertEqual((self.names(found), found.frames.is_limited, read), (["outer"], False, [1]))
+        with mock.patch.object(_dump, "NAMES_A_FRAME", 1), mock.patch.object(_dump, "MOST_FRAMES", 5), patched:
+            found = pe_c.Dump(bytes_of("x64.dmp")).stack(self.dump.threads[0], look_up)
+            self.assertEqual((self.names(found), found.frames.is_limited, read), ([None], True, [1]))
+        names, is_limited = _functions.names_of(self.image._core, [(0x5000, False), (0x5006, False), (0x5010, False)], 9)
+        self.assertEqual(([it and it.name for it in names], is_limited), (["outer", None, None], True))
 
 
 class Edits(unittest.TestCase):

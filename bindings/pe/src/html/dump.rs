@@ -81,7 +81,7 @@ fn threads(told: &Told, html: &mut Html<'_>) {
         let is_open = frames.rows.len() <= OPEN_ROWS && index < OPEN_ROWS;
         html.markup("<details id=thread-").text(index).markup(if is_open { " open" } else { "" });
         html.markup("><summary><h2>").text(stack::text::title_of(thread)).markup("</h2> <span class=count>");
-        html.text(frames.rows.len()).markup("</span></summary><p>");
+        html.text(thread.frames.len()).markup("</span></summary><p>");
         html.text(stack::text::end_of(thread)).markup("</p>");
         rows(&frames, index, &mut left, html);
         html.markup("</details>");
@@ -101,8 +101,12 @@ fn rows(frames: &Table, thread: usize, left: &mut usize, html: &mut Html<'_>) {
         html.markup(column.head).markup("</th>");
     }
     html.markup("</tr></thead><tbody>");
-    for (index, row) in frames.rows.iter().take(shown).enumerate() {
-        html.markup("<tr id=frame-").text(thread).markup("-").text(index).markup(">");
+    for row in frames.rows.iter().take(shown) {
+        match row[0].as_str() {
+            // How often the rows before it come again.
+            "" => html.markup("<tr>"),
+            frame => html.markup("<tr id=frame-").text(thread).markup("-").text(frame).markup(">"),
+        };
         for (column, cell) in ORDER.iter().filter_map(|it| frames.columns.get(*it).zip(row.get(*it))) {
             html.markup(if column.is_number { "<td class=n>" } else { "<td>" }).text(cell).markup("</td>");
         }

@@ -33,12 +33,14 @@ fn frame_of(frame: &pe_c::Frame<DumpRegisters>, loaded: &Loaded<'_>, has_registe
         DumpRegisters::Arm64(_) => 4,
         _ => 1,
     };
-    let (module, offset) = loaded.place_of(if frame.has_called { ip.wrapping_sub(call) } else { ip }, ip);
+    let code = if frame.has_called { ip.wrapping_sub(call) } else { ip };
+    let (module, offset) = loaded.place_of(code, ip);
     Frame {
         ip_va: ip,
         sp_va: frame.registers.sp(),
         module,
         offset,
+        module_index: loaded.images.module_at(code),
         function: None,
         way: way_of(frame.way),
         has_called: frame.has_called,

@@ -1,6 +1,7 @@
 //! What is said of a minidump, as text.
 
-use super::told::{Exception, Memory, Module, System, Thread, Told, Unloaded};
+use super::folded::folded;
+use super::told::{Exception, Frame, Memory, Module, System, Thread, Told, Unloaded};
 use super::FRAMES;
 use crate::escape::escaped;
 use crate::facts::{counted, Named};
@@ -60,6 +61,7 @@ pub fn summary(told: &Told) -> Vec<Row> {
         rows.extend((!shown.is_empty()).then_some(("parameters", shown)));
         rows.push(("at", place_of(&raised.module, raised.offset, raised.address_va)));
     }
+    rows.extend(outside_of(told).map(|it| ("not Windows", it)));
     rows.extend(told.system.present().map(|it| ("system", words_of(it))));
     if let Some(process) = told.process.present() {
         let id = process.id.map_or("of no known id".to_string(), |it| format!("id {it}"));
@@ -83,6 +85,19 @@ pub fn summary(told: &Told) -> Vec<Row> {
         rows.push(("names", "the dump has more names than are shown".to_string()));
     }
     rows
+}
+
+/// The first frame of the crash in a module that is not of Windows: where it is, and what is said of it by this.
+fn outside_of(told: &Told) -> Option<String> {
+    let found = told.first_frame_outside_windows.as_ref()?;
+    let frame: &Frame = told.threads.entries().iter().find(|it| it.is_crashed)?.frames.get(found.frame)?;
+    let place = place_of(&frame.module, frame.offset, frame.ip_va);
+    let function = Some(frame.function_text(function_name)).filter(|it| !it.is_empty());
+    let function = function.map_or(String::new(), |it| format!(", {it}"));
+    let guess = if frame.is_guess { ", a guess" } else { "" };
+    let (thread, folder) = (found.thread_id, escaped(&found.windows_directory));
+    let which = format!("the first of thread {thread} in a module that is not below {folder}");
+    Some(format!("frame {}: {place}{function}{guess}; {which}", found.frame))
 }
 
 fn reason_of(raised: &Exception) -> String {
@@ -134,7 +149,7 @@ fn function_name(name: &str) -> String {
     }
 }
 
-/// The frames of a thread. What names them has a column where anything does.
+/// The frames of a thread, of which runs that are repeated stand once. What names them has a column where anything does.
 pub fn frames_of(thread: &Thread) -> Table {
     let is_named = thread.frames.iter().any(|it| it.function.is_some());
     let rows = thread.frames.iter().enumerate().map(|(index, it)| {
@@ -146,30 +161,12 @@ pub fn frames_of(thread: &Thread) -> Table {
     let function = is_named.then(|| text("function"));
     let heads = [number("frame"), number("address"), text("place")].into_iter().chain(function);
     let heads: Vec<Column> = heads.chain([text("found by")]).collect();
-    Table::new(&heads, rows)
-}
-
-/// The same with frames of a recursion in one line: those after the first that differ in their stack alone.
-fn folded(table: Table) -> Table {
-    let is_same = |one: &[String], other: &[String]| one[1..] == other[1..];
-    let mut rows: Vec<Vec<String>> = Vec::new();
-    for same in table.rows.chunk_by(|one, other| is_same(one, other)) {
-        rows.push(same[0].clone());
-        match same.len() - 1 {
-            more @ 0..=2 => rows.extend(same[1..=more].iter().cloned()),
-            more => {
-                let mut row = vec![String::new(); table.columns.len()];
-                row[2] = format!(".. {more} more like it");
-                rows.push(row);
-            }
-        }
-    }
-    Table { rows, ..table }
+    folded(Table::new(&heads, rows))
 }
 
 fn thread_of(thread: &Thread, page: &mut Page) {
     page.heading(&title_of(thread));
-    page.table(&folded(frames_of(thread)));
+    page.table(&frames_of(thread));
     for (index, frame) in thread.frames.iter().enumerate() {
         let registers = frame.registers.iter().flatten().map(|(name, value)| format!("{name} {value:#x}"));
         let registers: Vec<String> = registers.collect();

@@ -37,6 +37,8 @@ pub struct Told {
     pub process: Part<Process>,
     #[serde(flatten)]
     pub exception: Part<Exception>,
+    /// Null where there is none, or where that is not known.
+    pub first_frame_outside_windows: Option<Outside>,
     /// The crashed one first.
     #[serde(flatten)]
     pub threads: Part<List<Thread>>,
@@ -97,6 +99,16 @@ pub struct Exception {
 }
 field!(Exception, "exception");
 
+/// The first frame of the crashed thread in a module that is not of Windows.
+#[derive(Debug, Serialize)]
+pub struct Outside {
+    pub thread_id: u32,
+    /// Its number, from 0.
+    pub frame: usize,
+    /// Below which the modules of the frames before it are.
+    pub windows_directory: String,
+}
+
 #[derive(Debug, Serialize)]
 pub struct Thread {
     pub id: u32,
@@ -118,6 +130,9 @@ pub struct Frame {
     pub sp_va: u64,
     pub module: Option<String>,
     pub offset: Option<u64>,
+    /// The number of the module in the dump's list.
+    #[serde(skip)]
+    pub module_index: Option<usize>,
     /// What names it, in the image of the module. Null where nothing does, as without an image.
     pub function: Option<Function>,
     /// How it was found: `top`, `records`, `leaf`, `interrupt`, `scanned`.
@@ -201,6 +216,7 @@ impl Told {
             system: Part::Absent,
             process: Part::Absent,
             exception: Part::Absent,
+            first_frame_outside_windows: None,
             threads: Part::Absent,
             modules: Part::Absent,
             unloaded_modules: Part::Absent,

@@ -1219,6 +1219,40 @@ static pe_c_module *modules_in(State *state, PyObject *images, PyObject *bases, 
 WALK(frames, pe_c_stack_walk, pe_c_next_frames, row_stack_walk)
 WALK(arm64_frames, pe_c_arm64_stack_walk, pe_c_next_arm64_frames, row_arm64_stack_walk)
 
+/* function_names(addresses, most) returns what names each of these addresses, or None, without the GIL: the numbers of
+ * pe_c_code_address, in bytes. So many bytes of names at most are rows: those that follow are None. */
+static PyObject *function_names(Image *self, PyObject *arguments)
+{
+    PyObject *addresses;
+    unsigned long long most;
+    if (!PyArg_ParseTuple(arguments, "SK", &addresses, &most))
+        return NULL;
+    OPEN_OWN
+    size_t count = (size_t)PyBytes_Size(addresses) / sizeof(pe_c_code_address);
+    budget.bytes = most;
+    budget.each = 0;
+    pe_c_name_sources sources = PE_C_EMPTY;
+    rows.result = pe_c_name_tables(VIEW, &sources);
+    uint64_t *room = sources.room < PY_SSIZE_T_MAX / sizeof *room ? PyMem_Malloc((size_t)(sources.room + 1) * sizeof *room) : NULL;
+    pe_c_function_name *names = PyMem_Calloc(count + 1, sizeof *names);
+    if (room && names) {
+        Py_BEGIN_ALLOW_THREADS
+        rows.result = pe_c_function_names(VIEW, &sources, (const pe_c_code_address *)PyBytes_AsString(addresses), count, room,
+                                          (size_t)sources.room, names, count);
+        Py_END_ALLOW_THREADS
+        rows.list = PyList_New(0);
+    } else {
+        PyErr_NoMemory();
+    }
+    PyMem_Free(room);
+    for (size_t i = 0; i < count && rows.list && rows.result == PE_C_DONE; i++) {
+        PyObject *row = names[i].source && !budget.is_over ? row_function_name(self, &rows, &names[i]) : NULL;
+        append(&rows, row || PyErr_Occurred() ? row : Py_NewRef(Py_None));
+    }
+    PyMem_Free(names);
+    return finished(&rows);
+}
+
 /* ---- whole files, without the GIL */
 
 METHOD(checksum)
@@ -1475,7 +1509,8 @@ static PyMethodDef methods[] = {
     WITH_ONE(offset_of), WITH_ONE(load_config_field), WITH_ONE(find_function), WITH_ONE(find_arm64_function), WITH_ONE(unwind_records),
     WITH_ONE(resource_directory_at), WITH_ONE(resource_items),
     WITH_SOME(arm64_unwind), WITH_SOME(version_blocks), WITH_SOME(elements), WITH_SOME(name_attributes), WITH_SOME(attributes),
-    WITH_SOME(frames), WITH_SOME(arm64_frames), WITH_SOME(histogram), WITH_SOME(attach), WITH_SOME(edited), WITH_ONE(mapped),
+    WITH_SOME(frames), WITH_SOME(arm64_frames), WITH_SOME(function_names), WITH_SOME(histogram), WITH_SOME(attach), WITH_SOME(edited),
+    WITH_ONE(mapped),
     {NULL, NULL, 0, NULL}};
 static PyGetSetDef getters[] = {{"memory", (getter)get_memory, NULL, NULL, NULL},
                                 {"closed", (getter)get_closed, NULL, NULL, NULL}, {NULL, NULL, NULL, NULL, NULL}};

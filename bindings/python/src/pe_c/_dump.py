@@ -7,9 +7,10 @@ import typing
 from typing import TYPE_CHECKING, Any
 
 from . import _core, _names as names
-from ._core import (Arm64Context, Arm64Registers, Arm64StackFrame, Context, DumpEntry, DumpException, DumpHandle, DumpHeader,
+from ._core import (Arm64Context, Arm64Registers, Context, DumpEntry, DumpException, DumpHandle, DumpHeader,
                     DumpModule, DumpPiece, DumpProcess, DumpRegion, DumpSystem, DumpThread, DumpThreadInfo, DumpThreadName,
-                    DumpUnloadedModule, Registers, StackFrame, SymbolKey)
+                    DumpUnloadedModule, Registers, SymbolKey)
+from ._functions import LONGEST, AnyFrame, Names, Places, refused_tables
 from ._image import Image, Mode
 from ._kinds import End, Kind
 from ._part import Error, ImageWarning, Part, WarningKind, error_of
@@ -24,8 +25,10 @@ AMD64, ARM64 = 9, 12
 # How many modules have images, and how many sections these have together.
 MOST_IMAGES, MOST_SECTIONS = 4096, 1 << 20
 # How many frames all stacks of a dump have together. What else costs as much counts as a frame: so many modules that are looked up or
-# packed for a walk, that it tests, so many pieces of memory that it tests, and so many sections in each frame.
+# packed for a walk, that it tests, so many pieces of memory that it tests, so many sections in each frame, so many names of an image
+# that are sorted, and so many bytes of names of functions.
 MOST_FRAMES, PACKED_A_FRAME, MODULES_A_FRAME, PIECES_A_FRAME, SECTIONS_A_FRAME = 1_000_000, 5, 100, 200, 100
+NAMES_A_FRAME, BYTES_A_FRAME = 100, 1024
 # How often the bytes of a dump may be read for images. Those of modules that do not overlap are all read once.
 MOST_READINGS = 2
 
@@ -34,7 +37,6 @@ ACCESS_VIOLATION, IN_PAGE_ERROR, FAST_FAIL = 0xC0000005, 0xC0000006, 0xC0000409
 ACCESSES = {0: "read", 1: "write", 8: "execution"}
 
 Piece = tuple[int, int, int]
-AnyFrame = StackFrame | Arm64StackFrame
 # A module: its image, or its size where that is not at hand, and the address where it is loaded.
 AnyModule = tuple[Image | int, int]
 
@@ -46,14 +48,15 @@ class _Packed(typing.NamedTuple):
     bases: bytes
     sizes: bytes
     warnings: tuple[ImageWarning, ...]
+    names: Names
 
 
 class Stack(typing.NamedTuple):
     """A stack that was walked."""
 
     frames: Part[AnyFrame]
-    """the top frame first; of each the registers, and the way by which it was found. `is_limited` where modules have no image or frames
-    are left out, since all walks of a dump have a bound together, as only hostile ones reach"""
+    """the top frame first; of each the registers, the way by which it was found, and its `function`. `is_limited` where modules have no
+    image, or frames or names of functions are left out, since all walks of a dump have a bound together, as only hostile ones reach"""
     end: End
     """why the walk is over"""
     error: Error | None
@@ -61,8 +64,8 @@ class Stack(typing.NamedTuple):
     address: int
     """what the error of a step speaks of"""
     warnings: tuple[ImageWarning, ...] = ()
-    """of modules whose function table is damaged: of these the whole entries serve, and frames of their code may be missing or
-    wrong"""
+    """of modules whose function table is damaged: of these the whole entries serve, frames of their code may be missing or wrong, and
+    have no names; and of those whose symbols, strings or exports are damaged: these name no frame"""
 
 
 def _named(number: int, table: dict[int, str]) -> str:
@@ -73,13 +76,17 @@ def walk(registers: Registers | Arm64Registers, modules: typing.Iterable[AnyModu
          pieces: typing.Iterable[Piece], most: int = 1000) -> Stack:
     """Walks a stack from the registers of a thread, x64's or ARM64's: through modules, each an image, or its size in memory
     where that is not at hand, and the address where it is loaded, over pieces of memory, each an address, an offset in `memory`
-    and a length. At most `most` frames, 16,384 or fewer. An address is that of the first module that has it.
+    and a length. At most `most` frames, 16,384 or fewer. An address is that of the first module that has it. The images name the
+    functions of frames.
 
     Raises Error where a piece is not inside the memory."""
     core, _ = _core.image(memory, 0, True, BYTES, False)
     assert core is not None
-    places = b"".join(struct.pack("<3Q", *it) for it in pieces)
-    return _walk(core, registers, _packed(list(modules)), places, most, None)
+    places, packed = b"".join(struct.pack("<3Q", *it) for it in pieces), _packed(list(modules))
+    walked = _walk(core, registers, packed, places, most, None)
+    for module, addresses in packed.names.unread(walked.frames).items():
+        packed.names.read(module, addresses)
+    return _named_by(packed.names, walked)
 
 
 def _size(module: AnyModule) -> int:
@@ -93,19 +100,31 @@ def _packed(modules: list[AnyModule]) -> _Packed:
     if all(one[1] + _size(one) <= other[1] for one, other in zip(ordered, ordered[1:])):
         modules = ordered
     count, missing = len(modules), [it[0] if isinstance(it[0], int) else 0 for it in modules]
-    return _Packed(tuple(None if isinstance(it[0], int) else it[0]._core for it in modules),
-                   struct.pack(f"<{count}Q", *(it[1] for it in modules)), struct.pack(f"<{count}I", *missing),
-                   tuple(it for image, base in modules if not isinstance(image, int) for it in _damaged_table(image, base)))
+    images = tuple(None if isinstance(it[0], int) else it[0]._core for it in modules)
+    return _Packed(images, struct.pack(f"<{count}Q", *(it[1] for it in modules)), struct.pack(f"<{count}I", *missing),
+                   tuple(it for image, base in modules if not isinstance(image, int) for it in _damaged_tables(image, base)),
+                   Names(images, Places((it[1], _size(it)) for it in modules)))
 
 
-def _damaged_table(image: Image, base: int) -> list[ImageWarning]:
-    """What is to be said of a module's function table."""
+def _damaged_tables(image: Image, base: int) -> list[ImageWarning]:
+    """What is to be said of a module's function table, and of the tables that name its functions."""
     _, number, _ = image._kept_answer("function_table")
-    if not number:
-        return []
-    part = f"function table of the module at 0x{base:x}"
-    error = error_of(number, part, image.path)
-    return [ImageWarning(WarningKind.DAMAGED, part, f"{error.text}: its whole entries serve", error, image.path)]
+    numbers = {"function table": number} if number else {}
+    numbers.update((name, error.number) for name, error in image.refused_name_tables.items() if name != "functions")
+    found = []
+    for name, number in numbers.items():
+        part = f"{name} of the module at 0x{base:x}"
+        error = error_of(number, part, image.path)
+        what = "its whole entries serve, and no frame of it has a name" if name == "function table" else "they name no frame"
+        found.append(ImageWarning(WarningKind.DAMAGED, part, f"{error.text}: {what}", error, image.path))
+    return found
+
+
+def _named_by(names: Names, stack: Stack) -> Stack:
+    """The stack whose frames have what names them."""
+    frames: Part[AnyFrame] = Part(names.named(stack.frames))
+    frames.is_limited = stack.frames.is_limited or names.is_limited
+    return stack._replace(frames=frames)
 
 
 def _walk(core: _core.Image, registers: Registers | Arm64Registers, modules: _Packed, places: bytes, most: int,
@@ -293,7 +312,25 @@ class Dump(Reader):
     def stack(self, thread: DumpThread, look_up: typing.Callable[[DumpModule], Image | None] | None = None, most: int = 1000) -> Stack:
         """The stack of a thread. The image of a module is that in the dump's memory, else the one that `look_up` returns for it, if its
         time stamp and its size are the module's. `look_up` is asked once for each module as long as it is the same object. Raises Error
-        where the registers of the thread can't be read."""
+        where the registers of the thread can't be read.
+
+        Names of functions are read once for each address; but each time that some are read of an image, all of its symbols and exports
+        are sorted. `stacks` reads those of all threads at once."""
+        return self._with_names([self._stack(thread, look_up, most)])[0]
+
+    def stacks(self, look_up: typing.Callable[[DumpModule], Image | None] | None = None, most: int = 1000) -> tuple[Stack | Error, ...]:
+        """The stacks of all threads, in the order of `threads`; for a thread whose registers can't be read the error."""
+        found: list[Stack | Error] = []
+        for thread in self.threads:
+            try:
+                found.append(self._stack(thread, look_up, most))
+            except Error as error:
+                found.append(error.with_traceback(None))
+        named = iter(self._with_names([it for it in found if not isinstance(it, Error)]))
+        return tuple(it if isinstance(it, Error) else next(named) for it in found)
+
+    def _stack(self, thread: DumpThread, look_up: typing.Callable[[DumpModule], Image | None] | None, most: int) -> Stack:
+        """A stack whose frames have no names yet."""
         registers = self.context(thread).registers
         if self._left <= 0:
             return self._no_frames()
@@ -307,6 +344,20 @@ class Dump(Reader):
         walked = self._walked(registers, packed, 1 + sections // SECTIONS_A_FRAME, most)
         walked.frames.is_limited = walked.frames.is_limited or is_limited
         return walked
+
+    def _with_names(self, stacks: list[Stack]) -> list[Stack]:
+        """The stacks of the modules that were packed last, with names, as long as these do not cost too much."""
+        if "loaded" not in self._kept:
+            return stacks
+        names: Names = self._kept["loaded"][1].names
+        for module, addresses in names.unread(it for stack in stacks for it in stack.frames).items():
+            cost = names.room_of(module) // NAMES_A_FRAME
+            if cost > max(self._left, 0):
+                names.is_limited = True
+                continue
+            self._left -= cost
+            self._left -= names.read(module, addresses, LONGEST + max(self._left, 0) * BYTES_A_FRAME) // BYTES_A_FRAME
+        return [_named_by(names, it) for it in stacks]
 
     @staticmethod
     def _no_frames() -> Stack:
@@ -355,4 +406,6 @@ class Dump(Reader):
 
     def module_at(self, address: int) -> DumpModule | None:
         """The first module that has an address."""
-        return next((it for it in self.modules if it.base_of_image <= address < it.base_of_image + it.size_of_image), None)
+        places = self._once("places", lambda: Places((it.base_of_image, it.size_of_image) for it in self.modules))
+        index = places.at(address)
+        return None if index is None else self.modules[index]

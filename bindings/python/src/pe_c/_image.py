@@ -10,9 +10,10 @@ from typing import TYPE_CHECKING, Any
 from . import _core
 from ._added import Machine, image_path
 from ._core import (AllHeaders, Arm64Function, Arm64Packed, Arm64Record, BoundLibrary, Certificate, Checksum, ClrHeader, DebugEntry,
-                    DelayLibrary, EmbeddedPdb, Export, ExportDirectory, ExportTable, FixedVersion, Function, Headers, Library,
+                    DelayLibrary, EmbeddedPdb, Export, ExportDirectory, ExportTable, FixedVersion, Function, FunctionName, Headers, Library,
                     LoadConfig, Metadata, Pdb20, PdbChecksum, Pogo, RelocationBlock, Repro, Resource, ResourceDirectory, RichHeader,
                     Section, Symbol, SymbolKey, Tls, UnwindRecord, VcFeatures, VersionBlock)
+from ._functions import Address, names_of, refused_tables
 from ._kinds import Kind
 from ._ordinals import ORDINALS
 from ._part import SHOWN, Error, ImageWarning, Part, WarningKind, entropy_of, error_of, plain, shown
@@ -448,6 +449,19 @@ class Image(Reader):
         if function is None:
             return None
         return function, self._asked("unwind", "arm64_unwind", function.begin, function.unwind)
+
+    def function_names(self, addresses: typing.Iterable[Address]) -> tuple[FunctionName | None, ...]:
+        """What names each of these addresses without a PDB, in their order: each an RVA, and whether it is a return address, of which
+        the byte before it counts. It is the last function symbol at or before it within its function; else the export that starts the
+        function; in an image without a function table the last symbol or export at or before it. None where nothing names it. Ask for
+        all addresses at once: what has a name is sorted each time."""
+        return tuple(names_of(self._core, [(rva, bool(is_return)) for rva, is_return in addresses])[0])
+
+    @property
+    def refused_name_tables(self) -> dict[str, Error]:
+        """The tables of which names are read and that are refused, `functions`, `symbols`, `strings` or `exports`, with why: one that
+        is damaged does not cost the others. By a refused function table nothing has a name."""
+        return refused_tables(self._core, self.path)
 
     # ---- hashes
 

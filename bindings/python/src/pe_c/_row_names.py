@@ -12,14 +12,14 @@ from ._core import (
     Registers as Registers, StackFrame as StackFrame, Arm64Function as Arm64Function, Arm64Packed as Arm64Packed,
     Arm64Record as Arm64Record, Arm64Scope as Arm64Scope, Arm64Code as Arm64Code, Arm64Registers as Arm64Registers,
     Arm64StackFrame as Arm64StackFrame, ExportTable as ExportTable, Export as Export, ExportDirectory as
-    ExportDirectory, Library as Library, Import as Import, DelayDescriptor as DelayDescriptor, DelayLibrary as
-    DelayLibrary, DelayedFunction as DelayedFunction, BoundLibrary as BoundLibrary, BoundForwarder as BoundForwarder,
-    FixedVersion as FixedVersion, VersionBlock as VersionBlock, Resource as Resource, ResourceDirectory as
-    ResourceDirectory, Tls as Tls, LoadConfig as LoadConfig, GuardEntry as GuardEntry, RelocationBlock as
-    RelocationBlock, Relocation as Relocation, ClrHeader as ClrHeader, Metadata as Metadata, MetadataStream as
-    MetadataStream, DumpHeader as DumpHeader, DumpLocation as DumpLocation, DumpEntry as DumpEntry, DumpStack as
-    DumpStack, DumpThread as DumpThread, DumpVersion as DumpVersion, DumpModule as DumpModule, DumpThreadName as
-    DumpThreadName, DumpUnloadedModule as DumpUnloadedModule, DumpThreadInfo as DumpThreadInfo, DumpHandle as
-    DumpHandle, DumpRegion as DumpRegion, DumpException as DumpException, DumpSystem as DumpSystem, DumpTimes as
-    DumpTimes, DumpPower as DumpPower, DumpProcess as DumpProcess, DumpPiece as DumpPiece, Context as Context,
-    Arm64Context as Arm64Context)
+    ExportDirectory, NameTables as NameTables, FunctionName as FunctionName, Library as Library, Import as Import,
+    DelayDescriptor as DelayDescriptor, DelayLibrary as DelayLibrary, DelayedFunction as DelayedFunction, BoundLibrary
+    as BoundLibrary, BoundForwarder as BoundForwarder, FixedVersion as FixedVersion, VersionBlock as VersionBlock,
+    Resource as Resource, ResourceDirectory as ResourceDirectory, Tls as Tls, LoadConfig as LoadConfig, GuardEntry as
+    GuardEntry, RelocationBlock as RelocationBlock, Relocation as Relocation, ClrHeader as ClrHeader, Metadata as
+    Metadata, MetadataStream as MetadataStream, DumpHeader as DumpHeader, DumpLocation as DumpLocation, DumpEntry as
+    DumpEntry, DumpStack as DumpStack, DumpThread as DumpThread, DumpVersion as DumpVersion, DumpModule as DumpModule,
+    DumpThreadName as DumpThreadName, DumpUnloadedModule as DumpUnloadedModule, DumpThreadInfo as DumpThreadInfo,
+    DumpHandle as DumpHandle, DumpRegion as DumpRegion, DumpException as DumpException, DumpSystem as DumpSystem,
+    DumpTimes as DumpTimes, DumpPower as DumpPower, DumpProcess as DumpProcess, DumpPiece as DumpPiece, Context as
+    Context, Arm64Context as Arm64Context)

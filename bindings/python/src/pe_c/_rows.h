@@ -58,6 +58,8 @@ static PyObject *row_arm64_stack_walk(Image *self, Rows *rows, const pe_c_arm64_
 static PyObject *row_address_table(Image *self, Rows *rows, const pe_c_address_table *it);
 static PyObject *row_exported(Image *self, Rows *rows, const pe_c_exported *it, const pe_c_export *named);
 static PyObject *row_export_fields(Image *self, Rows *rows, const pe_c_export_fields *it);
+static PyObject *row_name_sources(Image *self, Rows *rows, const pe_c_name_sources *it);
+static PyObject *row_function_name(Image *self, Rows *rows, const pe_c_function_name *it);
 static PyObject *row_library(Image *self, Rows *rows, const pe_c_library *it);
 static PyObject *imports_of(Image *self, Rows *rows, const pe_c_library *it);
 static PyObject *row_import(Image *self, Rows *rows, const pe_c_import *it);
@@ -1115,6 +1117,7 @@ static PyStructSequence_Field row_stack_walk_fields[] = {
     {"end", "PE_C_END_* of a walk that is over"},
     {"error", "a result, for PE_C_END_RECORDS, _LONG_CHAIN and _STEP; else 0"},
     {"is_guess", "1 where the frame may be wrong: nothing proves that it is the caller, or it follows a frame of which this holds"},
+    {"function", "what names its function, by the COFF symbols and the exports of the module's image; None where nothing does"},
     {NULL, NULL}};
 
 static PyObject *row_stack_walk(Image *self, Rows *rows, const pe_c_stack_walk *it)
@@ -1129,8 +1132,9 @@ static PyObject *row_stack_walk(Image *self, Rows *rows, const pe_c_stack_walk *
         N(it->end),
         N(it->error),
         B(it->is_guess),
+        Py_NewRef(Py_None),
     };
-    return filled(self, ROW_STACK_WALK, items, 7);
+    return filled(self, ROW_STACK_WALK, items, 8);
 }
 
 static PyStructSequence_Field row_arm64_function_fields[] = {
@@ -1275,6 +1279,7 @@ static PyStructSequence_Field row_arm64_stack_walk_fields[] = {
     {"end", "PE_C_END_* of a walk that is over"},
     {"error", "a result, for PE_C_END_RECORDS and _STEP; else 0"},
     {"is_guess", "as in pe_c_stack_walk"},
+    {"function", "what names its function, by the COFF symbols and the exports of the module's image; None where nothing does"},
     {NULL, NULL}};
 
 static PyObject *row_arm64_stack_walk(Image *self, Rows *rows, const pe_c_arm64_stack_walk *it)
@@ -1289,8 +1294,9 @@ static PyObject *row_arm64_stack_walk(Image *self, Rows *rows, const pe_c_arm64_
         N(it->end),
         N(it->error),
         B(it->is_guess),
+        Py_NewRef(Py_None),
     };
-    return filled(self, ROW_ARM64_STACK_WALK, items, 7);
+    return filled(self, ROW_ARM64_STACK_WALK, items, 8);
 }
 
 static PyStructSequence_Field row_address_table_fields[] = {
@@ -1367,6 +1373,50 @@ static PyObject *row_export_fields(Image *self, Rows *rows, const pe_c_export_fi
         N(it->address_of_name_ordinals),
     };
     return filled(self, ROW_EXPORT_FIELDS, items, 11);
+}
+
+static PyStructSequence_Field row_name_sources_fields[] = {
+    {"room", "how many numbers pe_c_function_names needs room for"},
+    {"functions_result", "errors are those of pe_c_function_table and pe_c_arm64_table"},
+    {"symbols_result", "those of pe_c_headers and pe_c_coff_symbols"},
+    {"strings_result", "those of pe_c_headers and pe_c_coff_strings"},
+    {"exports_result", "those of pe_c_export_tables"},
+    {NULL, NULL}};
+
+static PyObject *row_name_sources(Image *self, Rows *rows, const pe_c_name_sources *it)
+{
+    if (!takes(rows, 0))
+        return NULL;
+    PyObject *items[] = {
+        N(it->room),
+        N(it->functions_result),
+        N(it->symbols_result),
+        N(it->strings_result),
+        N(it->exports_result),
+    };
+    return filled(self, ROW_NAME_SOURCES, items, 5);
+}
+
+static PyStructSequence_Field row_function_name_fields[] = {
+    {"name", "as the image has it: names of C++ and Rust are mangled. None where it is not text, or is longer than 4,095 bytes"},
+    {"start", "RVA that has the name"},
+    {"offset", "how far after it the address is"},
+    {"is_export", "whether it is an export, and not a COFF symbol"},
+    {"is_nearest", "1 where it is only the last name before the address, in an image without a function table; it may be that of another function. Else 0"},
+    {NULL, NULL}};
+
+static PyObject *row_function_name(Image *self, Rows *rows, const pe_c_function_name *it)
+{
+    if (!takes(rows, it->name.length))
+        return NULL;
+    PyObject *items[] = {
+        OPTIONAL(it->name.length, utf8(self, it->name)),
+        N(it->start),
+        N(it->offset),
+        B(it->source == 2),
+        B(it->is_nearest),
+    };
+    return filled(self, ROW_FUNCTION_NAME, items, 5);
 }
 
 static PyStructSequence_Field row_library_fields[] = {
@@ -2341,17 +2391,19 @@ static const PyStructSequence_Desc row_kinds[] = {
     [ROW_RECORD] = {"pe_c._core.UnwindRecord", "An x64 unwind record, UNWIND_INFO.", row_record_fields, 9},
     [ROW_CODE] = {"pe_c._core.UnwindCode", "An x64 unwind code, UNWIND_CODE.", row_code_fields, 5},
     [ROW_REGISTERS] = {"pe_c._core.Registers", "The registers of a thread that unwinding restores.", row_registers_fields, 3},
-    [ROW_STACK_WALK] = {"pe_c._core.StackFrame", "A walk of a stack on x64, and the frame that was returned last. For a walk from the start set the registers to those of the thread, `remaining` to how many frames are wanted at most, and all else to 0.", row_stack_walk_fields, 7},
+    [ROW_STACK_WALK] = {"pe_c._core.StackFrame", "A walk of a stack on x64, and the frame that was returned last. For a walk from the start set the registers to those of the thread, `remaining` to how many frames are wanted at most, and all else to 0.", row_stack_walk_fields, 8},
     [ROW_ARM64_FUNCTION] = {"pe_c._core.Arm64Function", "An entry of the ARM64 function table.", row_arm64_function_fields, 2},
     [ROW_ARM64_PACKED] = {"pe_c._core.Arm64Packed", "Packed unwind data of an ARM64 function. The fields mean nothing unless is_packed.", row_arm64_packed_fields, 8},
     [ROW_ARM64_RECORD] = {"pe_c._core.Arm64Record", "An ARM64 unwind record (.xdata).", row_arm64_record_fields, 7},
     [ROW_ARM64_SCOPE] = {"pe_c._core.Arm64Scope", "An epilog scope: where an epilog of an ARM64 function is, and where its codes are.", row_arm64_scope_fields, 4},
     [ROW_ARM64_CODE] = {"pe_c._core.Arm64Code", "An ARM64 unwind code.", row_arm64_code_fields, 6},
     [ROW_ARM64_REGISTERS] = {"pe_c._core.Arm64Registers", "The registers of a thread on ARM64 that unwinding restores.", row_arm64_registers_fields, 4},
-    [ROW_ARM64_STACK_WALK] = {"pe_c._core.Arm64StackFrame", "A walk of a stack on ARM64, and the frame that was returned last, as pe_c_stack_walk.", row_arm64_stack_walk_fields, 7},
+    [ROW_ARM64_STACK_WALK] = {"pe_c._core.Arm64StackFrame", "A walk of a stack on ARM64, and the frame that was returned last, as pe_c_stack_walk.", row_arm64_stack_walk_fields, 8},
     [ROW_ADDRESS_TABLE] = {"pe_c._core.ExportTable", "The export directory's table of RVAs, which has all exports by their index, also those without a name.", row_address_table_fields, 4},
     [ROW_EXPORTED] = {"pe_c._core.Export", "An export by its index.", row_exported_fields, 5},
     [ROW_EXPORT_FIELDS] = {"pe_c._core.ExportDirectory", "The export directory itself, IMAGE_EXPORT_DIRECTORY.", row_export_fields_fields, 11},
+    [ROW_NAME_SOURCES] = {"pe_c._core.NameTables", "The tables of an image of which names are read, each by itself, and the result of each: PE_C_DONE, PE_C_NOTHING where the image has none, or the error. One that is not there is empty.", row_name_sources_fields, 5},
+    [ROW_FUNCTION_NAME] = {"pe_c._core.FunctionName", "What names an address.", row_function_name_fields, 5},
     [ROW_LIBRARY] = {"pe_c._core.Library", "A DLL that an image imports from, IMAGE_IMPORT_DESCRIPTOR.", row_library_fields, 8},
     [ROW_IMPORT] = {"pe_c._core.Import", "An import.", row_import_fields, 4},
     [ROW_DELAY_DESCRIPTOR] = {"pe_c._core.DelayDescriptor", "An entry of the delay import directory, IMAGE_DELAYLOAD_DESCRIPTOR. Addresses are RVAs where bit 0 of the attributes is set, else virtual addresses, as linkers before Visual C++ 7 wrote them.", row_delay_descriptor_fields, 8},
