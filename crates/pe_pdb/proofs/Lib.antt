@@ -3,3 +3,5 @@ pub mod StreamLists
 pub mod StreamBytes
 pub mod Joined
 pub mod Contiguous
+pub mod Walked
+pub mod SymbolWalks

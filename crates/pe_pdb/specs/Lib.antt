@@ -2,3 +2,9 @@ pub mod Refusals
 pub mod Places
 pub mod Msf
 pub mod Streams
+pub mod Info
+pub mod Dbi
+pub mod Keys
+pub mod SectionHeaders
+pub mod Walks
+pub mod Symbols

@@ -7,15 +7,28 @@
 //! Every call is proved to return what its definition in `specs/` says, for every byte string.
 #![tactic(auto)]
 
+mod dbi;
 mod error;
 mod file;
+mod info;
+mod key;
 pub mod laws;
 mod msf;
+mod sections;
 mod stream;
 mod stream_bytes;
 mod streams;
+mod symbol;
 
+pub use dbi::{
+    DBI_STREAM, DEBUG_FPO, DEBUG_OMAP_FROM_SOURCE, DEBUG_OMAP_TO_SOURCE,
+    DEBUG_ORIGINAL_SECTION_HEADERS, DEBUG_SECTION_HEADERS, Dbi, DbiHeader, NO_STREAM,
+};
 pub use error::{PdbError, Result};
 pub use file::Msf;
+pub use info::{INFO_STREAM, PdbInfo};
+pub use key::PdbKey;
 pub use msf::SuperBlock;
+pub use sections::SectionHeaders;
 pub use stream::Stream;
+pub use symbol::{SymbolRecord, SymbolRecords};
