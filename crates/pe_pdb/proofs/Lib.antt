@@ -5,3 +5,5 @@ pub mod Joined
 pub mod Contiguous
 pub mod Walked
 pub mod SymbolWalks
+pub mod SymbolEntries
+pub mod NearestEntries

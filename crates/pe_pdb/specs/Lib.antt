@@ -8,3 +8,7 @@ pub mod Keys
 pub mod SectionHeaders
 pub mod Walks
 pub mod Symbols
+pub mod Publics
+pub mod Procedures
+pub mod SymbolEntries
+pub mod SymbolIndexes

@@ -24,6 +24,9 @@ pub data PdbRefusal : Type 0 where
   SectionHeaders : PdbRefusal
   RecordSize : PdbRefusal
   RecordTruncated : PdbRefusal
+  Name : PdbRefusal
+  SymbolsSize : PdbRefusal
+  Room : PdbRefusal
 
 -- the kind of an error
 abbrev pub pdb_kind_of : PdbError → PdbRefusal
@@ -46,6 +49,9 @@ pdb_kind_of (errors.DbiParts needed length) = DbiParts
 pdb_kind_of (errors.SectionHeaders length) = SectionHeaders
 pdb_kind_of (errors.RecordSize offset size) = RecordSize
 pdb_kind_of (errors.RecordTruncated offset needed length) = RecordTruncated
+pdb_kind_of (errors.Name offset) = Name
+pdb_kind_of (errors.SymbolsSize length) = SymbolsSize
+pdb_kind_of (errors.Room needed length) = Room
 
 -- the call returned the defined value, seen by view, or an error of the defined kind
 abbrev pub PdbReturns : {X Y : Type 0} → (X → Y) → Result X PdbError → Result Y PdbRefusal → Type 0

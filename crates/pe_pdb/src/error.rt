@@ -88,6 +88,18 @@ pub enum PdbError {
         needed: usize,
         length: usize,
     },
+    /// A name is not NUL-terminated or not UTF-8: its offset in the content of its record.
+    #[error("name at offset {0} of a record is not NUL-terminated UTF-8")]
+    Name(usize),
+    /// Symbol records that are indexed have 4 GiB or more: how many bytes there are.
+    #[error("{0} bytes of symbol records, 4 GiB or more")]
+    SymbolsSize(usize),
+    /// A room is too short for an index: how many entries the index has, and how many the room.
+    #[error("index of {needed} entries in a room of {length}")]
+    Room {
+        needed: usize,
+        length: usize,
+    },
 }
 
 /// The result of a call that may fail with `PdbError`.
