@@ -4,6 +4,6 @@ pub mod StreamBytes
 pub mod Joined
 pub mod Contiguous
 pub mod Walked
-pub mod SymbolWalks
+pub mod RecordWalks
 pub mod SymbolEntries
 pub mod NearestEntries

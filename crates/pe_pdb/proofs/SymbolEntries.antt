@@ -10,7 +10,7 @@ use Rattle.pe_pdb.specs.Refusals.{PdbRefusal}
 use Rattle.pe_pdb.specs.SymbolEntries.{address, address_put, addresses, addresses_of, rva_by}
 use Rattle.pe_pdb.specs.declared.symbol_entries.SymbolClass.{SymbolClass}
 use Rattle.pe_pdb.specs.Symbols.{Symbol, symbol_at, symbols}
-use Rattle.pe_pdb.proofs.SymbolWalks.{symbol_offset, symbols_more, symbols_none, symbols_refused}
+use Rattle.pe_pdb.proofs.RecordWalks.{symbol_offset, symbols_more, symbols_none, symbols_refused}
 
 -- the entries of the records before offset p are written, and those of the records from there on are left
 pub record Gathers (rva : Symbol → Option ℕ) (b : List ℕ) (start p count : ℕ) (room : List ℕ) : Type 0 where

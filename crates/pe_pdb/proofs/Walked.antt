@@ -2,8 +2,9 @@
 use Rattle.std.proofs.Common.{◌≡◌, ℕ, zero, suc, ◌+◌, ◌-◌, ◌<◌, ◌≤◌, true, false, List, [], ◌∷◌, leb, Result, Ok, Err, refl, ap, sym, ◌∙◌, arith, inl, inr}
 use Rattle.std.proofs.lemmas.Bool.{cases_lt}
 use Rattle.std.proofs.lemmas.Bool.Decides.{nat_tests}
+use Rattle.pe_core.specs.Refusals.{◌>>=◌}
 use Rattle.pe_pdb.specs.Refusals.{PdbRefusal}
-use Rattle.pe_pdb.specs.Walks.{Advances, ItemAt, first_items, items, with_more}
+use Rattle.pe_pdb.specs.Walks.{Advances, ItemAt, first_items, items, with_end, with_more}
 
 first_none : {X : Type 0} (item : ItemAt X) (end n p : ℕ) → end ≤ p → first_items item end n p ≡ []
 unfolding first_items
@@ -41,8 +42,29 @@ items_step {X} item later end p before =
     ∙ first_step item end (end - p - 1) p before
     ∙ with_same (first_items item end (end - p - 1)) (λ q. first_items item end (end - q) q) (item p) (λ (y : X × ℕ) e. let after = later p y e in first_enough item later end (end - p - 1) (end - y.1) y.1 (omega (arith, after)) (omega arith))
 
-pub items_more : {X : Type 0} (item : ItemAt X) → Advances item → (end p : ℕ) (y : X × ℕ) → p < end → item p ≡ Ok y → items item end p ≡ Ok y.0 ∷ items item end y.1
-items_more item later end p y before is = items_step item later end p before ∙ ap (λ (r : Result _ PdbRefusal). with_more (items item end) r) is
+-- ---- walks over items that say where they end, each of them after its start
 
-pub items_refused : {X : Type 0} (item : ItemAt X) → Advances item → (end p : ℕ) (r : PdbRefusal) → p < end → item p ≡ Err r → items item end p ≡ Err r ∷ []
-items_refused item later end p r before is = items_step item later end p before ∙ ap (λ (r : Result _ PdbRefusal). with_more (items item end) r) is
+abbrev pub EndsLater : {X : Type 0} → (X → ℕ) → (ℕ → Result X PdbRefusal) → Type 0
+EndsLater {X} end at = (p : ℕ) (x : X) → at p ≡ Ok x → p < end x
+
+ends_after : {X : Type 0} (end : X → ℕ) (p : ℕ) (r : Result X PdbRefusal) → ((x : X) → r ≡ Ok x → p < end x) → (y : X × ℕ) → (r >>= λ x. Ok (x, end x)) ≡ Ok y → p < y.1
+ends_after end p (Ok x) later y is = let same : end x ≡ y.1 = cc is in let after = later x refl in omega (arith, same, after)
+ends_after end p (Err r) later y is = absurd (cc is)
+
+advances : {X : Type 0} (end : X → ℕ) (at : ℕ → Result X PdbRefusal) → EndsLater end at → Advances (with_end end at)
+advances {X} end at later p y is = ends_after end p (at p) (later p) y is
+
+pub walk_none : {X : Type 0} (end : X → ℕ) (at : ℕ → Result X PdbRefusal) (n p : ℕ) → n ≤ p → items (with_end end at) n p ≡ []
+walk_none end at n p past = items_none (with_end end at) n p past
+
+pub walk_more : {X : Type 0} (end : X → ℕ) (at : ℕ → Result X PdbRefusal) → EndsLater end at → (n p : ℕ) (x : X) → p < n → at p ≡ Ok x →
+    items (with_end end at) n p ≡ Ok x ∷ items (with_end end at) n (end x)
+walk_more {X} end at later n p x before is =
+    items_step (with_end end at) (advances end at later) n p before
+    ∙ ap (λ (r : Result X PdbRefusal). with_more (items (with_end end at) n) (r >>= λ x. Ok (x, end x))) is
+
+pub walk_refused : {X : Type 0} (end : X → ℕ) (at : ℕ → Result X PdbRefusal) → EndsLater end at → (n p : ℕ) (r : PdbRefusal) → p < n → at p ≡ Err r →
+    items (with_end end at) n p ≡ Err r ∷ []
+walk_refused {X} end at later n p r before is =
+    items_step (with_end end at) (advances end at later) n p before
+    ∙ ap (λ (r : Result X PdbRefusal). with_more (items (with_end end at) n) (r >>= λ x. Ok (x, end x))) is

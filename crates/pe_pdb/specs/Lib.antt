@@ -8,6 +8,7 @@ pub mod Keys
 pub mod SectionHeaders
 pub mod Walks
 pub mod Symbols
+pub mod Modules
 pub mod Publics
 pub mod Procedures
 pub mod SymbolEntries

@@ -25,6 +25,8 @@ pub data PdbRefusal : Type 0 where
   RecordSize : PdbRefusal
   RecordTruncated : PdbRefusal
   Name : PdbRefusal
+  ModuleSymbols : PdbRefusal
+  ModuleSignature : PdbRefusal
   SymbolsSize : PdbRefusal
   Room : PdbRefusal
 
@@ -50,6 +52,8 @@ pdb_kind_of (errors.SectionHeaders length) = SectionHeaders
 pdb_kind_of (errors.RecordSize offset size) = RecordSize
 pdb_kind_of (errors.RecordTruncated offset needed length) = RecordTruncated
 pdb_kind_of (errors.Name offset) = Name
+pdb_kind_of (errors.ModuleSymbols size length) = ModuleSymbols
+pdb_kind_of (errors.ModuleSignature number) = ModuleSignature
 pdb_kind_of (errors.SymbolsSize length) = SymbolsSize
 pdb_kind_of (errors.Room needed length) = Room
 

@@ -1,9 +1,9 @@
 -- Symbol records: each is the number of the bytes after that number, 2 bytes, its kind, 2 bytes, and what its kind says.
-use Rattle.std.specs.Prelude.{ℕ, ◌+◌, ◌-◌, List, [], ◌∷◌, length, nat_le, Result, Ok}
+use Rattle.std.specs.Prelude.{ℕ, ◌+◌, ◌-◌, List, [], ◌∷◌, length, nat_le, Result}
 use Rattle.pe_core.specs.Bytes.{le, range, holds}
-use Rattle.pe_core.specs.Refusals.{outcome, ◌>>=◌}
+use Rattle.pe_core.specs.Refusals.{outcome}
 use Rattle.pe_pdb.specs.Refusals.{PdbRefusal, Short, RecordSize, RecordTruncated}
-use Rattle.pe_pdb.specs.Walks.{ItemAt, items}
+use Rattle.pe_pdb.specs.Walks.{items, with_end}
 use Rattle.pe_pdb.specs.declared.symbol.SymbolRecord.{SymbolRecord}
 use Rattle.pe_pdb.specs.declared.symbol.SymbolRecords.{SymbolRecords}
 
@@ -23,13 +23,13 @@ symbol_at b p =
     (holds b p 4, Short) ∷ (nat_le 2 (le b p 2), RecordSize) ∷ (holds b p (2 + le b p 2), RecordTruncated) ∷ []
     ) (record { offset = p; kind = le b (p + 2) 2; content = range b (p + 4) (le b p 2 - 2) })
 
--- with where it ends
-abbrev pub symbol_item : List ℕ → ItemAt Symbol
-symbol_item b p = symbol_at b p >>= λ s. Ok (s, s.offset + 4 + length s.content)
+-- where the next one starts
+abbrev pub symbol_end : Symbol → ℕ
+symbol_end s = s.offset + 4 + length s.content
 
 -- the records from an offset on
 abbrev pub symbols : List ℕ → ℕ → List (Result Symbol PdbRefusal)
-symbols b p = items (symbol_item b) (length b) p
+symbols b p = items (with_end symbol_end (symbol_at b)) (length b) p
 
 -- what a walk has left
 abbrev pub symbols_left : SymbolRecords → List (Result Symbol PdbRefusal)

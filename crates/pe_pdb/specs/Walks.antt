@@ -1,12 +1,17 @@
 -- Walks: items that follow one another in some bytes. What a walk is over is defined by `item`: what stands at an offset, which is an
 -- item and where the next one starts, or a refusal.
 use Rattle.std.specs.Prelude.{◌≡◌, ℕ, zero, suc, ◌-◌, ◌<◌, List, [], ◌∷◌, nat_le, Option, Some, None, Result, Ok, Err, if◌then◌else◌}
+use Rattle.pe_core.specs.Refusals.{◌>>=◌}
 use Rattle.pe_pdb.specs.Refusals.{PdbRefusal, pdb_kind_of}
 use Rattle.pe_pdb.specs.declared.error.PdbError.{PdbError}
 
 -- what stands at each offset
 abbrev pub ItemAt : Type 0 → Type 0
 ItemAt X = ℕ → Result (X × ℕ) PdbRefusal
+
+-- the same, where an item says where it ends
+abbrev pub with_end : {X : Type 0} → (X → ℕ) → (ℕ → Result X PdbRefusal) → ItemAt X
+with_end end at p = at p >>= λ x. Ok (x, end x)
 
 -- an item, then the items that `more` finds where it ends; a refusal is the last
 abbrev pub with_more : {X : Type 0} → (ℕ → List (Result X PdbRefusal)) → Result (X × ℕ) PdbRefusal → List (Result X PdbRefusal)

@@ -88,9 +88,19 @@ pub enum PdbError {
         needed: usize,
         length: usize,
     },
-    /// A name is not NUL-terminated or not UTF-8: its offset in the content of its record.
-    #[error("name at offset {0} of a record is not NUL-terminated UTF-8")]
+    /// A name is not NUL-terminated, or that of a symbol is not UTF-8: its offset in the content of the symbol's record, or that of a
+    /// module's name in the modules.
+    #[error("name at offset {0} is not NUL-terminated, or not UTF-8")]
     Name(usize),
+    /// The symbols of a module pass the end of its stream: how many bytes they have, and how many the stream has.
+    #[error("symbols of {size} bytes in the stream of a module, {length} bytes")]
+    ModuleSymbols {
+        size: u32,
+        length: usize,
+    },
+    /// The stream of a module does not start with 4, as those of compilers before Visual C++ 7 do not: the number with which it starts.
+    #[error("stream of a module starts with {0:#x}")]
+    ModuleSignature(u32),
     /// Symbol records that are indexed have 4 GiB or more: how many bytes there are.
     #[error("{0} bytes of symbol records, 4 GiB or more")]
     SymbolsSize(usize),

@@ -13,6 +13,7 @@ mod file;
 mod info;
 mod key;
 pub mod laws;
+mod module;
 mod msf;
 mod procedure;
 mod public;
@@ -33,6 +34,7 @@ pub use error::{PdbError, Result};
 pub use file::Msf;
 pub use info::{INFO_STREAM, PdbInfo};
 pub use key::PdbKey;
+pub use module::{FIRST_SYMBOL, Module, ModuleRecord, Modules};
 pub use msf::SuperBlock;
 pub use procedure::{
     ProcedureSymbol, S_GPROC32, S_GPROC32_ID, S_LPROC32, S_LPROC32_ID,

@@ -3,7 +3,7 @@ use Rattle.pe_pdb.specs.Refusals.{PdbRefusal, pdb_kind_of}
 use Rattle.pe_pdb.specs.SymbolEntries.{addresses, rva_by}
 use Rattle.pe_pdb.specs.Symbols.{symbol_view}
 use Rattle.pe_pdb.proofs.SymbolEntries.{addresses_small, entry_few, gathers_all, gathers_more, gathers_none, gathers_refused, length_put}
-use Rattle.pe_pdb.proofs.SymbolWalks.{symbol_offset}
+use Rattle.pe_pdb.proofs.RecordWalks.{symbol_offset}
 use Rattle.pe_pdb.proofs.symbol_entries.put_addresses.Goals as goal
 
 pub returns-in_err-record-clause-puts : goal.returns-in_err-record-clause-puts

@@ -1,7 +1,7 @@
 use Rattle.std.proofs.Common.{length, List, ◌∷◌, Result, Ok, Err, arith, rules, sym, ap, ◌∙◌}
 use Rattle.pe_pdb.specs.Refusals.{PdbRefusal, pdb_kind_of}
 use Rattle.pe_pdb.specs.Symbols.{Symbol, symbol_view, symbols}
-use Rattle.pe_pdb.proofs.SymbolWalks.{symbol_offset, symbols_more, symbols_none, symbols_refused}
+use Rattle.pe_pdb.proofs.RecordWalks.{symbol_offset, symbols_more, symbols_none, symbols_refused}
 use Rattle.pe_pdb.proofs.symbol.SymbolRecordsIterator.next.Goals as goal
 
 pub returns-then-self-clause-steps : goal.returns-then-self-clause-steps
