@@ -1,7 +1,8 @@
 -- Walks: more steps than there are bytes make no difference, so a walk is its first item, and the walk from there on.
-use Rattle.std.proofs.Common.{◌≡◌, ℕ, zero, suc, ◌+◌, ◌-◌, ◌<◌, ◌≤◌, true, false, List, [], ◌∷◌, leb, Result, Ok, Err, refl, ap, sym, ◌∙◌, arith, inl, inr}
+use Rattle.std.proofs.Common.{◌*◌, Bool, ◌≡◌, ℕ, zero, suc, ◌+◌, ◌-◌, ◌<◌, ◌≤◌, true, false, List, [], ◌∷◌, length, leb, Result, Ok, Err, refl, ap, sym, ◌∙◌, arith, inl, inr}
 use Rattle.std.proofs.lemmas.Bool.{cases_lt}
 use Rattle.std.proofs.lemmas.Bool.Decides.{nat_tests}
+use Rattle.std.specs.Prelude.{if◌then◌else◌}
 use Rattle.pe_core.specs.Refusals.{◌>>=◌}
 use Rattle.pe_pdb.specs.Refusals.{PdbRefusal}
 use Rattle.pe_pdb.specs.Walks.{Advances, ItemAt, first_items, items, with_end, with_more}
@@ -68,3 +69,60 @@ pub walk_refused : {X : Type 0} (end : X → ℕ) (at : ℕ → Result X PdbRefu
 walk_refused {X} end at later n p r before is =
     items_step (with_end end at) (advances end at later) n p before
     ∙ ap (λ (r : Result X PdbRefusal). with_more (items (with_end end at) n) (r >>= λ x. Ok (x, end x))) is
+
+-- a walk is its first item, and the walk from there on
+pub walk_whole : {X : Type 0} (end : X → ℕ) (at : ℕ → Result X PdbRefusal) → EndsLater end at → (n p : ℕ) →
+    items (with_end end at) n p ≡ (if leb n p then [] else with_more (items (with_end end at) n) (with_end end at p))
+walk_whole {X} end at later n p = elim (cases_lt p n) [
+  | inl lt ↦
+      let t : leb n p ≡ false = grind (arith, nat_tests) in
+      items_step (with_end end at) (advances end at later) n p lt ∙ sym (ap (λ (c : Bool). if c then [] else with_more (items (with_end end at) n) (with_end end at p)) t)
+  | inr ge ↦
+      let t : leb n p ≡ true = grind (arith, nat_tests) in
+      walk_none end at n p ge ∙ sym (ap (λ (c : Bool). if c then [] else with_more (items (with_end end at) n) (with_end end at p)) t)
+]
+
+-- ---- few items, where each has so many bytes
+
+abbrev pub HasWidth : {X : Type 0} → ℕ → ℕ → (X → ℕ) → (ℕ → Result X PdbRefusal) → Type 0
+HasWidth {X} width n end at = (p : ℕ) (x : X) → at p ≡ Ok x → (p + width ≤ end x) × (p + width ≤ n)
+
+few_more : {X : Type 0} (width n : ℕ) (end : X → ℕ) (at : ℕ → Result X PdbRefusal) → HasWidth width n end at → (more : ℕ → List (Result X PdbRefusal)) →
+    ((q : ℕ) → width * length (more q) + 1 ≤ (n - q) + width) → (p : ℕ) → p < n → (r : Result X PdbRefusal) → at p ≡ r →
+    width * length (with_more more (r >>= λ x. Ok (x, end x))) + 1 ≤ (n - p) + width
+few_more width n end at wide more few p lt (Ok x) is =
+    let size = wide p x is in
+    let rest = few (end x) in
+    let one : width * suc (length (more (end x))) ≡ width * length (more (end x)) + width = grind arith in
+    omega (arith, size.0, size.1, rest, one)
+few_more width n end at wide more few p lt (Err r) is =
+    let one : width * 1 ≡ width = grind arith in omega (arith, one, lt)
+
+unfolded_zero : {X : Type 0} (end : X → ℕ) (at : ℕ → Result X PdbRefusal) (n p : ℕ) → first_items (with_end end at) n zero p ≡ []
+unfolding first_items
+unfolded_zero end at n p = refl
+
+few_first : {X : Type 0} (width n : ℕ) (end : X → ℕ) (at : ℕ → Result X PdbRefusal) → 0 < width → HasWidth width n end at → (k p : ℕ) →
+    width * length (first_items (with_end end at) n k p) + 1 ≤ (n - p) + width
+few_first width n end at some wide zero p =
+    let none : width * 0 ≡ 0 = grind arith in
+    let e : length (first_items (with_end end at) n zero p) ≡ 0 = ap length (unfolded_zero end at n p) in
+    let same : width * length (first_items (with_end end at) n zero p) ≡ width * 0 = ap (λ m. width * m) e in
+    omega (arith, none, same, some)
+few_first width n end at some wide (suc k) p = elim (cases_lt p n) [
+  | inl lt ↦
+      let e = ap length (first_step (with_end end at) n k p lt) in
+      let same : width * length (first_items (with_end end at) n (suc k) p) ≡ width * length (with_more (first_items (with_end end at) n k) (with_end end at p)) = ap (λ m. width * m) e in
+      let h = few_more width n end at wide (first_items (with_end end at) n k) (few_first width n end at some wide k) p lt (at p) refl in
+      omega (arith, same, h)
+  | inr ge ↦
+      let none : width * 0 ≡ 0 = grind arith in
+      let e = ap length (first_none (with_end end at) n (suc k) p ge) in
+      let same : width * length (first_items (with_end end at) n (suc k) p) ≡ width * 0 = ap (λ m. width * m) e in
+      omega (arith, none, same, some)
+]
+
+pub walk_few : {X : Type 0} (width n : ℕ) (end : X → ℕ) (at : ℕ → Result X PdbRefusal) → 0 < width → HasWidth width n end at → (p : ℕ) →
+    width * length (items (with_end end at) n p) + 1 ≤ (n - p) + width
+unfolding items
+walk_few width n end at some wide p = few_first width n end at some wide (n - p) p

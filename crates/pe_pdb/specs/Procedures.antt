@@ -56,3 +56,7 @@ procedure_rva sections s =
     if is_procedure s.kind && holds s.content 0 35 && nat_lt 0 (le s.content 12 4)
     then rva_of sections (le s.content 32 2) (le s.content 28 4)
     else None
+
+-- the size of its code, of a record that has it
+abbrev pub code_size_of : Symbol → ℕ
+code_size_of s = if holds s.content 0 35 then le s.content 12 4 else 0

@@ -2,7 +2,7 @@
 //! that have code in it, with how many bytes that is, also those that no other object sees. Names are as in the source.
 
 ghost use Rattle.std.specs.Prelude.{◌≡◌};
-ghost use Rattle.pe_pdb.specs.Procedures.{is_procedure, procedure_of, procedure_rva, procedure_view};
+ghost use Rattle.pe_pdb.specs.Procedures.{code_size_of, is_procedure, procedure_of, procedure_rva, procedure_view};
 ghost use Rattle.pe_pdb.specs.Refusals.{PdbReturns};
 ghost use Rattle.pe_pdb.specs.Symbols.{symbol_view};
 
@@ -104,4 +104,14 @@ pub(crate) fn procedure_rva(
         return None;
     }
     sections.rva_of(read_u16(content, 32), read_u32(content, 28))
+}
+
+/// The size of the code of a procedure in bytes. 0 of a record that is too short.
+pub(crate) fn code_size_of(record: &SymbolRecord<'_>) -> u32
+    ensures { result ≡ code_size_of (symbol_view record.now) }
+{
+    if record.content.len() < NAME {
+        return 0;
+    }
+    read_u32(record.content, 12)
 }

@@ -7,10 +7,13 @@ ghost use Rattle.std.specs.Prelude.{◌≡◌, ℕ, List, length};
 ghost use Rattle.std.specs.List.Sorted.{IsPermutation};
 ghost use Rattle.pe_pdb.specs.Refusals.{PdbReturns};
 ghost use Rattle.pe_pdb.specs.SymbolEntries.{addresses, count_of};
-ghost use Rattle.pe_pdb.specs.SymbolIndexes.{Indexes, Nearest, in_room};
+ghost use Rattle.pe_pdb.specs.Symbols.{symbol_at};
+ghost use Rattle.pe_pdb.specs.SymbolIndexes.{Covering, Indexes, Nearest, code_size, in_room};
 
 use crate::error::{PdbError, Result};
+use crate::procedure::code_size_of;
 use crate::sections::SectionHeaders;
+use crate::symbol::SymbolRecord;
 use crate::symbol_entries::{SymbolClass, UNIT, put_addresses};
 use crate::symbol_index::SymbolIndex;
 
@@ -22,6 +25,16 @@ pub struct SymbolAddress {
     pub rva: u32,
     /// The offset of its record.
     pub record_offset: u32,
+}
+
+/// How many bytes of code the procedure has whose record is at an offset. 0 where no such record is there.
+fn code_size(bytes: &[u8], offset: usize) -> u32
+    ensures { result ≡ code_size (symbol_at bytes.now offset) }
+{
+    match SymbolRecord::parse(bytes, offset) {
+        Ok(record) => code_size_of(&record),
+        Err(_) => 0,
+    }
 }
 
 impl<'r> SymbolIndex<'r> {
@@ -84,5 +97,16 @@ impl<'r> SymbolIndex<'r> {
             rva: (address / UNIT) as u32,
             record_offset: (address % UNIT) as u32,
         })
+    }
+    /// The procedure whose code has an RVA: the nearest one, if it reaches there. The bytes are those of which the index was made. `None`
+    /// where no code of a procedure is, as in functions without debug information.
+    pub fn covering(&self, bytes: &[u8], rva: u32) -> Option<SymbolAddress>
+        ensures { (xs : List ℕ) → IsPermutation xs self.now.addresses.now → Covering xs bytes.now rva result }
+    {
+        let found = self.nearest(rva)?;
+        if rva.saturating_sub(found.rva) < code_size(bytes, found.record_offset as usize) {
+            return Some(found);
+        }
+        None
     }
 }

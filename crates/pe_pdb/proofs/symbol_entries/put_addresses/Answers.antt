@@ -1,8 +1,8 @@
-use Rattle.std.proofs.Common.{◌≡◌, ◌+◌, ◌<◌, ◌≤◌, length, Result, Ok, Err, ℕ, List, ap, ◌∙◌, arith, rules}
-use Rattle.pe_pdb.specs.Refusals.{PdbRefusal, pdb_kind_of}
+use Rattle.std.proofs.Common.{◌≡◌, length, Err, ap, ◌∙◌, arith, rules}
+use Rattle.pe_pdb.specs.Refusals.{pdb_kind_of}
 use Rattle.pe_pdb.specs.SymbolEntries.{addresses, rva_by}
 use Rattle.pe_pdb.specs.Symbols.{symbol_view}
-use Rattle.pe_pdb.proofs.SymbolEntries.{addresses_small, entry_few, gathers_all, gathers_more, gathers_none, gathers_refused, length_put}
+use Rattle.pe_pdb.proofs.SymbolEntries.{addresses_small, entry_few, gathers_all, gathers_more, gathers_refused, length_put}
 use Rattle.pe_pdb.proofs.RecordWalks.{symbol_offset}
 use Rattle.pe_pdb.proofs.symbol_entries.put_addresses.Goals as goal
 
