@@ -3,3 +3,7 @@ pub mod StreamLists
 pub mod StreamBytes
 pub mod Joined
 pub mod Contiguous
+pub mod Walked
+pub mod RecordWalks
+pub mod SymbolEntries
+pub mod NearestEntries

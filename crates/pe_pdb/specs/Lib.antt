@@ -2,3 +2,14 @@ pub mod Refusals
 pub mod Places
 pub mod Msf
 pub mod Streams
+pub mod Info
+pub mod Dbi
+pub mod Keys
+pub mod SectionHeaders
+pub mod Walks
+pub mod Symbols
+pub mod Modules
+pub mod Publics
+pub mod Procedures
+pub mod SymbolEntries
+pub mod SymbolIndexes

@@ -17,6 +17,18 @@ pub data PdbRefusal : Type 0 where
   NoStream : PdbRefusal
   StreamSize : PdbRefusal
   Outside : PdbRefusal
+  InfoVersion : PdbRefusal
+  DbiSignature : PdbRefusal
+  DbiVersion : PdbRefusal
+  DbiParts : PdbRefusal
+  SectionHeaders : PdbRefusal
+  RecordSize : PdbRefusal
+  RecordTruncated : PdbRefusal
+  Name : PdbRefusal
+  ModuleSymbols : PdbRefusal
+  ModuleSignature : PdbRefusal
+  SymbolsSize : PdbRefusal
+  Room : PdbRefusal
 
 -- the kind of an error
 abbrev pub pdb_kind_of : PdbError → PdbRefusal
@@ -32,6 +44,18 @@ pdb_kind_of (errors.Directory stream words) = Directory
 pdb_kind_of (errors.NoStream index) = NoStream
 pdb_kind_of (errors.StreamSize stream size) = StreamSize
 pdb_kind_of (errors.Outside offset needed length) = Outside
+pdb_kind_of (errors.InfoVersion version) = InfoVersion
+pdb_kind_of (errors.DbiSignature number) = DbiSignature
+pdb_kind_of (errors.DbiVersion version) = DbiVersion
+pdb_kind_of (errors.DbiParts needed length) = DbiParts
+pdb_kind_of (errors.SectionHeaders length) = SectionHeaders
+pdb_kind_of (errors.RecordSize offset size) = RecordSize
+pdb_kind_of (errors.RecordTruncated offset needed length) = RecordTruncated
+pdb_kind_of (errors.Name offset) = Name
+pdb_kind_of (errors.ModuleSymbols size length) = ModuleSymbols
+pdb_kind_of (errors.ModuleSignature number) = ModuleSignature
+pdb_kind_of (errors.SymbolsSize length) = SymbolsSize
+pdb_kind_of (errors.Room needed length) = Room
 
 -- the call returned the defined value, seen by view, or an error of the defined kind
 abbrev pub PdbReturns : {X Y : Type 0} → (X → Y) → Result X PdbError → Result Y PdbRefusal → Type 0

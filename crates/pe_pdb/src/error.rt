@@ -57,6 +57,59 @@ pub enum PdbError {
         needed: usize,
         length: usize,
     },
+    /// The version of the info stream, which is none of those with a GUID.
+    #[error("info stream of version {0}")]
+    InfoVersion(u32),
+    /// The DBI stream does not start with -1, as those of compilers before 1999 do not: the number with which it starts.
+    #[error("DBI stream starts with {0:#x}")]
+    DbiSignature(u32),
+    /// The version of the DBI stream, before that of Visual C++ 7.
+    #[error("DBI stream of version {0}")]
+    DbiVersion(u32),
+    /// The parts of the DBI stream pass its end: how many bytes its header and they have, and how many the stream has.
+    #[error("parts of the DBI stream need {needed} bytes of {length}")]
+    DbiParts {
+        needed: usize,
+        length: usize,
+    },
+    /// The bytes of section headers are not a multiple of 40: how many there are.
+    #[error("section headers of {0} bytes")]
+    SectionHeaders(usize),
+    /// The size of a symbol record, which is below 2: its offset, and the size.
+    #[error("symbol record at offset {offset} has size {size}")]
+    RecordSize {
+        offset: usize,
+        size: u16,
+    },
+    /// A symbol record passes the end of its bytes: its offset, how many bytes it has, and how many there are.
+    #[error("symbol record of {needed} bytes at offset {offset} of {length} bytes")]
+    RecordTruncated {
+        offset: usize,
+        needed: usize,
+        length: usize,
+    },
+    /// A name is not NUL-terminated, or that of a symbol is not UTF-8: its offset in the content of the symbol's record, or that of a
+    /// module's name in the modules.
+    #[error("name at offset {0} is not NUL-terminated, or not UTF-8")]
+    Name(usize),
+    /// The symbols of a module pass the end of its stream: how many bytes they have, and how many the stream has.
+    #[error("symbols of {size} bytes in the stream of a module, {length} bytes")]
+    ModuleSymbols {
+        size: u32,
+        length: usize,
+    },
+    /// The stream of a module does not start with 4, as those of compilers before Visual C++ 7 do not: the number with which it starts.
+    #[error("stream of a module starts with {0:#x}")]
+    ModuleSignature(u32),
+    /// Symbol records that are indexed have 4 GiB or more: how many bytes there are.
+    #[error("{0} bytes of symbol records, 4 GiB or more")]
+    SymbolsSize(usize),
+    /// A room is too short for an index: how many entries the index has, and how many the room.
+    #[error("index of {needed} entries in a room of {length}")]
+    Room {
+        needed: usize,
+        length: usize,
+    },
 }
 
 /// The result of a call that may fail with `PdbError`.

@@ -7,15 +7,42 @@
 //! Every call is proved to return what its definition in `specs/` says, for every byte string.
 #![tactic(auto)]
 
+mod dbi;
 mod error;
 mod file;
+mod info;
+mod key;
 pub mod laws;
+mod module;
 mod msf;
+mod procedure;
+mod public;
+mod sections;
 mod stream;
 mod stream_bytes;
 mod streams;
+mod symbol;
+mod symbol_entries;
+mod symbol_index;
+mod symbol_lookup;
 
+pub use dbi::{
+    DBI_STREAM, DEBUG_FPO, DEBUG_OMAP_FROM_SOURCE, DEBUG_OMAP_TO_SOURCE,
+    DEBUG_ORIGINAL_SECTION_HEADERS, DEBUG_SECTION_HEADERS, Dbi, DbiHeader, NO_STREAM,
+};
 pub use error::{PdbError, Result};
 pub use file::Msf;
+pub use info::{INFO_STREAM, PdbInfo};
+pub use key::PdbKey;
+pub use module::{FIRST_SYMBOL, Module, ModuleRecord, Modules};
 pub use msf::SuperBlock;
+pub use procedure::{
+    ProcedureSymbol, S_GPROC32, S_GPROC32_ID, S_LPROC32, S_LPROC32_ID,
+};
+pub use public::{PublicSymbol, S_PUB32};
+pub use sections::SectionHeaders;
 pub use stream::Stream;
+pub use symbol::{SymbolRecord, SymbolRecords};
+pub use symbol_entries::SymbolClass;
+pub use symbol_index::SymbolIndex;
+pub use symbol_lookup::SymbolAddress;

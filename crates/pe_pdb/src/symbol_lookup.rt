@@ -1,0 +1,112 @@
+//! An index of symbols by their RVAs, in a room that the caller has: the RVAs are sorted once, and each address is looked up by binary
+//! search. What is found is the offset of a record, of which `SymbolRecord` reads the symbol.
+//!
+//! Procedures of several modules have one index where their symbols stand in one room, one module after the other.
+
+ghost use Rattle.std.specs.Prelude.{◌≡◌, ℕ, List, length};
+ghost use Rattle.std.specs.List.Sorted.{IsPermutation};
+ghost use Rattle.pe_pdb.specs.Refusals.{PdbReturns};
+ghost use Rattle.pe_pdb.specs.SymbolEntries.{addresses, count_of};
+ghost use Rattle.pe_pdb.specs.Symbols.{symbol_at};
+ghost use Rattle.pe_pdb.specs.SymbolIndexes.{Covering, Indexes, Nearest, code_size, in_room};
+
+use crate::error::{PdbError, Result};
+use crate::procedure::code_size_of;
+use crate::sections::SectionHeaders;
+use crate::symbol::SymbolRecord;
+use crate::symbol_entries::{SymbolClass, UNIT, put_addresses};
+use crate::symbol_index::SymbolIndex;
+
+/// An entry of an index.
+#[repr(C)]
+#[derive(Clone, Copy, Debug, PartialEq)]
+pub struct SymbolAddress {
+    /// The RVA of the symbol.
+    pub rva: u32,
+    /// The offset of its record.
+    pub record_offset: u32,
+}
+
+/// How many bytes of code the procedure has whose record is at an offset. 0 where no such record is there.
+fn code_size(bytes: &[u8], offset: usize) -> u32
+    ensures { result ≡ code_size (symbol_at bytes.now offset) }
+{
+    match SymbolRecord::parse(bytes, offset) {
+        Ok(record) => code_size_of(&record),
+        Err(_) => 0,
+    }
+}
+
+impl<'r> SymbolIndex<'r> {
+    /// How many entries an index has: as many as a room for it has to have. The records are those from an offset on. Errors, in order:
+    /// `SymbolsSize`; those of `SymbolRecord::parse`, of the first record that is refused.
+    pub fn count(
+        class: SymbolClass,
+        bytes: &[u8],
+        start: usize,
+        sections: &SectionHeaders<'_>,
+    ) -> Result<usize>
+        ensures { PdbReturns (λ n. n) result
+            (count_of (addresses class bytes.now start sections.now.bytes.now)) }
+    {
+        put_addresses(class, bytes, start, sections, &mut [])
+    }
+
+    /// These entries, sorted.
+    fn sorted(room: &'r mut [u64]) -> SymbolIndex<'r>
+        ensures { IsPermutation room.old result.addresses.now }
+    {
+        room.sort_unstable();
+        SymbolIndex { addresses: room }
+    }
+
+    /// The index of the symbols of a class, of the records from an offset on. What is in the room after the call is left open. Errors, in
+    /// order: those of `count`; `Room` if the room has fewer entries than the index.
+    pub fn new(
+        class: SymbolClass,
+        bytes: &[u8],
+        start: usize,
+        sections: &SectionHeaders<'_>,
+        room: &'r mut [u64],
+    ) -> Result<SymbolIndex<'r>>
+        ensures { Indexes (in_room (length room.old) (addresses class bytes.now start sections.now.bytes.now)) result }
+    {
+        let count = put_addresses(class, bytes, start, sections, room)?;
+        if room.len() < count {
+            return Err(PdbError::Room {
+                needed: count,
+                length: room.len(),
+            });
+        }
+        Ok(SymbolIndex::sorted(&mut room[..count]))
+    }
+
+    /// The last symbol that starts at or before an RVA; of several at one RVA that of the last record. `None` if all start after it.
+    pub fn nearest(&self, rva: u32) -> Option<SymbolAddress>
+        ensures { (xs : List ℕ) → IsPermutation xs self.now.addresses.now → Nearest xs rva result }
+    {
+        let rva = u64::from(rva);
+        let after = self
+            .addresses
+            .partition_point(|address| *address / UNIT <= rva);
+        if after == 0 {
+            return None;
+        }
+        let address = self.addresses[after - 1];
+        Some(SymbolAddress {
+            rva: (address / UNIT) as u32,
+            record_offset: (address % UNIT) as u32,
+        })
+    }
+    /// The procedure whose code has an RVA: the nearest one, if it reaches there. The bytes are those of which the index was made. `None`
+    /// where no code of a procedure is, as in functions without debug information.
+    pub fn covering(&self, bytes: &[u8], rva: u32) -> Option<SymbolAddress>
+        ensures { (xs : List ℕ) → IsPermutation xs self.now.addresses.now → Covering xs bytes.now rva result }
+    {
+        let found = self.nearest(rva)?;
+        if rva.saturating_sub(found.rva) < code_size(bytes, found.record_offset as usize) {
+            return Some(found);
+        }
+        None
+    }
+}
