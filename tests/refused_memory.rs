@@ -167,12 +167,12 @@ fn te_images_and_objects(rt: HostRuntime) -> std::result::Result<(), Fail> {
     Ok(())
 }
 
-/// An index asks for the pieces of each range, and for those of the two halves together.
+/// An index asks for its entries, two for each range, and for as many with which they are merged.
 #[test]
 fn indexes_of_addresses(rt: HostRuntime) -> std::result::Result<(), Fail> {
     let alloc = rt.alloc();
     let ranges = [range(0x500, 0x10), range(0x100, 0x500), range(0x300, 0x300)];
-    for (count, want) in [(0, 0), (1, 1), (3, 5)] {
+    for (count, want) in [(0, 0), (1, 2), (3, 2)] {
         let call = Call::Index(ranges.get(..count).unwrap_or_default());
         assert_eq!(rt; refuse_in_turn(&rt, alloc, call, &[], count)?, want);
     }

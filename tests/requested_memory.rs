@@ -49,8 +49,8 @@ const ENTRY: usize = TEXT + 16;
 /// The size of a piece of the section map: its start, and the section that covers it, if one does.
 const PIECE: usize = 24;
 
-/// The size of a piece of an index of addresses: its start, and the range that has it, if one does.
-const ADDRESS_PIECE: usize = 32;
+/// The size of an entry of an index of addresses: its start, and the number of the range that has it.
+const ADDRESS_ENTRY: usize = 16;
 
 /// How many bytes a call may ask for.
 #[derive(Clone, Copy)]
@@ -589,7 +589,11 @@ fn indexes_of_addresses(rt: HostRuntime) -> Result<(), Fail> {
         let index = AddressIndex::new(&asked, &ranges)?;
         let last = ranges.len() - 1;
         assert_eq!(rt; index.find(last as u64), Some(last));
-        let room = Room::NONE.pieces(ranges.len(), ADDRESS_PIECE);
+        // Two entries for each range, and as many while they are merged.
+        let entries = 2 * ranges.len();
+        let room = Room::NONE
+            .growing(entries, ADDRESS_ENTRY)
+            .growing(entries, ADDRESS_ENTRY);
         room.check(&rt, &asked, "an index of addresses", ranges.len());
     }
     Ok(())
