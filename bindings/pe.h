@@ -3002,8 +3002,8 @@ typedef struct {
 PE_C_SIZE(pe_c_resource, 72);
 
 /* Writes the image with these resources in place of those that it has to the start of the array, and its length, which is
- * that of the file or more, to `written`. The rest of the array is unchanged, and all of it after an error. `data` has the
- * names and the contents, and may be `bytes`. The array overlaps none of the others; it may be NULL if room_length is 0, the
+ * that of the file or more, or less without resources, to `written`. The rest of the array is unchanged, and all of it after
+ * an error. `data` has the names and the contents, and may be `bytes`. The array overlaps none of the others; it may be NULL if room_length is 0, the
  * resources if resource_count is, and the data if data_length is.
  * The resources are sorted by type, name and language: names before ids, names by their code units, ids and languages by
  * their numbers. No two have the same type, name and language.
@@ -3012,6 +3012,10 @@ PE_C_SIZE(pe_c_resource, 72);
  * into their own section if it is the last or into a new one, and what follows the data of the sections in the file moves
  * by the bytes that are added, a multiple of the file alignment; so do the pointers to COFF symbols and to the data of
  * debug entries there.
+ * Without resources the entry of the resource directory becomes one of zeros. The section that they are in goes if it is the
+ * last one in the section table, in memory and in the file, and not the only one, the image ends with it, nothing else is in
+ * it and no debug data follow it: then what follows its data in the file moves back, and so does the pointer to COFF
+ * symbols. Otherwise the section stays, with zeros in the place of its data if nothing else is in them.
  * Errors: those of pe_c_image; PE_C_EDIT_RECORD where a range is not inside the data, or an id or a language is not below
  * 2^16; PE_C_EDIT_NAMES where the names have more than 16 MiB, each counted as often as a resource has it;
  * PE_C_EDIT_CONTENTS where the contents, counted likewise, have more than 16 times the bytes of the data and of 1 MiB,

@@ -4026,7 +4026,7 @@ extern "C" {
         out: *mut Range,
     ) -> u32;
     /// Writes the image with these resources in place of those that it has to the start of the array, and its length,
-    /// which is that of the file or more, to `written`.
+    /// which is that of the file or more, or less without resources, to `written`.
     ///
     /// The rest of the array is unchanged, and all of it after an error. `data` has the names and the contents, and may
     /// be `bytes`. The array overlaps none of the others; it may be NULL if `room_length` is 0, the resources if
@@ -4036,7 +4036,11 @@ extern "C" {
     /// before their end, and no debug data and no base relocation lie in it; then no byte of the file moves. Otherwise
     /// they go to the end of the image, into their own section if it is the last or into a new one, and what follows
     /// the data of the sections in the file moves by the bytes that are added, a multiple of the file alignment; so do
-    /// the pointers to COFF symbols and to the data of debug entries there.
+    /// the pointers to COFF symbols and to the data of debug entries there. Without resources the entry of the resource
+    /// directory becomes one of zeros. The section that they are in goes if it is the last one in the section table, in
+    /// memory and in the file, and not the only one, the image ends with it, nothing else is in it and no debug data
+    /// follow it: then what follows its data in the file moves back, and so does the pointer to COFF symbols. Otherwise
+    /// the section stays, with zeros in the place of its data if nothing else is in them.
     ///
     /// Errors: those of [`pe_c_image`]; [`Error::EDIT_RECORD`] where a range is not inside the data, or an id or a
     /// language is not below 2^16; [`Error::EDIT_NAMES`] where the names have more than 16 MiB, each counted as often

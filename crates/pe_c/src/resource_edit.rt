@@ -107,7 +107,8 @@ fn edit_to(
 }
 
 /// Writes the image with these resources in place of those that it has to the start of `room`, and its length to `written`, which is that
-/// of the image or more. The rest of the room is unchanged. Where the room is smaller all of it is, and `written` has the length that it
+/// of the image or more, or less without resources, where the section goes that they are in if it is the last one; otherwise it stays,
+/// as zeros if nothing else is in it. The rest of the room is unchanged. Where the room is smaller all of it is, and `written` has the length that it
 /// needs. The resources are sorted by type, name and language: names before ids, names by their code units,
 /// ids and languages by their numbers. Their names and contents are ranges of `data`.
 ///

@@ -1,21 +1,24 @@
 -- What the calls return.
-use Rattle.std.proofs.Common.{◌≡◌, ℕ, ◌+◌, ◌^◌, ◌<◌, Bool, true, false, List, [], ◌∷◌, length, Result, Ok, Err, ap, sym, ◌∙◌, subst}
+use Rattle.std.proofs.Common.{◌≡◌, ◌≢◌, ℕ, ◌+◌, ◌-◌, ◌^◌, ◌<◌, ◌≤◌, Bool, true, false, List, [], ◌∷◌, length, Result, Ok, Err, refl, ap, sym, ◌∙◌, subst, arith}
 use Rattle.std.specs.Prelude.{nat_le, if◌then◌else◌}
 use Rattle.pe_core.specs.Bytes.{fit_at, splice}
 use Rattle.pe_core.specs.Header.{HeaderView}
 use Rattle.pe_core.specs.Refusals.{Refusal, WriteFit, outcome, ◌>>=◌}
 use Rattle.pe_edit.specs.Written.{Leaf, section}
 use Rattle.pe_edit.specs.EditRefusals.{section_of}
-use Rattle.pe_rewrite.specs.Edited.{CanMove, Inside, Lies, at_end, edited_file, edited_length, in_place, moved_file, or_at_end, roomy_file, wants_room, with_pointers, written}
-use Rattle.pe_rewrite.specs.Places.{place_of}
+use Rattle.pe_rewrite.specs.Edited.{CanMove, GoneLies, Inside, Lies, at_end, cleared_file, edited_file, edited_length, edited_of, gone_file, in_place, moved_file, or_at_end, removed_of, roomy_file, stayed_file, wants_room, with_pointers, without_section, written}
+use Rattle.pe_rewrite.specs.Places.{header_tests, place_of, target_of}
+use Rattle.pe_rewrite.specs.Removals.{emptied_of, gone_of}
 use Rattle.pe_rewrite.specs.RewriteRefusals.{RewriteRefusal, Image, RewriteReturns, RewriteReturnsWritten}
 use Rattle.pe_rewrite.specs.declared.error.RewriteError.{RewriteError}
 use Rattle.pe_rewrite.specs.Rooms.{room_of}
 use Rattle.pe_rewrite.specs.declared.place.Place.{Place}
+use Rattle.pe_rewrite.specs.declared.place.Target.{Target}
 use Rattle.pe_rewrite.specs.declared.room.Room.{Room}
-use Rattle.pe_rewrite.proofs.Placed.{placed_value, place_lies, place_made, placed}
+use Rattle.pe_rewrite.proofs.Placed.{HeadersLie, TargetIs, headers_lie, placed_value, place_lies, place_made, placed, target_is}
 use Rattle.pe_rewrite.proofs.Pointers.{can_move, length_can, lies_with}
-use Rattle.pe_rewrite.proofs.Results.{length_value, written_done, written_short}
+use Rattle.pe_rewrite.proofs.Results.{length_value, then_is, written_done, written_short}
+use Rattle.pe_rewrite.proofs.Removed.{EntryIn, IsGone, entry_in, gone_lies, is_gone, length_cleared, length_gone, length_stayed}
 use Rattle.pe_rewrite.proofs.RoomWrites.{room_inside, roomy_length}
 use Rattle.pe_rewrite.proofs.Roomy.{has_debug, has_room, room_made, room_small}
 use Rattle.pe_rewrite.proofs.Writes.{length-edited, length_edited_inside}
@@ -137,3 +140,77 @@ write_second res r s old mid new k t e is wants h =
 
 pub write_neither : (r s : Result (List ℕ) RewriteRefusal) (old mid : List ℕ) (k : RewriteRefusal) (t : Bool) → (written r old ≡ Err k) × (mid ≡ old) → t ≡ wants_room k → t ≡ false → (written (or_at_end r s) old ≡ Err k) × (mid ≡ old)
 write_neither r s old mid k t e is wants = (written_neither r s old k e.0 (sym is ∙ wants), e.1)
+
+-- ---- without leaves, or with some
+
+pub without_leaves : (b : List ℕ) (h : HeaderView) (xs : List Leaf) → length xs ≡ 0 → edited_of b h xs ≡ removed_of b h
+without_leaves b h [] e = refl
+without_leaves b h (x ∷ xs) e = absurd (omega (arith, e))
+
+pub with_leaves : (b : List ℕ) (h : HeaderView) (xs : List Leaf) → length xs ≢ 0 → edited_of b h xs ≡ or_at_end (in_place b h xs) (at_end b h xs)
+with_leaves b h [] e = absurd (e refl)
+with_leaves b h (x ∷ xs) e = refl
+
+-- ---- the image without resources
+
+-- what was found of it
+pub record Found (b : List ℕ) (h : HeaderView) (t : Target) : Type 0 where
+  pub of : TargetIs h t
+  pub headers : HeadersLie b h t
+  pub value : removed_of b h ≡ Ok (cleared_file h t.entry (without_section h (gone_of b h t) (emptied_of b h t) b))
+
+pub found : (b : List ℕ) (h : HeaderView) (t : Target) (u : Unit {0}) → target_of h ≡ Ok t → outcome {Y = Unit {0}} (header_tests b h t) tt ≡ Ok u → Found b h t
+found b h t u e i = record {
+  of = target_is h t e;
+  headers = headers_lie b h t u i;
+  value = then_is (target_of h) _ t e ∙ then_is (outcome {Y = Unit {0}} (header_tests b h t) tt) (λ v. Ok (cleared_file h t.entry (without_section h (gone_of b h t) (emptied_of b h t) b))) u i;
+}
+
+pub gone_is : (b : List ℕ) (h : HeaderView) (t : Target) (m : Room) → Found b h t → gone_of b h t ≡ Ok m → removed_of b h ≡ Ok (cleared_file h m.place.entry (gone_file h m b))
+gone_is b h t m x e =
+    let y : IsGone b h t m = is_gone b h t m x.headers e in
+    let entry : t.entry ≡ m.place.entry = ap (λ (r : Room). r.place.entry) y.value in
+    x.value ∙ ap (λ (r : Result Room RewriteRefusal). Ok (cleared_file h t.entry (without_section h r (emptied_of b h t) b))) e
+    ∙ ap (λ (k : ℕ). Ok (cleared_file h k (gone_file h m b))) entry
+
+pub stayed_is : (b : List ℕ) (h : HeaderView) (t : Target) (k : RewriteRefusal) → Found b h t → gone_of b h t ≡ Err k → removed_of b h ≡ Ok (cleared_file h t.entry (stayed_file (emptied_of b h t) b))
+stayed_is b h t k x e = x.value ∙ ap (λ (r : Result Room RewriteRefusal). Ok (cleared_file h t.entry (without_section h r (emptied_of b h t) b))) e
+
+pub lies_gone : (b : List ℕ) (h : HeaderView) (t : Target) (m : Room) → Found b h t → gone_of b h t ≡ Ok m → GoneLies h m (length b)
+lies_gone b h t m x e = gone_lies b h t m x.of x.headers (is_gone b h t m x.headers e)
+
+pub entry_found : (b : List ℕ) (h : HeaderView) (t : Target) → Found b h t → EntryIn h t.entry (length b)
+entry_found b h t x = entry_in b h t x.of x.headers
+
+pub gone_length : (b : List ℕ) (h : HeaderView) (t : Target) (m : Room) → Found b h t → gone_of b h t ≡ Ok m → length (cleared_file h m.place.entry (gone_file h m b)) ≡ length b - m.more
+gone_length b h t m x e =
+    let l : GoneLies h m (length b) = lies_gone b h t m x e in
+    let size : length (gone_file h m b) ≡ length b - m.more = length_gone h m b l in
+    length_cleared h m.place.entry (gone_file h m b) (omega (arith, size, l.fields.sum, l.fields.entry, l.fields.row, l.end)) (omega (arith, size, l.fields.entry, l.fields.row, l.end)) ∙ size
+
+pub stayed_length : (b : List ℕ) (h : HeaderView) (t : Target) → Found b h t → length (cleared_file h t.entry (stayed_file (emptied_of b h t) b)) ≡ length b
+stayed_length b h t x =
+    let size : length (stayed_file (emptied_of b h t) b) ≡ length b = length_stayed b h t (emptied_of b h t) refl in
+    let in_file : EntryIn h t.entry (length b) = entry_found b h t x in
+    length_cleared h t.entry (stayed_file (emptied_of b h t) b) (omega (arith, size, in_file.sum, in_file.entry)) (omega (arith, size, in_file.entry)) ∙ size
+
+pub gone_most : (b : List ℕ) (h : HeaderView) (t : Target) (m : Room) → Found b h t → gone_of b h t ≡ Ok m → m.more ≤ length b
+gone_most b h t m x e = let l : GoneLies h m (length b) = lies_gone b h t m x e in omega (arith, l.end)
+
+pub gone_length_returned : (b : List ℕ) (h : HeaderView) (t : Target) (m : Room) (n : ℕ) → Found b h t → gone_of b h t ≡ Ok m → n ≡ length b - m.more → edited_length (removed_of b h) ≡ Ok n
+gone_length_returned b h t m n x e is = length_value (removed_of b h) (cleared_file h m.place.entry (gone_file h m b)) n (gone_is b h t m x e) (gone_length b h t m x e ∙ sym is)
+
+pub stayed_length_returned : (b : List ℕ) (h : HeaderView) (t : Target) (k : RewriteRefusal) → Found b h t → gone_of b h t ≡ Err k → edited_length (removed_of b h) ≡ Ok (length b)
+stayed_length_returned b h t k x e = length_value (removed_of b h) (cleared_file h t.entry (stayed_file (emptied_of b h t) b)) (length b) (stayed_is b h t k x e) (stayed_length b h t x)
+
+pub gone_short : (b : List ℕ) (h : HeaderView) (t : Target) (m : Room) (n : ℕ) (old : List ℕ) (r : Refusal) → Found b h t → gone_of b h t ≡ Ok m → n ≡ length b - m.more → fit_at old 0 n ≡ Err r → written (removed_of b h) old ≡ Err (Image r)
+gone_short b h t m n old r x e is i = written_short (removed_of b h) (cleared_file h m.place.entry (gone_file h m b)) old n r (gone_is b h t m x e) (gone_length b h t m x e ∙ sym is) i
+
+pub stayed_short : (b : List ℕ) (h : HeaderView) (t : Target) (k : RewriteRefusal) (old : List ℕ) (r : Refusal) → Found b h t → gone_of b h t ≡ Err k → fit_at old 0 (length b) ≡ Err r → written (removed_of b h) old ≡ Err (Image r)
+stayed_short b h t k old r x e i = written_short (removed_of b h) (cleared_file h t.entry (stayed_file (emptied_of b h t) b)) old (length b) r (stayed_is b h t k x e) (stayed_length b h t x) i
+
+pub gone_returned : (b : List ℕ) (h : HeaderView) (t : Target) (m : Room) (n : ℕ) (old new : List ℕ) (u : Unit {0}) → Found b h t → gone_of b h t ≡ Ok m → n ≡ length b - m.more → fit_at old 0 n ≡ Ok u → new ≡ splice old 0 (cleared_file h m.place.entry (gone_file h m b)) → written (removed_of b h) old ≡ Ok (n, new)
+gone_returned b h t m n old new u x e is i at = written_done (removed_of b h) (cleared_file h m.place.entry (gone_file h m b)) old new n u (gone_is b h t m x e) (gone_length b h t m x e ∙ sym is) i at
+
+pub stayed_returned : (b : List ℕ) (h : HeaderView) (t : Target) (k : RewriteRefusal) (old new : List ℕ) (u : Unit {0}) → Found b h t → gone_of b h t ≡ Err k → fit_at old 0 (length b) ≡ Ok u → new ≡ splice old 0 (cleared_file h t.entry (stayed_file (emptied_of b h t) b)) → written (removed_of b h) old ≡ Ok (length b, new)
+stayed_returned b h t k old new u x e i at = written_done (removed_of b h) (cleared_file h t.entry (stayed_file (emptied_of b h t) b)) old new (length b) u (stayed_is b h t k x e) (stayed_length b h t x) i at

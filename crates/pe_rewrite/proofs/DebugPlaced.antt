@@ -13,7 +13,7 @@ use Rattle.pe_core.proofs.NumberBytes.{le-same, le_small}
 use Rattle.pe_edit.specs.Written.{Leaf}
 use Rattle.pe_records.specs.DebugDirectory.{debug_entry_at}
 use Rattle.pe_sign.proofs.Digests.{range_below, range_past}
-use Rattle.pe_rewrite.specs.Edited.{Lies, edited_of}
+use Rattle.pe_rewrite.specs.Edited.{Lies, in_place}
 use Rattle.pe_rewrite.specs.Places.{debug_apart, debug_data_apart, directory_at, entries_apart, entry_apart, headers_end, place_of, section_headers}
 use Rattle.pe_rewrite.specs.WrittenImages.{entries_at}
 use Rattle.pe_rewrite.specs.declared.debug.DebugEntries.{DebugEntries}
@@ -116,12 +116,12 @@ apart_there : (o : ParseOptions) (b : List ℕ) (h : HeaderView) (p : Place) (x 
 apart_there o b h p x w q some resolves there =
     subst (λ (d : DebugEntries). debug_apart b h p.section d ≡ true) (entries_there o b h x.target x.of w q some resolves there) x.apart
 
-pub entry_in_place : (o : ParseOptions) (b : List ℕ) (h : HeaderView) (xs : List Leaf) (p : Place) (f : List ℕ) (w : OptionalHeaderView) (q k : ℕ) → place_of b h xs ≡ Ok p → edited_of b h xs ≡ Ok f → h.optional_header ≡ Some w → o.resolve_rva ≡ true →
+pub entry_in_place : (o : ParseOptions) (b : List ℕ) (h : HeaderView) (xs : List Leaf) (p : Place) (f : List ℕ) (w : OptionalHeaderView) (q k : ℕ) → place_of b h xs ≡ Ok p → in_place b h xs ≡ Ok f → h.optional_header ≡ Some w → o.resolve_rva ≡ true →
     section_map o (section_headers b h) w.windows_fields.file_alignment (directory_at w 6).virtual_address ≡ Some q → k < (directory_at w 6).size / 28 → debug_entry_at 0 f (q + 28 * k) ≡ debug_entry_at 0 b (q + 28 * k)
 entry_in_place o b h xs p f w q k e i some resolves there lt =
     entry_same b h xs p f (entries_at q (directory_at w 6)) k (is_file b h xs p f e i) (apart_there o b h p (debug_placed b h xs p e) w q some resolves there) lt
 
-pub data_in_place : (o : ParseOptions) (b : List ℕ) (h : HeaderView) (xs : List Leaf) (p : Place) (f : List ℕ) (w : OptionalHeaderView) (q k : ℕ) → AreBytes b → place_of b h xs ≡ Ok p → edited_of b h xs ≡ Ok f → h.optional_header ≡ Some w → o.resolve_rva ≡ true →
+pub data_in_place : (o : ParseOptions) (b : List ℕ) (h : HeaderView) (xs : List Leaf) (p : Place) (f : List ℕ) (w : OptionalHeaderView) (q k : ℕ) → AreBytes b → place_of b h xs ≡ Ok p → in_place b h xs ≡ Ok f → h.optional_header ≡ Some w → o.resolve_rva ≡ true →
     section_map o (section_headers b h) w.windows_fields.file_alignment (directory_at w 6).virtual_address ≡ Some q → k < (directory_at w 6).size / 28 → headers_end h ≤ (debug_entry_at 0 b (q + 28 * k)).pointer_to_raw_data →
     range f (debug_entry_at 0 b (q + 28 * k)).pointer_to_raw_data (debug_entry_at 0 b (q + 28 * k)).size_of_data ≡ range b (debug_entry_at 0 b (q + 28 * k)).pointer_to_raw_data (debug_entry_at 0 b (q + 28 * k)).size_of_data
 unfolding debug_entry_at

@@ -19,5 +19,7 @@ pub mod WrittenImages
 pub mod RoomImages
 pub mod DebugMoved
 pub mod DebugPlaced
+pub mod Removed
 pub mod Calls
+pub mod RemovedImages
 pub mod WrittenTrees

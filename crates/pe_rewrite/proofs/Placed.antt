@@ -15,7 +15,7 @@ use Rattle.pe_edit.specs.Written.{Accepted, Leaf, section}
 use Rattle.pe_edit.proofs.SectionRead.{length_of_section}
 use Rattle.pe_edit.proofs.Tests.{passes, section_fits, section_is, section_is_sorted}
 use Rattle.pe_sign.specs.WrittenHeaders.{directories_end, directories_end_after}
-use Rattle.pe_rewrite.specs.Edited.{Lies, at_end, edited_file, edited_of, in_place, or_at_end}
+use Rattle.pe_rewrite.specs.Edited.{Lies, edited_file, in_place}
 use Rattle.pe_rewrite.specs.Places.{debug_apart, debug_entries, directory_at, grows_clear, has_data, header_tests, headers_end, index_of, is_absent, is_alone, length_at, place_at, place_of, section_header, section_headers, section_tests, sections_apart, symbols_apart, target_before, target_by, target_of, target_tests}
 use Rattle.pe_rewrite.specs.RewriteRefusals.{RewriteRefusal, NoSection, of_leaves}
 use Rattle.pe_rewrite.specs.declared.place.Place.{Place}
@@ -233,6 +233,3 @@ place_made b h xs p x =
 
 pub placed_value : (b : List ℕ) (h : HeaderView) (xs : List Leaf) (p : Place) → place_of b h xs ≡ Ok p → in_place b h xs ≡ Ok (edited_file h p xs b)
 placed_value b h xs p e = ap (λ (r : Result Place RewriteRefusal). r >>= λ q. Ok (edited_file h q xs b)) e
-
-pub edited_value : (b : List ℕ) (h : HeaderView) (xs : List Leaf) (p : Place) → place_of b h xs ≡ Ok p → edited_of b h xs ≡ Ok (edited_file h p xs b)
-edited_value b h xs p e = ap (λ (r : Result (List ℕ) RewriteRefusal). or_at_end r (at_end b h xs)) (placed_value b h xs p e)

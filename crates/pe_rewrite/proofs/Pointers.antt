@@ -156,7 +156,7 @@ lie_by false true true e f = (refl, refl)
 lie_by false true false e f = absurd cc
 lie_by false false v e f = absurd cc
 
-lie_at : (h : HeaderView) (t : Target) (n : ℕ) (l : LastSection) → entries_lie h l ≡ true → EntriesLie h (room_at h t n l)
+pub lie_at : (h : HeaderView) (t : Target) (n : ℕ) (l : LastSection) → entries_lie h l ≡ true → EntriesLie h (room_at h t n l)
 lie_at h t n l e some =
     let none : (l.debug.count == 0) ≡ false = grind (arith, nat_tests, some) in
     let both = lie_by (l.debug.count == 0) (nat_le (table_end h l.index) l.debug.offset) (nat_le (l.debug.offset + 28 * l.debug.count) l.section.pointer_to_raw_data) e none in

@@ -12,10 +12,10 @@ use Rattle.pe_core.proofs.NumberBytes.{le-same}
 use Rattle.pe_core.proofs.Splices.{length-bytes_of, length-splice}
 use Rattle.pe_edit.proofs.Stands.{Stands, left, number, part, right}
 use Rattle.pe_sign.proofs.Digests.{range_below, range_past}
-use Rattle.pe_rewrite.specs.Edited.{RoomLies, changed, room_changes, roomy_file, with_zeros}
+use Rattle.pe_rewrite.specs.Edited.{FieldsLie, RoomLies, changed, room_changes, roomy_file, with_zeros}
 use Rattle.pe_rewrite.specs.declared.room.Room.{Room}
 use Rattle.pe_rewrite.proofs.Roomy.{SmallRow}
-use Rattle.pe_rewrite.proofs.RoomWrites.{length_apart, length_row, room_fit}
+use Rattle.pe_rewrite.proofs.RoomWrites.{fields_fit, fields_of, length_apart, length_row, room_fit}
 use Rattle.pe_rewrite.proofs.Stays.{Misses, Past, byte_changed, number_there}
 use Rattle.pe_rewrite.proofs.Writes.{Fit}
 
@@ -44,9 +44,9 @@ roomy_fit h m b l = subst (λ (n : ℕ). Fit n (room_changes h.dos_header.pe_poi
 entry_halves : (p k : ℕ) → Past p 8 k → Past p 4 k × Past (p + 4) 4 k
 entry_halves p k h = (grind (arith, nat_tests, h), grind (arith, nat_tests, h))
 
-room_misses : (h : HeaderView) (m : Room) (n k : ℕ) → RoomLies h m n → Past (h.dos_header.pe_pointer + 6) 2 k → Past (h.dos_header.pe_pointer + 12) 4 k → Past (h.dos_header.pe_pointer + 32) 4 k → Past (h.dos_header.pe_pointer + 80) 4 k →
+room_misses : (h : HeaderView) (m : Room) (k : ℕ) → length m.place.section.name ≡ 8 → Past (h.dos_header.pe_pointer + 6) 2 k → Past (h.dos_header.pe_pointer + 12) 4 k → Past (h.dos_header.pe_pointer + 32) 4 k → Past (h.dos_header.pe_pointer + 80) 4 k →
     Past m.place.entry 8 k → Past m.place.row 40 k → Misses k (room_changes h.dos_header.pe_pointer m)
-room_misses h m n k l count symbols initialized image entry row =
+room_misses h m k name count symbols initialized image entry row =
     let q : ℕ = h.dos_header.pe_pointer in
     let by : (p w : ℕ) (s : List ℕ) → length s ≡ w → Past p w k → (nat_le p k && nat_lt k (p + length s)) ≡ false = λ p w s e past. ap (λ (z : ℕ). nat_le p k && nat_lt k (p + z)) e ∙ past in
     let halves = entry_halves m.place.entry k entry in (
@@ -61,7 +61,7 @@ room_misses h m n k l count symbols initialized image entry row =
               by m.place.entry 4 (bytes_of 4 m.place.section.virtual_address) (length-bytes_of 4 m.place.section.virtual_address) halves.0,
               (
                 by (m.place.entry + 4) 4 (bytes_of 4 m.place.length) (length-bytes_of 4 m.place.length) halves.1,
-                (by m.place.row 40 (spell_section m.place.section) (length_row m.place.section l.name) row, tt),
+                (by m.place.row 40 (spell_section m.place.section) (length_row m.place.section name) row, tt),
               ),
             ),
           ),
@@ -69,12 +69,18 @@ room_misses h m n k l count symbols initialized image entry row =
       ),
     )
 
--- a byte before the end of the data, in no field that changes, stays
+-- a byte in no field that changes stays
+pub fields_byte : (h : HeaderView) (m : Room) (z : List ℕ) (k : ℕ) → FieldsLie h m (length z) → Past (h.dos_header.pe_pointer + 6) 2 k → Past (h.dos_header.pe_pointer + 12) 4 k → Past (h.dos_header.pe_pointer + 32) 4 k →
+    Past (h.dos_header.pe_pointer + 80) 4 k → Past m.place.entry 8 k → Past m.place.row 40 k → get_or (changed (room_changes h.dos_header.pe_pointer m) z) k 0 ≡ get_or z k 0
+fields_byte h m z k l count symbols initialized image entry row =
+    byte_changed (room_changes h.dos_header.pe_pointer m) z k (fields_fit h m (length z) l) (room_misses h m k l.name count symbols initialized image entry row)
+
+-- the same of a byte before the end of the data
 pub roomy_byte : (h : HeaderView) (m : Room) (b : List ℕ) (k : ℕ) → RoomLies h m (length b) → k < m.end → Past (h.dos_header.pe_pointer + 6) 2 k → Past (h.dos_header.pe_pointer + 12) 4 k → Past (h.dos_header.pe_pointer + 32) 4 k →
     Past (h.dos_header.pe_pointer + 80) 4 k → Past m.place.entry 8 k → Past m.place.row 40 k → get_or (roomy_file h m b) k 0 ≡ get_or b k 0
 unfolding roomy_file
 roomy_byte h m b k l lt count symbols initialized image entry row =
-    byte_changed (room_changes h.dos_header.pe_pointer m) (with_zeros m.end m.more b) k (roomy_fit h m b l) (room_misses h m (length b) k l count symbols initialized image entry row)
+    byte_changed (room_changes h.dos_header.pe_pointer m) (with_zeros m.end m.more b) k (roomy_fit h m b l) (room_misses h m k l.name count symbols initialized image entry row)
     ∙ zeros_before m.end m.more k b l.end lt
 
 -- a byte after it moves
@@ -84,7 +90,7 @@ roomy_byte_after h m b k l from =
     let past : (p w : ℕ) → p + w ≤ m.end → Past p w (k + m.more) = λ p w to. range_past p w (k + m.more) (omega (arith, to, from)) in
     let q : ℕ = h.dos_header.pe_pointer in
     byte_changed (room_changes q m) (with_zeros m.end m.more b) (k + m.more) (roomy_fit h m b l)
-    (room_misses h m (length b) (k + m.more) l (past (q + 6) 2 (omega (arith, l.sum, l.entry, l.row))) (past (q + 12) 4 (omega (arith, l.sum, l.entry, l.row))) (past (q + 32) 4 (omega (arith, l.sum, l.entry, l.row)))
+    (room_misses h m (k + m.more) l.name (past (q + 6) 2 (omega (arith, l.sum, l.entry, l.row))) (past (q + 12) 4 (omega (arith, l.sum, l.entry, l.row))) (past (q + 32) 4 (omega (arith, l.sum, l.entry, l.row)))
     (past (q + 80) 4 (omega (arith, l.sum, l.entry, l.row))) (past m.place.entry 8 (omega (arith, l.entry, l.row))) (past m.place.row 40 l.row))
     ∙ zeros_after m.end m.more k b l.end from
 
@@ -172,13 +178,10 @@ pub record SmallRoom (m : Room) : Type 0 where
   pub row : SmallRow m.place.section
   pub raw : m.place.section.size_of_raw_data < 256 ^ 4
 
-pub room_read : (h : HeaderView) (m : Room) (b : List ℕ) → RoomLies h m (length b) → SmallRoom m → RoomRead (roomy_file h m b) h.dos_header.pe_pointer m
-unfolding roomy_file
-room_read h m b l s =
+pub fields_read : (h : HeaderView) (m : Room) (z : List ℕ) → FieldsLie h m (length z) → SmallRoom m → RoomRead (changed (room_changes h.dos_header.pe_pointer m) z) h.dos_header.pe_pointer m
+fields_read h m z l s =
     let q : ℕ = h.dos_header.pe_pointer in
-    let z : List ℕ = with_zeros m.end m.more b in
-    let fit : Fit (length z) (room_changes q m) = roomy_fit h m b l in
-    let size : length z ≡ length b + m.more = length_apart m.end m.more b l.end in
+    let fit : Fit (length z) (room_changes q m) = fields_fit h m (length z) l in
     let z1 : List ℕ = splice z (q + 6) (bytes_of 2 m.number_of_sections) in
     let s1 : length z1 ≡ length z = length-splice z (q + 6) (bytes_of 2 m.number_of_sections) fit.0 in
     let z2 : List ℕ = splice z1 (q + 12) (bytes_of 4 m.pointer_to_symbol_table) in
@@ -198,7 +201,7 @@ room_read h m b l s =
     let c4 : List (ℕ × List ℕ) = (q + 80, bytes_of 4 m.size_of_image) ∷ c5 in
     let c3 : List (ℕ × List ℕ) = (q + 32, bytes_of 4 m.size_of_initialized_data) ∷ c4 in
     let c2 : List (ℕ × List ℕ) = (q + 12, bytes_of 4 m.pointer_to_symbol_table) ∷ c3 in
-    let all : m.place.row + 40 ≤ length z = omega (arith, l.row, l.end, size) in
+    let all : m.place.row + 40 ≤ length z = l.row in
     record {
       count = number_kept c2 z (q + 6) 2 m.number_of_sections s.count (omega (arith, all, l.sum, l.entry)) fit.1
           (omega arith, (omega arith, (omega arith, (omega (arith, l.sum), (omega (arith, l.sum), (omega (arith, l.sum, l.entry), tt))))));
@@ -213,3 +216,10 @@ room_read h m b l s =
       size = number_kept c7 z5 (m.place.entry + 4) 4 m.place.length s.length_of (omega (arith, s5, all, l.entry)) (to (length z5) c7 s5 fit.1.1.1.1.1.1) (omega (arith, l.entry), tt);
       row = section_read (splice z6 m.place.row (spell_section m.place.section)) m.place.row m.place.section (here z6 m.place.row (spell_section m.place.section) (omega (arith, s6, all))) l.name s.row s.raw;
     }
+
+pub room_read : (h : HeaderView) (m : Room) (b : List ℕ) → RoomLies h m (length b) → SmallRoom m → RoomRead (roomy_file h m b) h.dos_header.pe_pointer m
+unfolding roomy_file
+room_read h m b l s =
+    let z : List ℕ = with_zeros m.end m.more b in
+    let size : length z ≡ length b + m.more = length_apart m.end m.more b l.end in
+    fields_read h m z (fields_of h m (length b) (length z) l (omega (arith, size, l.end))) s

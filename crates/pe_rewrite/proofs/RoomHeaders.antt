@@ -295,7 +295,7 @@ header_with f b mode h o m a e far at_e s r =
     let magic : o.standard_fields.magic ≡ le b (p + 24) 2 = ap (λ (x : OptionalHeaderView). x.standard_fields.magic) (sym both.1) ∙ magic_is b (p + 24) in
     header_is f b mode h m a both.0 (omega (arith, far)) (at_e ∙ ap (λ (v : ℕ). p + 24 + directories_offset (v == 0x20B) + 8 * 2) magic) s r
 
-headers_with_room : (f b : List ℕ) (mode : ParseMode) (h : HeaderView) (o : OptionalHeaderView) (m : Room) → header_at b mode ≡ Ok h → h.optional_header ≡ Some o → 64 ≤ h.dos_header.pe_pointer →
+pub headers_with_room : (f b : List ℕ) (mode : ParseMode) (h : HeaderView) (o : OptionalHeaderView) (m : Room) → header_at b mode ≡ Ok h → h.optional_header ≡ Some o → 64 ≤ h.dos_header.pe_pointer →
     m.place.entry ≡ h.dos_header.pe_pointer + 24 + directories_offset (o.standard_fields.magic == 0x20B) + 8 * 2 →
     Same f b h.dos_header.pe_pointer m.place.entry (directories_end h) → RoomRead f h.dos_header.pe_pointer m → header_at f mode ≡ Ok (headers_roomy m h)
 headers_with_room f b mode h o m e some far at_e s r =
@@ -306,24 +306,29 @@ headers_with_room f b mode h o m e some far at_e s r =
 
 -- ---- the file that is written
 
+-- before n a byte of f that is in no field is that of b
+pub same_by : (m : Room) (f b : List ℕ) (q n : ℕ) → ((k : ℕ) → k < n → Past (q + 6) 2 k → Past (q + 12) 4 k → Past (q + 32) 4 k → Past (q + 80) 4 k → Past m.place.entry 8 k → get_or f k 0 ≡ get_or b k 0) → q + 92 ≤ m.place.entry → m.place.entry + 8 ≤ n →
+    n ≤ length f → n ≤ length b → Same f b q m.place.entry n
+same_by m f b q n stays sum from inside inside_before =
+    record {
+      sum = sum;
+      entry = from;
+      inside = inside;
+      inside_before = inside_before;
+      stub = λ k lt. stays k (omega (arith, lt, sum, from)) (range_below (q + 6) 2 k lt) (range_below (q + 12) 4 k (omega (arith, lt))) (range_below (q + 32) 4 k (omega (arith, lt))) (range_below (q + 80) 4 k (omega (arith, lt))) (range_below m.place.entry 8 k (omega (arith, lt, sum)));
+      time = λ k ge lt. stays k (omega (arith, lt, sum, from)) (range_past (q + 6) 2 k (omega (arith, ge))) (range_below (q + 12) 4 k lt) (range_below (q + 32) 4 k (omega (arith, lt))) (range_below (q + 80) 4 k (omega (arith, lt))) (range_below m.place.entry 8 k (omega (arith, lt, sum)));
+      count = λ k ge lt. stays k (omega (arith, lt, sum, from)) (range_past (q + 6) 2 k (omega (arith, ge))) (range_past (q + 12) 4 k (omega (arith, ge))) (range_below (q + 32) 4 k lt) (range_below (q + 80) 4 k (omega (arith, lt))) (range_below m.place.entry 8 k (omega (arith, lt, sum)));
+      middle = λ k ge lt. stays k (omega (arith, lt, sum, from)) (range_past (q + 6) 2 k (omega (arith, ge))) (range_past (q + 12) 4 k (omega (arith, ge))) (range_past (q + 32) 4 k (omega (arith, ge))) (range_below (q + 80) 4 k lt) (range_below m.place.entry 8 k (omega (arith, lt, sum)));
+      after = λ k ge lt. stays k (omega (arith, lt, from)) (range_past (q + 6) 2 k (omega (arith, ge))) (range_past (q + 12) 4 k (omega (arith, ge))) (range_past (q + 32) 4 k (omega (arith, ge))) (range_past (q + 80) 4 k (omega (arith, ge))) (range_below m.place.entry 8 k lt);
+      last = λ k ge lt. stays k lt (range_past (q + 6) 2 k (omega (arith, ge, sum))) (range_past (q + 12) 4 k (omega (arith, ge, sum))) (range_past (q + 32) 4 k (omega (arith, ge, sum))) (range_past (q + 80) 4 k (omega (arith, ge, sum))) (range_past m.place.entry 8 k ge);
+    }
+
 -- b has the bytes of c before the section header
 same_of : (h : HeaderView) (m : Room) (c b : List ℕ) (n : ℕ) → ((k : ℕ) → k < m.place.row → get_or c k 0 ≡ get_or b k 0) → length c ≡ length b → RoomLies h m (length c) → m.place.entry + 8 ≤ n → n ≤ m.place.row → Same (roomy_file h m c) b h.dos_header.pe_pointer m.place.entry n
 same_of h m c b n head size l from to =
-    let q : ℕ = h.dos_header.pe_pointer in
-    let stays : (k : ℕ) → k < n → Past (q + 6) 2 k → Past (q + 12) 4 k → Past (q + 32) 4 k → Past (q + 80) 4 k → Past m.place.entry 8 k → get_or (roomy_file h m c) k 0 ≡ get_or b k 0 =
-    λ k lt a i d e f. roomy_byte h m c k l (omega (arith, lt, to, l.row)) a i d e f (range_below m.place.row 40 k (omega (arith, lt, to))) ∙ head k (omega (arith, lt, to)) in
-    record {
-      sum = l.sum;
-      entry = from;
-      inside = omega (arith, roomy_length h m c l, to, l.row, l.end);
-      inside_before = omega (arith, to, l.row, l.end, size);
-      stub = λ k lt. stays k (omega (arith, lt, l.sum, from)) (range_below (q + 6) 2 k lt) (range_below (q + 12) 4 k (omega (arith, lt))) (range_below (q + 32) 4 k (omega (arith, lt))) (range_below (q + 80) 4 k (omega (arith, lt))) (range_below m.place.entry 8 k (omega (arith, lt, l.sum)));
-      time = λ k ge lt. stays k (omega (arith, lt, l.sum, from)) (range_past (q + 6) 2 k (omega (arith, ge))) (range_below (q + 12) 4 k lt) (range_below (q + 32) 4 k (omega (arith, lt))) (range_below (q + 80) 4 k (omega (arith, lt))) (range_below m.place.entry 8 k (omega (arith, lt, l.sum)));
-      count = λ k ge lt. stays k (omega (arith, lt, l.sum, from)) (range_past (q + 6) 2 k (omega (arith, ge))) (range_past (q + 12) 4 k (omega (arith, ge))) (range_below (q + 32) 4 k lt) (range_below (q + 80) 4 k (omega (arith, lt))) (range_below m.place.entry 8 k (omega (arith, lt, l.sum)));
-      middle = λ k ge lt. stays k (omega (arith, lt, l.sum, from)) (range_past (q + 6) 2 k (omega (arith, ge))) (range_past (q + 12) 4 k (omega (arith, ge))) (range_past (q + 32) 4 k (omega (arith, ge))) (range_below (q + 80) 4 k lt) (range_below m.place.entry 8 k (omega (arith, lt, l.sum)));
-      after = λ k ge lt. stays k (omega (arith, lt, from)) (range_past (q + 6) 2 k (omega (arith, ge))) (range_past (q + 12) 4 k (omega (arith, ge))) (range_past (q + 32) 4 k (omega (arith, ge))) (range_past (q + 80) 4 k (omega (arith, ge))) (range_below m.place.entry 8 k lt);
-      last = λ k ge lt. stays k lt (range_past (q + 6) 2 k (omega (arith, ge, l.sum))) (range_past (q + 12) 4 k (omega (arith, ge, l.sum))) (range_past (q + 32) 4 k (omega (arith, ge, l.sum))) (range_past (q + 80) 4 k (omega (arith, ge, l.sum))) (range_past m.place.entry 8 k ge);
-    }
+    same_by m (roomy_file h m c) b h.dos_header.pe_pointer n
+    (λ k lt a i d e f. roomy_byte h m c k l (omega (arith, lt, to, l.row)) a i d e f (range_below m.place.row 40 k (omega (arith, lt, to))) ∙ head k (omega (arith, lt, to)))
+    l.sum from (omega (arith, roomy_length h m c l, to, l.row, l.end)) (omega (arith, to, l.row, l.end, size))
 
 small_at : (b : List ℕ) (h : HeaderView) (xs : List Leaf) (t : Target) (n : ℕ) (l : LastSection) → AreBytes b → Made l.section.virtual_address n xs → IsLast b h t.file_alignment n l → RoomFits b h t n l → SmallRoom (room_at h t n l)
 small_at b h xs t n l small leaves is fits =

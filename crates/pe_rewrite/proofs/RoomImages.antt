@@ -19,13 +19,14 @@ use Rattle.pe_resource.specs.Contents.{file_bytes}
 use Rattle.pe_edit.specs.Written.{Each, Leaf, Numbers, section}
 use Rattle.pe_sign.proofs.Digests.{range_past}
 use Rattle.pe_rewrite.specs.Edited.{RoomLies, at_end, edited_file, edited_of, grown_size, in_place, is_moved_over, is_pointer, is_written, moved_file, or_at_end, roomy_file, sum_by, sum_of, wants_room, with_pointers, with_resources, with_sum}
-use Rattle.pe_rewrite.specs.Places.{is_outside, section_header, section_headers}
+use Rattle.pe_rewrite.specs.Places.{is_outside, place_of, section_header, section_headers}
 use Rattle.pe_rewrite.specs.RewriteRefusals.{RewriteRefusal}
 use Rattle.pe_rewrite.specs.Rooms.{room_of}
 use Rattle.pe_rewrite.specs.WrittenImages.{edited_headers, entry_of, headers_roomy, leaves_of_image, optional_roomy, resized, sections_with}
+use Rattle.pe_rewrite.specs.declared.place.Place.{Place}
 use Rattle.pe_rewrite.specs.declared.place.Target.{Target}
 use Rattle.pe_rewrite.specs.declared.room.Room.{Room}
-use Rattle.pe_rewrite.proofs.Placed.{Placed}
+use Rattle.pe_rewrite.proofs.Placed.{Placed, placed_value}
 use Rattle.pe_rewrite.proofs.Pointers.{byte_with, head_with, length_with, pointer_missed, room_with, rows_with, small_with, tail_with}
 use Rattle.pe_rewrite.proofs.RoomBytes.{roomy_byte, roomy_byte_after}
 use Rattle.pe_rewrite.proofs.RoomHeaders.{roomy_headers, small_room}
@@ -47,11 +48,11 @@ moved_is : (b : List ℕ) (h : HeaderView) (xs : List Leaf) (m : Room) (f : List
 moved_is b h xs m f e i = same_ok (at_end b h xs) (moved_file h m xs b) f (ap (λ (r : Result Room RewriteRefusal). r >>= λ n. Ok (moved_file h n xs b)) e) i
 
 -- the checksum is by the same field
-sum_roomy : (p : ℕ) (o : Option OptionalHeaderView) (m : Room) (f : List ℕ) → sum_by p (option_map (optional_roomy m) o) f ≡ sum_by p o f
+pub sum_roomy : (p : ℕ) (o : Option OptionalHeaderView) (m : Room) (f : List ℕ) → sum_by p (option_map (optional_roomy m) o) f ≡ sum_by p o f
 sum_roomy p None m f = refl
 sum_roomy p (Some o) m f = refl
 
-file_roomy : (h : HeaderView) (m : Room) (f : List ℕ) → with_sum (headers_roomy m h) f ≡ with_sum h f
+pub file_roomy : (h : HeaderView) (m : Room) (f : List ℕ) → with_sum (headers_roomy m h) f ≡ with_sum h f
 unfolding with_sum
 file_roomy h m f = ap (λ (n : ℕ). splice f (h.dos_header.pe_pointer + 88) (bytes_of 4 n)) (sum_roomy h.dos_header.pe_pointer h.optional_header m f)
 
@@ -102,11 +103,11 @@ length_moved b h xs m f small e i =
 pub roomy_stays : (b : List ℕ) (h : HeaderView) (xs : List Leaf) (m : Room) (f : List ℕ) (k : ℕ) → IsMoved b h xs m f → is_written h m.place k ≡ false → get_or f k 0 ≡ get_or (roomy_file h m (with_pointers m b)) k 0
 roomy_stays b h xs m f k y out = bytes_stay_placed (roomy_file h m (with_pointers m b)) (headers_roomy m h) xs m.place f k y.file out
 
-first_false : (t u : Bool) → (t || u) ≡ false → (t ≡ false) × (u ≡ false)
+pub first_false : (t u : Bool) → (t || u) ≡ false → (t ≡ false) × (u ≡ false)
 first_false false u e = (refl, e)
 first_false true u e = absurd cc
 
-six_of : (a b c d e w : Bool) → (a || (b || (c || (d || (e || w))))) ≡ false → (a ≡ false) × ((b ≡ false) × ((c ≡ false) × ((d ≡ false) × ((e ≡ false) × (w ≡ false)))))
+pub six_of : (a b c d e w : Bool) → (a || (b || (c || (d || (e || w))))) ≡ false → (a ≡ false) × ((b ≡ false) × ((c ≡ false) × ((d ≡ false) × ((e ≡ false) × (w ≡ false)))))
 six_of false false false false false false h = (refl, (refl, (refl, (refl, (refl, refl)))))
 six_of false false false false false true h = absurd cc
 six_of false false false false true w h = absurd cc
@@ -272,5 +273,11 @@ or_cases : (r s : Result (List ℕ) RewriteRefusal) (f : List ℕ) → or_at_end
 or_cases (Ok g) s f e = inl e
 or_cases (Err k) s f e = inr (second_by (wants_room k) k s f e)
 
-pub one_of_two : (b : List ℕ) (h : HeaderView) (xs : List Leaf) (f : List ℕ) → edited_of b h xs ≡ Ok f → (in_place b h xs ≡ Ok f) ⊎ (at_end b h xs ≡ Ok f)
-one_of_two b h xs f e = or_cases (in_place b h xs) (at_end b h xs) f e
+pub one_of_two : (b : List ℕ) (h : HeaderView) (x : Leaf) (xs : List Leaf) (f : List ℕ) → edited_of b h (x ∷ xs) ≡ Ok f → (in_place b h (x ∷ xs) ≡ Ok f) ⊎ (at_end b h (x ∷ xs) ≡ Ok f)
+one_of_two b h x xs f e = or_cases (in_place b h (x ∷ xs)) (at_end b h (x ∷ xs)) f e
+
+-- in place wherever there is one
+pub first_is_place : (b : List ℕ) (h : HeaderView) (x : Leaf) (xs : List Leaf) (p : Place) → place_of b h (x ∷ xs) ≡ Ok p → edited_of b h (x ∷ xs) ≡ in_place b h (x ∷ xs)
+first_is_place b h x xs p e =
+    let is : in_place b h (x ∷ xs) ≡ Ok (edited_file h p (x ∷ xs) b) = placed_value b h (x ∷ xs) p e in
+    ap (λ (r : Result (List ℕ) RewriteRefusal). or_at_end r (at_end b h (x ∷ xs))) is ∙ sym is

@@ -54,7 +54,7 @@ before_parts true false false r p e i = absurd cc
 before_parts false false h r p e i = absurd cc
 
 -- a file offset that another section is mapped to is after the headers, and before the section's data
-within : (t : Bool) (alignment end a q : ℕ) (s u : SectionTable) → 0 < alignment → (u.size_of_raw_data == 0) ≡ t → is_before alignment end s u ≡ true → Covered alignment a q u → (end ≤ q) × (q < s.pointer_to_raw_data)
+pub within : (t : Bool) (alignment end a q : ℕ) (s u : SectionTable) → 0 < alignment → (u.size_of_raw_data == 0) ≡ t → is_before alignment end s u ≡ true → Covered alignment a q u → (end ≤ q) × (q < s.pointer_to_raw_data)
 within true alignment end a q s u some e d c =
     let none : u.size_of_raw_data ≡ 0 = grind (arith, nat_tests, e) in
     let no : covers alignment a u ≡ false = covers_none alignment a u (λ i. omega (arith, none, i)) in

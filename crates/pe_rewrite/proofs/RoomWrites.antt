@@ -6,7 +6,7 @@ use Rattle.pe_core.specs.Header.{HeaderView}
 use Rattle.pe_core.specs.Spelling.{spell_section}
 use Rattle.pe_core.specs.declared.section_table.SectionTable.{SectionTable}
 use Rattle.pe_core.proofs.Splices.{length-bytes_of, length-splice, splice-splice}
-use Rattle.pe_rewrite.specs.Edited.{Inside, RoomLies, changed, room_changes, roomy_file, with_zeros}
+use Rattle.pe_rewrite.specs.Edited.{FieldsLie, Inside, RoomLies, changed, room_changes, roomy_file, with_zeros}
 use Rattle.pe_rewrite.specs.declared.room.Room.{Room}
 use Rattle.pe_rewrite.proofs.Writes.{Fit, inner, length-changed}
 
@@ -54,24 +54,31 @@ apart_set old b one two three e d h i j k =
 
 -- ---- the headers
 
-pub room_fit : (h : HeaderView) (m : Room) (n : ℕ) → RoomLies h m n → Fit (n + m.more) (room_changes h.dos_header.pe_pointer m)
-room_fit h m n l =
+pub fields_fit : (h : HeaderView) (m : Room) (n : ℕ) → FieldsLie h m n → Fit n (room_changes h.dos_header.pe_pointer m)
+fields_fit h m n l =
     let row : length (spell_section m.place.section) ≡ 40 = length_row m.place.section l.name in (
-      omega (arith, length-bytes_of 2 m.number_of_sections, l.sum, l.entry, l.row, l.end),
+      omega (arith, length-bytes_of 2 m.number_of_sections, l.sum, l.entry, l.row),
       (
-        omega (arith, length-bytes_of 4 m.pointer_to_symbol_table, l.sum, l.entry, l.row, l.end),
+        omega (arith, length-bytes_of 4 m.pointer_to_symbol_table, l.sum, l.entry, l.row),
         (
-          omega (arith, length-bytes_of 4 m.size_of_initialized_data, l.sum, l.entry, l.row, l.end),
+          omega (arith, length-bytes_of 4 m.size_of_initialized_data, l.sum, l.entry, l.row),
           (
-            omega (arith, length-bytes_of 4 m.size_of_image, l.sum, l.entry, l.row, l.end),
+            omega (arith, length-bytes_of 4 m.size_of_image, l.sum, l.entry, l.row),
             (
-              omega (arith, length-bytes_of 4 m.place.section.virtual_address, l.entry, l.row, l.end),
-              (omega (arith, length-bytes_of 4 m.place.length, l.entry, l.row, l.end), (omega (arith, row, l.row, l.end), tt)),
+              omega (arith, length-bytes_of 4 m.place.section.virtual_address, l.entry, l.row),
+              (omega (arith, length-bytes_of 4 m.place.length, l.entry, l.row), (omega (arith, row, l.row), tt)),
             ),
           ),
         ),
       ),
     )
+
+-- the fields of a room lie in a file that has the bytes before it
+pub fields_of : (h : HeaderView) (m : Room) (n k : ℕ) → RoomLies h m n → m.end ≤ k → FieldsLie h m k
+fields_of h m n k l from = record { sum = l.sum; entry = l.entry; row = omega (arith, l.row, from); room = l.room; name = l.name }
+
+pub room_fit : (h : HeaderView) (m : Room) (n : ℕ) → RoomLies h m n → Fit (n + m.more) (room_changes h.dos_header.pe_pointer m)
+room_fit h m n l = fields_fit h m (n + m.more) (fields_of h m n (n + m.more) l (omega (arith, l.end)))
 
 pub roomy_length : (h : HeaderView) (m : Room) (b : List ℕ) → RoomLies h m (length b) → length (roomy_file h m b) ≡ length b + m.more
 unfolding roomy_file
@@ -79,25 +86,29 @@ roomy_length h m b l =
     let zeros : length (with_zeros m.end m.more b) ≡ length b + m.more = length_apart m.end m.more b l.end in
     length-changed (room_changes h.dos_header.pe_pointer m) (with_zeros m.end m.more b) (subst (λ (n : ℕ). Fit n (room_changes h.dos_header.pe_pointer m)) (sym zeros) (room_fit h m (length b) l)) ∙ zeros
 
-changed_front : (cs : List (ℕ × List ℕ)) (old b now : List ℕ) → Fit (length b) cs → now ≡ splice old 0 b → changed cs now ≡ splice old 0 (changed cs b)
+pub changed_front : (cs : List (ℕ × List ℕ)) (old b now : List ℕ) → Fit (length b) cs → now ≡ splice old 0 b → changed cs now ≡ splice old 0 (changed cs b)
 changed_front [] old b now f e = e
 changed_front (c ∷ cs) old b now f e =
     let one : length (splice b c.0 c.1) ≡ length b = length-splice b c.0 c.1 f.0 in
     changed_front cs old (splice b c.0 c.1) (splice now c.0 c.1) (subst (λ (n : ℕ). Fit n cs) (sym one) f.1) (inner old b now (splice now c.0 c.1) c.1 c.0 e refl f.0)
 
-pub room_set : (h : HeaderView) (m : Room) (old b one two three four five six seven new : List ℕ) → RoomLies h m (length b) → one ≡ splice old 0 (with_zeros m.end m.more b) →
+pub fields_set : (h : HeaderView) (m : Room) (one two three four five six seven new : List ℕ) →
     two ≡ splice one (h.dos_header.pe_pointer + 6) (bytes_of 2 m.number_of_sections) →
     three ≡ splice two (h.dos_header.pe_pointer + 12) (bytes_of 4 m.pointer_to_symbol_table) →
     four ≡ splice three (h.dos_header.pe_pointer + 32) (bytes_of 4 m.size_of_initialized_data) →
     five ≡ splice four (h.dos_header.pe_pointer + 80) (bytes_of 4 m.size_of_image) →
     six ≡ splice five m.place.entry (bytes_of 4 m.place.section.virtual_address) →
     seven ≡ splice six (m.place.entry + 4) (bytes_of 4 m.place.length) →
-    new ≡ splice seven m.place.row (spell_section m.place.section) → new ≡ splice old 0 (roomy_file h m b)
+    new ≡ splice seven m.place.row (spell_section m.place.section) → new ≡ changed (room_changes h.dos_header.pe_pointer m) one
+fields_set h m one two three four five six seven new j k n o p q r = rw (r, q, p, o, n, k, j) refl
+
+pub room_set : (h : HeaderView) (m : Room) (old b one new : List ℕ) → RoomLies h m (length b) → one ≡ splice old 0 (with_zeros m.end m.more b) →
+    new ≡ changed (room_changes h.dos_header.pe_pointer m) one → new ≡ splice old 0 (roomy_file h m b)
 unfolding roomy_file
-room_set h m old b one two three four five six seven new l i j k n o p q r =
+room_set h m old b one new l i e =
     let zeros : length (with_zeros m.end m.more b) ≡ length b + m.more = length_apart m.end m.more b l.end in
     let fit = subst (λ (n : ℕ). Fit n (room_changes h.dos_header.pe_pointer m)) (sym zeros) (room_fit h m (length b) l) in
-    rw (r, q, p, o, n, k, j) (changed_front (room_changes h.dos_header.pe_pointer m) old (with_zeros m.end m.more b) one fit i)
+    e ∙ changed_front (room_changes h.dos_header.pe_pointer m) old (with_zeros m.end m.more b) one fit i
 
 -- ---- the leaves in it
 

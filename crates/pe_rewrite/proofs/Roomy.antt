@@ -83,7 +83,7 @@ pub record IsLast (b : List ℕ) (h : HeaderView) (alignment n : ℕ) (l : LastS
   pub room : n ≤ l.section.size_of_raw_data + l.more
   pub multiple : l.more % alignment ≡ 0
 
-own_is_last : (b : List ℕ) (h : HeaderView) (t : Target) (n i : ℕ) → headers_end h ≤ length b → 0 < t.file_alignment → i < h.coff_header.number_of_sections → IsLast b h t.file_alignment n (own_section b h t n i)
+pub own_is_last : (b : List ℕ) (h : HeaderView) (t : Target) (n i : ℕ) → headers_end h ≤ length b → 0 < t.file_alignment → i < h.coff_header.number_of_sections → IsLast b h t.file_alignment n (own_section b h t n i)
 own_is_last b h t n i inside some below = record {
   index = omega (arith, below);
   name = name_of b (sections_offset h + 40 * i) (omega (arith, below, inside));
@@ -150,7 +150,7 @@ debug_of b h t n l r m e =
     let seven = passed (debug_moves b h l) _ _ m six.1 in
     seven.0
 
-room_fits : (b : List ℕ) (h : HeaderView) (t : Target) (n : ℕ) (l : LastSection) (r m : Room) → outcome (room_tests b h t n l) r ≡ Ok m → RoomFits b h t n l
+pub room_fits : (b : List ℕ) (h : HeaderView) (t : Target) (n : ℕ) (l : LastSection) (r m : Room) → outcome (room_tests b h t n l) r ≡ Ok m → RoomFits b h t n l
 room_fits b h t n l r m e =
     let one = passed (has_header b h t l.index) _ _ m e in
     let two = passed (are_u32 (sizes_of h t n l)) _ _ m one.1 in
@@ -294,11 +294,11 @@ has_debug b h xs m e =
 
 -- ---- what lies where
 
-wide : (w : Bool) → 96 ≤ directories_offset w
+pub wide : (w : Bool) → 96 ≤ directories_offset w
 wide true = omega arith
 wide false = omega arith
 
-lies_at : (b : List ℕ) (h : HeaderView) (t : Target) (n : ℕ) (l : LastSection) → TargetIs h t → HeadersLie b h t → IsLast b h t.file_alignment n l → RoomFits b h t n l → RoomLies h (room_at h t n l) (length b)
+pub lies_at : (b : List ℕ) (h : HeaderView) (t : Target) (n : ℕ) (l : LastSection) → TargetIs h t → HeadersLie b h t → IsLast b h t.file_alignment n l → RoomFits b h t n l → RoomLies h (room_at h t n l) (length b)
 lies_at b h t n l of headers is fits =
     let o : OptionalHeaderView = of.optional in
     let p : ℕ = h.dos_header.pe_pointer in

@@ -137,7 +137,7 @@ edited_set h p xs old b four five sum l e i s j =
 pub whole_front : (old : List ℕ) (n : ℕ) → n ≤ length old → old ≡ splice old 0 (take n old)
 whole_front old n h = sym (splice_front old (take n old) ∙ ap (λ (k : ℕ). take n old ++ drop k old) (length-take-le n old h) ∙ take-append-drop n old)
 
-splice_over : (old b f : List ℕ) → length f ≡ length b → splice (splice old 0 b) 0 f ≡ splice old 0 f
+pub splice_over : (old b f : List ℕ) → length f ≡ length b → splice (splice old 0 b) 0 f ≡ splice old 0 f
 splice_over old b f e =
     splice_front (splice old 0 b) f ∙ ap (λ (x : List ℕ). f ++ drop (length f) x) (splice_front old b)
     ∙ ap (λ (l : List ℕ). f ++ l) (drop_at b (drop (length b) old) (length f) (sym e)) ∙ ap (λ (n : ℕ). f ++ drop n old) (sym e) ∙ sym (splice_front old f)

@@ -52,7 +52,7 @@ small_sum : (p : ℕ) (o : Option OptionalHeaderView) (g : List ℕ) → sum_by 
 small_sum p None g = omega arith
 small_sum p (Some o) g = small_by (o.windows_fields.check_sum == 0) (checksum_of g (p + 88)) (small_checksum g (p + 88))
 
-sum_read : (h : HeaderView) (g : List ℕ) → h.dos_header.pe_pointer + 92 ≤ length g → le (with_sum h g) (h.dos_header.pe_pointer + 88) 4 ≡ sum_of h g
+pub sum_read : (h : HeaderView) (g : List ℕ) → h.dos_header.pe_pointer + 92 ≤ length g → le (with_sum h g) (h.dos_header.pe_pointer + 88) 4 ≡ sum_of h g
 unfolding with_sum
 sum_read h g room = number_there g (h.dos_header.pe_pointer + 88) 4 (sum_of h g) (small_sum h.dos_header.pe_pointer h.optional_header g) (omega (arith, room))
 

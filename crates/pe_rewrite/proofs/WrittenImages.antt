@@ -17,12 +17,12 @@ use Rattle.std.proofs.lemmas.List.{take_all}
 use Rattle.pe_edit.specs.Written.{Each, Fits, Leaf, Numbers, layout_of, section, section_length}
 use Rattle.pe_edit.proofs.SectionRead.{length_of_section, section_read}
 use Rattle.pe_edit.proofs.Tests.{accepted_fit}
-use Rattle.pe_rewrite.specs.Edited.{edited_file, edited_of, grown_size, is_written, sum_of}
+use Rattle.pe_rewrite.specs.Edited.{edited_file, in_place, grown_size, is_written, sum_of}
 use Rattle.pe_rewrite.specs.Places.{is_outside, place_of, section_headers, sections_apart}
 use Rattle.pe_rewrite.specs.declared.place.Target.{Target}
 use Rattle.pe_rewrite.specs.WrittenImages.{edited_headers, mapped_item, resized}
 use Rattle.pe_rewrite.specs.declared.place.Place.{Place}
-use Rattle.pe_rewrite.proofs.Placed.{Placed, edited_value, place_lies, place_made, placed}
+use Rattle.pe_rewrite.proofs.Placed.{Placed, placed_value, place_lies, place_made, placed}
 use Rattle.pe_rewrite.proofs.Stays.{unwritten_stays}
 use Rattle.pe_rewrite.proofs.Writes.{length-edited}
 use Rattle.pe_rewrite.proofs.WrittenHeaders.{header_edited}
@@ -33,15 +33,15 @@ same_ok : {X R : Type 0} (r : Result X R) (x y : X) → r ≡ Ok x → r ≡ Ok 
 same_ok r x y e i = cc
 
 -- the file that is written
-pub file_is : (b : List ℕ) (h : HeaderView) (xs : List Leaf) (p : Place) (f : List ℕ) → place_of b h xs ≡ Ok p → edited_of b h xs ≡ Ok f → edited_file h p xs b ≡ f
-file_is b h xs p f e i = same_ok (edited_of b h xs) (edited_file h p xs b) f (edited_value b h xs p e) i
+pub file_is : (b : List ℕ) (h : HeaderView) (xs : List Leaf) (p : Place) (f : List ℕ) → place_of b h xs ≡ Ok p → in_place b h xs ≡ Ok f → edited_file h p xs b ≡ f
+file_is b h xs p f e i = same_ok (in_place b h xs) (edited_file h p xs b) f (placed_value b h xs p e) i
 
 -- f is the file that an edit writes into this place
 pub record IsFile (b : List ℕ) (h : HeaderView) (xs : List Leaf) (p : Place) (f : List ℕ) : Type 0 where
   pub placed : Placed b h xs p
   pub file : edited_file h p xs b ≡ f
 
-pub is_file : (b : List ℕ) (h : HeaderView) (xs : List Leaf) (p : Place) (f : List ℕ) → place_of b h xs ≡ Ok p → edited_of b h xs ≡ Ok f → IsFile b h xs p f
+pub is_file : (b : List ℕ) (h : HeaderView) (xs : List Leaf) (p : Place) (f : List ℕ) → place_of b h xs ≡ Ok p → in_place b h xs ≡ Ok f → IsFile b h xs p f
 is_file b h xs p f e i = record { placed = placed b h xs p e; file = file_is b h xs p f e i }
 
 -- the size of its section in memory has 32 bits
@@ -192,33 +192,33 @@ directory_there_placed o b h xs p f w small y some resolves =
 
 -- ---- by the definitions of the call
 
-pub length_stays : (b : List ℕ) (h : HeaderView) (xs : List Leaf) (p : Place) (f : List ℕ) → place_of b h xs ≡ Ok p → edited_of b h xs ≡ Ok f → length f ≡ length b
+pub length_stays : (b : List ℕ) (h : HeaderView) (xs : List Leaf) (p : Place) (f : List ℕ) → place_of b h xs ≡ Ok p → in_place b h xs ≡ Ok f → length f ≡ length b
 length_stays b h xs p f e i =
     length_stays_placed b h xs p f (is_file b h xs p f e i)
 
-pub bytes_stay : (b : List ℕ) (h : HeaderView) (xs : List Leaf) (p : Place) (f : List ℕ) (k : ℕ) → place_of b h xs ≡ Ok p → edited_of b h xs ≡ Ok f → is_written h p k ≡ false → get_or f k 0 ≡ get_or b k 0
+pub bytes_stay : (b : List ℕ) (h : HeaderView) (xs : List Leaf) (p : Place) (f : List ℕ) (k : ℕ) → place_of b h xs ≡ Ok p → in_place b h xs ≡ Ok f → is_written h p k ≡ false → get_or f k 0 ≡ get_or b k 0
 bytes_stay b h xs p f k e i w =
     bytes_stay_placed b h xs p f k (is_file b h xs p f e i) w
 
-pub headers_parsed : (mode : ParseMode) (b : List ℕ) (h : HeaderView) (xs : List Leaf) (p : Place) (f : List ℕ) → header_at b mode ≡ Ok h → place_of b h xs ≡ Ok p → edited_of b h xs ≡ Ok f → header_at f mode ≡ Ok (edited_headers p (sum_of h f) h)
+pub headers_parsed : (mode : ParseMode) (b : List ℕ) (h : HeaderView) (xs : List Leaf) (p : Place) (f : List ℕ) → header_at b mode ≡ Ok h → place_of b h xs ≡ Ok p → in_place b h xs ≡ Ok f → header_at f mode ≡ Ok (edited_headers p (sum_of h f) h)
 headers_parsed mode b h xs p f parsed e i =
     headers_parsed_placed mode b h xs p f parsed (is_file b h xs p f e i)
 
-pub sections_parsed : (b : List ℕ) (h : HeaderView) (xs : List Leaf) (p : Place) (f : List ℕ) (i : ℕ) → AreBytes b → place_of b h xs ≡ Ok p → edited_of b h xs ≡ Ok f → p.row ≡ sections_offset h + 40 * i → section_headers f h ≡ set (section_headers b h) i (resized (grown_size p) p.section)
+pub sections_parsed : (b : List ℕ) (h : HeaderView) (xs : List Leaf) (p : Place) (f : List ℕ) (i : ℕ) → AreBytes b → place_of b h xs ≡ Ok p → in_place b h xs ≡ Ok f → p.row ≡ sections_offset h + 40 * i → section_headers f h ≡ set (section_headers b h) i (resized (grown_size p) p.section)
 sections_parsed b h xs p f i small e j row =
     sections_parsed_placed b h xs p f i (size_small b h xs p small (placed b h xs p e)) (is_file b h xs p f e j) row
 
-pub map_is_same : (o : ParseOptions) (b : List ℕ) (h : HeaderView) (xs : List Leaf) (p : Place) (f : List ℕ) (alignment a : ℕ) → AreBytes b → place_of b h xs ≡ Ok p → edited_of b h xs ≡ Ok f → is_outside p.section a ≡ true →
+pub map_is_same : (o : ParseOptions) (b : List ℕ) (h : HeaderView) (xs : List Leaf) (p : Place) (f : List ℕ) (alignment a : ℕ) → AreBytes b → place_of b h xs ≡ Ok p → in_place b h xs ≡ Ok f → is_outside p.section a ≡ true →
     section_map o (section_headers f h) alignment a ≡ section_map o (section_headers b h) alignment a
 map_is_same o b h xs p f alignment a small e j out =
     map_is_same_placed o b h xs p f alignment a (size_small b h xs p small (placed b h xs p e)) (is_file b h xs p f e j) out
 
-pub mapped_byte : (o : ParseOptions) (b : List ℕ) (h : HeaderView) (xs : List Leaf) (p : Place) (f : List ℕ) (w : OptionalHeaderView) (a q : ℕ) → place_of b h xs ≡ Ok p → edited_of b h xs ≡ Ok f → h.optional_header ≡ Some w → o.resolve_rva ≡ true → is_outside p.section a ≡ true →
+pub mapped_byte : (o : ParseOptions) (b : List ℕ) (h : HeaderView) (xs : List Leaf) (p : Place) (f : List ℕ) (w : OptionalHeaderView) (a q : ℕ) → place_of b h xs ≡ Ok p → in_place b h xs ≡ Ok f → h.optional_header ≡ Some w → o.resolve_rva ≡ true → is_outside p.section a ≡ true →
     section_map o (section_headers b h) w.windows_fields.file_alignment a ≡ Some q → get_or f q 0 ≡ get_or b q 0
 mapped_byte o b h xs p f w a q e j some resolves out m =
     mapped_byte_placed o b h xs p f w a q (is_file b h xs p f e j) some resolves out m
 
-pub directory_read : (o : ParseOptions) (b : List ℕ) (h : HeaderView) (xs : List Leaf) (p : Place) (f : List ℕ) (w : OptionalHeaderView) → AreBytes b → place_of b h xs ≡ Ok p → edited_of b h xs ≡ Ok f → h.optional_header ≡ Some w → o.resolve_rva ≡ true →
+pub directory_read : (o : ParseOptions) (b : List ℕ) (h : HeaderView) (xs : List Leaf) (p : Place) (f : List ℕ) (w : OptionalHeaderView) → AreBytes b → place_of b h xs ≡ Ok p → in_place b h xs ≡ Ok f → h.optional_header ≡ Some w → o.resolve_rva ≡ true →
     file_bytes f p.length (section_map o (section_headers f h) w.windows_fields.file_alignment p.section.virtual_address) ≡ Ok (section p.section.virtual_address xs)
 directory_read o b h xs p f w small e j some resolves =
     directory_read_placed o b h xs p f w (size_small b h xs p small (placed b h xs p e)) (is_file b h xs p f e j) some resolves

@@ -57,6 +57,13 @@ row_byte b h xs p i k d from lt row =
 pub resized_same : (n : ℕ) (s : SectionTable) → n ≡ s.virtual_size → resized n s ≡ s
 resized_same n s e = ap (λ (k : ℕ). resized k s) e
 
+-- a section header of which all bytes stay
+pub row_same : (f b : List ℕ) (p : ℕ) → p + 40 ≤ length f → p + 40 ≤ length b → ((j : ℕ) → p ≤ j → j < p + 40 → get_or f j 0 ≡ get_or b j 0) → section_table f p ≡ section_table b p
+unfolding section_table
+row_same f b p room inside same =
+    row_resized f b p room inside (λ j from to out. same j from to)
+    ∙ resized_same (le f (p + 8) 4) (section_table b p) (number_stays f b (p + 8) (λ j from to. same j (omega (arith, from)) (omega (arith, to))))
+
 -- another section header stays
 pub other_row : (b : List ℕ) (h : HeaderView) (xs : List Leaf) (p : Place) (i k : ℕ) → IsEdited b h xs p i → k < h.coff_header.number_of_sections → k ≢ i → section_header (edited_file h p xs b) h k ≡ section_header b h k
 unfolding section_table

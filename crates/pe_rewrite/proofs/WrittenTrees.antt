@@ -20,7 +20,7 @@ use Rattle.pe_edit.specs.Written.{Each, Leaf, Numbers, layout_of, same_type, sec
 use Rattle.pe_edit.proofs.Runs.{count_of_runs}
 use Rattle.pe_edit.proofs.SectionRead.{is_layout, parts_stand}
 use Rattle.pe_edit.proofs.Tables.{table_read}
-use Rattle.pe_rewrite.specs.Edited.{edited_of}
+use Rattle.pe_rewrite.specs.Edited.{in_place}
 use Rattle.pe_rewrite.specs.Places.{place_of, section_headers}
 use Rattle.pe_rewrite.specs.WrittenImages.{entry_of, leaves_of_image, mapped_item}
 use Rattle.pe_rewrite.specs.declared.place.Place.{Place}
@@ -90,7 +90,7 @@ leaves_found_placed o b h xs p f w small numbers y some resolves =
     ap (λ (r : Result (List ℕ × List (Result ResourceLeaf TreeRefusal)) Refusal). r >>= λ tree. Ok (map (mapped_item (section_map o (section_headers f h) w.windows_fields.file_alignment) f tree.0) tree.1)) (tree_read o b h xs p f w small y some resolves)
     ∙ ap (λ (l : List (Result Leaf LeafRefusal)). Ok l) (leaves_read_placed o b h xs p f s w small numbers y some resolves refl)
 
-pub leaves_found : (o : ParseOptions) (b : List ℕ) (h : HeaderView) (xs : List Leaf) (p : Place) (f : List ℕ) (w : OptionalHeaderView) → AreBytes b → Each Numbers xs → place_of b h xs ≡ Ok p → edited_of b h xs ≡ Ok f → h.optional_header ≡ Some w → o.resolve_rva ≡ true →
+pub leaves_found : (o : ParseOptions) (b : List ℕ) (h : HeaderView) (xs : List Leaf) (p : Place) (f : List ℕ) (w : OptionalHeaderView) → AreBytes b → Each Numbers xs → place_of b h xs ≡ Ok p → in_place b h xs ≡ Ok f → h.optional_header ≡ Some w → o.resolve_rva ≡ true →
     leaves_of_image o f (entry_of p) (section_headers f h) w.windows_fields.file_alignment ≡ Ok (map (λ x. Ok x) xs)
 leaves_found o b h xs p f w small numbers e j some resolves =
     leaves_found_placed o b h xs p f w (size_small b h xs p small (placed b h xs p e)) numbers (is_file b h xs p f e j) some resolves

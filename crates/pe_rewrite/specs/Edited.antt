@@ -9,7 +9,8 @@ use Rattle.pe_core.specs.declared.section_table.SectionTable.{SectionTable}
 use Rattle.pe_edit.specs.Written.{Leaf, section}
 use Rattle.pe_sign.specs.Checksum.{checksum_of}
 use Rattle.pe_sign.specs.Digest.{is_in}
-use Rattle.pe_rewrite.specs.Places.{headers_end, place_of}
+use Rattle.pe_rewrite.specs.Places.{header_tests, headers_end, place_of, target_of}
+use Rattle.pe_rewrite.specs.Removals.{emptied_of, gone_of}
 use Rattle.pe_rewrite.specs.RewriteRefusals.{RewriteRefusal, Image, NoDirectory, Signed, Leaves, Headers, Alignment, NoSection, Section, SharedSection, Symbols, Overlap, NoRoom, NoHeaderRoom, ImageTooLarge, DebugData}
 use Rattle.pe_rewrite.specs.Rooms.{moved, room_of}
 use Rattle.pe_rewrite.specs.declared.place.Place.{Place}
@@ -126,6 +127,40 @@ is_moved_over h m k =
     || (is_in (record { offset = m.place.row; length = 40 }) k
     || is_written h m.place k)))))
 
+-- ---- no resources
+
+-- n bytes from a file offset on taken out
+unfoldable pub cut : ℕ → ℕ → List ℕ → List ℕ
+cut p n b = take p b ++ drop (p + n) b
+
+-- the file without the resource section
+abbrev pub gone_file : HeaderView → Room → List ℕ → List ℕ
+gone_file h m b = changed (room_changes h.dos_header.pe_pointer m) (cut m.end m.more b)
+
+-- the file with zeros in the place of the section's data
+abbrev pub emptied_file : Place → List ℕ → List ℕ
+emptied_file p b = splice b p.section.pointer_to_raw_data (replicate p.section.size_of_raw_data 0)
+
+-- the file with an entry of zeros at this file offset, and with its checksum
+abbrev pub cleared_file : HeaderView → ℕ → List ℕ → List ℕ
+cleared_file h e b = with_sum h (splice b e (replicate 8 0))
+
+-- the resource section goes; or else it stays, with zeros in the place of its data if they can be written over
+abbrev pub stayed_file : Result Place RewriteRefusal → List ℕ → List ℕ
+stayed_file (Ok p) b = emptied_file p b
+stayed_file (Err r) b = b
+
+abbrev pub without_section : HeaderView → Result Room RewriteRefusal → Result Place RewriteRefusal → List ℕ → List ℕ
+without_section h (Ok m) place b = gone_file h m b
+without_section h (Err r) place b = stayed_file place b
+
+-- the file of the image without resources: the entry of their directory is one of zeros
+abbrev pub removed_of : List ℕ → HeaderView → Result (List ℕ) RewriteRefusal
+removed_of b h =
+    target_of h >>= λ t.
+    outcome {Y = Unit {0}} (header_tests b h t) tt >>= λ u.
+    Ok (cleared_file h t.entry (without_section h (gone_of b h t) (emptied_of b h t) b))
+
 -- ---- the calls
 
 -- the file of the image with these leaves in the place of its resources
@@ -159,9 +194,11 @@ abbrev pub or_at_end : Result (List ℕ) RewriteRefusal → Result (List ℕ) Re
 or_at_end (Ok f) other = Ok f
 or_at_end (Err r) other = if wants_room r then other else Err r
 
--- the file of the image with these leaves: in place of its resources if they fit there, or else at the end of the image
+-- the file of the image with these leaves: in place of its resources if they fit there, or else at the end of the image; without any,
+-- the image without resources
 abbrev pub edited_of : List ℕ → HeaderView → List Leaf → Result (List ℕ) RewriteRefusal
-edited_of b h xs = or_at_end (in_place b h xs) (at_end b h xs)
+edited_of b h [] = removed_of b h
+edited_of b h (x ∷ xs) = or_at_end (in_place b h (x ∷ xs)) (at_end b h (x ∷ xs))
 
 -- its length
 abbrev pub edited_length : Result (List ℕ) RewriteRefusal → Result ℕ RewriteRefusal
@@ -201,6 +238,19 @@ pub record RoomLies (h : HeaderView) (m : Room) (n : ℕ) : Type 0 where
   pub section : raw_end m.place.section ≡ m.end + m.more
   pub room : m.place.length ≤ m.place.section.size_of_raw_data
   pub name : length m.place.section.name ≡ 8
+
+-- the fields of the headers that change and the section header lie one after the other in a file of n bytes
+pub record FieldsLie (h : HeaderView) (m : Room) (n : ℕ) : Type 0 where
+  pub sum : h.dos_header.pe_pointer + 92 ≤ m.place.entry
+  pub entry : m.place.entry + 8 ≤ m.place.row
+  pub row : m.place.row + 40 ≤ n
+  pub room : m.place.length ≤ m.place.section.size_of_raw_data
+  pub name : length m.place.section.name ≡ 8
+
+-- the section that goes lies after them in the file
+pub record GoneLies (h : HeaderView) (m : Room) (n : ℕ) : Type 0 where
+  pub fields : FieldsLie h m m.end
+  pub end : m.end + m.more ≤ n
 
 -- the debug entries, if there are any, lie between the section headers and the section's data
 abbrev pub EntriesLie : HeaderView → Room → Type 0

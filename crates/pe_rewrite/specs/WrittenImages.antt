@@ -1,5 +1,5 @@
 -- What is parsed of an image whose resources changed. (PE format: optional header, section table, the .rsrc section.)
-use Rattle.std.specs.Prelude.{◌≡◌, ℕ, ◌+◌, ◌*◌, ◌/◌, ◌==◌, List, [], ◌∷◌, ◌++◌, Option, Result, Ok, Err, drop, if◌then◌else◌, map, slice_set, take}
+use Rattle.std.specs.Prelude.{◌≡◌, ℕ, ◌+◌, ◌*◌, ◌/◌, ◌==◌, ◌||◌, Bool, false, List, [], ◌∷◌, ◌++◌, Option, Result, Ok, Err, drop, if◌then◌else◌, map, slice_set, take}
 use Rattle.std.specs.Option.{option_map}
 use Rattle.pe_core.specs.Bytes.{AreBytes}
 use Rattle.pe_core.specs.Header.{HeaderView, OptionalHeaderView}
@@ -18,10 +18,14 @@ use Rattle.pe_edit.specs.Reread.{LeafRefusal, Tree, leaf_with, of_image, read_ke
 use Rattle.pe_edit.specs.Written.{Leaf}
 use Rattle.pe_sign.specs.WrittenHeaders.{headers_changed}
 use Rattle.pe_core.specs.Refusals.{◌>>=◌}
-use Rattle.pe_rewrite.specs.Edited.{at_end, edited_of}
-use Rattle.pe_rewrite.specs.Places.{place_of, section_headers}
+use Rattle.pe_sign.specs.Digest.{is_in}
+use Rattle.pe_rewrite.specs.Edited.{at_end, edited_of, in_place}
+use Rattle.pe_rewrite.specs.Places.{place_of, section_header, section_headers, target_of}
+use Rattle.pe_rewrite.specs.Removals.{gone_of}
+use Rattle.pe_rewrite.specs.RewriteRefusals.{RewriteRefusal}
 use Rattle.pe_rewrite.specs.Rooms.{moved, room_of}
 use Rattle.pe_rewrite.specs.declared.place.Place.{Place}
+use Rattle.pe_rewrite.specs.declared.place.Target.{Target}
 use Rattle.pe_rewrite.specs.declared.debug.DebugEntries.{DebugEntries}
 use Rattle.pe_rewrite.specs.declared.room.Room.{Room}
 
@@ -97,13 +101,55 @@ IsRow h p i = p.row ≡ sections_offset h + 40 * i
 pub record IsEditedInPlace (b : List ℕ) (h : HeaderView) (xs : List Leaf) (p : Place) (f : List ℕ) : Type 0 where
   pub bytes : AreBytes b
   pub place : place_of b h xs ≡ Ok p
-  pub file : edited_of b h xs ≡ Ok f
+  pub file : in_place b h xs ≡ Ok f
 
 -- an edit puts them in this room at the end of the image, and writes this file
 pub record IsEditedAtEnd (b : List ℕ) (h : HeaderView) (xs : List Leaf) (m : Room) (f : List ℕ) : Type 0 where
   pub bytes : AreBytes b
   pub room : room_of b h xs ≡ Ok m
   pub file : at_end b h xs ≡ Ok f
+
+-- ---- the file without resources
+
+-- an edit without leaves of the image b, by these facts of its headers, writes the file f, without the resource section: this changes
+pub record IsEditedAway (b : List ℕ) (h : HeaderView) (t : Target) (m : Room) (f : List ℕ) : Type 0 where
+  pub bytes : AreBytes b
+  pub target : target_of h ≡ Ok t
+  pub room : gone_of b h t ≡ Ok m
+  pub file : edited_of b h [] ≡ Ok f
+
+-- it writes the file f, with the resource section
+pub record IsEditedEmpty (b : List ℕ) (h : HeaderView) (t : Target) (f : List ℕ) : Type 0 where
+  pub reason : RewriteRefusal
+  pub target : target_of h ≡ Ok t
+  pub stays : gone_of b h t ≡ Err reason
+  pub file : edited_of b h [] ≡ Ok f
+
+-- the header of the section that goes, which is the last one
+abbrev pub last_header : List ℕ → HeaderView → Room → SectionTable
+last_header b h m = section_header b h m.number_of_sections
+
+-- the file offset is in a field of the headers that changes with the section, in the checksum, in the entry of the resource directory,
+-- or in the section header
+abbrev pub is_gone_over : HeaderView → Room → ℕ → Bool
+is_gone_over h m k =
+    is_in (record { offset = h.dos_header.pe_pointer + 6; length = 2 }) k
+    || (is_in (record { offset = h.dos_header.pe_pointer + 12; length = 4 }) k
+    || (is_in (record { offset = h.dos_header.pe_pointer + 32; length = 4 }) k
+    || (is_in (record { offset = h.dos_header.pe_pointer + 80; length = 4 }) k
+    || (is_in (record { offset = h.dos_header.pe_pointer + 88; length = 4 }) k
+    || (is_in (record { offset = m.place.entry; length = 8 }) k || is_in (record { offset = m.place.row; length = 40 }) k)))))
+
+-- the file offset is in the data of a section that become zeros, if they do
+abbrev pub is_emptied_at : Result Place RewriteRefusal → ℕ → Bool
+is_emptied_at (Ok p) k = is_in (record { offset = p.section.pointer_to_raw_data; length = p.section.size_of_raw_data }) k
+is_emptied_at (Err r) k = false
+
+-- or in the entry of the resource directory, or in the checksum
+abbrev pub is_emptied_over : HeaderView → Target → Result Place RewriteRefusal → ℕ → Bool
+is_emptied_over h t place k =
+    is_emptied_at place k
+    || (is_in (record { offset = t.entry; length = 8 }) k || is_in (record { offset = h.dos_header.pe_pointer + 88; length = 4 }) k)
 
 -- ---- debug entries
 

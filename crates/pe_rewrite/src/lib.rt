@@ -12,6 +12,7 @@ pub mod laws;
 mod place;
 mod put;
 mod relocation;
+mod removal;
 mod room;
 
 pub use edit::{edited_len, write_edited};

@@ -26,7 +26,7 @@ use pe_edit::{Leaves, section_len};
 pub const SIZE_OF_SECTION_HEADER: usize = 40;
 
 /// The size of an entry of the data directories in bytes.
-const SIZE_OF_ENTRY: usize = 8;
+pub const SIZE_OF_ENTRY: usize = 8;
 
 /// The size of a COFF symbol in bytes.
 pub const SIZE_OF_SYMBOL: usize = 18;
@@ -404,7 +404,7 @@ fn require_section_unrelocated(
 /// The place of resources of `size` bytes in the section that has this index. Errors, in order: `Section`,
 /// `SharedSection`, `Symbols`, `Overlap`, `NoRoom`, `Overlap` in memory, `DebugData`,
 /// `SharedSection` of a base relocation.
-fn place_at(
+pub fn place_at(
     bytes: &[u8],
     header: &Header<'_>,
     target: Target,

@@ -8,10 +8,10 @@ ghost use Rattle.pe_core.specs.Spelling.{spell_section};
 ghost use Rattle.pe_edit.specs.EditRefusals.{section_of};
 ghost use Rattle.pe_edit.specs.Views.{leaf_views};
 ghost use Rattle.pe_edit.specs.Written.{section};
-ghost use Rattle.pe_rewrite.specs.Edited.{CanMove, Inside, Lies, PointersFit, edited_file, filled, moved_file, pointers_moved, roomy_file, sum_of, with_pointers, with_zeros};
+ghost use Rattle.pe_rewrite.specs.Edited.{CanMove, FieldsLie, GoneLies, Inside, Lies, PointersFit, changed, cleared_file, cut, edited_file, emptied_file, filled, gone_file, moved_file, pointers_moved, room_changes, roomy_file, sum_of, with_pointers, with_zeros};
 
 use crate::debug::{POINTER_TO_RAW_DATA, SIZE_OF_DEBUG_ENTRY};
-use crate::place::Place;
+use crate::place::{Place, SIZE_OF_ENTRY};
 use crate::room::{Room, moved};
 use pe_core::{Header, SectionTable, read_u32, set_slice, set_u16, set_u32, set_zeros};
 use pe_edit::{Leaves, write_section};
@@ -177,6 +177,22 @@ fn set_pointers(out: &mut [u8], bytes: &[u8], room: &Room)
     }
 }
 
+/// Writes the fields of the headers that change, and the header of the section.
+fn set_fields(out: &mut [u8], header: &Header<'_>, room: &Room)
+    requires lies { FieldsLie (header_view header.now) room.now (length out.old) }
+    ensures { out.new ≡ changed (room_changes (header_view header.now).dos_header.pe_pointer room.now) out.old }
+{
+    let pointer = header.dos_header.pe_pointer as usize;
+    let place = room.place;
+    set_u16(out, pointer + NUMBER_OF_SECTIONS, room.number_of_sections);
+    set_u32(out, pointer + SYMBOLS, room.pointer_to_symbol_table);
+    set_u32(out, pointer + INITIALIZED, room.size_of_initialized_data);
+    set_u32(out, pointer + SIZE_OF_IMAGE, room.size_of_image);
+    set_u32(out, place.entry, place.section.virtual_address);
+    set_u32(out, place.entry + SIZE, place.length as u32);
+    set_row(out, place.row, place.section);
+}
+
 /// Writes the file with room for resources, and with the pointers of debug entries moved.
 fn set_room(out: &mut [u8], bytes: &[u8], header: &Header<'_>, room: &Room)
     requires moves { CanMove (header_view header.now) room.now bytes.now }
@@ -187,15 +203,7 @@ fn set_room(out: &mut [u8], bytes: &[u8], header: &Header<'_>, room: &Room)
 {
     set_apart(out, bytes, room.end, room.more);
     set_pointers(out, bytes, room);
-    let pointer = header.dos_header.pe_pointer as usize;
-    let place = room.place;
-    set_u16(out, pointer + NUMBER_OF_SECTIONS, room.number_of_sections);
-    set_u32(out, pointer + SYMBOLS, room.pointer_to_symbol_table);
-    set_u32(out, pointer + INITIALIZED, room.size_of_initialized_data);
-    set_u32(out, pointer + SIZE_OF_IMAGE, room.size_of_image);
-    set_u32(out, place.entry, place.section.virtual_address);
-    set_u32(out, place.entry + SIZE, place.length as u32);
-    set_row(out, place.row, place.section);
+    set_fields(out, header, room);
 }
 
 /// Writes the image with these leaves at its end to the start of the buffer.
@@ -218,4 +226,70 @@ pub fn set_moved(
 {
     set_room(out, bytes, header, room);
     set_over(out, bytes.len() + room.more, header, room.place, leaves);
+}
+
+/// Writes the file without `less` bytes from `start` on.
+fn set_cut(out: &mut [u8], bytes: &[u8], start: usize, less: usize)
+    requires inside { start + less ≤ length bytes.now }
+    requires room { length bytes.now ≤ length out.old + less }
+    ensures { out.new ≡ splice out.old 0 (cut start less bytes.now) }
+{
+    set_slice(out, 0, &bytes[..start]);
+    set_slice(out, start, &bytes[start + less..]);
+}
+
+/// Writes zeros for the entry of the resource directory at an offset, and the checksum, into the file of `size` bytes at the start
+/// of the buffer.
+fn set_cleared(out: &mut [u8], size: usize, header: &Header<'_>, entry: usize)
+    requires sum { (header_view header.now).dos_header.pe_pointer + 92 ≤ size }
+    requires entry { entry + 8 ≤ size }
+    requires room { size ≤ length out.old }
+    ensures { out.new ≡ splice out.old 0
+        (cleared_file (header_view header.now) entry (take size out.old)) }
+{
+    set_zeros(out, entry, SIZE_OF_ENTRY);
+    let sum = sum_of(&out[..size], header);
+    set_u32(out, header.dos_header.pe_pointer as usize + CHECKSUM, sum);
+}
+
+/// Writes the image without its resource section.
+pub fn set_gone(out: &mut [u8], bytes: &[u8], header: &Header<'_>, room: &Room)
+    requires lies { GoneLies (header_view header.now) room.now (length bytes.now) }
+    requires room { length bytes.now ≤ length out.old + room.now.more }
+    ensures { out.new ≡ splice out.old 0 (cleared_file (header_view header.now) room.now.place.entry
+        (gone_file (header_view header.now) room.now bytes.now)) }
+{
+    set_cut(out, bytes, room.end, room.more);
+    set_fields(out, header, room);
+    set_cleared(out, bytes.len() - room.more, header, room.place.entry);
+}
+
+/// Writes the image with zeros in the place of its resources.
+pub fn set_emptied(out: &mut [u8], bytes: &[u8], header: &Header<'_>, place: &Place)
+    requires sum { (header_view header.now).dos_header.pe_pointer + 92 ≤ length bytes.now }
+    requires entry { place.now.entry + 8 ≤ length bytes.now }
+    requires end { raw_end place.now.section ≤ length bytes.now }
+    requires room { length bytes.now ≤ length out.old }
+    ensures { out.new ≡ splice out.old 0
+        (cleared_file (header_view header.now) place.now.entry (emptied_file place.now bytes.now)) }
+{
+    let section = place.section;
+    set_slice(out, 0, bytes);
+    set_zeros(
+        out,
+        section.pointer_to_raw_data as usize,
+        section.size_of_raw_data as usize,
+    );
+    set_cleared(out, bytes.len(), header, place.entry);
+}
+
+/// Writes the image without the entry of its resource directory, which is at this offset.
+pub fn set_kept(out: &mut [u8], bytes: &[u8], header: &Header<'_>, entry: usize)
+    requires sum { (header_view header.now).dos_header.pe_pointer + 92 ≤ length bytes.now }
+    requires entry { entry + 8 ≤ length bytes.now }
+    requires room { length bytes.now ≤ length out.old }
+    ensures { out.new ≡ splice out.old 0 (cleared_file (header_view header.now) entry bytes.now) }
+{
+    set_slice(out, 0, bytes);
+    set_cleared(out, bytes.len(), header, entry);
 }

@@ -47,14 +47,14 @@ pub struct LastSection {
     pub debug: DebugEntries,
 }
 
-/// Room for the resources at the end of the image.
+/// Room for the resources at the end of the image; or none for the resource section, where that goes.
 #[derive(Clone, Copy)]
 pub struct Room {
     /// The place of the resources, once there is room for them.
     pub place: Place,
     /// The file offset from which on the bytes of the file move.
     pub end: usize,
-    /// By how many bytes they move.
+    /// By how many bytes they move: as many are put in there, or go where the section goes.
     pub more: usize,
     /// The debug entries, whose pointers into these bytes move with them.
     pub debug: DebugEntries,
@@ -86,7 +86,7 @@ fn resources_len(leaves: &Leaves<'_>, rva: u32) -> Result<usize, RewriteError>
 }
 
 /// The resource section, which has this index, with room for resources of `size` bytes.
-fn own_section(
+pub fn own_section(
     bytes: &[u8],
     header: &Header<'_>,
     target: &Target,
@@ -165,7 +165,7 @@ fn new_header(rva: u32, offset: u32) -> SectionTable
 }
 
 /// The file offset of the section header with this index.
-fn row_offset(header: &Header<'_>, index: usize) -> usize
+pub fn row_offset(header: &Header<'_>, index: usize) -> usize
     requires { index ≤ header.now.coff_header.number_of_sections }
     ensures value { result ≡ sections_offset (header_view header.now) + 40 * index }
     ensures small { result < 2 ^ 33 }
@@ -505,7 +505,7 @@ fn require_beside(
 }
 
 /// The same as `room_with`, and before it `SharedSection` of a base relocation.
-fn room_beside(
+pub fn room_beside(
     bytes: &[u8],
     header: &Header<'_>,
     target: &Target,

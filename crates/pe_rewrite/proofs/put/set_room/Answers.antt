@@ -9,5 +9,5 @@ returns c =
     let h = header_view c.args.header.now in
     let m = c.args.room.now in
     let b = c.args.bytes.now in
-    room_set h m c.args.out.now (with_pointers m b) c.set_pointers.new.out c.set_u16.new.buffer c.set_u32.new.buffer c.set_u32-2.new.buffer c.set_u32-3.new.buffer c.set_u32-4.new.buffer c.set_u32-5.new.buffer c.set_row.new.out
-    (lies_with h m b c.requires.moves) (pointers_set h m b c.args.out.now c.set_apart.new.out c.set_pointers.new.out c.requires.moves c.set_apart.ensures c.set_pointers.ensures) c.set_u16.ensures c.set_u32.ensures c.set_u32-2.ensures c.set_u32-3.ensures c.set_u32-4.ensures c.set_u32-5.ensures c.set_row.ensures
+    room_set h m c.args.out.now (with_pointers m b) c.set_pointers.new.out c.set_fields.new.out (lies_with h m b c.requires.moves)
+    (pointers_set h m b c.args.out.now c.set_apart.new.out c.set_pointers.new.out c.requires.moves c.set_apart.ensures c.set_pointers.ensures) c.set_fields.ensures
