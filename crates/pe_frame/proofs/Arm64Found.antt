@@ -14,7 +14,7 @@ use Rattle.pe_unwind.specs.declared.arm64.function.Arm64RuntimeFunction.{Arm64Ru
 use Rattle.pe_frame.specs.Arm64Packed.{is_canonical, packed_left, stepped_arm64_packed}
 use Rattle.pe_frame.specs.Arm64Steps.{StepsOutArm64}
 use Rattle.pe_frame.specs.Arm64Undoing.{caller_by_codes, entry_of, left_arm64, link_register, put_pc, returned_arm64, undone_codes}
-use Rattle.pe_frame.specs.Arm64Walks.{Calls, CallsBy, CallsByInfo, CallsFound, CallsIn, after_leaf, called_frame, caller_in_code, chained, is_leaf_return, record_of, returned_by, frame_after, frame_of, has_called, is_bottom, jumped_frame, caller_of_leaf, leaf_frame, leaf_if, leaf_is_guess, leaf_without_image, lookup_address, caller_outside, place_of, returned_to, scanned, stepped_out_packed, top_frame, without_records}
+use Rattle.pe_frame.specs.Arm64Walks.{Calls, CallsBy, CallsByInfo, CallsFound, CallsIn, after_leaf, called_frame, caller_in_code, caller_without_table, chained, is_leaf_return, record_of, returned_by, frame_after, frame_of, has_called, is_bottom, jumped_frame, caller_of_leaf, leaf_frame, leaf_if, leaf_is_guess, leaf_without_image, lookup_address, caller_outside, place_of, returned_to, scanned, stepped_out_packed, top_frame, without_records}
 use Rattle.pe_frame.specs.FrameWalks.{IsWalk, Process, starting_walk}
 use Rattle.pe_frame.specs.Modules.{is_after_call_arm64, is_after_call_arm64_in, is_after_call_arm64_of, is_code, is_code_of, is_code_return_arm64, is_code_return_arm64_of, is_executable, is_unknown, map_of_module, may_end_call, module_at}
 use Rattle.pe_frame.specs.Walks.{by_records, by_words, end_at_0}
@@ -179,9 +179,13 @@ next_in_code : (memory : ℕ → Option ℕ) (modules : List Module) (guess : Bo
 next_in_code memory modules guess s t given is =
     made_found (chained memory modules s) (caller_of_leaf memory modules guess s) t (λ by. next_by_words modules s t (made_chain memory modules s t by)) (next_leaf memory modules guess s t given) is
 
-next_without_table : (memory : ℕ → Option ℕ) (modules : List Module) (s t : Arm64StackFrame) (b : Bool) → Ok t ≡ cond b (caller_outside memory modules s) (caller_in_code memory modules true s) → IsNext modules s t
-next_without_table memory modules s t true is = next_outside memory modules s t is
-next_without_table memory modules s t false is = next_in_code memory modules true s t (λ before. refl) is
+next_unchained : (memory : ℕ → Option ℕ) (modules : List Module) (s t : Arm64StackFrame) (b : Bool) → Ok t ≡ cond b (caller_outside memory modules s) (caller_of_leaf memory modules true s) → IsNext modules s t
+next_unchained memory modules s t true is = next_outside memory modules s t is
+next_unchained memory modules s t false is = next_leaf memory modules true s t (λ before. refl) is
+
+next_without_table : (memory : ℕ → Option ℕ) (modules : List Module) (m : Module) (s t : Arm64StackFrame) → Ok t ≡ caller_without_table memory modules m s → IsNext modules s t
+next_without_table memory modules m s t is =
+    made_found (chained memory modules s) (cond (is_unknown m) (caller_outside memory modules s) (caller_of_leaf memory modules true s)) t (λ by. next_by_words modules s t (made_chain memory modules s t by)) (next_unchained memory modules s t (is_unknown m)) is
 
 -- a step that no interrupt left does not sink
 abbrev StaysAbove : ℕ → Result (Arm64Registers × Bool) FrameError → Type 0
@@ -288,7 +292,7 @@ next_found p m e s t (Ok None) h = next_in_code p.memory p.modules (leaf_is_gues
 next_found p m e s t (Ok (Some f)) h = next_by_info p m f s t (info_by (map_of_module m e) e.content f) h
 
 next_by : (p : Process) (m : Module) (s t : Arm64StackFrame) (o : Option ExceptionView) → CallsBy p m s o (Ok t) → IsNext p.modules s t
-next_by p m s t None h = next_without_table p.memory p.modules s t (is_unknown m) h
+next_by p m s t None h = next_without_table p.memory p.modules m s t h
 next_by p m s t (Some e) h = next_found p m e s t h.0 h.2
 
 next_in : (p : Process) (s t : Arm64StackFrame) (o : Option Module) → CallsIn p s o (Ok t) → IsNext p.modules s t
@@ -410,6 +414,9 @@ pub no_record : (memory : ℕ → Option ℕ) (modules : List Module) (guess : B
 no_record memory modules guess s none =
     chain_when memory modules guess s (not s.has_called && is_leaf_return modules s.registers) (record_of memory modules s.registers) none
 
+pub chain_without_table : (memory : ℕ → Option ℕ) (modules : List Module) (m : Module) (s : Arm64StackFrame) (r : FrameRecord) → (not s.has_called && is_leaf_return modules s.registers) ≡ false → record_of memory modules s.registers ≡ Some r → caller_without_table memory modules m s ≡ Ok (frame_of modules FramePointer true (returned_by s.registers r))
+chain_without_table memory modules m s r free found = rw (free, found) refl
+
 pub chain_followed : (memory : ℕ → Option ℕ) (modules : List Module) (guess : Bool) (s : Arm64StackFrame) (r : FrameRecord) → (not s.has_called && is_leaf_return modules s.registers) ≡ false → record_of memory modules s.registers ≡ Some r → caller_in_code memory modules guess s ≡ Ok (frame_of modules FramePointer true (returned_by s.registers r))
 chain_followed memory modules guess s r free found = rw (free, found) refl
 
@@ -508,9 +515,13 @@ outside_at_bottom memory modules s is =
     let found = cond s.has_called (scanned memory modules s.registers) (without_records memory modules true s.registers) in
     no_bottom found (Err ends.NoModule) (λ e. cc e) (sym is)
 
-no_table_at_bottom : (memory : ℕ → Option ℕ) (modules : List Module) (s : Arm64StackFrame) (b : Bool) → Err ends.Bottom ≡ cond b (caller_outside memory modules s) (caller_in_code memory modules true s) → ⊥
-no_table_at_bottom memory modules s true is = outside_at_bottom memory modules s (sym is)
-no_table_at_bottom memory modules s false is = code_at_bottom memory modules true s (sym is)
+unchained_at_bottom : (memory : ℕ → Option ℕ) (modules : List Module) (s : Arm64StackFrame) (b : Bool) → Err ends.Bottom ≡ cond b (caller_outside memory modules s) (caller_of_leaf memory modules true s) → ⊥
+unchained_at_bottom memory modules s true is = outside_at_bottom memory modules s (sym is)
+unchained_at_bottom memory modules s false is = leaf_at_bottom memory modules true s (sym is)
+
+no_table_at_bottom : (memory : ℕ → Option ℕ) (modules : List Module) (m : Module) (s : Arm64StackFrame) → Err ends.Bottom ≡ caller_without_table memory modules m s → ⊥
+no_table_at_bottom memory modules m s is =
+    no_bottom (chained memory modules s) (cond (is_unknown m) (caller_outside memory modules s) (caller_of_leaf memory modules true s)) (unchained_at_bottom memory modules s (is_unknown m)) is
 
 -- ---- the bottom of a whole walk
 
@@ -525,7 +536,7 @@ sure_found p m e s (Ok None) h = absurd (code_at_bottom p.memory p.modules (leaf
 sure_found p m e s (Ok (Some f)) h = sure_by_info p m f s (info_by (map_of_module m e) e.content f) h
 
 sure_by : (p : Process) (m : Module) (s : Arm64StackFrame) (o : Option ExceptionView) → CallsBy p m s o (Err ends.Bottom) → s.is_guess ≡ false
-sure_by p m s None h = absurd (no_table_at_bottom p.memory p.modules s (is_unknown m) h)
+sure_by p m s None h = absurd (no_table_at_bottom p.memory p.modules m s h)
 sure_by p m s (Some e) h = sure_found p m e s h.0 h.2
 
 sure_in : (p : Process) (s : Arm64StackFrame) (o : Option Module) → CallsIn p s o (Err ends.Bottom) → s.is_guess ≡ false

@@ -48,12 +48,12 @@ record_found memory returns stack pointer c is =
     let saved = then_of (record_with memory returns pointer) (memory pointer) c first.1 in
     let second = chosen (is_higher pointer saved.0) (option_map (caller_of_record pointer saved.0) (option_and_then returns (memory (pointer + 8)))) c saved.2 in
     let word = map_of (caller_of_record pointer saved.0) (option_and_then returns (memory (pointer + 8))) c second.1 in
-    let tests = both (pointer % 8 == 0) (nat_le stack (pointer + 8) && nat_lt (pointer + 16) (2 ^ 64)) first.0 in
-    let others = both (nat_le stack (pointer + 8)) (nat_lt (pointer + 16) (2 ^ 64)) tests.1 in
+    let tests = both (pointer % 8 == 0 && nat_le stack (pointer + 8)) (nat_lt (pointer + 16) (2 ^ 64)) first.0 in
+    let others = both (pointer % 8 == 0) (nat_le stack (pointer + 8)) tests.0 in
     let here : IsFrameRecord memory returns stack pointer saved.0 word.0 = record {
-      aligned = eqb-true (pointer % 8) 0 tests.0;
-      above = (let test : nat_le stack (pointer + 8) ≡ true = others.0 in grind (arith, nat_tests));
-      fits = (let test : nat_lt (pointer + 16) (2 ^ 64) ≡ true = others.1 in grind (arith, nat_tests));
+      aligned = eqb-true (pointer % 8) 0 others.0;
+      above = (let test : nat_le stack (pointer + 8) ≡ true = others.1 in grind (arith, nat_tests));
+      fits = (let test : nat_lt (pointer + 16) (2 ^ 64) ≡ true = tests.1 in grind (arith, nat_tests));
       saved = saved.1;
       higher = higher_if pointer saved.0 (saved.0 == 0) (nat_lt pointer saved.0) refl refl second.0;
       returns_there = word.1;

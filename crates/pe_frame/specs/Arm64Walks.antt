@@ -199,10 +199,11 @@ abbrev pub length_in : Module → ExceptionView → Arm64RuntimeFunction → Res
 length_in m e = length_by (map_of_module m e) e.content
 
 -- In a module without exception data: nothing says which of its functions are leaf functions. One whose image is not at hand is as no
--- module, so that the end says so; nor does anything say that its code keeps a frame pointer.
+-- module, so that the end says so, but its frame pointer is followed, since Windows keeps one.
 abbrev pub caller_without_table : (ℕ → Option ℕ) → List Module → Module → Arm64StackFrame → Result Arm64StackFrame WalkEnd
 caller_without_table memory modules m s =
-    if is_unknown m then caller_outside memory modules s else caller_in_code memory modules true s
+    option_map_or Ok (chained memory modules s)
+    (if is_unknown m then caller_outside memory modules s else caller_of_leaf memory modules true s)
 
 -- by the exception data of a module
 abbrev pub CallsBy : Process → Module → Arm64StackFrame → Option ExceptionView → Result Arm64StackFrame WalkEnd → Type 0

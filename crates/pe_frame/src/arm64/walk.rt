@@ -299,10 +299,13 @@ fn caller_without_table<L: CallSites, M: Memory>(
 ) -> Result<Arm64StackFrame, WalkEnd>
     ensures { result ≡ caller_without_table (M.word memory.now) (L.list modules.now) module.now frame.now }
 {
+    if let Some(caller) = chained(modules, frame, memory) {
+        return Ok(caller);
+    }
     if module.is_unknown() {
         caller_outside_arm64(modules, frame, memory)
     } else {
-        caller_in_code(modules, true, frame, memory)
+        caller_of_leaf(modules, true, frame, memory)
     }
 }
 
@@ -490,7 +493,7 @@ impl WalkFrame for Arm64StackFrame {
 /// In the top frame, and in one that was interrupted, the return address of code that no unwind data describe is the link register,
 /// if a call ends at it or it lies in a module whose image is not at hand, else the first of 128 words from the stack pointer on that
 /// is, without its signature, after a call in an executable section. In a module, where none is, it is the link register, if that is
-/// an address of an executable section. In a frame that has called it is the first such word after a call. In code of an image the
+/// an address of an executable section. In a frame that has called it is the first such word after a call. In code of a module the
 /// frame pointer comes before such a word: where x29 is a multiple of 8 and leads to two words, the frame pointer of the caller, which
 /// is higher or 0, and at or above the stack pointer a return address, these are the caller's, and the stack pointer is that after
 /// them, which may be too low. Where none is found, a walk that comes to 0 says `Zero`.

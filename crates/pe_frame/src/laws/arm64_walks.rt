@@ -7,7 +7,7 @@ ghost use Rattle.pe_unwind.specs.Arm64Record.{Arm64InfoView};
 ghost use Rattle.pe_unwind.specs.declared.arm64.function.Arm64RuntimeFunction.{Arm64RuntimeFunction};
 ghost use Rattle.pe_frame.specs.Arm64Packed.{stepped_arm64_packed};
 ghost use Rattle.pe_frame.specs.Arm64Steps.{StepsOutArm64};
-ghost use Rattle.pe_frame.specs.Arm64Walks.{AreModulesOfBytes, AreSortedModules, Calls, CallsByInfo, CallsFound, caller_in_code, frame_of, has_called, is_leaf_return, record_of, returned_by, caller_of_leaf, caller_outside, lookup_address, place_of, top_frame, walk_of, without_records};
+ghost use Rattle.pe_frame.specs.Arm64Walks.{AreModulesOfBytes, AreSortedModules, Calls, CallsByInfo, CallsFound, caller_in_code, caller_without_table, frame_of, has_called, is_leaf_return, record_of, returned_by, caller_of_leaf, caller_outside, lookup_address, place_of, top_frame, walk_of, without_records};
 ghost use Rattle.pe_frame.specs.FrameWalks.{FrameWalk, IsWalk, Process, starting_walk};
 ghost use Rattle.pe_frame.specs.Modules.{is_code_of, is_code_return_arm64};
 ghost use Rattle.pe_frame.specs.Walks.{by_records, by_words, end_kind};
@@ -60,14 +60,19 @@ pub fn arm64_frames_are_steps()
         stepped_arm64_packed p.memory f.unwind_data (place_of m f s) s.registers ≡ Ok t.registers }
 {}
 
-/// Where the frame pointer leads to a record (`frame_pointers_lead_to_records`) from a frame in code of an image without unwind data,
-/// the caller is the one that the record says, as a guess (`followed`). Where a leaf function would return to a caller, or there is
-/// no record, it is as without frame pointers (`leaf`, `none`).
+/// Where the frame pointer leads to a record (`frame_pointers_lead_to_records`) from a frame in code without unwind data, the caller is
+/// the one that the record says, as a guess (`followed`), also in a module without a function table or an image (`without_table`).
+/// Where a leaf function would return to a caller, or there is no record, it is as without frame pointers (`leaf`, `none`).
 pub fn arm64_frame_pointers_lead_to_records()
     ensures followed { (memory : ℕ → Option ℕ) (modules : List Module) (guess : Bool) (s : Arm64StackFrame) (r : FrameRecord) →
         (not s.has_called && is_leaf_return modules s.registers) ≡ false →
         record_of memory modules s.registers ≡ Some r →
         caller_in_code memory modules guess s
+        ≡ Ok (frame_of modules FramePointer true (returned_by s.registers r)) }
+    ensures without_table { (memory : ℕ → Option ℕ) (modules : List Module) (m : Module) (s : Arm64StackFrame) (r : FrameRecord) →
+        (not s.has_called && is_leaf_return modules s.registers) ≡ false →
+        record_of memory modules s.registers ≡ Some r →
+        caller_without_table memory modules m s
         ≡ Ok (frame_of modules FramePointer true (returned_by s.registers r)) }
     ensures leaf { (memory : ℕ → Option ℕ) (modules : List Module) (guess : Bool) (s : Arm64StackFrame) →
         (not s.has_called && is_leaf_return modules s.registers) ≡ true →
