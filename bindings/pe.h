@@ -2357,9 +2357,9 @@ PE_C_SIZE(pe_c_arm64_stack_walk, 376);
  * the function has called. Where no unwind data describe the code of the top frame, or of one that was interrupted, the
  * caller is found by the link register, if a call ends there or it is in a module without an image, else by the first of 128
  * words from the stack pointer on that is, without its signature, after a call in an executable section; in a frame that has
- * called by the first such word. In a module with an image x29 comes before such a word, as rbp does on x64; the stack pointer
- * is then that after the two words, and may be too low. It may stay where it is in the first two alone, and sink past an
- * interrupt alone.
+ * called by the first such word. In a module, also one without an image, x29 comes before such a word, as rbp does on x64;
+ * the stack pointer is then that after the two words, and may be too low. It may stay where it is in the first two alone,
+ * and sink past an interrupt alone.
  * Errors, which change nothing: those of pe_c_next_frame. */
 uint32_t pe_c_next_arm64_frame(const pe_c_module *modules, size_t module_count, const uint8_t *memory, size_t memory_length,
                                const pe_c_memory_piece *pieces, size_t piece_count, pe_c_arm64_stack_walk *walk)

@@ -458,7 +458,11 @@ fn frame_pointers_lead_on(rt: HostRuntime) -> Result<(), Fail> {
 #[test]
 fn a_leaf_function_returns_into_a_module_without_an_image(rt: HostRuntime) -> Result<(), Fail> {
     let alloc = rt.alloc();
-    let stack = stack_of(alloc, &[(0x2008, APP + 0x190)])?;
+    let caller = APP + 0x190;
+    let stack = stack_of(
+        alloc,
+        &[(0x2008, caller), (0x2010, 0x2030), (0x2018, caller)],
+    )?;
     let memory = Stack {
         start: 0x2000,
         bytes: &stack,
@@ -496,6 +500,17 @@ fn a_leaf_function_returns_into_a_module_without_an_image(rt: HostRuntime) -> Re
             (way, true, true)
         );
     }
+    // Nor do any say that code there keeps a frame pointer, but Windows does.
+    let mut top = registers(NT + 4, 0x2000, 7);
+    top.general[FP] = 0x2010;
+    let modules = Modules::new(&modules).map_err(|_| "the modules ascend")?;
+    let mut walk = Arm64StackFrames::new(modules, &memory, top, 100);
+    walk.next().ok_or("the top frame")?;
+    let found = walk.next().ok_or("a caller")?;
+    assert_eq!(rt;
+        (found.registers.pc, found.registers.sp, found.way),
+        (caller, 0x2020, Way::FramePointer)
+    );
     Ok(())
 }
 

@@ -3754,9 +3754,9 @@ extern "C" {
     /// called. Where no unwind data describe the code of the top frame, or of one that was interrupted, the caller is
     /// found by the link register, if a call ends there or it is in a module without an image, else by the first of 128
     /// words from the stack pointer on that is, without its signature, after a call in an executable section; in a
-    /// frame that has called by the first such word. In a module with an image x29 comes before such a word, as rbp
-    /// does on x64; the stack pointer is then that after the two words, and may be too low. It may stay where it is in
-    /// the first two alone, and sink past an interrupt alone.
+    /// frame that has called by the first such word. In a module, also one without an image, x29 comes before such a
+    /// word, as rbp does on x64; the stack pointer is then that after the two words, and may be too low. It may stay
+    /// where it is in the first two alone, and sink past an interrupt alone.
     ///
     /// Errors, which change nothing: those of [`pe_c_next_frame`].
     pub fn pe_c_next_arm64_frame(
