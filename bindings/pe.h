@@ -1963,8 +1963,11 @@ enum {
     PE_C_WAY_LEAF = 2,              /* it called a leaf function */
     PE_C_WAY_INTERRUPT = 3,         /* an interrupt stopped it: the records before it show what the processor pushed, on
                                        ARM64 what the operating system saved */
-    PE_C_WAY_SCANNED = 4            /* by a scan of the stack, where no records led on: at the call that leads nearest into
+    PE_C_WAY_SCANNED = 4,           /* by a scan of the stack, where no records led on: at the call that leads nearest into
                                        the code without records, on x64, else at the first call. It may be wrong, and
+                                       those after it */
+    PE_C_WAY_FRAME_POINTER = 5      /* by the frame pointer, where no records led on: the words to which rbp, or x29, leads
+                                       are the frame pointer of the caller and a return address. It may be wrong, and
                                        those after it */
 };
 
@@ -2114,8 +2117,10 @@ uint32_t pe_c_step(const pe_c_view *view, const pe_c_range *table, const uint8_t
  * of one that was interrupted, the caller is found by the return address at rsp, if a call ends there or it is in a module
  * without an image, else by the first of 128 words from rsp on that is after a call in an executable section: the last section
  * of its module that starts at or before the call's last byte is asked, so sections have to be in ascending order. In a frame
- * that has called it is the first such word. In a module with a table that has no function there, the word whose call, E8,
- * leads nearest before the frame among such code comes before all but a call at rsp. What is found so may be wrong:
+ * that has called it is the first such word. In a module with an image the frame pointer comes before such a word where rbp
+ * leads to two words, the frame pointer of the caller, which is higher or 0, and at or above rsp a return address. In a module
+ * with a table that has no function there, the word whose call, E8, leads nearest before the frame among such code comes
+ * before all but a call at rsp and a frame pointer that leads lower on the stack. What is found so may be wrong:
  * walk->is_guess says so of each frame, but not of the caller of code in a module with a table that has no function there, if
  * both are executable and a call ends at the return address: that is a leaf function. Without such a call a leaf function of a
  * module, which was jumped to, returns to executable code. Only past an interrupt may the stack pointer not rise.
@@ -2354,8 +2359,9 @@ PE_C_SIZE(pe_c_arm64_stack_walk, 376);
  * the function has called. Where no unwind data describe the code of the top frame, or of one that was interrupted, the
  * caller is found by the link register, if a call ends there or it is in a module without an image, else by the first of 128
  * words from the stack pointer on that is, without its signature, after a call in an executable section; in a frame that has
- * called by the first such word. The stack pointer may stay where it is in the first two alone, and sink past an interrupt
- * alone.
+ * called by the first such word. In a module, also one without an image, x29 comes before such a word, as rbp does on x64;
+ * the stack pointer is then that after the two words, and may be too low. It may stay where it is in the first two alone,
+ * and sink past an interrupt alone.
  * Errors, which change nothing: those of pe_c_next_frame. */
 uint32_t pe_c_next_arm64_frame(const pe_c_module *modules, size_t module_count, const uint8_t *memory, size_t memory_length,
                                const pe_c_memory_piece *pieces, size_t piece_count, pe_c_arm64_stack_walk *walk)

@@ -413,11 +413,56 @@ fn stacks_are_scanned(rt: HostRuntime) -> Result<(), Fail> {
     Ok(())
 }
 
+/// Code without unwind data that keeps a frame pointer, also 8 below the stack pointer as that of Go. A scan finds another caller first.
+#[test]
+fn frame_pointers_lead_on(rt: HostRuntime) -> Result<(), Fail> {
+    let signed = (APP + 0x190) | 0xAB5A << 48;
+    let stack = stack_of(
+        rt.alloc(),
+        &[
+            (0x2008, APP + 0x190),
+            (0x2010, 0x2030),
+            (0x2018, signed),
+            (0x2030, 0x3000),
+        ],
+    )?;
+    let memory = Stack {
+        start: 0x2000,
+        bytes: &stack,
+    };
+    let pc = APP + 0x1F0;
+    for sp in [0x2000, 0x2010, 0x2018] {
+        let mut top = registers(pc, sp, 7);
+        top.general[FP] = 0x2010;
+        let found = [
+            (pc, sp, 0x2010, Way::Top, false),
+            (APP + 0x190, 0x2020, 0x2030, Way::FramePointer, true),
+        ];
+        expect_walk_in(&[CODE], &rt, rt.alloc(), top, &memory, &found, ZERO)?;
+    }
+    let mut top = registers(pc, 0x2019, 7);
+    top.general[FP] = 0x2010;
+    let lost = [(pc, 0x2019, 0x2010, Way::Top, false)];
+    expect_walk_in(
+        &[CODE],
+        &rt,
+        rt.alloc(),
+        top,
+        &memory,
+        &lost,
+        NO_RETURN_ADDRESS,
+    )
+}
+
 /// A module whose image is not at hand: no bytes say whether a call ends at the link register there, which comes before a scan.
 #[test]
 fn a_leaf_function_returns_into_a_module_without_an_image(rt: HostRuntime) -> Result<(), Fail> {
     let alloc = rt.alloc();
-    let stack = stack_of(alloc, &[(0x2008, APP + 0x190)])?;
+    let caller = APP + 0x190;
+    let stack = stack_of(
+        alloc,
+        &[(0x2008, caller), (0x2010, 0x2030), (0x2018, caller)],
+    )?;
     let memory = Stack {
         start: 0x2000,
         bytes: &stack,
@@ -455,6 +500,17 @@ fn a_leaf_function_returns_into_a_module_without_an_image(rt: HostRuntime) -> Re
             (way, true, true)
         );
     }
+    // Nor do any say that code there keeps a frame pointer, but Windows does.
+    let mut top = registers(NT + 4, 0x2000, 7);
+    top.general[FP] = 0x2010;
+    let modules = Modules::new(&modules).map_err(|_| "the modules ascend")?;
+    let mut walk = Arm64StackFrames::new(modules, &memory, top, 100);
+    walk.next().ok_or("the top frame")?;
+    let found = walk.next().ok_or("a caller")?;
+    assert_eq!(rt;
+        (found.registers.pc, found.registers.sp, found.way),
+        (caller, 0x2020, Way::FramePointer)
+    );
     Ok(())
 }
 

@@ -468,11 +468,11 @@ fn section(start: u32, size: u32, characteristics: u32) -> SectionTable {
 /// A frame: rip, rsp, how it was found, and whether it has called.
 type Frame = (u64, u64, Way, bool);
 
-/// The walk from this top frame through the program, over this memory, has these frames and ends so.
+/// The walk from the top frame with these registers through the program, over this memory, has these frames and ends so.
 fn expect_frames_over<M: Memory>(
     rt: &impl Abort,
     alloc: Global,
-    top: (u64, u64),
+    top: Registers,
     memory: &M,
     frames: &[Frame],
     end: &str,
@@ -487,7 +487,7 @@ fn expect_frames_over<M: Memory>(
         ..module(APP, &program, &data)
     }];
     let modules = Modules::new(&modules).map_err(|_| "one module ascends")?;
-    let mut walk = StackFrames::new(modules, memory, registers(top.0, top.1), 100);
+    let mut walk = StackFrames::new(modules, memory, top, 100);
     for frame in frames {
         let found = walk.next().ok_or("a frame")?;
         let registers = found.registers;
@@ -521,6 +521,7 @@ fn expect_frames(
         start: 0x1000,
         bytes: &bytes,
     };
+    let top = registers(top.0, top.1);
     expect_frames_over(rt, alloc, top, &memory, frames, end)
 }
 
@@ -655,6 +656,72 @@ fn a_scan_finds_the_callers_of_calls_without_records(rt: HostRuntime) -> Result<
     expect_frames(&rt, alloc, (APP + 0x90, 0x1000), &words, &frames, ZERO)
 }
 
+/// The walk from the function without a record, with this frame pointer, over these words.
+fn expect_chain(
+    rt: &impl Abort,
+    alloc: Global,
+    pointer: u64,
+    words: &[u64],
+    frames: &[Frame],
+) -> Result<(), Fail> {
+    let bytes = bytes_of(alloc, words)?;
+    let memory = Stack {
+        start: 0x1000,
+        bytes: &bytes,
+    };
+    let mut top = registers(APP + 0x90, 0x1000);
+    top.general[RBP] = pointer;
+    expect_frames_over(rt, alloc, top, &memory, frames, ZERO)
+}
+
+/// Functions without records that keep a frame pointer: two records of frames, and below the first a return address that a scan finds.
+#[test]
+fn frame_pointers_lead_on(rt: HostRuntime) -> Result<(), Fail> {
+    let alloc = rt.alloc();
+    let (top, called) = ((APP + 0x90, 0x1000, Way::Top, false), APP + 0x98);
+    let by_pointer = (called, 0x1020, Way::FramePointer, true);
+    let words = [
+        7,
+        APP + 0x50,
+        0x1028,
+        called,
+        7,
+        0,
+        APP + 0x50,
+        0,
+        0,
+        0,
+        0,
+        0xB0,
+        0,
+    ];
+    let frames = [top, by_pointer, at_the_call(0x1038, Way::FramePointer)];
+    expect_chain(&rt, alloc, 0x1010, &words, &frames)?;
+    // A call into code without records comes first where it is lower on the stack.
+    let mut lower = words;
+    lower[1] = APP + 0x5A;
+    let frames = [top, (APP + 0x5A, 0x1010, Way::Scanned, true)];
+    expect_chain(&rt, alloc, 0x1010, &lower, &frames)?;
+    let mut higher = words;
+    higher[4] = APP + 0x5A;
+    let frames = [top, by_pointer, (APP + 0x5A, 0x1028, Way::Scanned, true)];
+    expect_chain(&rt, alloc, 0x1010, &higher, &frames)?;
+    // No records: misaligned; below the stack; a frame pointer that is not higher; no return address.
+    let (mut level, mut data) = (words, words);
+    level[2] = 0x1010;
+    data[3] = APP + 0x44;
+    let frames = [top, at_the_call(0x1010, Way::Scanned)];
+    for (pointer, words) in [
+        (0x1014, &words),
+        (0xFE8, &words),
+        (0x1010, &level),
+        (0x1010, &data),
+    ] {
+        expect_chain(&rt, alloc, pointer, words, &frames)?;
+    }
+    Ok(())
+}
+
 #[test]
 fn a_frame_at_no_call_was_interrupted(rt: HostRuntime) -> Result<(), Fail> {
     let alloc = rt.alloc();
@@ -720,12 +787,14 @@ fn a_fiber_has_a_stack_of_its_own(rt: HostRuntime) -> Result<(), Fail> {
             (APP + 0x48, start, Way::Top, false),
             at_the_call(start + 0x30, Way::Records),
         ];
-        expect_frames_over(&rt, alloc, (APP + 0x48, start), &memory, &frames, BOTTOM)?;
+        let top = registers(APP + 0x48, start);
+        expect_frames_over(&rt, alloc, top, &memory, &frames, BOTTOM)?;
         let frames = [
             (APP + 0x90, 0x1000, Way::Top, false),
             at_the_call(0x1008, Way::Leaf),
         ];
-        expect_frames_over(&rt, alloc, (APP + 0x90, 0x1000), &memory, &frames, BOTTOM)?;
+        let top = registers(APP + 0x90, 0x1000);
+        expect_frames_over(&rt, alloc, top, &memory, &frames, BOTTOM)?;
     }
     Ok(())
 }

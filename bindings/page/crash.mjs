@@ -4,7 +4,7 @@ import { PeError, constants } from './library.mjs';
 
 // Frames of a thread and of all of them; how often the bytes of the dump are copied for images.
 const FRAMES = 100, ALL_FRAMES = 20000, READINGS = 16;
-const WAYS = ['top', 'records', 'leaf', 'interrupt', 'scanned'];
+const WAYS = ['top', 'records', 'leaf', 'interrupt', 'scanned', 'frame-pointer'];
 const ENDS = ['bound', 'bottom', 'no-module', 'no-function', 'records', 'long-chain', 'step', 'zero', 'no-return-address'];
 const MODE = constants.PE_C_PERMISSIVE | constants.PE_C_MAPPED;
 

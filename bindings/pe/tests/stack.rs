@@ -58,7 +58,9 @@ fn program(size_of_table: u32) -> Vec<u8> {
 /// A dump with a thread at this RVA of such an image, with these words on its stack. Its second module has no image.
 fn stopped_at(rva: u64, stack: &[u64]) -> Vec<u8> {
     let words: Vec<u8> = stack.iter().flat_map(|it| it.to_le_bytes()).collect();
-    let data = [made::context(0x1_8000_0000 + rva, 0x2_0000), words].concat();
+    let mut data = [made::context(0x1_8000_0000 + rva, 0x2_0000), words].concat();
+    // rbp leads to the third word of the stack.
+    data[0xA0..0xA8].copy_from_slice(&0x2_0010u64.to_le_bytes());
     let streams = [
         made::x64_system(),
         made::threads(&[(0x24, made::DUMP_DATA)]),
@@ -104,11 +106,21 @@ fn a_stack_is_whole_only_without_a_guess() {
     let call = 0x1_8000_1010;
     let outer = [0, 0, 0, 0, 0xB0, 0];
     let (scanned, called) = ([&[7, call], &outer[..]].concat(), [&[call], &outer[..]].concat());
-    let cases: [Case; 7] = [
+    let chained = [&[7, 7, 0, call], &outer[..]].concat();
+    let cases: [Case; 8] = [
         ("stack-whole", 12, 0x1010, &outer, json!([["top", false]]), "bottom", "the stack is whole"),
         ("stack-zero", 12, 0x1050, &[0], json!([["top", false]]), "zero", "frames may be missing or wrong"),
         ("stack-data", 12, 0x1050, &[0x30], json!([["top", false]]), "no-return-address", "no executable code"),
         ("stack-scanned", 12, 0x1050, &scanned, json!([["top", false], ["scanned", true]]), "zero", "scanned, a guess"),
+        (
+            "stack-frame-pointer",
+            12,
+            0x1050,
+            &chained,
+            json!([["top", false], ["frame-pointer", true]]),
+            "zero",
+            "frame-pointer, a guess",
+        ),
         (
             "stack-no-table",
             0,

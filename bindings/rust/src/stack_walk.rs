@@ -84,6 +84,10 @@ pub enum Way {
     /// frame before it is, to the nearest address before that, or if there is none, the first that is after a call in executable
     /// code. It may be a return address that was left there, so this frame and those after it may be wrong.
     Scanned,
+    /// By a chain of frame pointers: the function below it keeps one in `rbp`, on ARM64 in `x29`, which leads to what that saved of it,
+    /// by what is there. No records say so. A function that keeps none leaves that of its caller, so this frame and those after it may
+    /// be wrong.
+    FramePointer,
 }
 
 /// A frame of a stack walk: on x64 with [`Registers`], on ARM64 with [`Arm64Registers`].
@@ -98,14 +102,14 @@ pub struct Frame<R = Registers> {
     /// Whether its function has called. If not, `rip` or `pc` is that of the instruction that is about to run: in the top frame,
     /// in one that an interrupt stopped, and in one that records lead to where no call ends there, which was interrupted too.
     pub has_called: bool,
-    /// Whether it may be wrong: nothing proves that it is the caller, or it follows a frame of which this holds. What a scan finds
-    /// is a guess, and so is the caller of code of which no function table says that it is a leaf function: in a module without
+    /// Whether it may be wrong: nothing proves that it is the caller, or it follows a frame of which this holds. What a scan or a
+    /// frame pointer finds is a guess, and so is the caller of code of which no function table says that it is a leaf function: in a module without
     /// one, in no module, in data, and where no call in executable code ends at the return address.
     pub is_guess: bool,
 }
 
 impl<R> Frame<R> {
-    /// A frame as a walk reports it that nothing makes a guess of but a scan. The top frame has not called, nor one that an interrupt
+    /// A frame as a walk reports it that nothing makes a guess of but a scan or a frame pointer. The top frame has not called, nor one that an interrupt
     /// stopped.
     ///
     /// ```
@@ -115,7 +119,8 @@ impl<R> Frame<R> {
     /// assert!(frame.has_called && frame.is_guess);
     /// ```
     pub fn new(registers: R, way: Way) -> Self {
-        Frame { registers, way, has_called: !matches!(way, Way::Top | Way::Interrupt), is_guess: way == Way::Scanned }
+        let has_called = !matches!(way, Way::Top | Way::Interrupt);
+        Frame { registers, way, has_called, is_guess: matches!(way, Way::Scanned | Way::FramePointer) }
     }
 }
 
@@ -192,6 +197,7 @@ fn way_of(number: u32) -> Way {
         2 => Way::Leaf,
         3 => Way::Interrupt,
         4 => Way::Scanned,
+        5 => Way::FramePointer,
         _ => Way::Top,
     }
 }
@@ -261,7 +267,8 @@ const MOST_AT_ONCE: usize = 1024;
 /// The top frame, and one that was interrupted, may be in no function, as after a call of a null pointer. The return address is
 /// then at its stack pointer, on ARM64 in its link register, if a call ends at it, or if it is in a module without an image. If
 /// not, and of any other frame in no function, it is one of the 128 words from the stack pointer on that is after a call in an
-/// executable section: [`Way::Scanned`] says which. Frames found so are guesses, as [`Frame::is_guess`] says, and the stack is whole only without any.
+/// executable section: [`Way::Scanned`] says which. In an image without a function table, or between its entries, the frame pointer
+/// comes before it where that leads to a return address: [`Way::FramePointer`]. Frames found so are guesses, as [`Frame::is_guess`] says, and the stack is whole only without any.
 ///
 /// On x64:
 ///

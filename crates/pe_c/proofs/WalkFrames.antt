@@ -10,7 +10,7 @@ use Rattle.pe_frame.specs.FrameWalks.{Process, walk_after}
 use Rattle.pe_frame.specs.declared.walk.StackFrame.{StackFrame}
 use Rattle.pe_frame.specs.declared.walk.WalkEnd.TheVariants as ends
 use Rattle.pe_frame.specs.declared.walk.Way.{Way}
-use Rattle.pe_frame.specs.declared.walk.Way.TheVariants.{Top, Records, Leaf, Interrupt, Scanned}
+use Rattle.pe_frame.specs.declared.walk.Way.TheVariants.{Top, Records, Leaf, Interrupt, Scanned, FramePointer}
 use Rattle.pe_c.specs.StackFrames.{half_xmm, whole_xmm}
 use Rattle.pe_c.specs.FrameCalls.{bit_of, is_set, state_in, way_number, way_of}
 use Rattle.pe_c.specs.StackWalks.{after_frame, frame_in, stack_walks}
@@ -55,6 +55,7 @@ same_way Records = refl
 same_way Leaf = refl
 same_way Interrupt = refl
 same_way Scanned = refl
+same_way FramePointer = refl
 
 pub same_bit : (b : Bool) → is_set (bit_of b) ≡ b
 same_bit true = refl

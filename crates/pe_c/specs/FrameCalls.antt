@@ -8,7 +8,7 @@ use Rattle.pe_frame.specs.SearchedMemory.{searched_word}
 use Rattle.pe_frame.specs.declared.memory_list.MemoryPiece.{MemoryPiece}
 use Rattle.pe_frame.specs.declared.modules.Module.{Module}
 use Rattle.pe_frame.specs.declared.walk.Way.{Way}
-use Rattle.pe_frame.specs.declared.walk.Way.TheVariants.{Top, Records, Leaf, Interrupt, Scanned}
+use Rattle.pe_frame.specs.declared.walk.Way.TheVariants.{Top, Records, Leaf, Interrupt, Scanned, FramePointer}
 use Rattle.pe_frame.specs.declared.walk.WalkEnd.{WalkEnd}
 use Rattle.pe_frame.specs.declared.walk.WalkEnd.TheVariants as ends
 use Rattle.pe_c.specs.HandsOut.{result_number}
@@ -25,10 +25,13 @@ way_number Records = 1
 way_number Leaf = 2
 way_number Interrupt = 3
 way_number Scanned = 4
+way_number FramePointer = 5
 
 -- a number that stands for no way is read as that of the top frame
 unfoldable pub way_of : ℕ → Way
-way_of n = if n == 1 then Records else (if n == 2 then Leaf else (if n == 3 then Interrupt else (if n == 4 then Scanned else Top)))
+way_of n =
+    if n == 1 then Records
+    else (if n == 2 then Leaf else (if n == 3 then Interrupt else (if n == 4 then Scanned else (if n == 5 then FramePointer else Top))))
 
 abbrev pub bit_of : Bool → ℕ
 bit_of true = 1

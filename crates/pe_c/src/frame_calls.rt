@@ -59,6 +59,7 @@ pub fn number_of_way(way: Way) -> u32
         Way::Leaf => 2,
         Way::Interrupt => 3,
         Way::Scanned => 4,
+        Way::FramePointer => 5,
     }
 }
 
@@ -72,6 +73,7 @@ pub fn way_of(number: u32) -> Way
         2 => Way::Leaf,
         3 => Way::Interrupt,
         4 => Way::Scanned,
+        5 => Way::FramePointer,
         _ => Way::Top,
     }
 }

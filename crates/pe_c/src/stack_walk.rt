@@ -56,7 +56,7 @@ pub struct StackWalk {
     pub address: u64,
     /// 0 before the first call, else 1.
     pub has_returned: u32,
-    /// How the frame was found: 0 the top frame, 1 records, 2 leaf, 3 interrupt, 4 scanned.
+    /// How the frame was found: 0 the top frame, 1 records, 2 leaf, 3 interrupt, 4 scanned, 5 frame pointer.
     pub way: u32,
     /// 1 where the function of the frame has called: `rip` is the return address. Else 0.
     pub has_called: u32,

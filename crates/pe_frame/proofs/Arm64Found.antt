@@ -14,20 +14,22 @@ use Rattle.pe_unwind.specs.declared.arm64.function.Arm64RuntimeFunction.{Arm64Ru
 use Rattle.pe_frame.specs.Arm64Packed.{is_canonical, packed_left, stepped_arm64_packed}
 use Rattle.pe_frame.specs.Arm64Steps.{StepsOutArm64}
 use Rattle.pe_frame.specs.Arm64Undoing.{caller_by_codes, entry_of, left_arm64, link_register, put_pc, returned_arm64, undone_codes}
-use Rattle.pe_frame.specs.Arm64Walks.{Calls, CallsBy, CallsByInfo, CallsFound, CallsIn, after_leaf, called_frame, frame_after, frame_of, has_called, is_bottom, jumped_frame, caller_of_leaf, leaf_frame, leaf_if, leaf_is_guess, leaf_without_image, lookup_address, caller_outside, place_of, returned_to, scanned, stepped_out_packed, top_frame, without_records}
+use Rattle.pe_frame.specs.Arm64Walks.{Calls, CallsBy, CallsByInfo, CallsFound, CallsIn, after_leaf, called_frame, caller_in_code, caller_without_table, chained, is_leaf_return, record_of, returned_by, frame_after, frame_of, has_called, is_bottom, jumped_frame, caller_of_leaf, leaf_frame, leaf_if, leaf_is_guess, leaf_without_image, lookup_address, caller_outside, place_of, returned_to, scanned, stepped_out_packed, top_frame, without_records}
 use Rattle.pe_frame.specs.FrameWalks.{IsWalk, Process, starting_walk}
 use Rattle.pe_frame.specs.Modules.{is_after_call_arm64, is_after_call_arm64_in, is_after_call_arm64_of, is_code, is_code_of, is_code_return_arm64, is_code_return_arm64_of, is_executable, is_unknown, map_of_module, may_end_call, module_at}
-use Rattle.pe_frame.specs.Walks.{by_records, end_at_0}
+use Rattle.pe_frame.specs.Walks.{by_records, by_words, end_at_0}
 use Rattle.pe_frame.specs.declared.arm64.entry.Arm64Entry.{Arm64Entry}
 use Rattle.pe_frame.specs.declared.arm64.registers.Arm64Registers.{Arm64Registers}
 use Rattle.pe_frame.specs.declared.arm64.walk.Arm64StackFrame.{Arm64StackFrame}
+use Rattle.pe_frame.specs.declared.chain.FrameRecord.{FrameRecord}
 use Rattle.pe_frame.specs.declared.error.FrameError.{FrameError}
 use Rattle.pe_frame.specs.declared.error.FrameError.TheVariants.{NotRising}
 use Rattle.pe_frame.specs.declared.modules.Module.{Module}
 use Rattle.pe_frame.specs.declared.walk.Way.{Way}
-use Rattle.pe_frame.specs.declared.walk.Way.TheVariants.{Records, Leaf, Interrupt, Scanned}
+use Rattle.pe_frame.specs.declared.walk.Way.TheVariants.{Records, Leaf, Interrupt, Scanned, FramePointer}
 use Rattle.pe_frame.specs.declared.walk.WalkEnd.{WalkEnd}
 use Rattle.pe_frame.specs.declared.walk.WalkEnd.TheVariants as ends
+use Rattle.pe_frame.proofs.Found.{not_both}
 use Rattle.pe_frame.proofs.FrameWalks.{frames_keep, sure_frames}
 
 -- ---- a frame, and that before it
@@ -43,35 +45,38 @@ says modules t made =
 abbrev Rises : Arm64StackFrame → Arm64StackFrame → Type 0
 Rises s t = t.way ≡ Records → s.has_called ≡ true → (s.registers).sp < (t.registers).sp
 
--- Records led on, or a scan, or the frame before it has not called. What a scan found is a guess, and what follows a guess; what
--- records lead to follows one.
+-- Records led on, or words of the stack, or the frame before it has not called. What words led to is a guess, and what follows a
+-- guess; what records lead to follows one.
 pub record IsNext (modules : List Module) (s t : Arm64StackFrame) : Type 0 where
   pub made : IsMade modules t
-  pub led : ((t.way ≡ Records) ⊎ ((t.way ≡ Interrupt) ⊎ (t.way ≡ Scanned))) ⊎ (s.has_called ≡ false)
+  pub led : ((t.way ≡ Records) ⊎ ((t.way ≡ Interrupt) ⊎ (by_words t.way ≡ true))) ⊎ (s.has_called ≡ false)
   pub rises : Rises s t
-  pub scans : t.way ≡ Scanned → t.is_guess ≡ true
+  pub words : by_words t.way ≡ true → t.is_guess ≡ true
   pub follows : s.is_guess ≡ true → t.is_guess ≡ true
   pub keeps : by_records t.way ≡ true → t.is_guess ≡ s.is_guess
 
-next_of : (modules : List Module) (s t : Arm64StackFrame) (way : Way) (guess : Bool) (u : Arm64Registers) → t ≡ frame_of modules way guess u → ((way ≡ Records) ⊎ ((way ≡ Interrupt) ⊎ (way ≡ Scanned))) ⊎ (s.has_called ≡ false) → (way ≡ Records → s.has_called ≡ true → (s.registers).sp < u.sp) → (way ≡ Scanned → guess ≡ true) → (s.is_guess ≡ true → guess ≡ true) → (by_records way ≡ true → guess ≡ s.is_guess) → IsNext modules s t
-next_of modules s t way guess u same led rises scans follows keeps =
+next_of : (modules : List Module) (s t : Arm64StackFrame) (way : Way) (guess : Bool) (u : Arm64Registers) → t ≡ frame_of modules way guess u → ((way ≡ Records) ⊎ ((way ≡ Interrupt) ⊎ (by_words way ≡ true))) ⊎ (s.has_called ≡ false) → (way ≡ Records → s.has_called ≡ true → (s.registers).sp < u.sp) → (by_words way ≡ true → guess ≡ true) → (s.is_guess ≡ true → guess ≡ true) → (by_records way ≡ true → guess ≡ s.is_guess) → IsNext modules s t
+next_of modules s t way guess u same led rises words follows keeps =
     let at : t.way ≡ way = ap (λ (f : Arm64StackFrame). f.way) same in
     let is : t.is_guess ≡ guess = ap (λ (f : Arm64StackFrame). f.is_guess) same in
     let by_sp : (t.registers).sp ≡ u.sp = ap (λ (f : Arm64StackFrame). (f.registers).sp) same in
     record {
       made = (way, guess, u, same);
-      led = subst (λ (w : Way). ((w ≡ Records) ⊎ ((w ≡ Interrupt) ⊎ (w ≡ Scanned))) ⊎ (s.has_called ≡ false)) (sym at) led;
+      led = subst (λ (w : Way). ((w ≡ Records) ⊎ ((w ≡ Interrupt) ⊎ (by_words w ≡ true))) ⊎ (s.has_called ≡ false)) (sym at) led;
       rises = λ by called. subst (λ (p : ℕ). (s.registers).sp < p) (sym by_sp) (rises (sym at ∙ by) called);
-      scans = λ by. is ∙ scans (sym at ∙ by);
+      words = λ by. is ∙ words (sym (ap by_words at) ∙ by);
       follows = λ before. is ∙ follows before;
       keeps = λ by. is ∙ keeps (sym (ap by_records at) ∙ by);
     }
 
 -- ---- without records
 
--- by a scan
-abbrev IsScanned : List Module → Arm64StackFrame → Type 0
-IsScanned modules t = (u : Arm64Registers) × (t ≡ frame_of modules Scanned true u)
+-- by words of the stack
+abbrev IsByWords : List Module → Arm64StackFrame → Type 0
+IsByWords modules t = (way : Way) × (by_words way ≡ true) × (u : Arm64Registers) × (t ≡ frame_of modules way true u)
+
+not_by_records : (way : Way) → by_words way ≡ true → way ≡ Records → ⊥
+not_by_records way words is = cc (sym words ∙ ap by_words is)
 
 -- by one, or in a leaf function: then it is a guess where that is one
 abbrev IsFound : List Module → Bool → Arm64StackFrame → Type 0
@@ -79,22 +84,33 @@ IsFound modules guess t =
     (leaf : Bool) × (u : Arm64Registers) × (guess ≡ true → leaf ≡ true) × (t ≡ frame_of modules Leaf leaf u)
 
 abbrev IsLed : List Module → Bool → Arm64StackFrame → Type 0
-IsLed modules guess t = IsScanned modules t ⊎ IsFound modules guess t
+IsLed modules guess t = IsByWords modules t ⊎ IsFound modules guess t
 
-next_scanned : (modules : List Module) (s t : Arm64StackFrame) → IsScanned modules t → IsNext modules s t
-next_scanned modules s t found =
-    next_of modules s t Scanned true found.0 found.1 (inl (inr (inr refl))) (λ by called. absurd (cc by)) (λ by. refl) (λ before. refl) (λ by. absurd (cc by))
+next_by_words : (modules : List Module) (s t : Arm64StackFrame) → IsByWords modules t → IsNext modules s t
+next_by_words modules s t found =
+    next_of modules s t found.0 true found.2 found.3 (inl (inr (inr found.1))) (λ by called. absurd (not_by_records found.0 found.1 by)) (λ by. refl) (λ before. refl) (λ by. absurd (not_both found.0 found.1 by))
 
 next_led : (modules : List Module) (guess : Bool) (s t : Arm64StackFrame) → (s.is_guess ≡ true → guess ≡ true) → s.has_called ≡ false → IsLed modules guess t → IsNext modules s t
-next_led modules guess s t given waits (inl found) = next_scanned modules s t found
+next_led modules guess s t given waits (inl found) = next_by_words modules s t found
 next_led modules guess s t given waits (inr found) =
     next_of modules s t Leaf found.0 found.1 found.3 (inr waits) (λ by called. absurd (cc by)) (λ by. absurd (cc by)) (λ before. found.2 (given before)) (λ by. absurd (cc by))
 
-made_scan : (modules : List Module) (g : Arm64Registers) (o : Option (ℕ × ℕ)) (t : Arm64StackFrame) → option_map (λ found. frame_of modules Scanned true (returned_to g found)) o ≡ Some t → IsScanned modules t
+made_scan : (modules : List Module) (g : Arm64Registers) (o : Option (ℕ × ℕ)) (t : Arm64StackFrame) → option_map (λ found. frame_of modules Scanned true (returned_to g found)) o ≡ Some t → IsByWords modules t
 made_scan modules g None t is = absurd (cc is)
 made_scan modules g (Some found) t is =
     let same : t ≡ frame_of modules Scanned true (returned_to g found) = cc is in
-    (returned_to g found, same)
+    (Scanned, refl, returned_to g found, same)
+
+chain_if : (modules : List Module) (g : Arm64Registers) (o : Option FrameRecord) (t : Arm64StackFrame) (b : Bool) → cond b None (option_map (λ r. frame_of modules FramePointer true (returned_by g r)) o) ≡ Some t → IsByWords modules t
+chain_if modules g o t true is = absurd (cc is)
+chain_if modules g None t false is = absurd (cc is)
+chain_if modules g (Some r) t false is =
+    let same : t ≡ frame_of modules FramePointer true (returned_by g r) = cc is in
+    (FramePointer, refl, returned_by g r, same)
+
+made_chain : (memory : ℕ → Option ℕ) (modules : List Module) (s t : Arm64StackFrame) → chained memory modules s ≡ Some t → IsByWords modules t
+made_chain memory modules s t is =
+    chain_if modules s.registers (record_of memory modules s.registers) t (not s.has_called && is_leaf_return modules s.registers) is
 
 or_true : (a b : Bool) → a ≡ true → (a || b) ≡ true
 or_true true b is = refl
@@ -146,11 +162,11 @@ next_leaf memory modules guess s t given is =
     let rest = jumped_frame modules s.registers in
     let by_scan = scanned memory modules s.registers in
     by_called s.has_called (option_map_or Ok by_scan (Err ends.NoFunction)) (option_map_or Ok found rest) (Ok t) is
-    (λ at. made_found by_scan (Err ends.NoFunction) t (λ by. next_scanned modules s t (made_scan modules s.registers _ t by)) (λ none. absurd (cc none)) at)
+    (λ at. made_found by_scan (Err ends.NoFunction) t (λ by. next_by_words modules s t (made_scan modules s.registers _ t by)) (λ none. absurd (cc none)) at)
     (λ waits at. next_led modules guess s t given waits (made_found found rest t (made_without memory modules guess s.registers t) (made_jumped modules guess s.registers t) at))
 
 outside_if : (memory : ℕ → Option ℕ) (modules : List Module) (s t : Arm64StackFrame) (b : Bool) → s.has_called ≡ b → cond b (scanned memory modules s.registers) (without_records memory modules true s.registers) ≡ Some t → IsNext modules s t
-outside_if memory modules s t true called is = next_scanned modules s t (made_scan modules s.registers _ t is)
+outside_if memory modules s t true called is = next_by_words modules s t (made_scan modules s.registers _ t is)
 outside_if memory modules s t false waits is =
     next_led modules true s t (λ before. refl) waits (made_without memory modules true s.registers t is)
 
@@ -159,9 +175,17 @@ next_outside memory modules s t is =
     let found = cond s.has_called (scanned memory modules s.registers) (without_records memory modules true s.registers) in
     made_found found (Err ends.NoModule) t (outside_if memory modules s t s.has_called refl) (λ none. absurd (cc none)) is
 
-next_without_table : (memory : ℕ → Option ℕ) (modules : List Module) (s t : Arm64StackFrame) (b : Bool) → Ok t ≡ cond b (caller_outside memory modules s) (caller_of_leaf memory modules true s) → IsNext modules s t
-next_without_table memory modules s t true is = next_outside memory modules s t is
-next_without_table memory modules s t false is = next_leaf memory modules true s t (λ before. refl) is
+next_in_code : (memory : ℕ → Option ℕ) (modules : List Module) (guess : Bool) (s t : Arm64StackFrame) → (s.is_guess ≡ true → guess ≡ true) → Ok t ≡ caller_in_code memory modules guess s → IsNext modules s t
+next_in_code memory modules guess s t given is =
+    made_found (chained memory modules s) (caller_of_leaf memory modules guess s) t (λ by. next_by_words modules s t (made_chain memory modules s t by)) (next_leaf memory modules guess s t given) is
+
+next_unchained : (memory : ℕ → Option ℕ) (modules : List Module) (s t : Arm64StackFrame) (b : Bool) → Ok t ≡ cond b (caller_outside memory modules s) (caller_of_leaf memory modules true s) → IsNext modules s t
+next_unchained memory modules s t true is = next_outside memory modules s t is
+next_unchained memory modules s t false is = next_leaf memory modules true s t (λ before. refl) is
+
+next_without_table : (memory : ℕ → Option ℕ) (modules : List Module) (m : Module) (s t : Arm64StackFrame) → Ok t ≡ caller_without_table memory modules m s → IsNext modules s t
+next_without_table memory modules m s t is =
+    made_found (chained memory modules s) (cond (is_unknown m) (caller_outside memory modules s) (caller_of_leaf memory modules true s)) t (λ by. next_by_words modules s t (made_chain memory modules s t by)) (next_unchained memory modules s t (is_unknown m)) is
 
 -- a step that no interrupt left does not sink
 abbrev StaysAbove : ℕ → Result (Arm64Registers × Bool) FrameError → Type 0
@@ -264,11 +288,11 @@ next_by_info p m f s t (Some (Ok i)) h = next_after p.memory p.modules s t h.0 (
 
 next_found : (p : Process) (m : Module) (e : ExceptionView) (s t : Arm64StackFrame) (found : Result (Option Arm64RuntimeFunction) Refusal) → CallsFound p m e s found (Ok t) → IsNext p.modules s t
 next_found p m e s t (Err r) h = absurd h
-next_found p m e s t (Ok None) h = next_leaf p.memory p.modules (leaf_is_guess m s) s t (or_true s.is_guess _) h
+next_found p m e s t (Ok None) h = next_in_code p.memory p.modules (leaf_is_guess m s) s t (or_true s.is_guess _) h
 next_found p m e s t (Ok (Some f)) h = next_by_info p m f s t (info_by (map_of_module m e) e.content f) h
 
 next_by : (p : Process) (m : Module) (s t : Arm64StackFrame) (o : Option ExceptionView) → CallsBy p m s o (Ok t) → IsNext p.modules s t
-next_by p m s t None h = next_without_table p.memory p.modules s t (is_unknown m) h
+next_by p m s t None h = next_without_table p.memory p.modules m s t h
 next_by p m s t (Some e) h = next_found p m e s t h.0 h.2
 
 next_in : (p : Process) (s t : Arm64StackFrame) (o : Option Module) → CallsIn p s o (Ok t) → IsNext p.modules s t
@@ -281,15 +305,15 @@ next p s t h = next_in p s t (module_at p.modules (lookup_address s)) h
 pub says_whether : (p : Process) (s t : Arm64StackFrame) → Calls p s (Ok t) → t.has_called ≡ has_called p.modules t.way (t.registers).pc
 says_whether p s t h = says p.modules t (next p s t h).made
 
-after_call : (s t : Arm64StackFrame) → ((t.way ≡ Records) ⊎ ((t.way ≡ Interrupt) ⊎ (t.way ≡ Scanned))) ⊎ (s.has_called ≡ false) → s.has_called ≡ true → (t.way ≡ Records) ⊎ ((t.way ≡ Interrupt) ⊎ (t.way ≡ Scanned))
+after_call : (s t : Arm64StackFrame) → ((t.way ≡ Records) ⊎ ((t.way ≡ Interrupt) ⊎ (by_words t.way ≡ true))) ⊎ (s.has_called ≡ false) → s.has_called ≡ true → (t.way ≡ Records) ⊎ ((t.way ≡ Interrupt) ⊎ (by_words t.way ≡ true))
 after_call s t (inl led) called = led
 after_call s t (inr not) called = absurd (cc (sym called ∙ not))
 
-pub led_on : (p : Process) (s t : Arm64StackFrame) → Calls p s (Ok t) → s.has_called ≡ true → (t.way ≡ Records) ⊎ ((t.way ≡ Interrupt) ⊎ (t.way ≡ Scanned))
+pub led_on : (p : Process) (s t : Arm64StackFrame) → Calls p s (Ok t) → s.has_called ≡ true → (t.way ≡ Records) ⊎ ((t.way ≡ Interrupt) ⊎ (by_words t.way ≡ true))
 led_on p s t h called = after_call s t (next p s t h).led called
 
-pub scans_are_guesses : (p : Process) (s t : Arm64StackFrame) → Calls p s (Ok t) → t.way ≡ Scanned → t.is_guess ≡ true
-scans_are_guesses p s t h by = (next p s t h).scans by
+pub words_are_guesses : (p : Process) (s t : Arm64StackFrame) → Calls p s (Ok t) → by_words t.way ≡ true → t.is_guess ≡ true
+words_are_guesses p s t h by = (next p s t h).words by
 
 pub guesses_stay : (p : Process) (s t : Arm64StackFrame) → Calls p s (Ok t) → s.is_guess ≡ true → t.is_guess ≡ true
 guesses_stay p s t h before = (next p s t h).follows before
@@ -315,11 +339,11 @@ call_of_code : (o : Option Module) (a : ℕ) → is_code_return_arm64_of o a ≡
 call_of_code None a is = is
 call_of_code (Some m) a is = (both (is_executable m.sections.now (a - m.base - 1)) (is_after_call_arm64_in m a) is).1
 
-no_leaf : (modules : List Module) (g : Arm64Registers) (o : Option (ℕ × ℕ)) (t : Arm64StackFrame) → t.way ≡ Leaf → option_map (λ found. frame_of modules Scanned true (returned_to g found)) o ≡ Some t → ⊥
-no_leaf modules g o t leaf is =
-    let found = made_scan modules g o t is in
-    let both_ways : Leaf ≡ Scanned = sym leaf ∙ ap (λ (f : Arm64StackFrame). f.way) found.1 in
-    cc both_ways
+no_leaf : (modules : List Module) (t : Arm64StackFrame) → t.way ≡ Leaf → IsByWords modules t → ⊥
+no_leaf modules t leaf found =
+    let at : t.way ≡ found.0 = ap (λ (f : Arm64StackFrame). f.way) found.3 in
+    let words : by_words Leaf ≡ true = ap by_words (sym leaf ∙ at) ∙ found.1 in
+    cc words
 
 sure_when : (modules : List Module) (guess : Bool) (g : Arm64Registers) (t : Arm64StackFrame) (b : Bool) → is_code_return_arm64 modules (t.registers).pc ≡ true → cond b (Some (frame_of modules Leaf (guess || not (is_code_return_arm64 modules (link_register g))) (after_leaf g))) None ≡ Some t → t.is_guess ≡ guess
 sure_when modules guess g t true code is =
@@ -355,19 +379,46 @@ sure_without memory modules guess g t leaf returns is =
     let other = leaf_without_image modules guess g in
     let scan = scanned memory modules g in
     made_or (leaf_frame modules guess g) (option_or other scan) t (sure_when modules guess g t (is_after_call_arm64 modules link) returns)
-    (λ rest. made_or other scan t (sure_when modules guess g t (may_end_call modules link) returns) (λ by. absurd (no_leaf modules g _ t leaf by)) rest)
+    (λ rest. made_or other scan t (sure_when modules guess g t (may_end_call modules link) returns) (λ by. absurd (no_leaf modules t leaf (made_scan modules g _ t by))) rest)
     is
+
+sure_called : (memory : ℕ → Option ℕ) (modules : List Module) (guess : Bool) (s t : Arm64StackFrame) → Ok t ≡ caller_of_leaf memory modules guess s → t.way ≡ Leaf → is_code_return_arm64 modules (t.registers).pc ≡ true → t.is_guess ≡ guess
+sure_called memory modules guess s t h leaf returns =
+    let by_scan = scanned memory modules s.registers in
+    let found = without_records memory modules guess s.registers in
+    let rest = jumped_frame modules s.registers in
+    by_called s.has_called (option_map_or Ok by_scan (Err ends.NoFunction)) (option_map_or Ok found rest) (Ok t) h
+    (λ at. made_found by_scan (Err ends.NoFunction) t (λ by. absurd (no_leaf modules t leaf (made_scan modules s.registers _ t by))) (λ other. absurd (cc other)) at)
+    (λ waits at. found_or found rest t (sure_without memory modules guess s.registers t leaf returns) (λ none other. absurd (sure_after modules guess s.registers t returns (or_none (leaf_frame modules guess s.registers) _ none) other)) at)
+
+sure_in_code : (memory : ℕ → Option ℕ) (modules : List Module) (guess : Bool) (s t : Arm64StackFrame) → Ok t ≡ caller_in_code memory modules guess s → t.way ≡ Leaf → is_code_return_arm64 modules (t.registers).pc ≡ true → t.is_guess ≡ guess
+sure_in_code memory modules guess s t h leaf returns =
+    made_found (chained memory modules s) (caller_of_leaf memory modules guess s) t (λ by. absurd (no_leaf modules t leaf (made_chain memory modules s t by))) (λ other. sure_called memory modules guess s t other leaf returns) h
 
 pub leaf_keeps : (p : Process) (m : Module) (e : ExceptionView) (s t : Arm64StackFrame) → CallsFound p m e s (Ok None) (Ok t) → t.way ≡ Leaf → is_code_of (Some m) (lookup_address s) ≡ true → is_code_return_arm64 p.modules (t.registers).pc ≡ true → t.is_guess ≡ s.is_guess
 leaf_keeps p m e s t h leaf code returns =
-    let guess = leaf_is_guess m s in
-    let by_scan = scanned p.memory p.modules s.registers in
-    let found = without_records p.memory p.modules guess s.registers in
-    let rest = jumped_frame p.modules s.registers in
-    let as_leaf : t.is_guess ≡ guess = by_called s.has_called (option_map_or Ok by_scan (Err ends.NoFunction)) (option_map_or Ok found rest) (Ok t) h
-    (λ at. made_found by_scan (Err ends.NoFunction) t (λ by. absurd (no_leaf p.modules s.registers _ t leaf by)) (λ other. absurd (cc other)) at)
-    (λ waits at. found_or found rest t (sure_without p.memory p.modules guess s.registers t leaf returns) (λ none other. absurd (sure_after p.modules guess s.registers t returns (or_none (leaf_frame p.modules guess s.registers) _ none) other)) at) in
-    as_leaf ∙ or_false s.is_guess (is_code_of (Some m) (lookup_address s)) code
+    sure_in_code p.memory p.modules (leaf_is_guess m s) s t h leaf returns ∙ or_false s.is_guess (is_code_of (Some m) (lookup_address s)) code
+
+-- ---- a frame pointer
+
+-- it is not followed from a leaf function
+pub no_chain : (memory : ℕ → Option ℕ) (modules : List Module) (guess : Bool) (s : Arm64StackFrame) → (not s.has_called && is_leaf_return modules s.registers) ≡ true → caller_in_code memory modules guess s ≡ caller_of_leaf memory modules guess s
+no_chain memory modules guess s leaf = rw leaf refl
+
+chain_when : (memory : ℕ → Option ℕ) (modules : List Module) (guess : Bool) (s : Arm64StackFrame) (b : Bool) (o : Option FrameRecord) → o ≡ None → option_map_or Ok (cond b None (option_map (λ r. frame_of modules FramePointer true (returned_by s.registers r)) o)) (caller_of_leaf memory modules guess s) ≡ caller_of_leaf memory modules guess s
+chain_when memory modules guess s true o none = refl
+chain_when memory modules guess s false o none = rw none refl
+
+-- without a record the caller is as without a frame pointer
+pub no_record : (memory : ℕ → Option ℕ) (modules : List Module) (guess : Bool) (s : Arm64StackFrame) → record_of memory modules s.registers ≡ None → caller_in_code memory modules guess s ≡ caller_of_leaf memory modules guess s
+no_record memory modules guess s none =
+    chain_when memory modules guess s (not s.has_called && is_leaf_return modules s.registers) (record_of memory modules s.registers) none
+
+pub chain_without_table : (memory : ℕ → Option ℕ) (modules : List Module) (m : Module) (s : Arm64StackFrame) (r : FrameRecord) → (not s.has_called && is_leaf_return modules s.registers) ≡ false → record_of memory modules s.registers ≡ Some r → caller_without_table memory modules m s ≡ Ok (frame_of modules FramePointer true (returned_by s.registers r))
+chain_without_table memory modules m s r free found = rw (free, found) refl
+
+pub chain_followed : (memory : ℕ → Option ℕ) (modules : List Module) (guess : Bool) (s : Arm64StackFrame) (r : FrameRecord) → (not s.has_called && is_leaf_return modules s.registers) ≡ false → record_of memory modules s.registers ≡ Some r → caller_in_code memory modules guess s ≡ Ok (frame_of modules FramePointer true (returned_by s.registers r))
+chain_followed memory modules guess s r free found = rw (free, found) refl
 
 -- ---- a frame is a step
 
@@ -446,7 +497,7 @@ no_end_at modules u true code is = cc is
 no_end_at modules u false true is = cc is
 no_end_at modules u false false is = cc is
 
-pub leaf_at_bottom : (memory : ℕ → Option ℕ) (modules : List Module) (guess : Bool) (s : Arm64StackFrame) → caller_of_leaf memory modules guess s ≡ Err ends.Bottom → ⊥
+leaf_at_bottom : (memory : ℕ → Option ℕ) (modules : List Module) (guess : Bool) (s : Arm64StackFrame) → caller_of_leaf memory modules guess s ≡ Err ends.Bottom → ⊥
 leaf_at_bottom memory modules guess s is =
     let found = without_records memory modules guess s.registers in
     let link = link_register s.registers in
@@ -455,14 +506,22 @@ leaf_at_bottom memory modules guess s is =
     (λ at. no_bottom by_scan (Err ends.NoFunction) (λ e. cc e) at)
     (λ waits at. no_bottom found (jumped_frame modules s.registers) (no_end_at modules (after_leaf s.registers) (link == 0) (is_code modules link)) at)
 
+pub code_at_bottom : (memory : ℕ → Option ℕ) (modules : List Module) (guess : Bool) (s : Arm64StackFrame) → caller_in_code memory modules guess s ≡ Err ends.Bottom → ⊥
+code_at_bottom memory modules guess s is =
+    no_bottom (chained memory modules s) (caller_of_leaf memory modules guess s) (λ at. leaf_at_bottom memory modules guess s (sym at)) (sym is)
+
 pub outside_at_bottom : (memory : ℕ → Option ℕ) (modules : List Module) (s : Arm64StackFrame) → caller_outside memory modules s ≡ Err ends.Bottom → ⊥
 outside_at_bottom memory modules s is =
     let found = cond s.has_called (scanned memory modules s.registers) (without_records memory modules true s.registers) in
     no_bottom found (Err ends.NoModule) (λ e. cc e) (sym is)
 
-no_table_at_bottom : (memory : ℕ → Option ℕ) (modules : List Module) (s : Arm64StackFrame) (b : Bool) → Err ends.Bottom ≡ cond b (caller_outside memory modules s) (caller_of_leaf memory modules true s) → ⊥
-no_table_at_bottom memory modules s true is = outside_at_bottom memory modules s (sym is)
-no_table_at_bottom memory modules s false is = leaf_at_bottom memory modules true s (sym is)
+unchained_at_bottom : (memory : ℕ → Option ℕ) (modules : List Module) (s : Arm64StackFrame) (b : Bool) → Err ends.Bottom ≡ cond b (caller_outside memory modules s) (caller_of_leaf memory modules true s) → ⊥
+unchained_at_bottom memory modules s true is = outside_at_bottom memory modules s (sym is)
+unchained_at_bottom memory modules s false is = leaf_at_bottom memory modules true s (sym is)
+
+no_table_at_bottom : (memory : ℕ → Option ℕ) (modules : List Module) (m : Module) (s : Arm64StackFrame) → Err ends.Bottom ≡ caller_without_table memory modules m s → ⊥
+no_table_at_bottom memory modules m s is =
+    no_bottom (chained memory modules s) (cond (is_unknown m) (caller_outside memory modules s) (caller_of_leaf memory modules true s)) (unchained_at_bottom memory modules s (is_unknown m)) is
 
 -- ---- the bottom of a whole walk
 
@@ -473,11 +532,11 @@ sure_by_info p m f s (Some (Ok i)) h = (records_at_bottom p m f s i h).4
 
 sure_found : (p : Process) (m : Module) (e : ExceptionView) (s : Arm64StackFrame) (found : Result (Option Arm64RuntimeFunction) Refusal) → CallsFound p m e s found (Err ends.Bottom) → s.is_guess ≡ false
 sure_found p m e s (Err r) h = absurd h
-sure_found p m e s (Ok None) h = absurd (leaf_at_bottom p.memory p.modules (leaf_is_guess m s) s (sym h))
+sure_found p m e s (Ok None) h = absurd (code_at_bottom p.memory p.modules (leaf_is_guess m s) s (sym h))
 sure_found p m e s (Ok (Some f)) h = sure_by_info p m f s (info_by (map_of_module m e) e.content f) h
 
 sure_by : (p : Process) (m : Module) (s : Arm64StackFrame) (o : Option ExceptionView) → CallsBy p m s o (Err ends.Bottom) → s.is_guess ≡ false
-sure_by p m s None h = absurd (no_table_at_bottom p.memory p.modules s (is_unknown m) h)
+sure_by p m s None h = absurd (no_table_at_bottom p.memory p.modules m s h)
 sure_by p m s (Some e) h = sure_found p m e s h.0 h.2
 
 sure_in : (p : Process) (s : Arm64StackFrame) (o : Option Module) → CallsIn p s o (Err ends.Bottom) → s.is_guess ≡ false

@@ -1,5 +1,5 @@
 -- The frames that a step of a walk finds, and where it comes to the bottom.
-use Rattle.std.proofs.Common.{◌++◌, ◌≡◌, ◌-◌, ◌⊎◌, inl, inr, ℕ, ◌==◌, ◌||◌, not, Bool, true, false, cond, List, Option, Some, None, Result, Ok, Err, refl, ap, sym, ◌∙◌, subst}
+use Rattle.std.proofs.Common.{◌++◌, ◌≡◌, ◌-◌, ◌⊎◌, inl, inr, ℕ, ◌==◌, ◌||◌, ◌&&◌, not, nat_lt, Bool, true, false, cond, List, Option, Some, None, Result, Ok, Err, refl, ap, sym, ◌∙◌, subst}
 use Rattle.std.proofs.lemmas.Bool.{eqb-true}
 use Rattle.std.specs.List.{AllByRecursion}
 use Rattle.std.specs.Option.{is_none, option_map, option_map_or, option_or}
@@ -10,9 +10,10 @@ use Rattle.pe_unwind.specs.UnwindRecord.{UnwindInfoView}
 use Rattle.pe_unwind.specs.declared.function_table.RuntimeFunction.{RuntimeFunction}
 use Rattle.pe_frame.specs.Jumps.{StepsInImage}
 use Rattle.pe_frame.specs.Modules.{is_after_call, is_after_call_in, is_after_call_of, is_code_of, is_code_return, is_code_return_of, is_code, is_executable, is_unknown, may_end_call, module_at, map_of_module}
-use Rattle.pe_frame.specs.Undoing.{popped}
+use Rattle.pe_frame.specs.Undoing.{popped, stack_pointer}
 use Rattle.pe_frame.specs.FrameWalks.{IsWalk, Process, starting_walk}
-use Rattle.pe_frame.specs.Walks.{Calls, CallsBy, CallsByPlan, CallsFound, CallsIn, after_leaf, by_records, code_of_frame, end_at_0, frame_after, frame_of, has_called, is_bottom, caller_of_leaf, leaf_frame, leaf_if, leaf_is_guess, leaf_without_image, lookup_address, caller_outside, returned_to, scanned, scanned_frame, top_frame, without_records, called_in_gap, caller_in_gap, scanned_in_gap}
+use Rattle.pe_frame.specs.Walks.{Calls, CallsBy, CallsByPlan, CallsFound, CallsIn, after_leaf, by_records, by_words, caller_in_code, chained, code_of_frame, end_at_0, frame_after, frame_of, has_called, is_bottom, caller_of_leaf, leaf_frame, leaf_if, leaf_is_guess, is_leaf_return, leaf_without_image, lookup_address, lower_frame, caller_outside, record_of, returned_by, returned_to, scanned, scanned_frame, top_frame, without_records, called_in_gap, caller_in_gap, scanned_in_gap}
+use Rattle.pe_frame.specs.declared.chain.FrameRecord.{FrameRecord}
 use Rattle.pe_frame.specs.declared.error.FrameError.{FrameError}
 use Rattle.pe_frame.specs.declared.modules.Module.{Module}
 use Rattle.pe_frame.specs.declared.registers.Registers.{Registers}
@@ -20,7 +21,7 @@ use Rattle.pe_frame.specs.declared.scan.FoundCall.{FoundCall}
 use Rattle.pe_frame.specs.declared.walk.Gap.{Gap}
 use Rattle.pe_frame.specs.declared.walk.StackFrame.{StackFrame}
 use Rattle.pe_frame.specs.declared.walk.Way.{Way}
-use Rattle.pe_frame.specs.declared.walk.Way.TheVariants.{Records, Leaf, Interrupt, Scanned}
+use Rattle.pe_frame.specs.declared.walk.Way.TheVariants.{Top, Records, Leaf, Interrupt, Scanned, FramePointer}
 use Rattle.pe_frame.specs.declared.walk.WalkEnd.{WalkEnd}
 use Rattle.pe_frame.specs.declared.walk.WalkEnd.TheVariants as ends
 use Rattle.pe_frame.proofs.FrameWalks.{frames_keep, sure_frames}
@@ -36,35 +37,43 @@ says modules t made =
 
 -- ---- a frame, and that before it
 
--- Records led on, or a scan, or the frame before it has not called. What a scan found is a guess, and what follows a guess; what
--- records lead to follows one.
+-- Records led on, or words of the stack, or the frame before it has not called. What words led to is a guess, and what follows a
+-- guess; what records lead to follows one.
 pub record IsNext (modules : List Module) (s t : StackFrame) : Type 0 where
   pub made : IsMade modules t
-  pub led : ((t.way ≡ Records) ⊎ ((t.way ≡ Interrupt) ⊎ (t.way ≡ Scanned))) ⊎ (s.has_called ≡ false)
-  pub scans : t.way ≡ Scanned → t.is_guess ≡ true
+  pub led : ((t.way ≡ Records) ⊎ ((t.way ≡ Interrupt) ⊎ (by_words t.way ≡ true))) ⊎ (s.has_called ≡ false)
+  pub words : by_words t.way ≡ true → t.is_guess ≡ true
   pub follows : s.is_guess ≡ true → t.is_guess ≡ true
   pub keeps : by_records t.way ≡ true → t.is_guess ≡ s.is_guess
 
 way_of : (modules : List Module) (t : StackFrame) (way : Way) (guess : Bool) (u : Registers) → t ≡ frame_of modules way guess u → t.way ≡ way
 way_of modules t way guess u same = ap (λ (f : StackFrame). f.way) same
 
-next_of : (modules : List Module) (s t : StackFrame) (way : Way) (guess : Bool) (u : Registers) → t ≡ frame_of modules way guess u → ((way ≡ Records) ⊎ ((way ≡ Interrupt) ⊎ (way ≡ Scanned))) ⊎ (s.has_called ≡ false) → (way ≡ Scanned → guess ≡ true) → (s.is_guess ≡ true → guess ≡ true) → (by_records way ≡ true → guess ≡ s.is_guess) → IsNext modules s t
-next_of modules s t way guess u same led scans follows keeps =
+next_of : (modules : List Module) (s t : StackFrame) (way : Way) (guess : Bool) (u : Registers) → t ≡ frame_of modules way guess u → ((way ≡ Records) ⊎ ((way ≡ Interrupt) ⊎ (by_words way ≡ true))) ⊎ (s.has_called ≡ false) → (by_words way ≡ true → guess ≡ true) → (s.is_guess ≡ true → guess ≡ true) → (by_records way ≡ true → guess ≡ s.is_guess) → IsNext modules s t
+next_of modules s t way guess u same led words follows keeps =
     let at : t.way ≡ way = way_of modules t way guess u same in
     let is : t.is_guess ≡ guess = ap (λ (f : StackFrame). f.is_guess) same in
     record {
       made = (way, guess, u, same);
-      led = subst (λ (w : Way). ((w ≡ Records) ⊎ ((w ≡ Interrupt) ⊎ (w ≡ Scanned))) ⊎ (s.has_called ≡ false)) (sym at) led;
-      scans = λ by. is ∙ scans (sym at ∙ by);
+      led = subst (λ (w : Way). ((w ≡ Records) ⊎ ((w ≡ Interrupt) ⊎ (by_words w ≡ true))) ⊎ (s.has_called ≡ false)) (sym at) led;
+      words = λ by. is ∙ words (sym (ap by_words at) ∙ by);
       follows = λ before. is ∙ follows before;
       keeps = λ by. is ∙ keeps (sym (ap by_records at) ∙ by);
     }
 
 -- ---- without records
 
--- by a scan
-abbrev IsScanned : List Module → StackFrame → Type 0
-IsScanned modules t = (u : Registers) × (t ≡ frame_of modules Scanned true u)
+-- by words of the stack
+abbrev IsByWords : List Module → StackFrame → Type 0
+IsByWords modules t = (way : Way) × (by_words way ≡ true) × (u : Registers) × (t ≡ frame_of modules way true u)
+
+pub not_both : (way : Way) → by_words way ≡ true → by_records way ≡ true → ⊥
+not_both Top words records = cc words
+not_both Records words records = cc words
+not_both Leaf words records = cc words
+not_both Interrupt words records = cc words
+not_both Scanned words records = cc records
+not_both FramePointer words records = cc records
 
 -- by one, or in a leaf function: then it is a guess where that is one
 abbrev IsFound : List Module → Bool → StackFrame → Type 0
@@ -72,14 +81,14 @@ IsFound modules guess t =
     (leaf : Bool) × (u : Registers) × (guess ≡ true → leaf ≡ true) × (t ≡ frame_of modules Leaf leaf u)
 
 abbrev IsLed : List Module → Bool → StackFrame → Type 0
-IsLed modules guess t = IsScanned modules t ⊎ IsFound modules guess t
+IsLed modules guess t = IsByWords modules t ⊎ IsFound modules guess t
 
-next_scanned : (modules : List Module) (s t : StackFrame) → IsScanned modules t → IsNext modules s t
-next_scanned modules s t found =
-    next_of modules s t Scanned true found.0 found.1 (inl (inr (inr refl))) (λ by. refl) (λ before. refl) (λ by. absurd (cc by))
+next_by_words : (modules : List Module) (s t : StackFrame) → IsByWords modules t → IsNext modules s t
+next_by_words modules s t found =
+    next_of modules s t found.0 true found.2 found.3 (inl (inr (inr found.1))) (λ by. refl) (λ before. refl) (λ by. absurd (not_both found.0 found.1 by))
 
 next_led : (modules : List Module) (guess : Bool) (s t : StackFrame) → (s.is_guess ≡ true → guess ≡ true) → s.has_called ≡ false → IsLed modules guess t → IsNext modules s t
-next_led modules guess s t given waits (inl found) = next_scanned modules s t found
+next_led modules guess s t given waits (inl found) = next_by_words modules s t found
 next_led modules guess s t given waits (inr found) =
     next_of modules s t Leaf found.0 found.1 found.3 (inr waits) (λ by. absurd (cc by)) (λ before. found.2 (given before)) (λ by. absurd (cc by))
 
@@ -96,18 +105,42 @@ made_leaf : (modules : List Module) (guess : Bool) (test : ℕ → Bool) (p : Re
 made_leaf modules guess test (Ok u) t is = leaf_when modules guess (not (is_code_return modules u.rip)) u t (test u.rip) is
 made_leaf modules guess test (Err e) t is = absurd (cc is)
 
-made_frame : {X : Type 0} (modules : List Module) (frame : X → StackFrame) (o : Option X) (t : StackFrame) → ((x : X) → IsScanned modules (frame x)) → option_map frame o ≡ Some t → IsScanned modules t
+made_frame : {X : Type 0} (modules : List Module) (frame : X → StackFrame) (o : Option X) (t : StackFrame) → ((x : X) → IsByWords modules (frame x)) → option_map frame o ≡ Some t → IsByWords modules t
 made_frame modules frame None t made is = absurd (cc is)
 made_frame modules frame (Some x) t made is =
-    let same : frame x ≡ t = cc is in subst (λ (f : StackFrame). IsScanned modules f) same (made x)
+    let same : frame x ≡ t = cc is in subst (λ (f : StackFrame). IsByWords modules f) same (made x)
 
-made_scan : (memory : ℕ → Option ℕ) (modules : List Module) (g : Registers) (t : StackFrame) → scanned memory modules g ≡ Some t → IsScanned modules t
+made_scan : (memory : ℕ → Option ℕ) (modules : List Module) (g : Registers) (t : StackFrame) → scanned memory modules g ≡ Some t → IsByWords modules t
 made_scan memory modules g t is =
-    made_frame modules (scanned_frame modules g) _ t (λ found. (returned_to g found, refl)) is
+    made_frame modules (scanned_frame modules g) _ t (λ found. (Scanned, refl, returned_to g found, refl)) is
 
-made_in_gap : (memory : ℕ → Option ℕ) (modules : List Module) (gap : Gap) (g : Registers) (t : StackFrame) → scanned_in_gap memory modules gap g ≡ Some t → IsScanned modules t
+made_in_gap : (memory : ℕ → Option ℕ) (modules : List Module) (gap : Gap) (g : Registers) (t : StackFrame) → scanned_in_gap memory modules gap g ≡ Some t → IsByWords modules t
 made_in_gap memory modules gap g t is =
-    made_frame modules (λ (c : FoundCall). scanned_frame modules g (c.address, c.word)) _ t (λ c. (returned_to g (c.address, c.word), refl)) is
+    made_frame modules (λ (c : FoundCall). scanned_frame modules g (c.address, c.word)) _ t (λ c. (Scanned, refl, returned_to g (c.address, c.word), refl)) is
+
+chain_if : (modules : List Module) (g : Registers) (o : Option FrameRecord) (t : StackFrame) (b : Bool) → cond b None (option_map (λ r. frame_of modules FramePointer true (returned_by g r)) o) ≡ Some t → IsByWords modules t
+chain_if modules g o t true is = absurd (cc is)
+chain_if modules g o t false is =
+    made_frame modules (λ r. frame_of modules FramePointer true (returned_by g r)) o t (λ r. (FramePointer, refl, returned_by g r, refl)) is
+
+made_chain : (memory : ℕ → Option ℕ) (modules : List Module) (s t : StackFrame) → chained memory modules s ≡ Some t → IsByWords modules t
+made_chain memory modules s t is =
+    chain_if modules s.registers (record_of memory modules s.registers) t (not s.has_called && is_leaf_return modules (popped memory s.registers)) is
+
+lower_if : {X : Type 0} (c : Bool) (a b t : StackFrame) → (Some a ≡ Some t → X) → (Some b ≡ Some t → X) → cond c (Some a) (Some b) ≡ Some t → X
+lower_if true a b t first second is = first is
+lower_if false a b t first second is = second is
+
+made_lower : {X : Type 0} (a b : Option StackFrame) (t : StackFrame) → (a ≡ Some t → X) → (b ≡ Some t → X) → lower_frame a b ≡ Some t → X
+made_lower None b t first second is = second is
+made_lower (Some a) None t first second is = first is
+made_lower (Some a) (Some b) t first second is =
+    lower_if (nat_lt (stack_pointer a.registers) (stack_pointer b.registers)) a b t first second is
+
+-- by a call into the gap or a frame pointer
+made_by_words : (memory : ℕ → Option ℕ) (modules : List Module) (gap : Gap) (s t : StackFrame) → lower_frame (scanned_in_gap memory modules gap s.registers) (chained memory modules s) ≡ Some t → IsByWords modules t
+made_by_words memory modules gap s t is =
+    made_lower (scanned_in_gap memory modules gap s.registers) (chained memory modules s) t (made_in_gap memory modules gap s.registers t) (made_chain memory modules s t) is
 
 made_or : {X : Type 0} (a b : Option StackFrame) (t : StackFrame) → (a ≡ Some t → X) → (b ≡ Some t → X) → option_or a b ≡ Some t → X
 made_or (Some f) b t first second is = first is
@@ -146,7 +179,7 @@ next_leaf memory modules guess s t given is =
     let rest = after_leaf modules (popped memory s.registers) in
     let by_scan = scanned memory modules s.registers in
     by_called s.has_called (option_map_or Ok by_scan (Err ends.NoFunction)) (option_map_or Ok found rest) (Ok t) is
-    (λ at. made_found by_scan (Err ends.NoFunction) t (λ by. next_scanned modules s t (made_scan memory modules s.registers t by)) (λ none. absurd (cc none)) at)
+    (λ at. made_found by_scan (Err ends.NoFunction) t (λ by. next_by_words modules s t (made_scan memory modules s.registers t by)) (λ none. absurd (cc none)) at)
     (λ waits at. next_led modules guess s t given waits (made_found found rest t (made_without memory modules guess s.registers t) (made_after modules guess (popped memory s.registers) t) at))
 
 made_if : {X : Type 0} (called : Bool) (leaf scan : Option StackFrame) (t : StackFrame) → option_or (cond called None leaf) scan ≡ Some t → (called ≡ false → leaf ≡ Some t → X) → (scan ≡ Some t → X) → X
@@ -156,14 +189,14 @@ made_if false leaf scan t is first second = made_or leaf scan t (first refl) sec
 next_in_gap : (memory : ℕ → Option ℕ) (modules : List Module) (guess : Bool) (gap : Gap) (s t : StackFrame) → (s.is_guess ≡ true → guess ≡ true) → Ok t ≡ caller_in_gap memory modules guess gap s → IsNext modules s t
 next_in_gap memory modules guess gap s t given is =
     let leaf = leaf_frame modules guess (popped memory s.registers) in
-    let scan = scanned_in_gap memory modules gap s.registers in
+    let words = lower_frame (scanned_in_gap memory modules gap s.registers) (chained memory modules s) in
     made_found (called_in_gap memory modules guess gap s) (caller_of_leaf memory modules guess s) t
-    (λ found. made_if s.has_called leaf scan t found (λ waits by. next_led modules guess s t given waits (made_leaf modules guess (is_after_call modules) (popped memory s.registers) t by)) (λ by. next_scanned modules s t (made_in_gap memory modules gap s.registers t by)))
+    (λ found. made_if s.has_called leaf words t found (λ waits by. next_led modules guess s t given waits (made_leaf modules guess (is_after_call modules) (popped memory s.registers) t by)) (λ by. next_by_words modules s t (made_by_words memory modules gap s t by)))
     (λ other. next_leaf memory modules guess s t given other)
     is
 
 outside_if : (memory : ℕ → Option ℕ) (modules : List Module) (s t : StackFrame) (b : Bool) → s.has_called ≡ b → cond b (scanned memory modules s.registers) (without_records memory modules true s.registers) ≡ Some t → IsNext modules s t
-outside_if memory modules s t true called is = next_scanned modules s t (made_scan memory modules s.registers t is)
+outside_if memory modules s t true called is = next_by_words modules s t (made_scan memory modules s.registers t is)
 outside_if memory modules s t false waits is =
     next_led modules true s t (λ before. refl) waits (made_without memory modules true s.registers t is)
 
@@ -172,9 +205,13 @@ next_outside memory modules s t is =
     let found = cond s.has_called (scanned memory modules s.registers) (without_records memory modules true s.registers) in
     made_found found (Err ends.NoModule) t (outside_if memory modules s t s.has_called refl) (λ none. absurd (cc none)) is
 
-next_without_table : (memory : ℕ → Option ℕ) (modules : List Module) (s t : StackFrame) (b : Bool) → Ok t ≡ cond b (caller_outside memory modules s) (caller_of_leaf memory modules true s) → IsNext modules s t
+next_in_code : (memory : ℕ → Option ℕ) (modules : List Module) (s t : StackFrame) → Ok t ≡ caller_in_code memory modules true s → IsNext modules s t
+next_in_code memory modules s t is =
+    made_found (chained memory modules s) (caller_of_leaf memory modules true s) t (λ by. next_by_words modules s t (made_chain memory modules s t by)) (next_leaf memory modules true s t (λ before. refl)) is
+
+next_without_table : (memory : ℕ → Option ℕ) (modules : List Module) (s t : StackFrame) (b : Bool) → Ok t ≡ cond b (caller_outside memory modules s) (caller_in_code memory modules true s) → IsNext modules s t
 next_without_table memory modules s t true is = next_outside memory modules s t is
-next_without_table memory modules s t false is = next_leaf memory modules true s t (λ before. refl) is
+next_without_table memory modules s t false is = next_in_code memory modules s t is
 
 -- ---- by records
 
@@ -214,15 +251,15 @@ next p s t h = next_in p.memory p.modules s t (module_at p.modules (lookup_addre
 pub says_whether : (p : Process) (s t : StackFrame) → Calls p s (Ok t) → t.has_called ≡ has_called p.modules t.way (t.registers).rip
 says_whether p s t h = says p.modules t (next p s t h).made
 
-after_call : (s t : StackFrame) → ((t.way ≡ Records) ⊎ ((t.way ≡ Interrupt) ⊎ (t.way ≡ Scanned))) ⊎ (s.has_called ≡ false) → s.has_called ≡ true → (t.way ≡ Records) ⊎ ((t.way ≡ Interrupt) ⊎ (t.way ≡ Scanned))
+after_call : (s t : StackFrame) → ((t.way ≡ Records) ⊎ ((t.way ≡ Interrupt) ⊎ (by_words t.way ≡ true))) ⊎ (s.has_called ≡ false) → s.has_called ≡ true → (t.way ≡ Records) ⊎ ((t.way ≡ Interrupt) ⊎ (by_words t.way ≡ true))
 after_call s t (inl led) called = led
 after_call s t (inr not) called = absurd (cc (sym called ∙ not))
 
-pub led_on : (p : Process) (s t : StackFrame) → Calls p s (Ok t) → s.has_called ≡ true → (t.way ≡ Records) ⊎ ((t.way ≡ Interrupt) ⊎ (t.way ≡ Scanned))
+pub led_on : (p : Process) (s t : StackFrame) → Calls p s (Ok t) → s.has_called ≡ true → (t.way ≡ Records) ⊎ ((t.way ≡ Interrupt) ⊎ (by_words t.way ≡ true))
 led_on p s t h called = after_call s t (next p s t h).led called
 
-pub scans_are_guesses : (p : Process) (s t : StackFrame) → Calls p s (Ok t) → t.way ≡ Scanned → t.is_guess ≡ true
-scans_are_guesses p s t h by = (next p s t h).scans by
+pub words_are_guesses : (p : Process) (s t : StackFrame) → Calls p s (Ok t) → by_words t.way ≡ true → t.is_guess ≡ true
+words_are_guesses p s t h by = (next p s t h).words by
 
 pub guesses_stay : (p : Process) (s t : StackFrame) → Calls p s (Ok t) → s.is_guess ≡ true → t.is_guess ≡ true
 guesses_stay p s t h before = (next p s t h).follows before
@@ -245,10 +282,10 @@ call_of_code : (o : Option Module) (a : ℕ) → is_code_return_of o a ≡ true 
 call_of_code None a is = is
 call_of_code (Some m) a is = (both (is_executable m.sections.now (a - m.base - 1)) (is_after_call_in m a) is).1
 
-no_leaf : (modules : List Module) (t : StackFrame) → t.way ≡ Leaf → IsScanned modules t → ⊥
+no_leaf : (modules : List Module) (t : StackFrame) → t.way ≡ Leaf → IsByWords modules t → ⊥
 no_leaf modules t leaf found =
-    let both_ways : Leaf ≡ Scanned = sym leaf ∙ way_of modules t Scanned true found.0 found.1 in
-    cc both_ways
+    let words : by_words Leaf ≡ true = ap by_words (sym leaf ∙ way_of modules t found.0 true found.2 found.3) ∙ found.1 in
+    cc words
 
 sure_when : (modules : List Module) (guess : Bool) (u : Registers) (t : StackFrame) (b : Bool) → is_code_return modules (t.registers).rip ≡ true → cond b (Some (frame_of modules Leaf (guess || not (is_code_return modules u.rip)) u)) None ≡ Some t → t.is_guess ≡ guess
 sure_when modules guess u t true code is =
@@ -303,9 +340,9 @@ sure_called memory modules guess s t h leaf returns =
 sure_in_gap : (memory : ℕ → Option ℕ) (modules : List Module) (guess : Bool) (gap : Gap) (s t : StackFrame) → Ok t ≡ caller_in_gap memory modules guess gap s → t.way ≡ Leaf → is_code_return modules (t.registers).rip ≡ true → t.is_guess ≡ guess
 sure_in_gap memory modules guess gap s t h leaf returns =
     let p = popped memory s.registers in
-    let scan = scanned_in_gap memory modules gap s.registers in
+    let words = lower_frame (scanned_in_gap memory modules gap s.registers) (chained memory modules s) in
     made_found (called_in_gap memory modules guess gap s) (caller_of_leaf memory modules guess s) t
-    (λ found. made_if s.has_called (leaf_frame modules guess p) scan t found (λ waits by. sure_leaf modules guess (is_after_call modules) p t returns by) (λ by. absurd (no_leaf modules t leaf (made_in_gap memory modules gap s.registers t by))))
+    (λ found. made_if s.has_called (leaf_frame modules guess p) words t found (λ waits by. sure_leaf modules guess (is_after_call modules) p t returns by) (λ by. absurd (no_leaf modules t leaf (made_by_words memory modules gap s t by))))
     (λ other. sure_called memory modules guess s t other leaf returns)
     h
 
@@ -331,9 +368,29 @@ without_first memory modules guess g u pops none may =
     or_not guess (is_code_return modules u.rip) (no_return modules u.rip (is_code_return modules u.rip) refl none) in
     rw (pops, none, may, sure) refl
 
-pub leaf_first : (memory : ℕ → Option ℕ) (modules : List Module) (guess : Bool) (s : StackFrame) (u : Registers) → s.has_called ≡ false → popped memory s.registers ≡ Ok u → is_after_call modules u.rip ≡ false → may_end_call modules u.rip ≡ true → caller_of_leaf memory modules guess s ≡ Ok (frame_of modules Leaf true u)
+-- ---- a frame pointer
+
+-- it is not followed from a leaf function
+pub no_chain : (memory : ℕ → Option ℕ) (modules : List Module) (guess : Bool) (s : StackFrame) → (not s.has_called && is_leaf_return modules (popped memory s.registers)) ≡ true → caller_in_code memory modules guess s ≡ caller_of_leaf memory modules guess s
+no_chain memory modules guess s leaf = rw leaf refl
+
+chain_when : (memory : ℕ → Option ℕ) (modules : List Module) (guess : Bool) (s : StackFrame) (b : Bool) (o : Option FrameRecord) → o ≡ None → option_map_or Ok (cond b None (option_map (λ r. frame_of modules FramePointer true (returned_by s.registers r)) o)) (caller_of_leaf memory modules guess s) ≡ caller_of_leaf memory modules guess s
+chain_when memory modules guess s true o none = refl
+chain_when memory modules guess s false o none = rw none refl
+
+-- without a record the caller is as without a frame pointer
+pub no_record : (memory : ℕ → Option ℕ) (modules : List Module) (guess : Bool) (s : StackFrame) → record_of memory modules s.registers ≡ None → caller_in_code memory modules guess s ≡ caller_of_leaf memory modules guess s
+no_record memory modules guess s none =
+    chain_when memory modules guess s (not s.has_called && is_leaf_return modules (popped memory s.registers)) (record_of memory modules s.registers) none
+
+pub chain_followed : (memory : ℕ → Option ℕ) (modules : List Module) (guess : Bool) (s : StackFrame) (r : FrameRecord) → (not s.has_called && is_leaf_return modules (popped memory s.registers)) ≡ false → record_of memory modules s.registers ≡ Some r → caller_in_code memory modules guess s ≡ Ok (frame_of modules FramePointer true (returned_by s.registers r))
+chain_followed memory modules guess s r free found = rw (free, found) refl
+
+pub leaf_first : (memory : ℕ → Option ℕ) (modules : List Module) (guess : Bool) (s : StackFrame) (u : Registers) → s.has_called ≡ false → popped memory s.registers ≡ Ok u → is_after_call modules u.rip ≡ false → may_end_call modules u.rip ≡ true → caller_in_code memory modules guess s ≡ Ok (frame_of modules Leaf true u)
 leaf_first memory modules guess s u waits pops none may =
-    rw (waits, without_first memory modules guess s.registers u pops none may) refl
+    let returns : is_leaf_return modules (popped memory s.registers) ≡ true = rw (pops, none, may) refl in
+    let found : caller_of_leaf memory modules guess s ≡ Ok (frame_of modules Leaf true u) = rw (waits, without_first memory modules guess s.registers u pops none may) refl in
+    no_chain memory modules guess s (rw (waits, returns) refl) ∙ found
 
 pub outside_first : (memory : ℕ → Option ℕ) (modules : List Module) (s : StackFrame) (u : Registers) → s.has_called ≡ false → popped memory s.registers ≡ Ok u → is_after_call modules u.rip ≡ false → may_end_call modules u.rip ≡ true → caller_outside memory modules s ≡ Ok (frame_of modules Leaf true u)
 outside_first memory modules s u waits pops none may =
@@ -383,7 +440,7 @@ no_end_of_leaf : (modules : List Module) (p : Result Registers FrameError) → E
 no_end_of_leaf modules (Ok u) is = no_end_at modules u (u.rip == 0) (is_code modules u.rip) is
 no_end_of_leaf modules (Err e) is = cc is
 
-pub leaf_at_bottom : (memory : ℕ → Option ℕ) (modules : List Module) (guess : Bool) (s : StackFrame) → caller_of_leaf memory modules guess s ≡ Err ends.Bottom → ⊥
+leaf_at_bottom : (memory : ℕ → Option ℕ) (modules : List Module) (guess : Bool) (s : StackFrame) → caller_of_leaf memory modules guess s ≡ Err ends.Bottom → ⊥
 leaf_at_bottom memory modules guess s is =
     let found = without_records memory modules guess s.registers in
     let rest = after_leaf modules (popped memory s.registers) in
@@ -391,6 +448,10 @@ leaf_at_bottom memory modules guess s is =
     by_called s.has_called (option_map_or Ok by_scan (Err ends.NoFunction)) (option_map_or Ok found rest) (Err ends.Bottom) (sym is)
     (λ at. no_bottom by_scan (Err ends.NoFunction) (λ e. cc e) at)
     (λ waits at. no_bottom found rest (no_end_of_leaf modules (popped memory s.registers)) at)
+
+pub code_at_bottom : (memory : ℕ → Option ℕ) (modules : List Module) (guess : Bool) (s : StackFrame) → caller_in_code memory modules guess s ≡ Err ends.Bottom → ⊥
+code_at_bottom memory modules guess s is =
+    no_bottom (chained memory modules s) (caller_of_leaf memory modules guess s) (λ at. leaf_at_bottom memory modules guess s (sym at)) (sym is)
 
 pub gap_at_bottom : (memory : ℕ → Option ℕ) (modules : List Module) (guess : Bool) (gap : Gap) (s : StackFrame) → caller_in_gap memory modules guess gap s ≡ Err ends.Bottom → ⊥
 gap_at_bottom memory modules guess gap s is =
@@ -401,9 +462,9 @@ outside_at_bottom memory modules s is =
     let found = cond s.has_called (scanned memory modules s.registers) (without_records memory modules true s.registers) in
     no_bottom found (Err ends.NoModule) (λ e. cc e) (sym is)
 
-no_table_at_bottom : (memory : ℕ → Option ℕ) (modules : List Module) (s : StackFrame) (b : Bool) → Err ends.Bottom ≡ cond b (caller_outside memory modules s) (caller_of_leaf memory modules true s) → ⊥
+no_table_at_bottom : (memory : ℕ → Option ℕ) (modules : List Module) (s : StackFrame) (b : Bool) → Err ends.Bottom ≡ cond b (caller_outside memory modules s) (caller_in_code memory modules true s) → ⊥
 no_table_at_bottom memory modules s true is = outside_at_bottom memory modules s (sym is)
-no_table_at_bottom memory modules s false is = leaf_at_bottom memory modules true s (sym is)
+no_table_at_bottom memory modules s false is = code_at_bottom memory modules true s (sym is)
 
 -- ---- the bottom of a whole walk
 

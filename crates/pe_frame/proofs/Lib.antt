@@ -28,6 +28,7 @@ pub mod FunctionSteps
 pub mod SomeWalk
 pub mod FrameWalks
 pub mod Scans
+pub mod FrameRecords
 pub mod Found
 pub mod Frames
 pub mod Tails

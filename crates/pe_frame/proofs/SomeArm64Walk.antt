@@ -16,7 +16,7 @@ use Rattle.pe_unwind.specs.Arm64Words.{bits}
 use Rattle.pe_unwind.specs.ExceptionTable.{ExceptionView, table_of}
 use Rattle.pe_unwind.specs.declared.arm64.function.Arm64RuntimeFunction.{Arm64RuntimeFunction}
 use Rattle.pe_frame.specs.AddressRanges.{has_address}
-use Rattle.pe_frame.specs.Arm64Walks.{AreModulesOfBytes, Calls, CallsBy, CallsByInfo, CallsFound, CallsIn, HasBytes, IsModuleOfBytes, caller_of_leaf, caller_outside, caller_without_table, leaf_is_guess, frame_after, length_in, lookup_address, place_of, stepped_out_packed}
+use Rattle.pe_frame.specs.Arm64Walks.{AreModulesOfBytes, Calls, CallsBy, CallsByInfo, CallsFound, CallsIn, HasBytes, IsModuleOfBytes, caller_in_code, caller_outside, caller_without_table, leaf_is_guess, frame_after, length_in, lookup_address, place_of, stepped_out_packed}
 use Rattle.pe_frame.specs.FrameWalks.{Process}
 use Rattle.pe_frame.specs.Modules.{map_of_module, module_at, module_base, module_size}
 use Rattle.pe_frame.specs.Walks.{IsUnreadable}
@@ -117,7 +117,7 @@ some_by_info p m f s (Some (Ok i)) is =
 
 some_found : (p : Process) (m : Module) (e : ExceptionView) (s : Arm64StackFrame) (found : Result (Option Arm64RuntimeFunction) Refusal) → Lacks found → All (λ x. x < 256) e.content → Caller (CallsFound p m e s found)
 some_found p m e s (Err r) lack all = unreadable r lack
-some_found p m e s (Ok None) lack all = (caller_of_leaf p.memory p.modules (leaf_is_guess m s) s, refl)
+some_found p m e s (Ok None) lack all = (caller_in_code p.memory p.modules (leaf_is_guess m s) s, refl)
 some_found p m e s (Ok (Some f)) lack all = some_by_info p m f s (info_by (map_of_module m e) e.content f) (readable m e f all)
 
 some_by : (p : Process) (m : Module) (s : Arm64StackFrame) (o : Option ExceptionView) → HasBytes o → Caller (CallsBy p m s o)

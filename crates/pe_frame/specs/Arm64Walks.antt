@@ -1,5 +1,5 @@
 -- Walks of a stack on ARM64: from the frame of a function to that of its caller, through the modules of a process.
-use Rattle.std.specs.Prelude.{◌≡◌, ℕ, ◌+◌, ◌-◌, ◌/◌, ◌<◌, ◌==◌, ◌&&◌, ◌||◌, not, All, Bool, true, false, if◌then◌else◌, List, Option, Some, None, Result, Ok, Err}
+use Rattle.std.specs.Prelude.{◌≡◌, ℕ, ◌+◌, ◌-◌, ◌/◌, ◌<◌, ◌==◌, ◌&&◌, ◌||◌, not, All, Bool, true, false, if◌then◌else◌, List, slice_index, slice_set, Option, Some, None, Result, Ok, Err}
 use Rattle.std.specs.Option.{is_none, option_map, option_map_or, option_or}
 use Rattle.pe_core.specs.Refusals.{Refusal, ◌>>=◌}
 use Rattle.pe_core.specs.SectionMap.{rounded_up}
@@ -14,18 +14,21 @@ use Rattle.std.specs.List.{AllByRecursion}
 use Rattle.pe_frame.specs.Arm64Packed.{stepped_arm64_packed}
 use Rattle.pe_frame.specs.Arm64Steps.{StepsOutArm64}
 use Rattle.pe_frame.specs.Arm64Undoing.{link_register, put_pc, put_sp, stripped}
+use Rattle.pe_frame.specs.FrameRecords.{frame_record}
 use Rattle.pe_frame.specs.FrameWalks.{FrameWalk, Process, state_of}
 use Rattle.pe_frame.specs.Modules.{is_after_call_arm64, is_code, is_code_of, is_code_return_arm64, is_unknown, map_of_module, may_end_call, module_at}
 use Rattle.pe_frame.specs.Scans.{first_return, most_words}
 use Rattle.pe_frame.specs.Walks.{IsUnreadable, end_at_0}
 use Rattle.pe_frame.specs.declared.arm64.registers.Arm64Registers.{Arm64Registers}
+use Rattle.pe_frame.specs.declared.arm64.registers.TheConstants.{FRAME_POINTER}
 use Rattle.pe_frame.specs.declared.arm64.walk.Arm64StackFrame.{Arm64StackFrame}
 use Rattle.pe_frame.specs.declared.arm64.walk.Arm64StackFrames.{Arm64StackFrames}
+use Rattle.pe_frame.specs.declared.chain.FrameRecord.{FrameRecord}
 use Rattle.pe_frame.specs.declared.error.FrameError.{FrameError}
 use Rattle.pe_frame.specs.declared.error.FrameError.TheVariants.{NotRising}
 use Rattle.pe_frame.specs.declared.modules.Module.{Module}
 use Rattle.pe_frame.specs.declared.walk.Way.{Way}
-use Rattle.pe_frame.specs.declared.walk.Way.TheVariants.{Top, Records, Leaf, Interrupt, Scanned}
+use Rattle.pe_frame.specs.declared.walk.Way.TheVariants.{Top, Records, Leaf, Interrupt, Scanned, FramePointer}
 use Rattle.pe_frame.specs.declared.walk.WalkEnd.{WalkEnd}
 use Rattle.pe_frame.specs.declared.walk.WalkEnd.TheVariants as ends
 
@@ -40,6 +43,7 @@ has_called modules Records pc = is_after_call_arm64 modules pc
 has_called modules Leaf pc = true
 has_called modules Interrupt pc = false
 has_called modules Scanned pc = true
+has_called modules FramePointer pc = true
 
 -- A frame with these registers, found in this way. It is a guess where nothing proves that it is the caller, and after one.
 abbrev pub frame_of : List Module → Way → Bool → Arm64Registers → Arm64StackFrame
@@ -94,6 +98,36 @@ abbrev pub without_records : (ℕ → Option ℕ) → List Module → Bool → A
 without_records memory modules guess g =
     option_or (leaf_frame modules guess g) (option_or (leaf_without_image modules guess g) (scanned memory modules g))
 
+-- ---- chains of frame pointers
+
+-- the return address that a number of a record is, without its signature, if it is one
+abbrev pub record_return : List Module → ℕ → Option ℕ
+record_return modules w =
+    if is_code_return_arm64 modules (stripped w) || may_end_call modules (stripped w) then Some (stripped w) else None
+
+-- the record to which the frame pointer leads
+abbrev pub record_of : (ℕ → Option ℕ) → List Module → Arm64Registers → Option FrameRecord
+record_of memory modules g = frame_record memory (record_return modules) g.sp (slice_index g.general FRAME_POINTER)
+
+-- the registers of the caller by a record: all others are as they were
+abbrev pub returned_by : Arm64Registers → FrameRecord → Arm64Registers
+returned_by g r = record g {
+  general = slice_set g.general FRAME_POINTER r.frame_pointer;
+  sp = r.stack_pointer;
+  pc = r.address;
+}
+
+-- What a leaf function returns to is taken for its caller: a call ends there, or no image says whether one does.
+abbrev pub is_leaf_return : List Module → Arm64Registers → Bool
+is_leaf_return modules g = is_after_call_arm64 modules (link_register g) || may_end_call modules (link_register g)
+
+-- The frame to which its frame pointer leads from a frame without records, as a guess. From one that has not called it does so only
+-- where no caller of a leaf function is found.
+abbrev pub chained : (ℕ → Option ℕ) → List Module → Arm64StackFrame → Option Arm64StackFrame
+chained memory modules s =
+    if not s.has_called && is_leaf_return modules s.registers then None
+    else option_map (λ r. frame_of modules FramePointer true (returned_by s.registers r)) (record_of memory modules s.registers)
+
 -- ---- its caller, or why there is none
 
 -- The caller of a frame that has not called, where neither a call nor a scan leads on: the frame may be one of a leaf function that
@@ -110,7 +144,11 @@ caller_of_leaf memory modules guess s =
     if s.has_called then option_map_or Ok (scanned memory modules s.registers) (Err ends.NoFunction)
     else option_map_or Ok (without_records memory modules guess s.registers) (jumped_frame modules s.registers)
 
--- The same in no module, to which a wild jump or call may lead.
+-- what is looked for first: the frame that the frame pointer leads to
+abbrev pub caller_in_code : (ℕ → Option ℕ) → List Module → Bool → Arm64StackFrame → Result Arm64StackFrame WalkEnd
+caller_in_code memory modules guess s = option_map_or Ok (chained memory modules s) (caller_of_leaf memory modules guess s)
+
+-- In no module, to which a wild jump or call may lead, no frame pointer is followed.
 abbrev pub caller_outside : (ℕ → Option ℕ) → List Module → Arm64StackFrame → Result Arm64StackFrame WalkEnd
 caller_outside memory modules s =
     option_map_or Ok (if s.has_called then scanned memory modules s.registers else without_records memory modules true s.registers)
@@ -153,7 +191,7 @@ leaf_is_guess m s = s.is_guess || not (is_code_of (Some m) (lookup_address s))
 -- By the function that lookup found, if it found one; lookup reads the length of a function from its record.
 abbrev pub CallsFound : Process → Module → ExceptionView → Arm64StackFrame → Result (Option Arm64RuntimeFunction) Refusal → Result Arm64StackFrame WalkEnd → Type 0
 CallsFound p m e s (Err r) answer = IsUnreadable r answer
-CallsFound p m e s (Ok None) answer = answer ≡ caller_of_leaf p.memory p.modules (leaf_is_guess m s) s
+CallsFound p m e s (Ok None) answer = answer ≡ caller_in_code p.memory p.modules (leaf_is_guess m s) s
 CallsFound p m e s (Ok (Some f)) answer = CallsByInfo p m f s (info_by (map_of_module m e) e.content f) answer
 
 -- the length of each function of a module
@@ -161,10 +199,11 @@ abbrev pub length_in : Module → ExceptionView → Arm64RuntimeFunction → Res
 length_in m e = length_by (map_of_module m e) e.content
 
 -- In a module without exception data: nothing says which of its functions are leaf functions. One whose image is not at hand is as no
--- module, so that the end says so.
+-- module, so that the end says so, but its frame pointer is followed, since Windows keeps one.
 abbrev pub caller_without_table : (ℕ → Option ℕ) → List Module → Module → Arm64StackFrame → Result Arm64StackFrame WalkEnd
 caller_without_table memory modules m s =
-    if is_unknown m then caller_outside memory modules s else caller_of_leaf memory modules true s
+    option_map_or Ok (chained memory modules s)
+    (if is_unknown m then caller_outside memory modules s else caller_of_leaf memory modules true s)
 
 -- by the exception data of a module
 abbrev pub CallsBy : Process → Module → Arm64StackFrame → Option ExceptionView → Result Arm64StackFrame WalkEnd → Type 0

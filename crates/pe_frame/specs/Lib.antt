@@ -16,6 +16,7 @@ pub mod CallForms
 pub mod Arm64CallForms
 pub mod Modules
 pub mod Scans
+pub mod FrameRecords
 pub mod Walks
 pub mod FrameWalks
 pub mod Tails

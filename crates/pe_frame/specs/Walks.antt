@@ -1,5 +1,5 @@
 -- Walks of a stack on x64: from the frame of a function to that of its caller, through the modules of a process.
-use Rattle.std.specs.Prelude.{◌≡◌, ℕ, ◌+◌, ◌-◌, ◌==◌, ◌&&◌, ◌||◌, not, Bool, true, false, if◌then◌else◌, List, [], Option, Some, None, Result, Ok, Err, nat_le}
+use Rattle.std.specs.Prelude.{◌≡◌, ℕ, ◌+◌, ◌-◌, ◌==◌, ◌&&◌, ◌||◌, not, Bool, true, false, if◌then◌else◌, List, [], slice_index, Option, Some, None, Result, Ok, Err, nat_le, nat_lt}
 use Rattle.std.specs.List.{AllByRecursion}
 use Rattle.std.specs.Option.{is_none, option_and_then, option_map, option_map_or, option_or}
 use Rattle.pe_core.specs.Refusals.{Refusal, kind_of}
@@ -13,10 +13,12 @@ use Rattle.pe_unwind.specs.declared.function_table.RuntimeFunction.{RuntimeFunct
 use Rattle.pe_plan.specs.ShortPlans.{PlansShort}
 use Rattle.pe_frame.specs.FrameWalks.{FrameWalk, Process, state_of}
 use Rattle.pe_frame.specs.Jumps.{StepsInImage}
+use Rattle.pe_frame.specs.FrameRecords.{frame_record}
 use Rattle.pe_frame.specs.Modules.{module_at, map_of_module, code_in, is_after_call, is_code, is_code_of, is_code_return, is_unknown, may_end_call, call_target}
 use Rattle.pe_frame.specs.Scans.{first_return, highest_call, most_words}
 use Rattle.pe_frame.specs.Steps.{ErrorKind, error_kind}
 use Rattle.pe_frame.specs.Undoing.{stack_pointer, popped, put_register, put_rip}
+use Rattle.pe_frame.specs.declared.chain.FrameRecord.{FrameRecord}
 use Rattle.pe_frame.specs.declared.error.FrameError.{FrameError}
 use Rattle.pe_frame.specs.declared.modules.Module.{Module}
 use Rattle.pe_frame.specs.declared.registers.Registers.{Registers}
@@ -24,10 +26,10 @@ use Rattle.pe_frame.specs.declared.walk.Gap.{Gap}
 use Rattle.pe_frame.specs.declared.walk.StackFrame.{StackFrame}
 use Rattle.pe_frame.specs.declared.walk.StackFrames.{StackFrames}
 use Rattle.pe_frame.specs.declared.walk.Way.{Way}
-use Rattle.pe_frame.specs.declared.walk.Way.TheVariants.{Top, Records, Leaf, Interrupt, Scanned}
+use Rattle.pe_frame.specs.declared.walk.Way.TheVariants.{Top, Records, Leaf, Interrupt, Scanned, FramePointer}
 use Rattle.pe_frame.specs.declared.walk.WalkEnd.{WalkEnd}
 use Rattle.pe_frame.specs.declared.walk.WalkEnd.TheVariants as ends
-use Rattle.pe_frame.specs.declared.registers.TheConstants.{RSP}
+use Rattle.pe_frame.specs.declared.registers.TheConstants.{RSP, RBP}
 
 -- ---- a frame
 
@@ -40,6 +42,7 @@ has_called modules Records rip = is_after_call modules rip
 has_called modules Leaf rip = true
 has_called modules Interrupt rip = false
 has_called modules Scanned rip = true
+has_called modules FramePointer rip = true
 
 -- A frame is the top frame, or one that records lead to: by itself it is no guess.
 abbrev pub by_records : Way → Bool
@@ -48,6 +51,16 @@ by_records Records = true
 by_records Leaf = false
 by_records Interrupt = true
 by_records Scanned = false
+by_records FramePointer = false
+
+-- It is one that words of the stack lead to, without records or a leaf function: by itself it is a guess.
+abbrev pub by_words : Way → Bool
+by_words Top = false
+by_words Records = false
+by_words Leaf = false
+by_words Interrupt = false
+by_words Scanned = true
+by_words FramePointer = true
 
 -- A frame with these registers, found in this way. It is a guess where nothing proves that it is the caller, and after one.
 abbrev pub frame_of : List Module → Way → Bool → Registers → StackFrame
@@ -94,6 +107,38 @@ leaf_frame modules guess popped = leaf_if modules guess (is_after_call modules) 
 -- if the image is not at hand that would say whether one does
 abbrev pub leaf_without_image : List Module → Bool → Result Registers FrameError → Option StackFrame
 leaf_without_image modules guess popped = leaf_if modules guess (may_end_call modules) popped
+
+-- ---- chains of frame pointers
+
+-- the frame pointer, where the code keeps one
+abbrev pub frame_pointer : Registers → ℕ
+frame_pointer g = slice_index g.general RBP
+
+-- The return address that a number of a record is, if it is one: into executable code, or into an image that is not at hand.
+abbrev pub record_return : List Module → ℕ → Option ℕ
+record_return modules w = if is_code_return modules w || may_end_call modules w then Some w else None
+
+-- the record to which the frame pointer leads
+abbrev pub record_of : (ℕ → Option ℕ) → List Module → Registers → Option FrameRecord
+record_of memory modules g = frame_record memory (record_return modules) (stack_pointer g) (frame_pointer g)
+
+-- the registers of the caller by a record: all others are as they were
+abbrev pub returned_by : Registers → FrameRecord → Registers
+returned_by g r = put_rip (put_register (put_register g RSP r.stack_pointer) RBP r.frame_pointer) r.address
+
+-- What a leaf function returns to is taken for its caller: a call ends there, or no image says whether one does.
+abbrev pub is_leaf_return : List Module → Result Registers FrameError → Bool
+is_leaf_return modules (Ok u) = is_after_call modules u.rip || may_end_call modules u.rip
+is_leaf_return modules (Err e) = false
+
+-- The frame to which its frame pointer leads from a frame without records, as a guess. From one that has not called it does so only
+-- where no caller of a leaf function is found.
+abbrev pub chained : (ℕ → Option ℕ) → List Module → StackFrame → Option StackFrame
+chained memory modules s =
+    if not s.has_called && is_leaf_return modules (popped memory s.registers) then None
+    else option_map (λ r. frame_of modules FramePointer true (returned_by s.registers r)) (record_of memory modules s.registers)
+
+-- ---- without records
 
 -- The frame that is found from registers without records: that of the caller of a leaf function, else by a scan. Whether the first
 -- is a guess depends on what says that the function is a leaf function.
@@ -181,19 +226,30 @@ scanned_in_gap memory modules gap g =
     option_map (λ c. scanned_frame modules g (c.address, c.word))
     (highest_call most_words memory (gap_target modules gap) (rounded_up (stack_pointer g) 8))
 
--- What is looked for first: the caller of a leaf function, if a call ends at its return address, then the frame that a scan finds
--- by a call into the gap.
+-- of two frames the one that is lower on the stack, of two at one address the second
+abbrev pub lower_frame : Option StackFrame → Option StackFrame → Option StackFrame
+lower_frame None t = t
+lower_frame (Some s) None = Some s
+lower_frame (Some s) (Some t) = if nat_lt (stack_pointer s.registers) (stack_pointer t.registers) then Some s else Some t
+
+-- What is looked for first: the caller of a leaf function, if a call ends at its return address, then of the frames that a scan finds
+-- by a call into the gap and that the frame pointer leads to the lower one. Code that keeps no frame pointer leaves that of its
+-- caller, whose record is above the call.
 abbrev pub called_in_gap : (ℕ → Option ℕ) → List Module → Bool → Gap → StackFrame → Option StackFrame
 called_in_gap memory modules guess gap s =
     option_or (if s.has_called then None else leaf_frame modules guess (popped memory s.registers))
-    (scanned_in_gap memory modules gap s.registers)
+    (lower_frame (scanned_in_gap memory modules gap s.registers) (chained memory modules s))
 
 -- its caller, without such a frame as in any other code
 abbrev pub caller_in_gap : (ℕ → Option ℕ) → List Module → Bool → Gap → StackFrame → Result StackFrame WalkEnd
 caller_in_gap memory modules guess gap s =
     option_map_or Ok (called_in_gap memory modules guess gap s) (caller_of_leaf memory modules guess s)
 
--- The same in no module, to which a wild jump or call may lead, but there nothing speaks for a leaf function.
+-- In code of a module without function table what is looked for first is the frame that the frame pointer leads to.
+abbrev pub caller_in_code : (ℕ → Option ℕ) → List Module → Bool → StackFrame → Result StackFrame WalkEnd
+caller_in_code memory modules guess s = option_map_or Ok (chained memory modules s) (caller_of_leaf memory modules guess s)
+
+-- In no module, to which a wild jump or call may lead, nothing speaks for a leaf function, and no frame pointer is followed.
 abbrev pub caller_outside : (ℕ → Option ℕ) → List Module → StackFrame → Result StackFrame WalkEnd
 caller_outside memory modules s =
     option_map_or Ok (if s.has_called then scanned memory modules s.registers else without_records memory modules true s.registers)
@@ -212,10 +268,10 @@ CallsFound memory modules m e s (Some f) answer =
     × PlansShort (links_with e (map_of_module m e)) e.content f plan × CallsByPlan memory modules m e f s plan answer
 
 -- In a module without exception data: nothing says which of its functions are leaf functions. One whose image is not at hand is as no
--- module, so that the end says so.
+-- module, so that the end says so; nor does anything say that its code keeps a frame pointer.
 abbrev pub caller_without_table : (ℕ → Option ℕ) → List Module → Module → StackFrame → Result StackFrame WalkEnd
 caller_without_table memory modules m s =
-    if is_unknown m then caller_outside memory modules s else caller_of_leaf memory modules true s
+    if is_unknown m then caller_outside memory modules s else caller_in_code memory modules true s
 
 -- by the exception data of a module
 abbrev pub CallsBy : (ℕ → Option ℕ) → List Module → Module → StackFrame → Option ExceptionView → Result StackFrame WalkEnd → Type 0

@@ -18,6 +18,7 @@ mod address_ranges;
 mod arm64;
 mod bits;
 mod call;
+mod chain;
 mod epilog;
 mod error;
 mod frame;

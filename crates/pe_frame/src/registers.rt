@@ -1,7 +1,9 @@
 //! The registers that unwinding restores.
 
-/// The number of the stack pointer among the integer registers.
+/// The number of the stack pointer among the integer registers, and that of the register that is a frame pointer by custom.
 pub(crate) const RSP: usize = 4;
+
+pub(crate) const RBP: usize = 5;
 
 /// The registers of a thread that a step restores. Flags and segment registers are not among them.
 #[derive(Clone, Copy, Debug, PartialEq, Eq)]

@@ -9,7 +9,7 @@
 //! dispatcher of exceptions saved the registers without a machine frame. After a call of a null pointer the frame is in no module:
 //! its return address is at the stack pointer, if a call ends at that, or if its module has no image that would say so. Where neither
 //! leads on, the stack is scanned: first for the call of the function itself, which starts between the entries of the function table
-//! around it, then for any call.
+//! around it, then for any call. Before a scan for any call a chain of frame pointers leads on, in code of an image: `chain`.
 //!
 //! What is found so may be wrong, and so may all that follows. Each frame says whether it is such a guess, and a stack is called whole
 //! only where none is.
@@ -21,9 +21,10 @@ ghost use Rattle.pe_frame.specs.AddressRanges.{has_address};
 ghost use Rattle.pe_frame.specs.InPlace.{changed_with};
 ghost use Rattle.pe_frame.specs.FrameWalks.{frame_left};
 ghost use Rattle.pe_frame.specs.Modules.{may_end_call, module_base, module_size};
-ghost use Rattle.pe_frame.specs.Walks.{has_called, frame_of, lookup_address, code_of_frame, code_return, scanned, leaf_frame, without_records, is_bottom, end_at_0, after_leaf, caller_of_leaf, caller_outside, caller_without_table, leaf_is_guess, frame_after, CallsFound, CallsIn, scanned_frame, IsGap, is_in_gap, gap_target, scanned_in_gap, called_in_gap, caller_in_gap, leaf_without_image};
+ghost use Rattle.pe_frame.specs.Walks.{has_called, frame_of, lookup_address, code_of_frame, code_return, scanned, leaf_frame, without_records, is_bottom, end_at_0, after_leaf, caller_of_leaf, caller_outside, caller_without_table, leaf_is_guess, frame_after, CallsFound, CallsIn, scanned_frame, IsGap, is_in_gap, gap_target, scanned_in_gap, called_in_gap, caller_in_gap, leaf_without_image, record_return, is_leaf_return, chained, caller_in_code, lower_frame};
 ghost use Rattle.pe_frame.specs.declared.modules.Module.{Module};
 
+use crate::chain::frame_record;
 use crate::error::FrameError;
 use crate::frame::leaf;
 use crate::function_step::step_in_function_in_place;
@@ -33,7 +34,7 @@ use crate::modules::{Module, ModuleMap, Modules};
 use crate::plan::Stopped;
 use crate::position::{WalkFrame, WalkPosition};
 use crate::process::{CallSites, LoadedModules};
-use crate::registers::{RSP, Registers};
+use crate::registers::{RBP, RSP, Registers};
 use crate::scan::{CallTargets, ReturnWords, first_return_above, highest_call_above};
 use pe_unwind::{ExceptionData, RuntimeFunction, search, search_start};
 
@@ -55,6 +56,10 @@ pub enum Way {
     /// frame before it is, to the nearest address before that, or if there is none, the first that is after a call in executable
     /// code. It may be a return address that was left there, so this frame and those after it may be wrong.
     Scanned,
+    /// By a chain of frame pointers: the function that it called keeps one in rbp, on ARM64 in x29, which leads to what that saved of
+    /// it, by what is there. No records say so. A function that keeps none leaves that of its caller, so this frame and those after it
+    /// may be wrong.
+    FramePointer,
 }
 
 /// A frame of a stack walk.
@@ -67,8 +72,8 @@ pub struct StackFrame {
     /// Whether its function has called. If not, `rip` is that of the instruction that is about to run: in the top frame, in one
     /// that an interrupt stopped, and in one that records lead to where no call ends at `rip`, which was interrupted too.
     pub has_called: bool,
-    /// Whether it may be wrong: nothing proves that it is the caller, or it follows a frame of which this holds. What a scan finds
-    /// is a guess, and so is the caller of code of which no function table says that it is a leaf function: in a module without
+    /// Whether it may be wrong: nothing proves that it is the caller, or it follows a frame of which this holds. What a scan or a
+    /// frame pointer leads to is a guess, and so is the caller of code of which no function table says that it is a leaf function: in a module without
     /// exception data, in no module, in data, and where no call in executable code ends at the return address.
     pub is_guess: bool,
 }
@@ -118,6 +123,7 @@ fn has_called<L: CallSites>(modules: &L, way: Way, rip: u64) -> bool
         Way::Leaf => true,
         Way::Interrupt => false,
         Way::Scanned => true,
+        Way::FramePointer => true,
     }
 }
 
@@ -335,6 +341,74 @@ pub(crate) fn end_at_0(is_guess: bool) -> WalkEnd
     }
 }
 
+/// The return addresses that records of frames have: those into the executable code of these modules, and into images that are not at
+/// hand.
+#[derive(Drop)]
+struct RecordReturns<'a, L> {
+    modules: &'a L,
+}
+
+impl<'a, L: CallSites> ReturnWords for RecordReturns<'a, L> {
+    ghost returns = { λ r. record_return (L.list r.modules.now) };
+
+    fn return_of(&self, word: u64) -> Option<u64> {
+        if self.modules.ends_code_call(word) || may_end_call(self.modules, word) {
+            Some(word)
+        } else {
+            None
+        }
+    }
+}
+
+/// Whether what a leaf function returns to is taken for its caller.
+fn is_leaf_return<L: CallSites>(modules: &L, popped: &Result<Registers, FrameError>) -> bool
+    ensures { result ≡ is_leaf_return (L.list modules.now) popped.now }
+{
+    match popped {
+        Ok(registers) => {
+            modules.ends_call(registers.rip) || may_end_call(modules, registers.rip)
+        }
+        Err(_) => false,
+    }
+}
+
+/// The frame to which the frame pointer of a frame without records leads, if it is not left as a leaf function is.
+fn chained<L: CallSites, M: Memory>(
+    modules: &L,
+    frame: &StackFrame,
+    memory: &M,
+) -> Option<StackFrame>
+    ensures { result ≡ chained (M.word memory.now) (L.list modules.now) frame.now }
+{
+    let mut registers = frame.registers;
+    if !frame.has_called && is_leaf_return(modules, &leaf(registers, memory)) {
+        return None;
+    }
+    let (stack, pointer) = (registers.general[RSP], registers.general[RBP]);
+    let record = frame_record(&RecordReturns { modules }, memory, stack, pointer)?;
+    registers.general[RSP] = record.stack_pointer;
+    registers.general[RBP] = record.frame_pointer;
+    registers.rip = record.address;
+    Some(frame_of(modules, Way::FramePointer, true, registers))
+}
+
+/// Of two frames the one that is lower on the stack, of two at one address the second.
+fn lower_frame(first: Option<StackFrame>, second: Option<StackFrame>) -> Option<StackFrame>
+    ensures { result ≡ lower_frame first second }
+{
+    match (first, second) {
+        (None, frame) => frame,
+        (frame, None) => frame,
+        (Some(first), Some(second)) => {
+            if first.registers.general[RSP] < second.registers.general[RSP] {
+                Some(first)
+            } else {
+                Some(second)
+            }
+        }
+    }
+}
+
 /// The frame of the caller of a leaf function to which no call led, if it returns to code.
 fn after_leaf<L: CallSites>(
     modules: &L,
@@ -389,8 +463,8 @@ fn gap_of(module: &Module<'_>, exceptions: &ExceptionData<'_>, frame: &StackFram
     Gap { last, before }
 }
 
-/// The frame of the caller of a frame in code that no entry covers, by a leaf function at whose return address a call ends, or by a
-/// scan for a call into that code.
+/// The frame of the caller of a frame in code that no entry covers, by a leaf function at whose return address a call ends, by a
+/// scan for a call into that code, or by the frame pointer.
 fn called_in_gap<L: CallSites, M: Memory>(
     modules: &L,
     is_guess: bool,
@@ -406,7 +480,8 @@ fn called_in_gap<L: CallSites, M: Memory>(
             return Some(caller);
         }
     }
-    scanned_in_gap(modules, gap, memory, &frame.registers)
+    let by_call = scanned_in_gap(modules, gap, memory, &frame.registers);
+    lower_frame(by_call, chained(modules, frame, memory))
 }
 
 /// The frame of the caller of a frame in code that no entry covers.
@@ -439,20 +514,22 @@ fn put(caller: Result<StackFrame, WalkEnd>, frame: &mut StackFrame) -> Result<()
     }
 }
 
-/// Makes a frame in no function that of its caller, or says why there is none. Out of line, as nearly all frames are in a
-/// function: those do not pay for the room of another frame.
+/// Makes a frame in an image without exception data that of its caller, or says why there is none. Out of line, as nearly all frames
+/// are in a function: those do not pay for the room of another frame.
 #[inline(never)]
-fn become_caller_of_leaf<L: CallSites, M: Memory>(
+fn become_caller_by_words<L: CallSites, M: Memory>(
     modules: &L,
-    is_guess: bool,
     frame: &mut StackFrame,
     memory: &M,
 ) -> Result<(), WalkEnd>
     ensures caller { frame_left result frame.new
-        ≡ caller_of_leaf (M.word memory.now) (L.list modules.now) is_guess frame.old }
+        ≡ caller_in_code (M.word memory.now) (L.list modules.now) true frame.old }
     ensures kept { OnErr result (frame.new ≡ frame.old) }
 {
-    let caller = caller_of_leaf(modules, is_guess, frame, memory);
+    let caller = match chained(modules, frame, memory) {
+        Some(caller) => Ok(caller),
+        None => caller_of_leaf(modules, true, frame, memory),
+    };
     put(caller, frame)
 }
 
@@ -476,7 +553,7 @@ fn become_caller_in_gap<L: CallSites, M: Memory>(
 }
 
 /// Makes a frame in no module that of its caller, or says why there is none: then the frame stays. Out of line, as
-/// `become_caller_of_leaf`.
+/// `become_caller_by_words`.
 #[inline(never)]
 pub fn caller_outside<L: CallSites, M: Memory>(
     modules: &L,
@@ -515,7 +592,7 @@ fn become_caller_without_table<L: CallSites, M: Memory>(
     if module.is_unknown() {
         caller_outside(modules, frame, memory)
     } else {
-        become_caller_of_leaf(modules, true, frame, memory)
+        become_caller_by_words(modules, frame, memory)
     }
 }
 
@@ -687,10 +764,13 @@ impl WalkFrame for StackFrame {
 /// In the top frame, and in one that was interrupted, the return address of code that no records describe is the word at the stack
 /// pointer, if a call ends at it or it lies in a module whose image is not at hand, else the first of 128 words from there on that is
 /// after a call in an executable section. In a module, where none is, it is the word at the stack pointer, if that is an address of
-/// an executable section. In a frame that has called it is the first such word after a call. Between two entries of a function table
-/// the word whose call, E8, leads there, up to the frame, comes before all others after a call but that at the stack pointer: of
-/// several the one whose call leads highest, to the nearest start of a function. Where none is found, a walk that comes to 0 says
-/// `Zero`.
+/// an executable section. In a frame that has called it is the first such word after a call.
+///
+/// In code of an image the frame pointer comes before such a word: where rbp is a multiple of 8 and leads to two words, the frame
+/// pointer of the caller, which is higher or 0, and at or above the stack pointer a return address, these are the caller's. Between
+/// two entries of a function table the word whose call, E8, leads there, up to the frame, comes before all others after a call but
+/// that at the stack pointer and one to which the frame pointer leads lower on the stack: of several the one whose call leads
+/// highest, to the nearest start of a function. Where none is found, a walk that comes to 0 says `Zero`.
 #[derive(Drop)]
 pub struct StackFrames<'a, M> {
     modules: Modules<'a>,

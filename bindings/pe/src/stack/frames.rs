@@ -56,6 +56,7 @@ fn way_of(way: Way) -> &'static str {
         Way::Leaf => "leaf",
         Way::Interrupt => "interrupt",
         Way::Scanned => "scanned",
+        Way::FramePointer => "frame-pointer",
         _ => "another",
     }
 }

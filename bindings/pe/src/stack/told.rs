@@ -135,7 +135,7 @@ pub struct Frame {
     pub module_index: Option<usize>,
     /// What names it, in the image of the module. Null where nothing does, as without an image.
     pub function: Option<Function>,
-    /// How it was found: `top`, `records`, `leaf`, `interrupt`, `scanned`.
+    /// How it was found: `top`, `records`, `leaf`, `interrupt`, `scanned`, `frame-pointer`.
     pub way: &'static str,
     /// Whether its function has called: then `ip_va` is the return address.
     pub has_called: bool,

@@ -327,6 +327,9 @@ class Way(enum.IntEnum):
     SCANNED = 4
     """by a scan of the stack, where no records led on: at the call that leads nearest into the code without
     records, on x64, else at the first call. It may be wrong, and those after it"""
+    FRAME_POINTER = 5
+    """by the frame pointer, where no records led on: the words to which rbp, or x29, leads are the frame
+    pointer of the caller and a return address. It may be wrong, and those after it"""
 
 
 class End(enum.IntEnum):

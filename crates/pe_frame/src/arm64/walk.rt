@@ -16,12 +16,13 @@ ghost use Rattle.pe_core.specs.Refusals.{answer_by};
 ghost use Rattle.pe_unwind.specs.Arm64Record.{info_view};
 ghost use Rattle.pe_unwind.specs.Arm64Unwinding.{info_by};
 ghost use Rattle.pe_frame.specs.AddressRanges.{has_address};
-ghost use Rattle.pe_frame.specs.Arm64Walks.{frame_of, code_return, scanned, leaf_frame, leaf_without_image, without_records, lookup_address, place_of, jumped_frame, caller_of_leaf, caller_outside, caller_without_table, leaf_is_guess, is_bottom, called_frame, frame_after, stepped_out_packed, CallsByInfo, CallsFound, CallsIn};
+ghost use Rattle.pe_frame.specs.Arm64Walks.{frame_of, code_return, scanned, leaf_frame, leaf_without_image, without_records, lookup_address, place_of, jumped_frame, record_return, chained, caller_in_code, caller_of_leaf, caller_outside, caller_without_table, leaf_is_guess, is_bottom, called_frame, frame_after, stepped_out_packed, CallsByInfo, CallsFound, CallsIn};
 ghost use Rattle.pe_frame.specs.Modules.{map_of_module, module_base, module_size};
 
-use super::registers::{Arm64Registers, LINK_REGISTER};
+use super::registers::{Arm64Registers, FRAME_POINTER, LINK_REGISTER};
 use super::step::{caller, leaf_arm64, packed_caller};
 use super::undo::stripped;
+use crate::chain::frame_record;
 use crate::error::FrameError;
 use crate::memory::{Memory, SIZE_OF_WORD};
 use crate::modules::{Module, ModuleMap, Modules};
@@ -64,6 +65,7 @@ fn frame_of<L: CallSites>(
         Way::Leaf => true,
         Way::Interrupt => false,
         Way::Scanned => true,
+        Way::FramePointer => true,
     };
     Arm64StackFrame {
         registers,
@@ -212,6 +214,63 @@ fn caller_of_leaf<L: CallSites, M: Memory>(
     }
 }
 
+/// The return addresses that records of frames have: those into the executable code of these modules, and into images that are not at
+/// hand. They may have a signature.
+#[derive(Drop)]
+struct RecordReturns<'a, L> {
+    modules: &'a L,
+}
+
+impl<'a, L: CallSites> ReturnWords for RecordReturns<'a, L> {
+    ghost returns = { λ r. record_return (L.list r.modules.now) };
+
+    fn return_of(&self, word: u64) -> Option<u64> {
+        let address = stripped(word);
+        if self.modules.ends_code_call_arm64(address) || may_end_call(self.modules, address) {
+            Some(address)
+        } else {
+            None
+        }
+    }
+}
+
+/// The frame to which the frame pointer of a frame without records leads, if it is not left as a leaf function is.
+fn chained<L: CallSites, M: Memory>(
+    modules: &L,
+    frame: &Arm64StackFrame,
+    memory: &M,
+) -> Option<Arm64StackFrame>
+    ensures { result ≡ chained (M.word memory.now) (L.list modules.now) frame.now }
+{
+    let mut registers = frame.registers;
+    let link = registers.general[LINK_REGISTER];
+    if !frame.has_called && (modules.ends_call_arm64(link) || may_end_call(modules, link)) {
+        return None;
+    }
+    let (stack, pointer) = (registers.sp, registers.general[FRAME_POINTER]);
+    let record = frame_record(&RecordReturns { modules }, memory, stack, pointer)?;
+    registers.general[FRAME_POINTER] = record.frame_pointer;
+    registers.sp = record.stack_pointer;
+    registers.pc = record.address;
+    Some(frame_of(modules, Way::FramePointer, true, registers))
+}
+
+/// The frame of the caller of a frame in code that no unwind data describe, by whether it is a guess that this is one of a leaf
+/// function.
+fn caller_in_code<L: CallSites, M: Memory>(
+    modules: &L,
+    is_guess: bool,
+    frame: &Arm64StackFrame,
+    memory: &M,
+) -> Result<Arm64StackFrame, WalkEnd>
+    ensures { result ≡ caller_in_code (M.word memory.now) (L.list modules.now) is_guess frame.now }
+{
+    match chained(modules, frame, memory) {
+        Some(caller) => Ok(caller),
+        None => caller_of_leaf(modules, is_guess, frame, memory),
+    }
+}
+
 /// The frame of the caller of a frame in no module.
 pub fn caller_outside_arm64<L: CallSites, M: Memory>(
     modules: &L,
@@ -240,6 +299,9 @@ fn caller_without_table<L: CallSites, M: Memory>(
 ) -> Result<Arm64StackFrame, WalkEnd>
     ensures { result ≡ caller_without_table (M.word memory.now) (L.list modules.now) module.now frame.now }
 {
+    if let Some(caller) = chained(modules, frame, memory) {
+        return Ok(caller);
+    }
     if module.is_unknown() {
         caller_outside_arm64(modules, frame, memory)
     } else {
@@ -393,7 +455,7 @@ pub fn caller_in_module_arm64<L: CallSites, M: Memory>(
             };
             caller_by_records(modules, &found, frame, memory)
         }
-        Ok(None) => caller_of_leaf(modules, leaf_is_guess(module, frame), frame, memory),
+        Ok(None) => caller_in_code(modules, leaf_is_guess(module, frame), frame, memory),
         Err(error) => Err(WalkEnd::Records(error)),
     }
 }
@@ -431,8 +493,10 @@ impl WalkFrame for Arm64StackFrame {
 /// In the top frame, and in one that was interrupted, the return address of code that no unwind data describe is the link register,
 /// if a call ends at it or it lies in a module whose image is not at hand, else the first of 128 words from the stack pointer on that
 /// is, without its signature, after a call in an executable section. In a module, where none is, it is the link register, if that is
-/// an address of an executable section. In a frame that has called it is the first such word after a call. Where none is found, a walk
-/// that comes to 0 says `Zero`.
+/// an address of an executable section. In a frame that has called it is the first such word after a call. In code of a module the
+/// frame pointer comes before such a word: where x29 is a multiple of 8 and leads to two words, the frame pointer of the caller, which
+/// is higher or 0, and at or above the stack pointer a return address, these are the caller's, and the stack pointer is that after
+/// them, which may be too low. Where none is found, a walk that comes to 0 says `Zero`.
 #[derive(Drop)]
 pub struct Arm64StackFrames<'a, M> {
     modules: Modules<'a>,

@@ -1,22 +1,23 @@
 //! Laws of whole walks on ARM64.
 
-ghost use Rattle.std.specs.Prelude.{Bool, ◌≡◌, ◌≢◌, ◌≤◌, ◌<◌, ◌++◌, ◌⊎◌, ℕ, true, false, List, length, Option, None, Some, Ok, Err};
+ghost use Rattle.std.specs.Prelude.{Bool, ◌&&◌, not, ◌≡◌, ◌≢◌, ◌≤◌, ◌<◌, ◌++◌, ◌⊎◌, ℕ, true, false, List, length, Option, None, Some, Ok, Err};
 ghost use Rattle.std.specs.Iterator.{YieldsThen};
 ghost use Rattle.std.specs.List.{AllByRecursion};
 ghost use Rattle.pe_unwind.specs.Arm64Record.{Arm64InfoView};
 ghost use Rattle.pe_unwind.specs.declared.arm64.function.Arm64RuntimeFunction.{Arm64RuntimeFunction};
 ghost use Rattle.pe_frame.specs.Arm64Packed.{stepped_arm64_packed};
 ghost use Rattle.pe_frame.specs.Arm64Steps.{StepsOutArm64};
-ghost use Rattle.pe_frame.specs.Arm64Walks.{AreModulesOfBytes, AreSortedModules, Calls, CallsByInfo, CallsFound, has_called, caller_of_leaf, caller_outside, lookup_address, place_of, top_frame, walk_of, without_records};
+ghost use Rattle.pe_frame.specs.Arm64Walks.{AreModulesOfBytes, AreSortedModules, Calls, CallsByInfo, CallsFound, caller_in_code, caller_without_table, frame_of, has_called, is_leaf_return, record_of, returned_by, caller_of_leaf, caller_outside, lookup_address, place_of, top_frame, walk_of, without_records};
 ghost use Rattle.pe_frame.specs.FrameWalks.{FrameWalk, IsWalk, Process, starting_walk};
 ghost use Rattle.pe_frame.specs.Modules.{is_code_of, is_code_return_arm64};
-ghost use Rattle.pe_frame.specs.Walks.{by_records, end_kind};
+ghost use Rattle.pe_frame.specs.Walks.{by_records, by_words, end_kind};
 ghost use Rattle.pe_unwind.specs.ExceptionTable.{ExceptionView};
 ghost use Rattle.pe_frame.specs.declared.arm64.registers.Arm64Registers.{Arm64Registers};
 ghost use Rattle.pe_frame.specs.declared.arm64.walk.Arm64StackFrame.{Arm64StackFrame};
 ghost use Rattle.pe_frame.specs.declared.arm64.walk.Arm64StackFrames.{Arm64StackFrames};
+ghost use Rattle.pe_frame.specs.declared.chain.FrameRecord.{FrameRecord};
 ghost use Rattle.pe_frame.specs.declared.modules.Module.{Module};
-ghost use Rattle.pe_frame.specs.declared.walk.Way.TheVariants.{Records, Leaf, Interrupt, Scanned};
+ghost use Rattle.pe_frame.specs.declared.walk.Way.TheVariants.{Records, Leaf, Interrupt, FramePointer};
 ghost use Rattle.pe_frame.specs.declared.walk.WalkEnd.{WalkEnd};
 ghost use Rattle.pe_frame.specs.declared.walk.WalkEnd.TheVariants.{Bottom};
 
@@ -59,23 +60,45 @@ pub fn arm64_frames_are_steps()
         stepped_arm64_packed p.memory f.unwind_data (place_of m f s) s.registers ≡ Ok t.registers }
 {}
 
+/// Where the frame pointer leads to a record (`frame_pointers_lead_to_records`) from a frame in code without unwind data, the caller is
+/// the one that the record says, as a guess (`followed`), also in a module without a function table or an image (`without_table`).
+/// Where a leaf function would return to a caller, or there is no record, it is as without frame pointers (`leaf`, `none`).
+pub fn arm64_frame_pointers_lead_to_records()
+    ensures followed { (memory : ℕ → Option ℕ) (modules : List Module) (guess : Bool) (s : Arm64StackFrame) (r : FrameRecord) →
+        (not s.has_called && is_leaf_return modules s.registers) ≡ false →
+        record_of memory modules s.registers ≡ Some r →
+        caller_in_code memory modules guess s
+        ≡ Ok (frame_of modules FramePointer true (returned_by s.registers r)) }
+    ensures without_table { (memory : ℕ → Option ℕ) (modules : List Module) (m : Module) (s : Arm64StackFrame) (r : FrameRecord) →
+        (not s.has_called && is_leaf_return modules s.registers) ≡ false →
+        record_of memory modules s.registers ≡ Some r →
+        caller_without_table memory modules m s
+        ≡ Ok (frame_of modules FramePointer true (returned_by s.registers r)) }
+    ensures leaf { (memory : ℕ → Option ℕ) (modules : List Module) (guess : Bool) (s : Arm64StackFrame) →
+        (not s.has_called && is_leaf_return modules s.registers) ≡ true →
+        caller_in_code memory modules guess s ≡ caller_of_leaf memory modules guess s }
+    ensures none { (memory : ℕ → Option ℕ) (modules : List Module) (guess : Bool) (s : Arm64StackFrame) →
+        record_of memory modules s.registers ≡ None →
+        caller_in_code memory modules guess s ≡ caller_of_leaf memory modules guess s }
+{}
+
 /// Each frame says whether it has called, by its way and the bytes before its instruction pointer (`called`). From a frame that has
-/// called only records lead on, or a scan: the caller of a leaf function is found from one that has not (`led`).
+/// called only records lead on, or words of the stack: the caller of a leaf function is found from one that has not (`led`).
 pub fn arm64_frames_say_whether_they_called()
     ensures called { (p : Process) (s t : Arm64StackFrame) →
         Calls p s (Ok t) → t.has_called ≡ has_called p.modules t.way (t.registers).pc }
     ensures led { (p : Process) (s t : Arm64StackFrame) →
         Calls p s (Ok t) → s.has_called ≡ true →
-        (t.way ≡ Records) ⊎ ((t.way ≡ Interrupt) ⊎ (t.way ≡ Scanned)) }
+        (t.way ≡ Records) ⊎ ((t.way ≡ Interrupt) ⊎ (by_words t.way ≡ true)) }
 {}
 
-/// What a scan finds is a guess (`scans`), and so is each frame after a guess (`follows`). No other one is but the caller of a leaf
-/// function: what records lead to is a guess where the frame before it is (`records`), and so is the caller of code of which a table
+/// What words of the stack lead to, by a scan or a frame pointer, is a guess (`words`), and so is each frame after a guess
+/// (`follows`). No other one is but the caller of a leaf function: what records lead to is a guess where the frame before it is (`records`), and so is the caller of code of which a table
 /// says that it is a leaf function, where the call is in an executable section too (`leaf`). So the frames of a thread are no guesses
 /// up to the first that records do not lead to (`sure`).
 pub fn arm64_frames_say_whether_they_are_guesses()
-    ensures scans { (p : Process) (s t : Arm64StackFrame) →
-        Calls p s (Ok t) → t.way ≡ Scanned → t.is_guess ≡ true }
+    ensures words { (p : Process) (s t : Arm64StackFrame) →
+        Calls p s (Ok t) → by_words t.way ≡ true → t.is_guess ≡ true }
     ensures follows { (p : Process) (s t : Arm64StackFrame) →
         Calls p s (Ok t) → s.is_guess ≡ true → t.is_guess ≡ true }
     ensures records { (p : Process) (s t : Arm64StackFrame) →
@@ -114,7 +137,7 @@ pub fn arm64_bottoms_are_returns_to_0()
         × (stepped_arm64_packed p.memory f.unwind_data (place_of m f s) s.registers ≡ Ok u)
         × (u.pc ≡ 0) × (without_records p.memory p.modules true u ≡ None) × (s.is_guess ≡ false) }
     ensures leaf { (memory : ℕ → Option ℕ) (modules : List Module) (guess : Bool) (s : Arm64StackFrame) →
-        caller_of_leaf memory modules guess s ≢ Err Bottom }
+        caller_in_code memory modules guess s ≢ Err Bottom }
     ensures outside { (memory : ℕ → Option ℕ) (modules : List Module) (s : Arm64StackFrame) →
         caller_outside memory modules s ≢ Err Bottom }
     ensures whole { (p : Process) (g : Arm64Registers) (most : ℕ) (frames : List Arm64StackFrame) →

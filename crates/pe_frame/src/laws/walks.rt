@@ -1,6 +1,6 @@
 //! Laws of whole walks.
 
-ghost use Rattle.std.specs.Prelude.{Bool, ◌≡◌, ◌≢◌, ◌≤◌, ◌<◌, ◌+◌, ◌-◌, ◌*◌, ◌++◌, ◌⊎◌, ℕ, true, false, List, [], length, Option, Some, None, Ok, Err};
+ghost use Rattle.std.specs.Prelude.{Bool, ◌&&◌, not, ◌≡◌, ◌≢◌, ◌≤◌, ◌<◌, ◌+◌, ◌-◌, ◌*◌, ◌++◌, ◌⊎◌, ℕ, true, false, List, [], length, Option, Some, None, Ok, Err};
 ghost use Rattle.std.specs.Iterator.{YieldsThen};
 ghost use Rattle.std.specs.List.{AllByRecursion};
 ghost use Rattle.pe_unwind.specs.ExceptionTable.{ExceptionView};
@@ -9,17 +9,19 @@ ghost use Rattle.pe_unwind.specs.declared.function_table.RuntimeFunction.{Runtim
 ghost use Rattle.pe_frame.specs.Epilogs.{epilog_at};
 ghost use Rattle.pe_frame.specs.Scans.{IsFirstReturn, IsHighestCall, call_at, first_return, highest_call, most_words, return_at};
 ghost use Rattle.pe_frame.specs.Steps.{Steps};
+ghost use Rattle.pe_frame.specs.FrameRecords.{IsFrameRecord, caller_of_record, frame_record};
 ghost use Rattle.pe_frame.specs.FrameWalks.{FrameWalk, IsWalk, Process, starting_walk};
 ghost use Rattle.pe_frame.specs.Undoing.{popped};
 ghost use Rattle.pe_frame.specs.Modules.{is_after_call, is_code_of, is_code_return, may_end_call};
-ghost use Rattle.pe_frame.specs.Walks.{AreSortedModules, Calls, CallsByPlan, CallsFound, by_records, end_kind, frame_of, has_called, lookup_address, caller_of_leaf, caller_outside, top_frame, walk_of, without_records, StepsFromFrame, caller_in_gap};
+ghost use Rattle.pe_frame.specs.Walks.{AreSortedModules, Calls, CallsByPlan, CallsFound, by_records, by_words, caller_in_code, end_kind, frame_of, has_called, is_leaf_return, lookup_address, caller_of_leaf, caller_outside, record_of, returned_by, top_frame, walk_of, without_records, StepsFromFrame, caller_in_gap};
+ghost use Rattle.pe_frame.specs.declared.chain.FrameRecord.{FrameRecord};
 ghost use Rattle.pe_frame.specs.declared.modules.Module.{Module};
 ghost use Rattle.pe_frame.specs.declared.registers.Registers.{Registers};
 ghost use Rattle.pe_frame.specs.declared.scan.FoundCall.{FoundCall};
 ghost use Rattle.pe_frame.specs.declared.walk.Gap.{Gap};
 ghost use Rattle.pe_frame.specs.declared.walk.StackFrame.{StackFrame};
 ghost use Rattle.pe_frame.specs.declared.walk.StackFrames.{StackFrames};
-ghost use Rattle.pe_frame.specs.declared.walk.Way.TheVariants.{Records, Leaf, Interrupt, Scanned};
+ghost use Rattle.pe_frame.specs.declared.walk.Way.TheVariants.{Records, Leaf, Interrupt, FramePointer};
 ghost use Rattle.pe_frame.specs.declared.walk.WalkEnd.{WalkEnd};
 ghost use Rattle.pe_frame.specs.declared.walk.WalkEnd.TheVariants.{Bottom};
 
@@ -98,30 +100,55 @@ pub fn callers_without_images_come_before_scans()
     ensures leaf { (memory : ℕ → Option ℕ) (modules : List Module) (guess : Bool) (s : StackFrame) (u : Registers) →
         s.has_called ≡ false → popped memory s.registers ≡ Ok u →
         is_after_call modules u.rip ≡ false → may_end_call modules u.rip ≡ true →
-        caller_of_leaf memory modules guess s ≡ Ok (frame_of modules Leaf true u) }
+        caller_in_code memory modules guess s ≡ Ok (frame_of modules Leaf true u) }
     ensures outside { (memory : ℕ → Option ℕ) (modules : List Module) (s : StackFrame) (u : Registers) →
         s.has_called ≡ false → popped memory s.registers ≡ Ok u →
         is_after_call modules u.rip ≡ false → may_end_call modules u.rip ≡ true →
         caller_outside memory modules s ≡ Ok (frame_of modules Leaf true u) }
 {}
 
+/// A frame pointer leads to a record of a frame exactly where it is aligned, the two words are there, the return address at or above
+/// the stack pointer, and the frame pointer of the caller is higher or 0 (`found`, `there`). From a frame in code of an image without
+/// records the caller is then the one that the record says, as a guess (`followed`). Where a leaf function would return to a caller,
+/// or there is no record, it is as without frame pointers (`leaf`, `none`).
+pub fn frame_pointers_lead_to_records()
+    ensures found { (memory returns : ℕ → Option ℕ) (stack pointer : ℕ) (c : FrameRecord) →
+        frame_record memory returns stack pointer ≡ Some c →
+        (c.stack_pointer ≡ pointer + 16)
+        × IsFrameRecord memory returns stack pointer c.frame_pointer c.address }
+    ensures there { (memory returns : ℕ → Option ℕ) (stack pointer caller address : ℕ) →
+        IsFrameRecord memory returns stack pointer caller address →
+        frame_record memory returns stack pointer ≡ Some (caller_of_record pointer caller address) }
+    ensures followed { (memory : ℕ → Option ℕ) (modules : List Module) (guess : Bool) (s : StackFrame) (r : FrameRecord) →
+        (not s.has_called && is_leaf_return modules (popped memory s.registers)) ≡ false →
+        record_of memory modules s.registers ≡ Some r →
+        caller_in_code memory modules guess s
+        ≡ Ok (frame_of modules FramePointer true (returned_by s.registers r)) }
+    ensures leaf { (memory : ℕ → Option ℕ) (modules : List Module) (guess : Bool) (s : StackFrame) →
+        (not s.has_called && is_leaf_return modules (popped memory s.registers)) ≡ true →
+        caller_in_code memory modules guess s ≡ caller_of_leaf memory modules guess s }
+    ensures none { (memory : ℕ → Option ℕ) (modules : List Module) (guess : Bool) (s : StackFrame) →
+        record_of memory modules s.registers ≡ None →
+        caller_in_code memory modules guess s ≡ caller_of_leaf memory modules guess s }
+{}
+
 /// Each frame says whether it has called, by its way and the bytes before its instruction pointer (`called`). From a frame that has
-/// called only records lead on, or a scan: the caller of a leaf function is found from one that has not (`led`).
+/// called only records lead on, or words of the stack: the caller of a leaf function is found from one that has not (`led`).
 pub fn frames_say_whether_they_called()
     ensures called { (p : Process) (s t : StackFrame) →
         Calls p s (Ok t) → t.has_called ≡ has_called p.modules t.way (t.registers).rip }
     ensures led { (p : Process) (s t : StackFrame) →
         Calls p s (Ok t) → s.has_called ≡ true →
-        (t.way ≡ Records) ⊎ ((t.way ≡ Interrupt) ⊎ (t.way ≡ Scanned)) }
+        (t.way ≡ Records) ⊎ ((t.way ≡ Interrupt) ⊎ (by_words t.way ≡ true)) }
 {}
 
-/// What a scan finds is a guess (`scans`), and so is each frame after a guess (`follows`). No other one is but the caller of a leaf
-/// function: what records lead to is a guess where the frame before it is (`records`), and so is the caller of code of which a table
+/// What words of the stack lead to, by a scan or a frame pointer, is a guess (`words`), and so is each frame after a guess
+/// (`follows`). No other one is but the caller of a leaf function: what records lead to is a guess where the frame before it is (`records`), and so is the caller of code of which a table
 /// says that it is a leaf function, where the call is in an executable section too (`leaf`). So the frames of a thread are no guesses
 /// up to the first that records do not lead to (`sure`).
 pub fn frames_say_whether_they_are_guesses()
-    ensures scans { (p : Process) (s t : StackFrame) →
-        Calls p s (Ok t) → t.way ≡ Scanned → t.is_guess ≡ true }
+    ensures words { (p : Process) (s t : StackFrame) →
+        Calls p s (Ok t) → by_words t.way ≡ true → t.is_guess ≡ true }
     ensures follows { (p : Process) (s t : StackFrame) →
         Calls p s (Ok t) → s.is_guess ≡ true → t.is_guess ≡ true }
     ensures records { (p : Process) (s t : StackFrame) →
@@ -146,7 +173,7 @@ pub fn bottoms_are_returns_to_0()
         (u : Registers) × StepsFromFrame memory m e f plan s (Ok (u, false))
         × (u.rip ≡ 0) × (without_records memory modules true u ≡ None) × (s.is_guess ≡ false) }
     ensures leaf { (memory : ℕ → Option ℕ) (modules : List Module) (guess : Bool) (s : StackFrame) →
-        caller_of_leaf memory modules guess s ≢ Err Bottom }
+        caller_in_code memory modules guess s ≢ Err Bottom }
     ensures gap { (memory : ℕ → Option ℕ) (modules : List Module) (guess : Bool) (gap : Gap) (s : StackFrame) →
         caller_in_gap memory modules guess gap s ≢ Err Bottom }
     ensures outside { (memory : ℕ → Option ℕ) (modules : List Module) (s : StackFrame) →
