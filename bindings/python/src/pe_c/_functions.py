@@ -30,8 +30,9 @@ class Places:
         self.bases = [base for base, _ in spans]
         self._edges = sorted({it for span in spans for it in span})
         self._owners: list[int | None] = []
-        # The modules that start at an edge or before it and end after it, the first one at the top.
-        waiting, open_ones = sorted(range(len(spans)), key=lambda it: -spans[it][0]), list[int]()
+        waiting = sorted(range(len(spans)), key=lambda it: -spans[it][0])
+        # The modules that start at an edge or before it, the first one at the top, and none there that ends at it or before.
+        open_ones: list[int] = []
         for edge in self._edges:
             while waiting and spans[waiting[-1]][0] <= edge:
                 heapq.heappush(open_ones, waiting.pop())
