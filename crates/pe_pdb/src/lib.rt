@@ -36,9 +36,7 @@ pub use info::{INFO_STREAM, PdbInfo};
 pub use key::PdbKey;
 pub use module::{FIRST_SYMBOL, Module, ModuleRecord, Modules};
 pub use msf::SuperBlock;
-pub use procedure::{
-    ProcedureSymbol, S_GPROC32, S_GPROC32_ID, S_LPROC32, S_LPROC32_ID,
-};
+pub use procedure::{ProcedureSymbol, S_GPROC32, S_GPROC32_ID, S_LPROC32, S_LPROC32_ID};
 pub use public::{PublicSymbol, S_PUB32};
 pub use sections::SectionHeaders;
 pub use stream::Stream;

@@ -93,10 +93,7 @@ fn is_procedure(kind: u16) -> bool
 
 /// The RVA of a procedure that has code. `None` of other records, of one that is too short, and where it is in no section.
 #[tactic(auto, unfolding(crate::specs::Procedures::procedure_rva))]
-pub(crate) fn procedure_rva(
-    sections: &SectionHeaders<'_>,
-    record: &SymbolRecord<'_>,
-) -> Option<u32>
+pub(crate) fn procedure_rva(sections: &SectionHeaders<'_>, record: &SymbolRecord<'_>) -> Option<u32>
     ensures { result ≡ procedure_rva sections.now.bytes.now (symbol_view record.now) }
 {
     let content = record.content;
