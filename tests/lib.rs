@@ -48,6 +48,8 @@ mod minidumps;
 #[cfg(test)]
 mod pdb_bytes;
 #[cfg(test)]
+mod pdb_symbols;
+#[cfg(test)]
 mod pdbs;
 #[cfg(test)]
 mod plans;

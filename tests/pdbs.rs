@@ -9,7 +9,7 @@ use std::alloc::{AllocError, Global};
 use std::test::Fail;
 
 /// The file of lld-link.
-fn pdb(alloc: Global) -> Result<Vec<u8>, AllocError> {
+pub(crate) fn pdb(alloc: Global) -> Result<Vec<u8>, AllocError> {
     image(alloc, LENGTH, &PIECES)
 }
 
@@ -37,7 +37,7 @@ fn of_blocks(alloc: Global, blocks: usize, directory_size: usize) -> Result<Vec<
 }
 
 /// All bytes of a stream.
-fn all_of(alloc: Global, msf: &Msf<'_>, index: u32) -> Result<Vec<u8>, Fail> {
+pub(crate) fn all_of(alloc: Global, msf: &Msf<'_>, index: u32) -> Result<Vec<u8>, Fail> {
     let stream = msf.stream(index)?;
     let mut room = vec![in alloc; 0u8; stream.len()]?;
     stream.read_at(0, &mut room)?;
@@ -45,7 +45,7 @@ fn all_of(alloc: Global, msf: &Msf<'_>, index: u32) -> Result<Vec<u8>, Fail> {
 }
 
 /// The same streams in blocks of 512 bytes, which stand in the file from the last to the first.
-fn scattered(alloc: Global, msf: &Msf<'_>) -> Result<Vec<u8>, Fail> {
+pub(crate) fn scattered(alloc: Global, msf: &Msf<'_>) -> Result<Vec<u8>, Fail> {
     let mut count = 0;
     for index in 0..msf.streams() as u32 {
         count += msf.stream(index)?.len().div_ceil(512);
@@ -71,7 +71,7 @@ fn scattered(alloc: Global, msf: &Msf<'_>) -> Result<Vec<u8>, Fail> {
 }
 
 /// Whether a call was refused for this.
-fn refused<T: Drop>(returned: pe_pdb::Result<T>, error: PdbError) -> bool {
+pub(crate) fn refused<T: Drop>(returned: pe_pdb::Result<T>, error: PdbError) -> bool {
     match returned {
         Ok(_) => false,
         Err(own) => own == error,

@@ -54,7 +54,7 @@ pdb_kind_of (errors.RecordTruncated offset needed length) = RecordTruncated
 pdb_kind_of (errors.Name offset) = Name
 pdb_kind_of (errors.ModuleSymbols size length) = ModuleSymbols
 pdb_kind_of (errors.ModuleSignature number) = ModuleSignature
-pdb_kind_of (errors.SymbolsSize length) = SymbolsSize
+pdb_kind_of errors.SymbolsSize = SymbolsSize
 pdb_kind_of (errors.Room needed length) = Room
 
 -- the call returned the defined value, seen by view, or an error of the defined kind

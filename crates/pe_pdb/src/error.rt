@@ -81,8 +81,8 @@ pub enum PdbError {
         offset: usize,
         size: u16,
     },
-    /// A symbol record passes the end of its bytes: its offset, how many bytes it has, and how many there are.
-    #[error("symbol record of {needed} bytes at offset {offset} of {length} bytes")]
+    /// A record passes the end of its bytes: its offset, how many bytes it has, and how many there are.
+    #[error("record of {needed} bytes at offset {offset} of {length} bytes")]
     RecordTruncated {
         offset: usize,
         needed: usize,
@@ -101,9 +101,9 @@ pub enum PdbError {
     /// The stream of a module does not start with 4, as those of compilers before Visual C++ 7 do not: the number with which it starts.
     #[error("stream of a module starts with {0:#x}")]
     ModuleSignature(u32),
-    /// Symbol records that are indexed have 4 GiB or more: how many bytes there are.
-    #[error("{0} bytes of symbol records, 4 GiB or more")]
-    SymbolsSize(usize),
+    /// Symbol records that are indexed have 4 GiB or more, as no stream has.
+    #[error("symbol records of 4 GiB or more")]
+    SymbolsSize,
     /// A room is too short for an index: how many entries the index has, and how many the room.
     #[error("index of {needed} entries in a room of {length}")]
     Room {

@@ -1,6 +1,6 @@
-//! The [modules](https://llvm.org/docs/PDB/DbiStream.html#module-info-substream) of a PDB, the objects that were linked. Each has a
-//! record of 64 bytes in the DBI stream, and two names after it; the next one starts at a multiple of four. A module that has
-//! debug information has a stream of its own: a number of 4 bytes, its symbols, and its lines.
+//! The modules of a PDB ([layout](https://llvm.org/docs/PDB/DbiStream.html#module-info-substream)), the objects that were linked. Each
+//! has a record of 64 bytes in the DBI stream, and two names after it; the next one starts at a multiple of four. A module that has debug
+//! information has a stream of its own: a number of 4 bytes, its symbols, and its lines.
 
 ghost use Rattle.std.specs.Prelude.{◌≡◌, ◌==◌, ◌+◌, ◌-◌, ◌≤◌, ◌<◌, ◌^◌, length, position, IfOk, IfSome};
 ghost use Rattle.std.specs.Iterator.{at_most};

@@ -1,5 +1,5 @@
-//! [Procedures](https://llvm.org/docs/PDB/CodeViewSymbols.html) (`S_GPROC32`, `S_LPROC32`), which the stream of a module has: functions
-//! that have code in it, with how many bytes that is, also those that no other object sees. Names are as in the source.
+//! Procedures ([layout](https://llvm.org/docs/PDB/CodeViewSymbols.html)), which the stream of a module has: functions that have code in
+//! it, with how many bytes that is, also those that no other object sees. Names are as in the source.
 
 ghost use Rattle.std.specs.Prelude.{◌≡◌};
 ghost use Rattle.pe_pdb.specs.Procedures.{code_size_of, is_procedure, procedure_of, procedure_rva, procedure_view};
@@ -93,10 +93,7 @@ fn is_procedure(kind: u16) -> bool
 
 /// The RVA of a procedure that has code. `None` of other records, of one that is too short, and where it is in no section.
 #[tactic(auto, unfolding(crate::specs::Procedures::procedure_rva))]
-pub(crate) fn procedure_rva(
-    sections: &SectionHeaders<'_>,
-    record: &SymbolRecord<'_>,
-) -> Option<u32>
+pub(crate) fn procedure_rva(sections: &SectionHeaders<'_>, record: &SymbolRecord<'_>) -> Option<u32>
     ensures { result ≡ procedure_rva sections.now.bytes.now (symbol_view record.now) }
 {
     let content = record.content;

@@ -66,7 +66,7 @@ pub(crate) fn put_addresses(
     ensures len { length room.new ≡ length room.old }
 {
     if bytes.len() as u64 >= UNIT {
-        return Err(PdbError::SymbolsSize(bytes.len()));
+        return Err(PdbError::SymbolsSize);
     }
     let mut count = 0;
     let mut next = start;

@@ -12,7 +12,7 @@ returns-in_err-record-clause-puts c =
     let sections = c.args.sections.now.bytes.now in
     let small = addresses_small c.args.class b c.args.start sections (omega arith) in
     let refused : addresses c.args.class b c.args.start sections ≡ Err (pdb_kind_of c.in_err-record.field-0.0) =
-        small ∙ gathers_refused (rva_by c.args.class sections) b c.args.start c.loop-next.next c.loop-next.count c.loop-next.room _ c.loop-next.invariant.gathers c.loop-next-test.true c.in_err-record.ensures.value in
+    small ∙ gathers_refused (rva_by c.args.class sections) b c.args.start c.loop-next.next c.loop-next.count c.loop-next.room _ c.loop-next.invariant.gathers c.loop-next-test.true c.in_err-record.ensures.value in
     search rules
 
 pub loop-next-smaller : goal.loop-next-smaller

@@ -24,8 +24,8 @@ returns c =
     λ entries same. (
       get_or xs (n - 1) 0,
       nearest_permuted entries xs x _ same (nearest_of xs x n c.args.self.now.ascending some within
-      (λ k d low lt. let t : leb (rva_in (get_or xs k d)) x ≡ true = cut.0 k d (omega arith) low in grind (arith, nat_tests))
-      (λ k d high lt. let t : leb (rva_in (get_or xs k d)) x ≡ false = cut.1 k d high lt in grind (arith, nat_tests))
-      _ (λ d. get_or_default xs (n - 1) d 0 (omega (arith, within, some)))),
+          (λ k d low lt. let t : leb (rva_in (get_or xs k d)) x ≡ true = cut.0 k d (omega arith) low in grind (arith, nat_tests))
+          (λ k d high lt. let t : leb (rva_in (get_or xs k d)) x ≡ false = cut.1 k d high lt in grind (arith, nat_tests))
+          _ (λ d. get_or_default xs (n - 1) d 0 (omega (arith, within, some)))),
       refl,
     )
