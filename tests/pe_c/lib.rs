@@ -38,7 +38,6 @@ mod loaded;
 mod made;
 mod maps;
 mod memory_runs;
-mod names_together;
 mod near_map;
 mod overlay;
 mod plan;

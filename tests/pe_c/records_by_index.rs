@@ -1,10 +1,9 @@
 //! Unwind records of x64 and ARM64, plans and lists of codes, lookups of ARM64 functions and steps of a stack walk by an index of
 //! the sections.
 
-use super::arm64::with_table;
 use super::made::{
-    ARM64, FUNCTION_CYCLE, FUNCTION_LINK, LEFT_ENTRY, NO_FAILURE, UNMAPPED, X64, directory,
-    from_start, having, image, of_range, range, section, view,
+    ARM64, FUNCTION_LINK, NO_FAILURE, UNMAPPED, X64, directory, from_start, having, image, of_range,
+    range, section, view,
 };
 use super::plan::plan_from;
 use super::unwinding::no_record;
@@ -16,13 +15,11 @@ use crate::lists::x64::pe_c_record_codes;
 use crate::plan::pe_c_next_record;
 use crate::ranges::Range;
 use crate::results::{DONE, NOTHING};
-use crate::section_index::pe_c_index;
 use crate::stack_frames::{FrameRegisters, StackFrame, pe_c_step};
 use crate::step_failures::arm64::pe_c_arm64_record_failure;
 use crate::step_failures::unwinding::pe_c_unwind_record_failure;
 use crate::unwinding::{Code, pe_c_unwind_record};
 use crate::view::View;
-use pe_core::SectionTable;
 use pe_frame::{IndexEntry, MemoryPiece};
 use pe_images::image as bytes_of;
 use pe_unwind::{Arm64RuntimeFunction, RuntimeFunction};
@@ -114,92 +111,6 @@ fn x64_stepped_by(view: &View, table: &Range, unwind: u32) -> (u32, u64) {
     (answer, frame.registers.rip)
 }
 
-/// At 10h a table of four functions: the records of two are in the second and third of three sections; the third is a link to the
-/// second, the fourth one to itself. The record in the third section is chained to that in the second.
-const IN_SECTIONS: [(usize, &[u8]); 7] = [
-    (0x10, &[0, 0x50, 0, 0, 0x10, 0x50, 0, 0, 0, 0x20, 0, 0]),
-    (0x1C, &[0x10, 0x50, 0, 0, 0x20, 0x50, 0, 0, 0, 0x30, 0, 0]),
-    (
-        0x28,
-        &[0x20, 0x50, 0, 0, 0x30, 0x50, 0, 0, 0x1D, 0x10, 0, 0],
-    ),
-    (
-        0x34,
-        &[0x30, 0x50, 0, 0, 0x40, 0x50, 0, 0, 0x35, 0x10, 0, 0],
-    ),
-    (0x200, &[1, 4, 2, 0, 4, 0x42, 1, 0x50]),
-    (0x400, &[0x21, 5, 1, 0, 5, 0x30, 0, 0]),
-    (0x408, &[0, 0x50, 0, 0, 0x10, 0x50, 0, 0, 0, 0x20, 0, 0]),
-];
-
-fn three_sections() -> [SectionTable; 3] {
-    [
-        section(0x1000, 0x1000, 0, 0x200),
-        section(0x2000, 0x1000, 0x200, 0x200),
-        section(0x3000, 0x1000, 0x400, 0x200),
-    ]
-}
-
-/// An index that `pe_c_index` made changes nothing.
-#[test]
-fn records_with_an_index(rt: HostRuntime) -> Result<(), Fail> {
-    let bytes = bytes_of(rt.alloc(), 0x600, &IN_SECTIONS)?;
-    let (image, sections, table) = (image(X64), three_sections(), range(0x10, 48));
-    let without = view(&bytes, &image, &sections);
-    let (mut room, mut written) = ([LEFT_ENTRY; 12], 0);
-    assert_eq!(rt; pe_c_index(&without, &mut room, &mut written), DONE);
-    let with = View {
-        index: &room[..6],
-        ..without
-    };
-    let (second, third) = ((DONE, 4, [0x204, 4]), (DONE, 5, [0x404, 2]));
-    for view in [&without, &with] {
-        // By even RVAs, by a link, and by a link to a link.
-        for (unwind, found) in [
-            (0x2000, second),
-            (0x3000, third),
-            (0x1011, second),
-            (0x101D, third),
-            (0x1029, third),
-        ] {
-            assert_eq!(rt; record_by(view, &table, unwind), [found; 3]);
-            assert_eq!(rt; failure_by(view, &table, unwind).0, NOTHING);
-            // Before the return address are five words and rbp, and of the record that is chained rbx.
-            let rip = if found == third { 8 } else { 7 };
-            assert_eq!(rt; x64_stepped_by(view, &table, unwind), (DONE, rip));
-        }
-        for (unwind, number, value) in [
-            (0x1035, FUNCTION_CYCLE, 0x1035),
-            (0x101F, FUNCTION_LINK, 0x101F),
-            (0x4001, UNMAPPED, 0x4000),
-            (0x4000, UNMAPPED, 0x4000),
-        ] {
-            let found = (number, NONE.0, NONE.1);
-            assert_eq!(rt; record_by(view, &table, unwind), [found; 3]);
-            assert_eq!(rt; failure_by(view, &table, unwind), (DONE, number, value));
-            assert_eq!(rt;
-                x64_stepped_by(view, &table, unwind),
-                (number, 0x1_4000_500F)
-            );
-        }
-        let mut plan = plan_from(0x1029);
-        for prolog in [5, 4] {
-            let mut record = no_record();
-            assert_eq!(rt;
-                pe_c_next_record(view, &table, &mut plan, &mut record),
-                DONE
-            );
-            assert_eq!(rt; record.size_of_prolog, prolog);
-        }
-        let mut record = no_record();
-        assert_eq!(rt;
-            pe_c_next_record(view, &table, &mut plan, &mut record),
-            NOTHING
-        );
-    }
-    Ok(())
-}
-
 /// At 10h a function and a link to it; at 80h its record, and another one 200h bytes later.
 const TWICE: [(usize, &[u8]); 4] = [
     (0x10, &[0, 0x50, 0, 0, 0x10, 0x50, 0, 0, 0x80, 0x10, 0, 0]),
@@ -211,8 +122,7 @@ const TWICE: [(usize, &[u8]); 4] = [
     (0x280, &[1, 9, 0, 0]),
 ];
 
-/// With an index that no call made its section is taken, also where an earlier one covers the RVA; and where it names none no RVA is
-/// mapped.
+/// By an index that leads to the second section, though the first one covers the RVAs, and by one that leads to none.
 #[test]
 fn indices_that_lead_elsewhere(rt: HostRuntime) -> Result<(), Fail> {
     let bytes = bytes_of(rt.alloc(), 0x400, &TWICE)?;
@@ -221,25 +131,10 @@ fn indices_that_lead_elsewhere(rt: HostRuntime) -> Result<(), Fail> {
         section(0x1000, 0x1000, 0, 0x200),
         section(0x1000, 0x1000, 0x200, 0x200),
     ];
-    let without = view(&bytes, &image, &sections);
-    let first = (DONE, 7, [0x84, 0]);
-    for unwind in [0x1080, 0x1011, 0x101D] {
-        assert_eq!(rt; record_by(&without, &table, unwind), [first; 3]);
-        assert_eq!(rt; x64_stepped_by(&without, &table, unwind), (DONE, 1));
-    }
-    let by_first = from_start(1);
+    let [second, none] = [from_start(2), from_start(0)];
     let with = View {
-        index: &by_first,
-        ..without
-    };
-    for unwind in [0x1080, 0x1011, 0x101D] {
-        assert_eq!(rt; record_by(&with, &table, unwind), [first; 3]);
-        assert_eq!(rt; x64_stepped_by(&with, &table, unwind), (DONE, 1));
-    }
-    let by_second = from_start(2);
-    let with = View {
-        index: &by_second,
-        ..without
+        index: &second,
+        ..view(&bytes, &image, &sections)
     };
     let other = (DONE, 9, [0x284, 0]);
     assert_eq!(rt; record_by(&with, &table, 0x1080), [other; 3]);
@@ -254,24 +149,15 @@ fn indices_that_lead_elsewhere(rt: HostRuntime) -> Result<(), Fail> {
         x64_stepped_by(&with, &table, 0x1011),
         (FUNCTION_LINK, 0x1_4000_500F)
     );
-    // One section alone is no shorter way past an index.
-    for sections in [&sections[..], &sections[..1]] {
-        for number in [0, 3, u64::MAX] {
-            let index = from_start(number);
-            let with = View {
-                sections,
-                index: &index,
-                ..without
-            };
-            let refused = (UNMAPPED, NONE.0, NONE.1);
-            for (unwind, value) in [(0x1080, 0x1080), (0x1011, 0x1010)] {
-                assert_eq!(rt; record_by(&with, &table, unwind), [refused; 3]);
-                assert_eq!(rt; failure_by(&with, &table, unwind), (DONE, UNMAPPED, value));
-                let stays = (UNMAPPED, 0x1_4000_500F);
-                assert_eq!(rt; x64_stepped_by(&with, &table, unwind), stays);
-            }
-        }
-    }
+    let with = View {
+        index: &none,
+        ..with
+    };
+    let refused = (UNMAPPED, NONE.0, NONE.1);
+    assert_eq!(rt; record_by(&with, &table, 0x1080), [refused; 3]);
+    assert_eq!(rt; failure_by(&with, &table, 0x1080), (DONE, UNMAPPED, 0x1080));
+    let stays = (UNMAPPED, 0x1_4000_500F);
+    assert_eq!(rt; x64_stepped_by(&with, &table, 0x1080), stays);
     Ok(())
 }
 
@@ -281,13 +167,6 @@ const NO_FUNCTION: Arm64RuntimeFunction = Arm64RuntimeFunction {
     begin_address: 7,
     unwind_data: 8,
 };
-
-/// What is found of an RVA: the result of a lookup, and the start of the function.
-fn lookup_by(view: &View, rva: u32) -> (u32, u32) {
-    let mut out = NO_FUNCTION;
-    let answer = pe_c_find_arm64_function(view, &range(0x10, 16), rva, &mut out);
-    (answer, out.begin_address)
-}
 
 fn function_with(unwind_data: u32) -> Arm64RuntimeFunction {
     Arm64RuntimeFunction {
@@ -340,44 +219,6 @@ fn stepped_by(view: &View, unwind_data: u32) -> (u32, u64) {
     (answer, frame.registers.pc)
 }
 
-/// At 10h a table of two functions of 64 and of 128 bytes, whose records are in the second and third of three sections; the codes of
-/// each are an end and padding.
-const ARM64_IN_SECTIONS: [(usize, &[u8]); 3] = [
-    (
-        0x10,
-        &[0, 0x50, 0, 0, 0, 0x20, 0, 0, 0, 0x51, 0, 0, 0, 0x30, 0, 0],
-    ),
-    (0x200, &[0x10, 0, 0, 8, 0xE4, 0xE4, 0xE4, 0xE4]),
-    (0x400, &[0x20, 0, 0, 8, 0xE4, 0xE4, 0xE4, 0xE4]),
-];
-
-#[test]
-fn arm64_records_with_an_index(rt: HostRuntime) -> Result<(), Fail> {
-    let bytes = bytes_of(rt.alloc(), 0x600, &ARM64_IN_SECTIONS)?;
-    let (image, sections) = (with_table(0x1010, 16), three_sections());
-    let without = view(&bytes, &image, &sections);
-    let (mut room, mut written) = ([LEFT_ENTRY; 12], 0);
-    assert_eq!(rt; pe_c_index(&without, &mut room, &mut written), DONE);
-    let with = View {
-        index: &room[..6],
-        ..without
-    };
-    for view in [&without, &with] {
-        assert_eq!(rt; lookup_by(view, 0x503F), (DONE, 0x5000));
-        assert_eq!(rt; lookup_by(view, 0x5040), (NOTHING, 7));
-        assert_eq!(rt; lookup_by(view, 0x517F), (DONE, 0x5100));
-        assert_eq!(rt; lookup_by(view, 0x5180), (NOTHING, 7));
-        assert_eq!(rt; arm64_by(view, 0x2000).0, (DONE, 64, [0x204, 4]));
-        assert_eq!(rt; arm64_by(view, 0x3000).0, (DONE, 128, [0x404, 4]));
-        assert_eq!(rt; arm64_by(view, 0x3000).1.0, NOTHING);
-        let unmapped = ((UNMAPPED, 9, [3, 4]), (DONE, UNMAPPED, 0x4000));
-        assert_eq!(rt; arm64_by(view, 0x4000), unmapped);
-        assert_eq!(rt; stepped_by(view, 0x3000), (DONE, 0x7FF6_1234_5678));
-        assert_eq!(rt; stepped_by(view, 0x4000), (UNMAPPED, 0x1_4000_5000));
-    }
-    Ok(())
-}
-
 /// At 10h a function whose record is at 80h; 200h bytes later another one, of another length.
 const ARM64_TWICE: [(usize, &[u8]); 3] = [
     (0x10, &[0, 0x50, 0, 0, 0x80, 0x10, 0, 0]),
@@ -393,34 +234,26 @@ fn arm64_indices_that_lead_elsewhere(rt: HostRuntime) -> Result<(), Fail> {
         section(0x1000, 0x1000, 0, 0x200),
         section(0x1000, 0x1000, 0x200, 0x200),
     ];
-    let without = view(&bytes, &image, &sections);
-    assert_eq!(rt; arm64_by(&without, 0x1080).0, (DONE, 64, [0x84, 4]));
-    for (number, length, codes) in [(1, 64, [0x84, 4]), (2, 128, [0x284, 4])] {
-        let index = from_start(number);
-        let with = View {
-            index: &index,
-            ..without
-        };
-        assert_eq!(rt; arm64_by(&with, 0x1080).0, (DONE, length, codes));
-        let (mut out, table) = (NO_FUNCTION, range(0x10, 8));
-        for (rva, answer) in [(0x4FFF + length, DONE), (0x5000 + length, NOTHING)] {
-            let found = pe_c_find_arm64_function(&with, &table, rva, &mut out);
-            assert_eq!(rt; found, answer);
-        }
+    let [second, none] = [from_start(2), from_start(0)];
+    let with = View {
+        index: &second,
+        ..view(&bytes, &image, &sections)
+    };
+    let (mut out, table) = (NO_FUNCTION, range(0x10, 8));
+    assert_eq!(rt; arm64_by(&with, 0x1080).0, (DONE, 128, [0x284, 4]));
+    for (rva, answer) in [(0x507F, DONE), (0x5080, NOTHING)] {
+        let found = pe_c_find_arm64_function(&with, &table, rva, &mut out);
+        assert_eq!(rt; found, answer);
     }
-    for number in [0, 3, u64::MAX] {
-        let index = from_start(number);
-        let with = View {
-            index: &index,
-            ..without
-        };
-        // The exception directory is read first.
-        let unmapped = ((UNMAPPED, 9, [3, 4]), (DONE, UNMAPPED, 0x1010));
-        assert_eq!(rt; arm64_by(&with, 0x1080), unmapped);
-        assert_eq!(rt; stepped_by(&with, 0x1080), (UNMAPPED, 0x1_4000_5000));
-        let mut out = NO_FUNCTION;
-        let found = pe_c_find_arm64_function(&with, &range(0x10, 8), 0x5000, &mut out);
-        assert_eq!(rt; found, UNMAPPED);
-    }
+    let with = View {
+        index: &none,
+        ..with
+    };
+    // The exception directory is read first.
+    let unmapped = ((UNMAPPED, 9, [3, 4]), (DONE, UNMAPPED, 0x1010));
+    assert_eq!(rt; arm64_by(&with, 0x1080), unmapped);
+    assert_eq!(rt; stepped_by(&with, 0x1080), (UNMAPPED, 0x1_4000_5000));
+    let found = pe_c_find_arm64_function(&with, &table, 0x5000, &mut out);
+    assert_eq!(rt; found, UNMAPPED);
     Ok(())
 }
