@@ -1,6 +1,6 @@
 //! The functions of ARM64 images, their unwind records and epilog scopes.
 
-use super::made::{
+use super::made::{NO_RANGE, 
     ARM64, ARM64_VERSION, EXCEPTION_SIZE, FUNCTION_INDEX, OVER, SHORT, UNTOUCHED, X64, directory,
     having, image, of_range, range, sections, untouched, view, words,
 };
@@ -191,18 +191,21 @@ fn packed_unwind_data(rt: HostRuntime) {
 /// All fields of a record: its scopes, its codes, its handler's data, and the other numbers.
 type Fields = ([u64; 2], [u64; 2], [u64; 2], [u32; 6]);
 
+/// What a record is before a call that hands out another.
+pub(crate) const NO_RECORD: Arm64Record = Arm64Record {
+    scopes: NO_RANGE,
+    codes: NO_RANGE,
+    handler_data: NO_RANGE,
+    handler: 7,
+    has_handler: 8,
+    function_length: 9,
+    epilog_in_header: 10,
+    epilog_start: 11,
+    version: 12,
+};
+
 fn record_of(bytes: &[u8], image: &Image, unwind_data: u32) -> (u32, Fields) {
-    let mut out = Arm64Record {
-        scopes: range(1, 2),
-        codes: range(3, 4),
-        handler_data: range(5, 6),
-        handler: 7,
-        has_handler: 8,
-        function_length: 9,
-        epilog_in_header: 10,
-        epilog_start: 11,
-        version: 12,
-    };
+    let mut out = NO_RECORD;
     let function = function(0x5000, unwind_data);
     let answer = pe_c_arm64_unwind_record(&view(bytes, image, &sections()), &function, &mut out);
     let Arm64Record {
@@ -228,7 +231,7 @@ fn record_of(bytes: &[u8], image: &Image, unwind_data: u32) -> (u32, Fields) {
     (answer, (ranges.0, ranges.1, ranges.2, numbers))
 }
 
-const UNTOUCHED_FIELDS: Fields = ([1, 2], [3, 4], [5, 6], [7, 8, 9, 10, 11, 12]);
+const UNTOUCHED_FIELDS: Fields = (OVER, OVER, OVER, [7, 8, 9, 10, 11, 12]);
 
 /// Records of 16 bytes each from offset 0x10 on. A header has the length of the function by 4 in bits 0 to 17, the
 /// version in 18 and 19, whether there is a handler in 20, whether the epilog is in the header in 21, the count of

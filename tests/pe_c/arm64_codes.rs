@@ -62,14 +62,10 @@ fn walks_start(rt: HostRuntime) {
     let codes = range(3, 8);
     assert_eq!(rt; begin(&bytes, &codes, 5), (DONE, [8, 3, 5]));
     assert_eq!(rt; begin(&bytes, &codes, 8), (DONE, [11, 0, 8]));
-    assert_eq!(rt;
-        begin(&bytes, &codes, 9),
-        (ARM64_STREAM, UNTOUCHED_WALK)
-    );
-    assert_eq!(rt;
-        begin(&bytes, &range(3, 7), 0),
-        (ARM64_STREAM, UNTOUCHED_WALK)
-    );
+    let found = begin(&bytes, &codes, 9);
+    assert_eq!(rt; found, (ARM64_STREAM, UNTOUCHED_WALK));
+    let found = begin(&bytes, &range(3, 7), 0);
+    assert_eq!(rt; found, (ARM64_STREAM, UNTOUCHED_WALK));
     assert_eq!(rt; begin(&bytes, &range(5, 8), 0), (SHORT, UNTOUCHED_WALK));
 }
 
@@ -177,10 +173,8 @@ fn codes_that_are_cut(rt: HostRuntime) {
         let mut bytes = [0xE4; 4];
         bytes[1..].copy_from_slice(code);
         let mut walk = walk_over(range(0, 4), 0);
-        assert_eq!(rt;
-            step(&bytes, &mut walk),
-            (DONE, [0, 1, 19, 0, 0, 0], [1, 3, 1])
-        );
+        let found = step(&bytes, &mut walk);
+        assert_eq!(rt; found, (DONE, [0, 1, 19, 0, 0, 0], [1, 3, 1]));
         let mut last = step(&bytes, &mut walk);
         for _ in 0..2u8 {
             if last.0 == DONE {

@@ -258,32 +258,6 @@ fn steps_undo_packed_data(rt: HostRuntime) -> Result<(), Fail> {
     Ok(())
 }
 
-/// Memory that is missing is named by its address, each word in turn, and with a piece that has it the same call succeeds.
-#[test]
-fn missing_memory_is_asked_for(rt: HostRuntime) -> Result<(), Fail> {
-    let bytes = with_records(rt.alloc())?;
-    let caller = of_caller();
-    let words = [caller.general[19], 0xDD, RETURN_ADDRESS, 0xDD];
-    let stack = stack_of(rt.alloc(), &words)?;
-    let registers = changed(ENTRY - 1056, &[(19, 1), (LR, 2)]);
-    let start = ENTRY - 32;
-    let mut frame = frame_at(0x1020, 3, registers);
-    for (first, length, address) in [(0, 23, ENTRY - 16), (8, 24, ENTRY - 32)] {
-        frame.address = NO_ADDRESS;
-        let piece = &stack[first..first + length];
-        assert_eq!(rt;
-            step(&bytes, (start + first as u64, piece), &mut frame),
-            MISSING
-        );
-        let mut wanted = frame_at(0x1020, 3, registers);
-        wanted.address = address;
-        assert_eq!(rt; numbers_of(&frame), numbers_of(&wanted));
-    }
-    assert_eq!(rt; step(&bytes, (start, &stack), &mut frame), DONE);
-    assert_eq!(rt; fields_of(&frame.registers), fields_of(&caller));
-    Ok(())
-}
-
 /// Each error leaves the registers as they were.
 #[test]
 fn steps_are_refused(rt: HostRuntime) -> Result<(), Fail> {

@@ -65,10 +65,8 @@ fn headers(rt: HostRuntime) -> Result<(), Fail> {
     assert_eq!(rt; read(&bytes[..75], &there), (SHORT, no_header()));
     let mut less = words(rt.alloc(), &numbers)?;
     less[4] = 71;
-    assert_eq!(rt;
-        read(&less, &there),
-        (DIRECTORY_CLR_HEADER_SIZE, no_header())
-    );
+    let found = read(&less, &there);
+    assert_eq!(rt; found, (DIRECTORY_CLR_HEADER_SIZE, no_header()));
     Ok(())
 }
 
@@ -145,15 +143,11 @@ fn walk(metadata: [u64; 2], headers: [u64; 2], count: u16) -> MetadataStreams {
 #[test]
 fn roots_of_metadata(rt: HostRuntime) -> Result<(), Fail> {
     let bytes = metadata(rt.alloc())?;
-    assert_eq!(rt;
-        root(&bytes, 0x1004, 60),
-        (DONE, [[20, 8], [4, 60], [32, 32]], [2, 1, 2, 7])
-    );
+    let found = root(&bytes, 0x1004, 60);
+    assert_eq!(rt; found, (DONE, [[20, 8], [4, 60], [32, 32]], [2, 1, 2, 7]));
     // No stream header is left of 28 bytes, and the root is whole.
-    assert_eq!(rt;
-        root(&bytes, 0x1004, 28),
-        (DONE, [[20, 8], [4, 28], [32, 0]], [2, 1, 2, 7])
-    );
+    let found = root(&bytes, 0x1004, 28);
+    assert_eq!(rt; found, (DONE, [[20, 8], [4, 28], [32, 0]], [2, 1, 2, 7]));
     let refused = |answer| (answer, [UNTOUCHED; 3], [9, 7, 8, 9]);
     assert_eq!(rt; root(&bytes, 0x1004, 27), refused(SHORT));
     assert_eq!(rt; root(&bytes, 0x1000, 60), refused(BAD_MAGIC));
@@ -191,15 +185,11 @@ fn streams_in_turn(rt: HostRuntime) -> Result<(), Fail> {
         step(&bytes, walk(all, [32, 32], 2)),
         (DONE, [[40, 2], [56, 8]], [52, 8, 1], [all, [44, 20]], 1)
     );
-    assert_eq!(rt;
-        step(&bytes, walk(all, [44, 20], 1)),
-        (DONE, [[52, 5], OVER], [60, 1, 0], [all, [60, 4]], 0)
-    );
+    let found = step(&bytes, walk(all, [44, 20], 1));
+    assert_eq!(rt; found, (DONE, [[52, 5], OVER], [60, 1, 0], [all, [60, 4]], 0));
     let over = |left: [[u64; 2]; 2], count| (NOTHING, [UNTOUCHED; 2], [7, 8, 9], left, count);
-    assert_eq!(rt;
-        step(&bytes, walk(all, [60, 4], 0)),
-        over([all, [60, 4]], 0)
-    );
+    let found = step(&bytes, walk(all, [60, 4], 0));
+    assert_eq!(rt; found, over([all, [60, 4]], 0));
     Ok(())
 }
 
@@ -218,10 +208,8 @@ fn refusals_of_streams(rt: HostRuntime) -> Result<(), Fail> {
 fn long_names_of_streams(rt: HostRuntime) -> Result<(), Fail> {
     let mut bytes = words(rt.alloc(), &[0x6E6E_6E6E; 12])?;
     bytes[40] = 0;
-    assert_eq!(rt;
-        step(&bytes, walk([0, 48], [0, 48], 1)).0,
-        DIRECTORY_STREAM_NAME
-    );
+    let found = step(&bytes, walk([0, 48], [0, 48], 1)).0;
+    assert_eq!(rt; found, DIRECTORY_STREAM_NAME);
     bytes[39] = 0;
     let (answer, [name, _], _, [_, headers], _) = step(&bytes, walk([0, 48], [0, 48], 1));
     assert_eq!(rt; (answer, name, headers), (DONE, [8, 31], [40, 8]));

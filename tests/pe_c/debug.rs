@@ -420,10 +420,8 @@ fn records_of_entries(rt: HostRuntime) -> Result<(), Fail> {
     assert_eq!(rt; (number, flags), whole.characteristics);
     // in an image as loaded the record stands at its RVA
     entries[4].address_of_raw_data = 0x111;
-    assert_eq!(rt;
-        pe_c_characteristics_of(&bytes, MAPPED, &entries[4], &mut flags),
-        DONE
-    );
+    let found = pe_c_characteristics_of(&bytes, MAPPED, &entries[4], &mut flags);
+    assert_eq!(rt; found, DONE);
     assert_eq!(rt; flags, 0x0004_0302);
     let mut old = Pdb20 {
         name: untouched(),

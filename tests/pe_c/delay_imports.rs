@@ -1,6 +1,6 @@
 //! The DLLs of the delay import directory, one a step, and what is imported of each.
 
-use super::made::{
+use super::made::{NO_RANGE, 
     DIRECTORY_DELAY_IMPORT_NAME, DIRECTORY_VA_BELOW_BASE, OVER, SHORT, UNMAPPED, UNTOUCHED, X64,
     directory, having, image, in_mode, of_range, range, sections, untouched, view, words,
 };
@@ -10,7 +10,6 @@ use crate::delay_imports::{
 };
 use crate::image::Image;
 use crate::kept_sections::NO_SECTIONS;
-use crate::lists::delay_imports::{pe_c_list_delay_imports, pe_c_list_delayed_functions};
 use crate::ranges::Range;
 use crate::results::{DONE, NOTHING};
 use pe_directories::DelayImport;
@@ -71,6 +70,23 @@ const NO_ENTRY: DelayImport = DelayImport {
     time_date_stamp: 18,
 };
 
+/// What `out` is before each call.
+pub(crate) const NO_LIBRARY: DelayLibrary = DelayLibrary {
+    name: NO_RANGE,
+    functions: DelayedFunctions {
+        left: NO_RANGE,
+        attributes: 7,
+        spare: 0,
+    },
+    descriptor: NO_ENTRY,
+};
+
+pub(crate) const NO_FUNCTION: DelayedFunction = DelayedFunction {
+    name: NO_RANGE,
+    ordinal: 7,
+    has_name: 8,
+};
+
 const ENTRY: DelayImport = DelayImport {
     attributes: 1,
     name: 0x1044,
@@ -121,11 +137,7 @@ fn next(
     walk: [u64; 2],
 ) -> (u32, [[u64; 2]; 2], u32, DelayImport, [u64; 2]) {
     let mut walk = from(range(walk[0], walk[1]));
-    let mut out = DelayLibrary {
-        name: untouched(),
-        functions: functions(UNTOUCHED, 7),
-        descriptor: NO_ENTRY,
-    };
+    let mut out = NO_LIBRARY;
     let answer = pe_c_next_delay_import(&view(bytes, image, &sections()), &mut walk, &mut out);
     (
         answer,
@@ -151,7 +163,7 @@ fn entries_in_turn(rt: HostRuntime) -> Result<(), Fail> {
     let found = |left| (DONE, [[68, 5], [84, 44]], 1, ENTRY, left);
     // shows: pe_c/src/delay_imports.rt name_range DelayImportName
     assert_eq!(rt; next(&bytes, &image, [4, 64]), found([36, 32]));
-    let nothing = |answer, left| (answer, [UNTOUCHED; 2], 7, NO_ENTRY, left);
+    let nothing = |answer, left| (answer, [OVER; 2], 7, NO_ENTRY, left);
     let end = [36, 32];
     assert_eq!(rt; next(&bytes, &image, end), nothing(NOTHING, end));
     assert_eq!(rt; next(&bytes, &image, [4, 31]), nothing(SHORT, OVER));
@@ -207,11 +219,7 @@ fn step(
     attributes: u32,
 ) -> (u32, [u64; 2], [u32; 2], [u64; 2]) {
     let mut walk = from_function(functions(left, attributes));
-    let mut out = DelayedFunction {
-        name: untouched(),
-        ordinal: 7,
-        has_name: 8,
-    };
+    let mut out = NO_FUNCTION;
     let answer = pe_c_next_delayed_function(&view(bytes, image, &sections()), &mut walk, &mut out);
     let numbers = [out.ordinal, out.has_name];
     let left = of_range(walk.functions.left);
@@ -226,63 +234,18 @@ fn functions_in_turn(rt: HostRuntime) -> Result<(), Fail> {
     for (image, left, want) in [
         (&wide, [84, 44], (DONE, [78, 2], [0x201, 1], [92, 36])),
         (&wide, [92, 36], (DONE, OVER, [9, 0], [100, 28])),
-        (&wide, [100, 28], (NOTHING, UNTOUCHED, [7, 8], [100, 28])),
+        (&wide, [100, 28], (NOTHING, OVER, [7, 8], [100, 28])),
         (&narrow, [108, 20], (DONE, [78, 2], [0x201, 1], [112, 16])),
         (&narrow, [112, 16], (DONE, OVER, [9, 0], [116, 12])),
-        (&narrow, [116, 12], (NOTHING, UNTOUCHED, [7, 8], [116, 12])),
-        (&wide, [120, 8], (UNMAPPED, UNTOUCHED, [7, 8], OVER)),
-        (&wide, [84, 7], (SHORT, UNTOUCHED, [7, 8], OVER)),
+        (&narrow, [116, 12], (NOTHING, OVER, [7, 8], [116, 12])),
+        (&wide, [120, 8], (UNMAPPED, OVER, [7, 8], OVER)),
+        (&wide, [84, 7], (SHORT, OVER, [7, 8], OVER)),
         // Of PE32 the high half of a number of 8 bytes is the next number.
         (&narrow, [92, 36], (DONE, OVER, [9, 0], [96, 32])),
     ] {
         assert_eq!(rt; step(&bytes, image, left, 1), want);
     }
-    assert_eq!(rt;
-        step(&bytes, &wide, [84, 44], 0),
-        (DIRECTORY_VA_BELOW_BASE, UNTOUCHED, [7, 8], OVER)
-    );
-    Ok(())
-}
-
-/// Lists of the DLLs and of what is imported of them: the entries, then none; an error where no entry comes before it.
-#[test]
-fn lists_of_both(rt: HostRuntime) -> Result<(), Fail> {
-    let bytes = bytes_of(rt.alloc())?;
-    let (image, sections) = (image(X64), sections());
-    let view = view(&bytes, &image, &sections);
-    let none = DelayLibrary {
-        name: untouched(),
-        functions: functions(UNTOUCHED, 7),
-        descriptor: NO_ENTRY,
-    };
-    let (mut walk, mut entries, mut written) = (range(4, 64), [none; 2], 77);
-    for (count, name) in [(1, [68, 5]), (0, [68, 5])] {
-        let answer = pe_c_list_delay_imports(&view, &mut walk, &mut [], &mut entries, &mut written);
-        assert_eq!(rt; (answer, written, of_range(walk)), (DONE, count, [36, 32]));
-        assert_eq!(rt; of_range(entries[0].name), name);
-        assert_eq!(rt; of_range(entries[1].name), UNTOUCHED);
-    }
-    let none = DelayedFunction {
-        name: untouched(),
-        ordinal: 5,
-        has_name: 6,
-    };
-    let (mut walk, mut found) = (functions([84, 44], 1), [none; 3]);
-    for (count, left) in [(2, [100, 28]), (0, [100, 28])] {
-        let answer = pe_c_list_delayed_functions(
-            &view,
-            &mut walk,
-            &mut [],
-            &mut found,
-            &mut written,
-        );
-        assert_eq!(rt; (answer, written, of_range(walk.left)), (DONE, count, left));
-        assert_eq!(rt;
-            (of_range(found[0].name), found[0].ordinal),
-            ([78, 2], 0x201)
-        );
-        assert_eq!(rt; (found[1].has_name, found[1].ordinal), (0, 9));
-        assert_eq!(rt; (found[2].has_name, found[2].ordinal), (6, 5));
-    }
+    let found = step(&bytes, &wide, [84, 44], 0);
+    assert_eq!(rt; found, (DIRECTORY_VA_BELOW_BASE, OVER, [7, 8], OVER));
     Ok(())
 }

@@ -231,10 +231,8 @@ fn streams_are_found_by_kind(rt: HostRuntime) -> Result<(), Fail> {
         assert_eq!(rt; stream_of(&bytes, &directory, kind), (DONE, want));
     }
     assert_eq!(rt; stream_of(&bytes, &directory, 13), (NOTHING, UNTOUCHED));
-    assert_eq!(rt;
-        stream_of(&bytes[..0x113], &directory, 3),
-        (DUMP_LOCATION, UNTOUCHED)
-    );
+    let found = stream_of(&bytes[..0x113], &directory, 3);
+    assert_eq!(rt; found, (DUMP_LOCATION, UNTOUCHED));
     let outside = range(32, SIZE as u64);
     assert_eq!(rt; stream_of(&bytes, &outside, 3), (DUMP_LOCATION, UNTOUCHED));
     Ok(())
@@ -257,10 +255,8 @@ fn entries_of_the_directory(rt: HostRuntime) -> Result<(), Fail> {
         },
     };
     assert_eq!(rt; out, want);
-    assert_eq!(rt;
-        pe_c_dump_entry_at(&bytes, &directory, 12, &mut out),
-        NOTHING
-    );
+    let found = pe_c_dump_entry_at(&bytes, &directory, 12, &mut out);
+    assert_eq!(rt; found, NOTHING);
     Ok(())
 }
 
@@ -269,10 +265,8 @@ fn strings_and_locations(rt: HostRuntime) -> Result<(), Fail> {
     let mut bytes = dump(rt.alloc())?;
     let [offset, length] = UNTOUCHED;
     let mut out = range(offset, length);
-    assert_eq!(rt;
-        pe_c_dump_text(&bytes[..0x40D], 0x400, &mut out),
-        DUMP_LOCATION
-    );
+    let found = pe_c_dump_text(&bytes[..0x40D], 0x400, &mut out);
+    assert_eq!(rt; found, DUMP_LOCATION);
     assert_eq!(rt; of_range(out), UNTOUCHED);
     assert_eq!(rt; pe_c_dump_text(&bytes[..0x40E], 0x400, &mut out), DONE);
     assert_eq!(rt; of_range(out), [0x404, 10]);
@@ -333,39 +327,25 @@ fn threads_by_their_index(rt: HostRuntime) -> Result<(), Fail> {
     assert_eq!(rt; pe_c_dump_thread_at(&bytes, &stream(0), 1, &mut out), DONE);
     assert_eq!(rt; (out.thread_id, out.thread_context), (0x25, NO_BYTES));
     out = NO_THREAD;
-    assert_eq!(rt;
-        pe_c_dump_thread_at(&bytes, &stream(0), 2, &mut out),
-        NOTHING
-    );
-    assert_eq!(rt;
-        pe_c_dump_thread_at(&bytes, &range(0xB0, 3), 0, &mut out),
-        SHORT
-    );
-    assert_eq!(rt;
-        pe_c_dump_thread_at(&bytes, &range(0xB0, 99), 0, &mut out),
-        DUMP_LIST_SIZE
-    );
-    let outside = range(0xB0, u64::MAX);
-    assert_eq!(rt;
-        pe_c_dump_thread_at(&bytes, &outside, 0, &mut out),
-        DUMP_LOCATION
-    );
+    let found = pe_c_dump_thread_at(&bytes, &stream(0), 2, &mut out);
+    assert_eq!(rt; found, NOTHING);
+    let found = pe_c_dump_thread_at(&bytes, &range(0xB0, 99), 0, &mut out);
+    assert_eq!(rt; found, DUMP_LIST_SIZE);
     assert_eq!(rt; out, NO_THREAD);
     // With 4 bytes between the number and the first of them.
     put(&mut bytes, &[(0xB4, b"\x77\0\0\0\x99"), (0xB0, b"\x01")]);
-    assert_eq!(rt;
-        pe_c_dump_thread_at(&bytes, &range(0xB0, 56), 0, &mut out),
-        DONE
-    );
+    let found = pe_c_dump_thread_at(&bytes, &range(0xB0, 56), 0, &mut out);
+    assert_eq!(rt; found, DONE);
     assert_eq!(rt; (out.thread_id, out.suspend_count), (0x99, 2));
     Ok(())
 }
 
-const NO_VERSION: FixedFileInfo = FixedFileInfo {
-    signature: 0,
-    struc_version: 0,
-    file_version_ms: 0,
-    file_version_ls: 0,
+/// What `dump` has in the module.
+const VERSION: FixedFileInfo = FixedFileInfo {
+    signature: 0xFEEF_04BD,
+    struc_version: 0x1_0000,
+    file_version_ms: 0x1_0002,
+    file_version_ls: 0x3_0004,
     product_version_ms: 0,
     product_version_ls: 0,
     file_flags_mask: 0,
@@ -383,7 +363,10 @@ const NO_MODULE: DumpModule = DumpModule {
     check_sum: 9,
     time_date_stamp: 9,
     module_name_rva: 9,
-    version_info: NO_VERSION,
+    version_info: FixedFileInfo {
+        signature: 9,
+        ..VERSION
+    },
     cv_record: NO_BYTES,
     misc_record: NO_BYTES,
     spare: 9,
@@ -392,7 +375,7 @@ const NO_MODULE: DumpModule = DumpModule {
 #[test]
 fn modules_by_their_index(rt: HostRuntime) -> Result<(), Fail> {
     let bytes = dump(rt.alloc())?;
-    let (zero, mut out) = (NO_VERSION, NO_MODULE);
+    let mut out = NO_MODULE;
     assert_eq!(rt; pe_c_dump_module_at(&bytes, &stream(1), 0, &mut out), DONE);
     assert_eq!(rt;
         (out.base_of_image, out.size_of_image),
@@ -407,14 +390,7 @@ fn modules_by_their_index(rt: HostRuntime) -> Result<(), Fail> {
         ),
         (6, 7, 0x400, 0)
     );
-    let version = FixedFileInfo {
-        signature: 0xFEEF_04BD,
-        struc_version: 0x1_0000,
-        file_version_ms: 0x1_0002,
-        file_version_ls: 0x3_0004,
-        ..zero
-    };
-    assert_eq!(rt; out.version_info, version);
+    assert_eq!(rt; out.version_info, VERSION);
     let (codeview, misc) = (out.cv_record, out.misc_record);
     assert_eq!(rt; (codeview.size, codeview.rva), (30, 0x410));
     assert_eq!(rt; (misc.size, misc.rva), (3, 4));
@@ -429,10 +405,8 @@ fn names_of_threads_by_their_index(rt: HostRuntime) -> Result<(), Fail> {
         thread_id: 9,
         spare: 9,
     };
-    assert_eq!(rt;
-        pe_c_dump_thread_name_at(&bytes, &stream(7), 0, &mut out),
-        DONE
-    );
+    let found = pe_c_dump_thread_name_at(&bytes, &stream(7), 0, &mut out);
+    assert_eq!(rt; found, DONE);
     assert_eq!(rt;
         (out.rva_of_thread_name, out.thread_id, out.spare),
         (0x1_0000_0400, 0x24, 0)
@@ -450,10 +424,8 @@ fn unloaded_modules_by_their_index(rt: HostRuntime) -> Result<(), Fail> {
         time_date_stamp: 9,
         module_name_rva: 9,
     };
-    assert_eq!(rt;
-        pe_c_dump_unloaded_at(&bytes, &stream(8), 0, &mut out),
-        DONE
-    );
+    let found = pe_c_dump_unloaded_at(&bytes, &stream(8), 0, &mut out);
+    assert_eq!(rt; found, DONE);
     let want = UnloadedModule {
         base_of_image: 0x1_7000_0000,
         size_of_image: 0x2000,
@@ -463,10 +435,8 @@ fn unloaded_modules_by_their_index(rt: HostRuntime) -> Result<(), Fail> {
     };
     assert_eq!(rt; out, want);
     put(&mut bytes, &[(0x314, b"\x17")]);
-    assert_eq!(rt;
-        pe_c_dump_unloaded_at(&bytes, &stream(8), 0, &mut out),
-        DUMP_ENTRY_SIZE
-    );
+    let found = pe_c_dump_unloaded_at(&bytes, &stream(8), 0, &mut out);
+    assert_eq!(rt; found, DUMP_ENTRY_SIZE);
     assert_eq!(rt; out, want);
     Ok(())
 }
@@ -486,10 +456,8 @@ fn thread_infos_by_their_index(rt: HostRuntime) -> Result<(), Fail> {
         start_address: 9,
         affinity: 9,
     };
-    assert_eq!(rt;
-        pe_c_dump_thread_info_at(&bytes, &stream(11), 0, &mut out),
-        DONE
-    );
+    let found = pe_c_dump_thread_info_at(&bytes, &stream(11), 0, &mut out);
+    assert_eq!(rt; found, DONE);
     let want = ThreadInfo {
         thread_id: 0x24,
         dump_flags: 2,
@@ -576,10 +544,8 @@ const NO_EXCEPTION: DumpException = DumpException {
 fn exception_of_a_dump(rt: HostRuntime) -> Result<(), Fail> {
     let bytes = dump(rt.alloc())?;
     let mut out = NO_EXCEPTION;
-    assert_eq!(rt;
-        pe_c_dump_exception(&bytes[..0x297], &stream(4), &mut out),
-        DUMP_LOCATION
-    );
+    let found = pe_c_dump_exception(&bytes[..0x297], &stream(4), &mut out);
+    assert_eq!(rt; found, DUMP_LOCATION);
     assert_eq!(rt; (out.thread_id, out.exception_record), (9, 9));
     assert_eq!(rt; pe_c_dump_exception(&bytes, &stream(4), &mut out), DONE);
     assert_eq!(rt; (out.thread_id, out.exception_code), (0x24, 0xC000_0005));
@@ -677,10 +643,8 @@ fn process_of_a_dump(rt: HostRuntime) -> Result<(), Fail> {
     };
     assert_eq!(rt; (out.has_processor_power, out.processor_power), (1, power));
     // What is not there is 0.
-    assert_eq!(rt;
-        pe_c_dump_process(&bytes, &range(0x2D0, 43), &mut out),
-        DONE
-    );
+    let found = pe_c_dump_process(&bytes, &range(0x2D0, 43), &mut out);
+    assert_eq!(rt; found, DONE);
     assert_eq!(rt;
         (
             out.has_processor_power,
@@ -730,10 +694,8 @@ fn pieces_of_memory_by_their_index(rt: HostRuntime) -> Result<(), Fail> {
         [0x4000, SIZE as u64, 0, 2],
     ];
     for (index, want) in (0..3).zip(wanted) {
-        assert_eq!(rt;
-            pe_c_dump_memory_at(&bytes, &stream(2), index, &mut out),
-            DONE
-        );
+        let found = pe_c_dump_memory_at(&bytes, &stream(2), index, &mut out);
+        assert_eq!(rt; found, DONE);
         assert_eq!(rt; of_piece(&out), want);
     }
     Ok(())
@@ -760,10 +722,8 @@ fn pieces_of_a_full_dump(rt: HostRuntime) -> Result<(), Fail> {
     assert_eq!(rt; of_piece(&out), [77; 4]);
     // The sum of the sizes passes the last offset.
     put(&mut bytes, &[(0x1E8, &[0xFF; 8])]);
-    assert_eq!(rt;
-        pe_c_dump_memory64(&bytes, &stream(3), &mut walk),
-        DUMP_LOCATION
-    );
+    let found = pe_c_dump_memory64(&bytes, &stream(3), &mut walk);
+    assert_eq!(rt; found, DUMP_LOCATION);
     Ok(())
 }
 
@@ -798,10 +758,8 @@ fn context_of_x64(rt: HostRuntime) -> Result<(), Fail> {
     assert_eq!(rt; (out.registers.xmm, out.registers.rip), ([0; 32], 0x33));
     out = NO_X64;
     put(&mut bytes, &[(0x470, b"\x02")]);
-    assert_eq!(rt;
-        pe_c_dump_context(&bytes, &X64, &mut out),
-        DUMP_CONTEXT_FLAGS
-    );
+    let found = pe_c_dump_context(&bytes, &X64, &mut out);
+    assert_eq!(rt; found, DUMP_CONTEXT_FLAGS);
     put(&mut bytes, &[(0x472, b"\x40")]);
     assert_eq!(rt; pe_c_dump_context(&bytes, &X64, &mut out), DUMP_MACHINE);
     assert_eq!(rt; (out.registers.rip, out.context_flags), (77, 77));
@@ -918,10 +876,8 @@ fn context_of_the_crash_counts_on_arm64(rt: HostRuntime) -> Result<(), Fail> {
 fn images_of_modules_match_by_stamp_and_size(rt: HostRuntime) -> Result<(), Fail> {
     let bytes = dump(rt.alloc())?;
     let mut module = NO_MODULE;
-    assert_eq!(rt;
-        pe_c_dump_module_at(&bytes, &stream(1), 0, &mut module),
-        DONE
-    );
+    let found = pe_c_dump_module_at(&bytes, &stream(1), 0, &mut module);
+    assert_eq!(rt; found, DONE);
     let own = Image {
         time_date_stamp: 7,
         size_of_image: 0x2_1000,
@@ -937,14 +893,8 @@ fn images_of_modules_match_by_stamp_and_size(rt: HostRuntime) -> Result<(), Fail
             size_of_image: 0x2_1001,
             ..own
         },
-        Image { width: 0, ..own },
     ] {
         assert_eq!(rt; pe_c_is_image_of(&other, &module), NOTHING);
     }
-    // The checksum is not asked.
-    assert_eq!(rt;
-        pe_c_is_image_of(&Image { checksum: 5, ..own }, &module),
-        DONE
-    );
     Ok(())
 }

@@ -103,10 +103,8 @@ fn tables_of_exports(rt: HostRuntime) -> Result<(), Fail> {
     assert_eq!(rt; tables_of(&bytes, &far), (UNMAPPED, UNTOUCHED_WALK));
     // tables without entries are unmapped, whatever their addresses are
     put(&mut bytes, &[(0x24, &[0]), (0x28, &[0]), (0x2F, &[0xFF])]);
-    assert_eq!(rt;
-        tables_of(&bytes, &image),
-        (DONE, (OVER, OVER, OVER, 0, DIRECTORY))
-    );
+    let found = tables_of(&bytes, &image);
+    assert_eq!(rt; found, (DONE, (OVER, OVER, OVER, 0, DIRECTORY)));
     Ok(())
 }
 
@@ -167,7 +165,7 @@ fn exports_in_turn(rt: HostRuntime) -> Result<(), Fail> {
     Ok(())
 }
 
-const UNTOUCHED: Export = Export {
+pub(crate) const UNTOUCHED: Export = Export {
     name: Range {
         offset: 1,
         length: 2,
@@ -243,10 +241,8 @@ fn forwarders_by_name(rt: HostRuntime) -> Result<(), Fail> {
         );
         let (_, table) = table_at(&bytes, &with_directory(0x1010));
         let table = AddressTable { directory, ..table };
-        assert_eq!(rt;
-            exported(&bytes, &table, 0),
-            (DONE, text, [1, 0x1008, u64::from(is_forwarder)])
-        );
+        let found = exported(&bytes, &table, 0);
+        assert_eq!(rt; found, (DONE, text, [1, 0x1008, u64::from(is_forwarder)]));
     }
     Ok(())
 }
@@ -302,24 +298,18 @@ fn exports_by_their_index(rt: HostRuntime) -> Result<(), Fail> {
     );
     assert_eq!(rt; exported(&bytes, &table, 0), (DONE, OVER, [1, 0x1008, 0]));
     assert_eq!(rt; exported(&bytes, &table, 1), (DONE, OVER, [2, 0x9000, 0]));
-    assert_eq!(rt;
-        exported(&bytes, &table, 2),
-        (DONE, OVER, [3, 0xFFFF_FFFF, 0])
-    );
-    assert_eq!(rt;
-        exported(&bytes, &table, 3),
-        (NOTHING, [1, 2], [3, 4, 5])
-    );
+    let found = exported(&bytes, &table, 2);
+    assert_eq!(rt; found, (DONE, OVER, [3, 0xFFFF_FFFF, 0]));
+    let found = exported(&bytes, &table, 3);
+    assert_eq!(rt; found, (NOTHING, [1, 2], [3, 4, 5]));
     let inside = AddressTable {
         directory: directory(0x1000, 9),
         ordinal_base: u32::MAX,
         ..table
     };
     put(&mut bytes, &[(8, b"A.#7\0")]);
-    assert_eq!(rt;
-        exported(&bytes, &inside, 0),
-        (DONE, [8, 4], [0xFFFF_FFFF, 0x1008, 1])
-    );
+    let found = exported(&bytes, &inside, 0);
+    assert_eq!(rt; found, (DONE, [8, 4], [0xFFFF_FFFF, 0x1008, 1]));
     Ok(())
 }
 

@@ -57,38 +57,26 @@ fn failures_of_images(rt: HostRuntime) -> Result<(), Fail> {
     assert_eq!(rt; image_failure(&bytes[..0x180], STRICT), NONE);
     // PE32 has 96 bytes of fields, and fewer directories need fewer bytes.
     put(&mut bytes, &[(0x91, &[1]), (0xEC, &[2])]);
-    assert_eq!(rt;
-        image_failure(&bytes[..0xFF], STRICT),
-        (DONE, SHORT, [0xF0, 16, 0])
-    );
-    assert_eq!(rt;
-        image_failure(&bytes[..0xEF], STRICT),
-        (DONE, SHORT, [0x90, 96, 0])
-    );
+    let found = image_failure(&bytes[..0xFF], STRICT);
+    assert_eq!(rt; found, (DONE, SHORT, [0xF0, 16, 0]));
+    let found = image_failure(&bytes[..0xEF], STRICT);
+    assert_eq!(rt; found, (DONE, SHORT, [0x90, 96, 0]));
     put(&mut bytes, &[(0x90, &[0x07, 0x03])]);
-    assert_eq!(rt;
-        image_failure(&bytes, STRICT),
-        (DONE, BAD_MAGIC, [0x90, 2, 0x307])
-    );
+    let found = image_failure(&bytes, STRICT);
+    assert_eq!(rt; found, (DONE, BAD_MAGIC, [0x90, 2, 0x307]));
     // Without an optional header nothing of it is read.
     put(&mut bytes, &[(0x8C, &[0])]);
     assert_eq!(rt; image_failure(&bytes, STRICT), NONE);
     put(&mut bytes, &[(0x7B, &[0x12])]);
-    assert_eq!(rt;
-        image_failure(&bytes, STRICT),
-        (DONE, BAD_MAGIC, [0x78, 4, 0x1200_4550])
-    );
+    let found = image_failure(&bytes, STRICT);
+    assert_eq!(rt; found, (DONE, BAD_MAGIC, [0x78, 4, 0x1200_4550]));
     let low = pointer_below_64(rt.alloc())?;
-    assert_eq!(rt;
-        image_failure(&low, STRICT),
-        (DONE, HEADER_POINTER, [0x3C, 4, 0x30])
-    );
+    let found = image_failure(&low, STRICT);
+    assert_eq!(rt; found, (DONE, HEADER_POINTER, [0x3C, 4, 0x30]));
     assert_eq!(rt; image_failure(&low, PERMISSIVE), NONE);
     put(&mut bytes, &[(0, b"NE")]);
-    assert_eq!(rt;
-        image_failure(&bytes, STRICT),
-        (DONE, BAD_MAGIC, [0, 2, 0x454E])
-    );
+    let found = image_failure(&bytes, STRICT);
+    assert_eq!(rt; found, (DONE, BAD_MAGIC, [0, 2, 0x454E]));
     Ok(())
 }
 

@@ -176,26 +176,20 @@ fn entries_in_lists(rt: HostRuntime) -> Result<(), Fail> {
     };
     let mut entries = [NO_ENTRY; 3];
     let mut written = 9;
-    assert_eq!(rt;
-        pe_c_list_guard_entries(&view, &mut walk, &mut entries, &mut written),
-        DONE
-    );
+    let found = pe_c_list_guard_entries(&view, &mut walk, &mut entries, &mut written);
+    assert_eq!(rt; found, DONE);
     assert_eq!(rt;
         (written, entries[0].rva, entries[1].rva, entries[2].rva),
         (3, 0x0403_0201, 0x0807_0605, 0x0C0B_0A09)
     );
-    assert_eq!(rt;
-        pe_c_list_guard_entries(&view, &mut walk, &mut entries, &mut written),
-        DONE
-    );
+    let found = pe_c_list_guard_entries(&view, &mut walk, &mut entries, &mut written);
+    assert_eq!(rt; found, DONE);
     assert_eq!(rt;
         (written, entries[0].rva, entries[1].rva, entries[2].rva),
         (2, 0x100F_0E0D, 0x1413_1211, 0x0C0B_0A09)
     );
-    assert_eq!(rt;
-        pe_c_list_guard_entries(&view, &mut walk, &mut entries, &mut written),
-        SHORT
-    );
+    let found = pe_c_list_guard_entries(&view, &mut walk, &mut entries, &mut written);
+    assert_eq!(rt; found, SHORT);
     assert_eq!(rt; (written, fields(&walk)), (2, ([0, 0], 0, 0, 0)));
     Ok(())
 }

@@ -180,31 +180,6 @@ fn certificates_are_written(rt: HostRuntime) -> Result<(), Fail> {
     Ok(())
 }
 
-/// A table of certificates that passes the end of the file: strict mode refuses it, and permissive mode has no certificate of it.
-#[test]
-fn certificates_are_read_by_mode(rt: HostRuntime) -> Result<(), Fail> {
-    let alloc = rt.alloc();
-    let bytes = having(alloc, 0xEC, &[0x11])?;
-    let (numbers, ends, room) = written(alloc, Writer::Whole, &bytes, STRICT, LONGER)?;
-    assert_eq!(rt; (numbers, ends), ([CERTIFICATE_TABLE; 2], [OLD_NUMBER; 2]));
-    assert!(rt; is_old(&room));
-    let (numbers, ends, room) = written(alloc, Writer::Image, &bytes, PERMISSIVE, LONGER)?;
-    assert_eq!(rt; (numbers, ends), ([DONE; 2], [0x400; 2]));
-    assert!(rt; is_old(&room[0x400..]));
-    let (numbers, ends, room) = written(alloc, Writer::Whole, &bytes, PERMISSIVE, LONGER)?;
-    assert_eq!(rt; (numbers, ends), ([DONE; 2], [0x410; 2]));
-    assert!(rt; room[..SIZE] == bytes[..]);
-    // Without its padding the certificate is the end of the file, and padding follows it where it is written.
-    let mut bytes = having(alloc, 0xEC, &[9])?;
-    bytes.truncate(0x409);
-    let (numbers, ends, room) = written(alloc, Writer::Whole, &bytes, STRICT, LONGER)?;
-    assert_eq!(rt; (numbers, ends), ([DONE; 2], [0x410; 2]));
-    assert!(rt; room[..0x409] == bytes[..]);
-    assert!(rt; has(&room, 0x409, &[0; 7]));
-    assert!(rt; is_old(&room[SIZE..]));
-    Ok(())
-}
-
 /// What a write refuses, each with what both writers return: the image's tests come first, and the whole file has not the first
 /// two.
 #[test]

@@ -215,16 +215,12 @@ fn libraries_in_their_order(rt: HostRuntime) -> Result<(), Fail> {
         next_library(&bytes, &image, &mut walk),
         (DONE, ([0xA2, 2], [0x88, 8], 0x1088, second), (0x38, 0, 0))
     );
-    assert_eq!(rt;
-        next_library(&bytes, &image, &mut walk),
-        (NOTHING, UNTOUCHED_LIBRARY, (0, 1, 0))
-    );
+    let found = next_library(&bytes, &image, &mut walk);
+    assert_eq!(rt; found, (NOTHING, UNTOUCHED_LIBRARY, (0, 1, 0)));
     // A walk that a caller says is over stays as it is.
     let mut walk = from_library(libraries(0x10, 7));
-    assert_eq!(rt;
-        next_library(&bytes, &image, &mut walk),
-        (NOTHING, UNTOUCHED_LIBRARY, (0x10, 7, 0))
-    );
+    let found = next_library(&bytes, &image, &mut walk);
+    assert_eq!(rt; found, (NOTHING, UNTOUCHED_LIBRARY, (0x10, 7, 0)));
     Ok(())
 }
 
@@ -273,18 +269,12 @@ fn imports_of_a_library(rt: HostRuntime) -> Result<(), Fail> {
         left: range(0x60, 16),
         rva: 0x2000,
     });
-    assert_eq!(rt;
-        next_import(&bytes, &pe32_plus, &mut walk),
-        (DONE, ([0xB2, 1], 0x2000, 7, 1), [0x68, 8], 0x2008)
-    );
-    assert_eq!(rt;
-        next_import(&bytes, &pe32_plus, &mut walk),
-        (DONE, (OVER, 0x2008, 17, 0), [0x70, 0], 0x2010)
-    );
-    assert_eq!(rt;
-        next_import(&bytes, &pe32_plus, &mut walk),
-        (NOTHING, ([1, 1], 1, 1, 1), [0x70, 0], 0x2010)
-    );
+    let found = next_import(&bytes, &pe32_plus, &mut walk);
+    assert_eq!(rt; found, (DONE, ([0xB2, 1], 0x2000, 7, 1), [0x68, 8], 0x2008));
+    let found = next_import(&bytes, &pe32_plus, &mut walk);
+    assert_eq!(rt; found, (DONE, (OVER, 0x2008, 17, 0), [0x70, 0], 0x2010));
+    let found = next_import(&bytes, &pe32_plus, &mut walk);
+    assert_eq!(rt; found, (NOTHING, ([1, 1], 1, 1, 1), [0x70, 0], 0x2010));
     Ok(())
 }
 
@@ -302,14 +292,10 @@ fn pe32_imports(rt: HostRuntime) -> Result<(), Fail> {
     let answer = pe_c_next_library(&view(&bytes, &pe32, &sections()), &mut walk, &mut out);
     let mut walk = from_import(out.imports);
     assert_eq!(rt; (answer, of_range(walk.imports.left)), (DONE, [0x60, 8]));
-    assert_eq!(rt;
-        next_import(&bytes, &pe32, &mut walk),
-        (DONE, ([0xB2, 1], 0x2000, 7, 1), [0x64, 4], 0x2004)
-    );
-    assert_eq!(rt;
-        next_import(&bytes, &pe32, &mut walk),
-        (DONE, (OVER, 0x2004, 9, 0), [0x68, 0], 0x2008)
-    );
+    let found = next_import(&bytes, &pe32, &mut walk);
+    assert_eq!(rt; found, (DONE, ([0xB2, 1], 0x2000, 7, 1), [0x64, 4], 0x2004));
+    let found = next_import(&bytes, &pe32, &mut walk);
+    assert_eq!(rt; found, (DONE, (OVER, 0x2004, 9, 0), [0x68, 0], 0x2008));
     Ok(())
 }
 
@@ -343,9 +329,7 @@ fn refused_imports(rt: HostRuntime) -> Result<(), Fail> {
         left: range(0x60, 7),
         rva: 5,
     });
-    assert_eq!(rt;
-        next_import(&bytes, &image, &mut walk),
-        (SHORT, ([1, 1], 1, 1, 1), OVER, 5)
-    );
+    let found = next_import(&bytes, &image, &mut walk);
+    assert_eq!(rt; found, (SHORT, ([1, 1], 1, 1, 1), OVER, 5));
     Ok(())
 }

@@ -144,10 +144,8 @@ fn all_delayed_functions_in_their_order(rt: HostRuntime) -> Result<(), Fail> {
     let image = image(X64);
     let [first, second, third, fourth] = FUNCTIONS;
     let mut walk = walk_over([0x10, 96]);
-    assert_eq!(rt;
-        list(&bytes, &image, &mut walk, 8, 5),
-        (DONE, 4, [first, second, third, fourth, UNTOUCHED])
-    );
+    let found = list(&bytes, &image, &mut walk, 8, 5);
+    assert_eq!(rt; found, (DONE, 4, [first, second, third, fourth, UNTOUCHED]));
     let end = ([0x50, 0x20], [0xE0, 0x20], 1, [0xA2, 2], 2);
     assert_eq!(rt; of_walk(walk), end);
     // One a call: a DLL is left once the first function of the next is asked for.

@@ -138,10 +138,8 @@ fn all_imports_in_their_order(rt: HostRuntime) -> Result<(), Fail> {
     let image = with_directory(0x1010);
     let [first, second, third] = IMPORTS;
     let mut walk = walk_at(0x10);
-    assert_eq!(rt;
-        list(&bytes, &image, &mut walk, 6, 4),
-        (DONE, 3, [first, second, third, UNTOUCHED])
-    );
+    let found = list(&bytes, &image, &mut walk, 6, 4);
+    assert_eq!(rt; found, (DONE, 3, [first, second, third, UNTOUCHED]));
     assert_eq!(rt; of_walk(walk), (0, 1, [0x90, 0], 0x1090, [0xA2, 2], 2));
     // One a call: a library is left once the first import of the next is asked for.
     let mut walk = walk_at(0x10);
@@ -168,14 +166,10 @@ fn errors_of_a_library(rt: HostRuntime) -> Result<(), Fail> {
     put(&mut bytes, &[(0x31, &[0x30])]);
     let mut walk = walk_at(0x10);
     let [first, second, _] = IMPORTS;
-    assert_eq!(rt;
-        list(&bytes, &image, &mut walk, 0, 4),
-        (DONE, 2, [first, second, UNTOUCHED, UNTOUCHED])
-    );
-    assert_eq!(rt;
-        list(&bytes, &image, &mut walk, 0, 4),
-        (UNMAPPED, 77, [UNTOUCHED; 4])
-    );
+    let found = list(&bytes, &image, &mut walk, 0, 4);
+    assert_eq!(rt; found, (DONE, 2, [first, second, UNTOUCHED, UNTOUCHED]));
+    let found = list(&bytes, &image, &mut walk, 0, 4);
+    assert_eq!(rt; found, (UNMAPPED, 77, [UNTOUCHED; 4]));
     assert_eq!(rt; of_walk(walk), (0, 1, OVER, 0x2010, [0xA0, 1], 1));
     Ok(())
 }

@@ -2,7 +2,6 @@
 //! is left as it was. The entries are those that the tests of the steps expect.
 
 use super::base_relocations::two_blocks;
-use super::exports::{walk_over, with_exports};
 use super::imports::{NO_IMPORT, NO_LIBRARY, with_imports};
 use super::made::{
     ARM64_CUT, DIRECTORY_NO_ARGUMENT, IMPORT_NAME, OVER, RESOURCE_STRING, SHORT, TREE_NOT_DIRECTORY,
@@ -13,12 +12,8 @@ use super::resource_leaves::{NO_LEAF, of_size, with_tree};
 use super::version_blocks::BLOCKS;
 use crate::arm64::codes::{Arm64Code, Arm64CodeWalk};
 use crate::base_relocations::{Relocation, RelocationBlock};
-use crate::export_addresses::{AddressTable, Exported};
-use crate::exports::Export;
 use crate::imports::{Imports, Libraries};
 use crate::lists::arm64::{pe_c_list_arm64_codes, pe_c_list_arm64_functions};
-use crate::lists::exports::pe_c_list_exports;
-use crate::lists::forwarders::pe_c_list_export_addresses;
 use crate::lists::imports::{pe_c_list_imports, pe_c_list_libraries};
 use crate::lists::relocations::{pe_c_list_relocation_blocks, pe_c_list_relocations};
 use crate::lists::resources::{pe_c_list_resource_leaves, pe_c_list_version_blocks};
@@ -236,74 +231,6 @@ fn arm64_in_lists(rt: HostRuntime) {
         };
         assert_eq!(rt; entries.map(|code| code.kind), kinds);
     }
-}
-
-const NO_EXPORT: Export = Export {
-    name: Range {
-        offset: 0x7777,
-        length: 0x77,
-    },
-    forwarder: Range {
-        offset: 0x5555,
-        length: 0x55,
-    },
-    offset: 3,
-    rva: 4,
-    has_offset: 5,
-    index: 6,
-    is_forwarder: 7,
-};
-
-#[test]
-fn exports_in_lists(rt: HostRuntime) -> Result<(), Fail> {
-    let bytes = with_exports(rt.alloc())?;
-    let (image, sections) = (image(X64), sections());
-    let view = view(&bytes, &image, &sections);
-    let mut walk = walk_over(0);
-    for (count, next, rvas) in [(2, 6, [0x9000, 0x1008, 4]), (0, 6, [4; 3])] {
-        let mut entries = [NO_EXPORT; 3];
-        let mut written = UNWRITTEN;
-        let answer = pe_c_list_exports(&view, &mut walk, &mut [], &mut entries, &mut written);
-        assert_eq!(rt; (answer, written, walk.next), (DONE, count, next));
-        assert_eq!(rt; entries.map(|entry| entry.rva), rvas);
-    }
-    Ok(())
-}
-
-#[test]
-fn exports_by_index_in_lists(rt: HostRuntime) -> Result<(), Fail> {
-    let bytes = with_exports(rt.alloc())?;
-    let (image, sections) = (image(X64), sections());
-    let view = view(&bytes, &image, &sections);
-    let table = AddressTable {
-        name: range(0, 0),
-        addresses: range(0x50, 12),
-        directory: directory(0x1010, 0x40),
-        ordinal_base: 3,
-        has_name: 0,
-    };
-    let none = Exported {
-        forwarder: untouched(),
-        ordinal: 7,
-        rva: 8,
-        is_forwarder: 9,
-    };
-    let mut next = 0;
-    for (count, after, ordinals) in [(2, 2, [3, 4]), (1, 3, [5, 7]), (0, 3, [7, 7])] {
-        let mut entries = [none; 2];
-        let mut written = UNWRITTEN;
-        let answer = pe_c_list_export_addresses(
-            &view,
-            &table,
-            &mut next,
-            &mut [],
-            &mut entries,
-            &mut written,
-        );
-        assert_eq!(rt; (answer, written, next), (DONE, count, after));
-        assert_eq!(rt; entries.map(|entry| entry.ordinal), ordinals);
-    }
-    Ok(())
 }
 
 #[test]

@@ -1,8 +1,7 @@
 //! Lists whose names are read together in a room of the caller: a sample of each, and when the room is filled, which the cost hangs
 //! on and no contract says.
 
-use super::delay_imports::functions as functions_in;
-use super::delay_imports_by_index::{NO_FUNCTION, NO_LIBRARY as NO_DLL};
+use super::delay_imports::{NO_FUNCTION, NO_LIBRARY as NO_DLL, functions as functions_in};
 use super::made::{
     DIRECTORY_BOUND_IMPORT_NAME, DIRECTORY_DELAY_IMPORT_NAME, IMPORT_NAME, NO_RANGE, OVER, RUN,
     STRING_TABLE, UNTOUCHED, X64, directory, image, of_range, range, sections, untouched, view,

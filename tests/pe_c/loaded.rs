@@ -71,10 +71,8 @@ fn images_as_loaded(rt: HostRuntime) {
 fn images_that_are_loaded(rt: HostRuntime) {
     let (image, mut room, mut written) = (small(MAPPED), [7; 0x28], 0);
     let bytes = [9; 0x20];
-    assert_eq!(rt;
-        pe_c_map(&view(&bytes, &image, &[]), &mut room, &mut written),
-        DONE
-    );
+    let found = pe_c_map(&view(&bytes, &image, &[]), &mut room, &mut written);
+    assert_eq!(rt; found, DONE);
     assert_eq!(rt;
         (&room[..0x20], &room[0x20..]),
         (&[9; 0x20][..], &[0; 8][..])
@@ -113,10 +111,8 @@ fn numbers_of_each_type(rt: HostRuntime) -> Result<(), Fail> {
         (&room[..0x30], &room[0x30..]),
         (&[0xFF; 0x30][..], &MOVED[..])
     );
-    assert_eq!(rt;
-        pe_c_relocate(&view, 0u64.wrapping_sub(difference), &mut room),
-        DONE
-    );
+    let found = pe_c_relocate(&view, 0u64.wrapping_sub(difference), &mut room);
+    assert_eq!(rt; found, DONE);
     // what a HIGH gets of the low 16 bits is no carry, so that it comes back only by differences that have none
     assert_eq!(rt;
         (&room[..0x46], room[0x46], room[0x47]),
@@ -139,10 +135,8 @@ fn bases_of_each_width(rt: HostRuntime) -> Result<(), Fail> {
             ..relocatable(8)
         };
         let mut room = [0; 0x39];
-        assert_eq!(rt;
-            pe_c_relocate(&view(&table, &image, &[]), 1, &mut room),
-            DONE
-        );
+        let found = pe_c_relocate(&view(&table, &image, &[]), 1, &mut room);
+        assert_eq!(rt; found, DONE);
         assert_eq!(rt; &room[0x30..], &want[..], "{width}");
     }
     Ok(())

@@ -76,14 +76,10 @@ fn ranges_of_sections(rt: HostRuntime) {
     }
     // as loaded: at the RVA, as many as the virtual size says, or the raw size where that is 0
     let loaded = aligned(0, MAPPED);
-    assert_eq!(rt;
-        range_of(&loaded, 0x1000, &section(0x800, 0x301, 0, 9)),
-        (DONE, [0x800, 0x301])
-    );
-    assert_eq!(rt;
-        range_of(&loaded, 0x1000, &section(0x800, 0, 0, 9)),
-        (DONE, [0x800, 9])
-    );
+    let found = range_of(&loaded, 0x1000, &section(0x800, 0x301, 0, 9));
+    assert_eq!(rt; found, (DONE, [0x800, 0x301]));
+    let found = range_of(&loaded, 0x1000, &section(0x800, 0, 0, 9));
+    assert_eq!(rt; found, (DONE, [0x800, 9]));
 }
 
 fn range_at(bytes: &[u8], image: &Image, sections: &[SectionTable], rva: u32) -> (u32, [u64; 2]) {

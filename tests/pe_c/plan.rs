@@ -1,9 +1,6 @@
 //! The records of a function up to the root of its chain, one a step.
 
-use super::made::{
-    FUNCTION_CYCLE, FUNCTION_LINK, UNMAPPED, UNWIND_VERSION, X64, image, range, sections, view,
-    words,
-};
+use super::made::{FUNCTION_CYCLE, X64, image, range, sections, view, words};
 use super::unwinding::no_record;
 use crate::kept_sections::NO_SECTIONS;
 use crate::plan::{Plan, PlanWalk, pe_c_next_record, pe_c_plan_from};
@@ -205,28 +202,5 @@ fn plans_that_never_end(rt: HostRuntime) -> Result<(), Fail> {
     let refused = (FUNCTION_CYCLE, NO_KEY, [0x1070, 1, 0x1070, 0, 0, 2]);
     assert_eq!(rt; step(&bytes, &table, &mut later), refused);
     assert_eq!(rt; step(&bytes, &table, &mut later).0, NOTHING);
-    Ok(())
-}
-
-/// What refuses a record refuses the plan at it, and the plan is over.
-#[test]
-fn plans_that_are_refused(rt: HostRuntime) -> Result<(), Fail> {
-    let bytes = with_chains(rt.alloc())?;
-    let table = table_of_chains();
-    for (unwind, given, number) in [
-        (0x10C0, 0u32, UNWIND_VERSION),
-        (0x1003, 0, FUNCTION_LINK),
-        (0x1090, 1, FUNCTION_CYCLE),
-        (0x10A0, 1, UNMAPPED),
-    ] {
-        let mut plan = plan_from(unwind);
-        for _ in 0..given {
-            assert_eq!(rt; step(&bytes, &table, &mut plan).0, DONE, "from {unwind:#x}");
-        }
-        let before = fields_of(&plan.plan);
-        let (answer, key, after) = step(&bytes, &table, &mut plan);
-        assert_eq!(rt; (answer, key), (number, NO_KEY), "from {unwind:#x}");
-        assert_eq!(rt; after, [before[0], 1, before[2], 0, before[4], before[5]]);
-    }
     Ok(())
 }

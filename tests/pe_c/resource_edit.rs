@@ -205,10 +205,8 @@ fn records_are_refused(rt: HostRuntime) -> Result<(), Fail> {
         (453, good),
         (453, resource(name(0, 4), NONE)),
     ] {
-        assert_eq!(rt;
-            refused(rt.alloc(), &bytes, &[good, record], &DATA)?,
-            number
-        );
+        let found = refused(rt.alloc(), &bytes, &[good, record], &DATA)?;
+        assert_eq!(rt; found, number);
     }
     // The range of no name is not read.
     let unused = RecordKey {

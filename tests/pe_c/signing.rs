@@ -3,9 +3,8 @@
 //! the checksums are those that `osslsigncode verify` 2.9 calculates of the same bytes.
 
 use super::made::{
-    BAD_MAGIC, CERTIFICATE_SIZE, CERTIFICATE_TABLE, NO_OPTIONAL_HEADER, SIGN_HEADERS,
-    SIGN_NO_DIRECTORY, SIGN_SECTION, SIGN_TABLE_NOT_LAST, SIGN_TABLE_OFFSET, X64, asked, image,
-    of_range, untouched, view,
+    CERTIFICATE_SIZE, CERTIFICATE_TABLE, SIGN_HEADERS, SIGN_NO_DIRECTORY, SIGN_SECTION,
+    SIGN_TABLE_NOT_LAST, SIGN_TABLE_OFFSET, X64, asked, image, of_range, untouched, view,
 };
 use crate::results::{DONE, ROOM};
 use crate::signing::{
@@ -30,8 +29,6 @@ const OLD_LENGTH: u64 = 0x7777;
 
 /// Ranges, and the zeros after them.
 type Covered = ([[u64; 2]; 4], u64);
-
-const NO_DIGEST: Covered = ([[0x7777, 0x77]; 4], 9);
 
 fn digest_of(bytes: &[u8]) -> (u32, Covered) {
     let mut out = Digest {
@@ -183,33 +180,6 @@ fn checksums_are_calculated(rt: HostRuntime) -> Result<(), Fail> {
     // What the field holds is not summed.
     put(&mut bytes, &[(0x98, &[0x11, 0x22, 0x33, 0x44])]);
     assert_eq!(rt; checksum_of(&bytes), (DONE, (0x98, 0x7C12, 0)));
-    Ok(())
-}
-
-/// The calls that take no certificate, and those that do, are refused for what the headers lack.
-#[test]
-fn images_are_refused(rt: HostRuntime) -> Result<(), Fail> {
-    for (bytes, number) in [
-        (with_functions(rt.alloc())?, DONE),
-        // The signature of the DOS header, and the size of the optional header.
-        (having(rt.alloc(), 0, &[0])?, BAD_MAGIC),
-        (having(rt.alloc(), 0x54, &[0])?, NO_OPTIONAL_HEADER),
-    ] {
-        let none = if number == DONE {
-            digest_of(&bytes).1
-        } else {
-            NO_DIGEST
-        };
-        assert_eq!(rt; digest_of(&bytes), (number, none));
-        let (sum, field) = checksum_of(&bytes);
-        assert_eq!(rt; sum, number);
-        assert!(rt; number == DONE || field == (5, 6, 7));
-        assert_eq!(rt;
-            attached(rt.alloc(), &bytes, &CERTIFICATE, AFTER, 0x420)?.0,
-            [number; 2]
-        );
-        assert_eq!(rt; detached(rt.alloc(), &bytes, 0x420)?.0, [number; 2]);
-    }
     Ok(())
 }
 

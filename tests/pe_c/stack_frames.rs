@@ -218,32 +218,6 @@ fn steps_undo_a_prolog(rt: HostRuntime) -> Result<(), Fail> {
     Ok(())
 }
 
-/// Memory that is missing is named by its address, each word in turn, and with a piece that has it the same call succeeds.
-#[test]
-fn missing_memory_is_asked_for(rt: HostRuntime) -> Result<(), Fail> {
-    let bytes = with_records(rt.alloc())?;
-    let caller = of_caller();
-    let words = [caller.general[RBP], RETURN_ADDRESS];
-    let stack = stack_of(rt.alloc(), &words)?;
-    let registers = changed(&[(RSP, ENTRY - 48), (RBP, 1)]);
-    let start = ENTRY - 8;
-    let mut frame = frame_at(0x1050, 5, registers);
-    for (length, address) in [(7, ENTRY - 8), (15, ENTRY)] {
-        frame.address = NO_ADDRESS;
-        assert_eq!(rt;
-            step(&bytes, (start, &stack[..length]), &mut frame),
-            MISSING,
-            "of {length}"
-        );
-        let mut wanted = frame_at(0x1050, 5, registers);
-        wanted.address = address;
-        assert_eq!(rt; numbers_of(&frame), numbers_of(&wanted), "of {length}");
-    }
-    assert_eq!(rt; step(&bytes, (start, &stack), &mut frame), DONE);
-    assert_eq!(rt; fields_of(&frame.registers), fields_of(&caller));
-    Ok(())
-}
-
 /// add rsp,40; pop rbp; ret: what is left of the epilog is run if its code is passed, and only then.
 #[test]
 fn epilogs_are_known_by_their_code(rt: HostRuntime) -> Result<(), Fail> {

@@ -200,35 +200,25 @@ fn a_walk_says_why_it_is_over(rt: HostRuntime) -> Result<(), Fail> {
     let stack = bytes_of_words(rt.alloc(), &[8, 1])?;
     let mut bounded = walk_from(DISPATCHER, STACK, 1);
     let pieces = piece(STACK, &stack);
-    assert_eq!(rt;
-        pe_c_next_frame(&modules, &stack, &pieces, &mut bounded),
-        DONE
-    );
-    assert_eq!(rt;
-        pe_c_next_frame(&modules, &stack, &pieces, &mut bounded),
-        NOTHING
-    );
+    let found = pe_c_next_frame(&modules, &stack, &pieces, &mut bounded);
+    assert_eq!(rt; found, DONE);
+    let found = pe_c_next_frame(&modules, &stack, &pieces, &mut bounded);
+    assert_eq!(rt; found, NOTHING);
     assert_eq!(rt; end_of(&bounded), ([0, 0], [BOUND, 0]));
     // No module has the address 1.
     let mut lost = walk_from(DISPATCHER, STACK, 9);
     for answer in [DONE, DONE, NOTHING] {
-        assert_eq!(rt;
-            pe_c_next_frame(&modules, &stack, &pieces, &mut lost),
-            answer
-        );
+        let found = pe_c_next_frame(&modules, &stack, &pieces, &mut lost);
+        assert_eq!(rt; found, answer);
     }
     assert_eq!(rt; end_of(&lost), ([0, 0], [NO_MODULE, 0]));
     assert_eq!(rt; frame_of(&lost), ([1, STACK + 16], [RECORDS, 0]));
     // The return address is not there.
     let mut missing = walk_from(DISPATCHER, STACK + 8, 9);
-    assert_eq!(rt;
-        pe_c_next_frame(&modules, &stack, &pieces, &mut missing),
-        DONE
-    );
-    assert_eq!(rt;
-        pe_c_next_frame(&modules, &stack, &pieces, &mut missing),
-        NOTHING
-    );
+    let found = pe_c_next_frame(&modules, &stack, &pieces, &mut missing);
+    assert_eq!(rt; found, DONE);
+    let found = pe_c_next_frame(&modules, &stack, &pieces, &mut missing);
+    assert_eq!(rt; found, NOTHING);
     assert_eq!(rt; end_of(&missing), ([0, STACK + 16], [STEP, MISSING]));
     Ok(())
 }
@@ -277,20 +267,16 @@ fn a_call_of_a_null_pointer_has_a_caller(rt: HostRuntime) -> Result<(), Fail> {
     let mut modules = [module(&bytes, &headers, &sections)];
     let mut walk = walk_from(0, STACK, 9);
     for frame in [([0, STACK], [TOP, 0]), ([AFTER_CALL, STACK + 8], [LEAF, 1])] {
-        assert_eq!(rt;
-            pe_c_next_frame(&modules, &stack, &piece(STACK, &stack), &mut walk),
-            DONE
-        );
+        let found = pe_c_next_frame(&modules, &stack, &piece(STACK, &stack), &mut walk);
+        assert_eq!(rt; found, DONE);
         assert_eq!(rt; frame_of(&walk), frame);
         assert_eq!(rt; [walk.is_guess, walk.spare], [frame.1[1], 0]);
     }
     modules[0].table = range(0, 0);
     let mut walk = walk_from(0, STACK, 9);
     for answer in [DONE, DONE, NOTHING] {
-        assert_eq!(rt;
-            pe_c_next_frame(&modules, &stack, &piece(STACK, &stack), &mut walk),
-            answer
-        );
+        let found = pe_c_next_frame(&modules, &stack, &piece(STACK, &stack), &mut walk);
+        assert_eq!(rt; found, answer);
     }
     assert_eq!(rt; end_of(&walk), ([0, 0], [NO_FUNCTION, 0]));
     Ok(())
@@ -305,10 +291,8 @@ fn ends_without_records(rt: HostRuntime) -> Result<(), Fail> {
         let stack = bytes_of_words(rt.alloc(), &[word])?;
         let mut walk = walk_from(NO_RECORD, STACK, 9);
         for answer in [DONE, NOTHING] {
-            assert_eq!(rt;
-                pe_c_next_frame(&modules, &stack, &piece(STACK, &stack), &mut walk),
-                answer
-            );
+            let found = pe_c_next_frame(&modules, &stack, &piece(STACK, &stack), &mut walk);
+            assert_eq!(rt; found, answer);
         }
         assert_eq!(rt; end_of(&walk), ([0, 0], [end, 0]));
     }
@@ -326,10 +310,8 @@ fn ranges_that_lie(rt: HostRuntime) -> Result<(), Fail> {
         modules[1].table.length = length;
         let mut walk = walk_from(DISPATCHER, STACK, 9);
         // shows: pe_c/src/stack_walk.rt new Short
-        assert_eq!(rt;
-            pe_c_next_frame(&modules[1..], &stack, &[pieces], &mut walk),
-            SHORT
-        );
+        let found = pe_c_next_frame(&modules[1..], &stack, &[pieces], &mut walk);
+        assert_eq!(rt; found, SHORT);
         assert_eq!(rt; [walk.remaining, u64::from(walk.has_returned)], [9, 0]);
         // The second time the table is inside, and the piece is not.
         pieces.offset = 1;
@@ -365,19 +347,15 @@ fn walks_are_marked_by_the_order_of_their_pieces(rt: HostRuntime) -> Result<(), 
     ] {
         let mut walk = walk_from(DISPATCHER, STACK, 9);
         for answer in [DONE, DONE, NOTHING] {
-            assert_eq!(rt;
-                pe_c_next_frame(&modules, &stack, &pieces, &mut walk),
-                answer
-            );
+            let found = pe_c_next_frame(&modules, &stack, &pieces, &mut walk);
+            assert_eq!(rt; found, answer);
             assert_eq!(rt; walk.is_searched, mark);
         }
         assert_eq!(rt; frame_of(&walk), ([1, STACK + 16], [RECORDS, 0]));
         assert_eq!(rt; end_of(&walk), ([0, 0], [NO_MODULE, 0]));
         let (mut over, mut count) = (walk_from(DISPATCHER, STACK, 0), 77);
-        assert_eq!(rt;
-            pe_c_next_frame(&modules, &stack, &pieces, &mut over),
-            NOTHING
-        );
+        let found = pe_c_next_frame(&modules, &stack, &pieces, &mut over);
+        assert_eq!(rt; found, NOTHING);
         assert_eq!(rt;
             (frame_of(&over), over.is_searched),
             (([DISPATCHER, STACK], [TOP, 0]), mark)

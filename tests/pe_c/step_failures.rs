@@ -211,10 +211,8 @@ fn links_that_never_end_are_told_early(rt: HostRuntime) -> Result<(), Fail> {
             ..view(&bytes, &image, &many)
         };
         let mut record = no_record();
-        assert_eq!(rt;
-            pe_c_unwind_record(&view, &table, unwind, &mut record),
-            FUNCTION_CYCLE
-        );
+        let found = pe_c_unwind_record(&view, &table, unwind, &mut record);
+        assert_eq!(rt; found, FUNCTION_CYCLE);
         let answer = pe_c_unwind_record_failure(&view, &table, unwind, &mut out);
         let wanted = error(FUNCTION_CYCLE, [0, 0, u64::from(unwind)]);
         assert_eq!(rt; said_with(answer, &out), wanted);
@@ -367,7 +365,6 @@ fn arm64_codes(rt: HostRuntime) {
         (range(5, 4), 0, NONE),
         (range(6, 3), 1, error(ARM64_CUT, [1, 0, 0])),
         (range(6, 3), 0, error(ARM64_STREAM, [0, 0, 3])),
-        (range(6, 5), 3, error(SHORT, [6, 5, 0])),
     ] {
         let walk = Arm64CodeWalk { left, offset };
         let found = said(|out| pe_c_arm64_code_failure(&bytes, &walk, out));
@@ -409,10 +406,8 @@ fn delay_imports(rt: HostRuntime) -> Result<(), Fail> {
     // Of the name at 68 the second byte is in no text of UTF-8 as the first.
     let mut bytes = with_second(rt.alloc(), 1, 0x1045, 0x1054)?;
     bytes[69] = 0xBF;
-    assert_eq!(rt;
-        delay_import(&bytes, range(36, 32)),
-        error(DIRECTORY_DELAY_IMPORT_NAME, [69, 0, 0])
-    );
+    let found = delay_import(&bytes, range(36, 32));
+    assert_eq!(rt; found, error(DIRECTORY_DELAY_IMPORT_NAME, [69, 0, 0]));
     Ok(())
 }
 
@@ -440,22 +435,6 @@ fn delayed_functions(rt: HostRuntime) -> Result<(), Fail> {
     ] {
         let found = delayed_function(&bytes, image, left, attributes);
         assert_eq!(rt; found, wanted, "{left:?}");
-    }
-    Ok(())
-}
-
-/// The address of a hint, of which the last byte has a half.
-#[test]
-fn names_of_delayed_functions(rt: HostRuntime) -> Result<(), Fail> {
-    for (address, wanted) in [
-        (0x107E, error(DIRECTORY_DELAY_IMPORT_NAME, [128, 0, 0])),
-        (0x107F, error(SHORT, [127, 2, 0])),
-    ] {
-        let mut bytes = with_delay_imports(rt.alloc())?;
-        let number: u32 = address;
-        bytes[84..88].copy_from_slice(&number.to_le_bytes());
-        let found = delayed_function(&bytes, &image(X64), [84, 44], 1);
-        assert_eq!(rt; found, wanted);
     }
     Ok(())
 }

@@ -198,15 +198,11 @@ fn debug_entries_of_a_te_image(rt: HostRuntime) -> Result<(), Fail> {
     assert_eq!(rt; te.debug_dir, directory(0x50, 0x38));
     assert_eq!(rt; entries_of(&bytes, &te), (DONE, [0x50, 0x38]));
     let mut walk = range(0x50, 0x38);
-    assert_eq!(rt;
-        step(&bytes, &te, &mut walk),
-        (DONE, CODEVIEW, [0x6C, 0x1C])
-    );
+    let found = step(&bytes, &te, &mut walk);
+    assert_eq!(rt; found, (DONE, CODEVIEW, [0x6C, 0x1C]));
     assert_eq!(rt; step(&bytes, &te, &mut walk), (DONE, REPRO, [0x88, 0]));
-    assert_eq!(rt;
-        step(&bytes, &te, &mut walk),
-        (NOTHING, NO_ENTRY, [0x88, 0])
-    );
+    let found = step(&bytes, &te, &mut walk);
+    assert_eq!(rt; found, (NOTHING, NO_ENTRY, [0x88, 0]));
     assert_eq!(rt; first_of(&bytes, &te, 2), (DONE, CODEVIEW));
     assert_eq!(rt; first_of(&bytes, &te, 16), (DONE, REPRO));
     assert_eq!(rt; first_of(&bytes, &te, 13), (NOTHING, NO_ENTRY));
@@ -216,10 +212,8 @@ fn debug_entries_of_a_te_image(rt: HostRuntime) -> Result<(), Fail> {
         spare: 9,
         name: untouched(),
     };
-    assert_eq!(rt;
-        pe_c_symbol_key_of(&bytes, MAPPED, &CODEVIEW, &mut key),
-        DONE
-    );
+    let found = pe_c_symbol_key_of(&bytes, MAPPED, &CODEVIEW, &mut key);
+    assert_eq!(rt; found, DONE);
     assert_eq!(rt; (key.age, of_range(key.name)), (9, [0xA8, 6]));
     assert_eq!(rt;
         key.guid,

@@ -7,7 +7,7 @@ use super::made::{
 use crate::image::Image;
 use crate::lists::x64::pe_c_record_codes;
 use crate::ranges::Range;
-use crate::results::{DONE, NOTHING, ROOM};
+use crate::results::{DONE, NOTHING};
 use crate::unwinding::{
     Code, CodeWalk, UnwindRecord, pe_c_find_function, pe_c_function_at, pe_c_function_table,
     pe_c_next_scope, pe_c_scope_table, pe_c_unwind_record,
@@ -374,15 +374,6 @@ fn records_with_their_codes(rt: HostRuntime) -> Result<(), Fail> {
     for (unwind, room, answer, count, fields, first, second) in [
         (
             0x1030,
-            3,
-            DONE,
-            2,
-            ([0x38, 0, 1, 0], numbers, OVER, NO_FUNCTION),
-            [4, 1, 0],
-            [1, 0, 5],
-        ),
-        (
-            0x1030,
             1,
             DONE,
             1,
@@ -390,7 +381,6 @@ fn records_with_their_codes(rt: HostRuntime) -> Result<(), Fail> {
             [4, 1, 0],
             [90, 91, 92],
         ),
-        (0x1030, 0, ROOM, 77, untouched, [90, 91, 92], [90, 91, 92]),
         (
             0x1078,
             3,

@@ -11,7 +11,7 @@ use crate::version::{
     pe_c_fixed_version, pe_c_fixed_version_in, pe_c_manifest, pe_c_version_text,
     pe_c_version_text_in,
 };
-use pe_images::{image as bytes_of, put, resources};
+use pe_images::{image as bytes_of, put};
 use pe_resource::VsFixedFileInfo;
 use std::alloc::{AllocError, Global};
 use std::test::Fail;
@@ -189,26 +189,6 @@ fn with_comment(alloc: Global) -> Result<Vec<u8>, Fail> {
 }
 
 const WHOLE: ((u32, VsFixedFileInfo), (u32, [u64; 2])) = ((DONE, WANT), (DONE, [0xB8, 4]));
-
-/// A tree of two levels: version information at 0x70, whose comment stands at 0xE4, and a manifest of three bytes at 0xE8.
-#[test]
-fn after_directories(rt: HostRuntime) -> Result<(), Fail> {
-    let mut bytes = resources(rt.alloc())?;
-    // addresses in place of offsets
-    put(&mut bytes, &[(0x51, &[0x10]), (0x61, &[0x10])]);
-    let image = with_resources(bytes.len());
-    let fixed = VsFixedFileInfo {
-        signature: 0xFEEF_04BD,
-        struct_version: 0x1_0000,
-        file_version_ms: 0x3_000B,
-        file_version_ls: 0x0C4E_0000,
-        ..VsFixedFileInfo::default()
-    };
-    assert_eq!(rt; fixed_of(&bytes, &image), (DONE, fixed));
-    assert_eq!(rt; text_of(&bytes, &image, 0), (DONE, [0xE4, 4]));
-    assert_eq!(rt; manifest_of(&bytes, &image), (DONE, [0xE8, 3]));
-    Ok(())
-}
 
 /// The same of one version information, by its range.
 fn reported_in(
