@@ -1,8 +1,8 @@
 //! The functions of ARM64 images, their unwind records and epilog scopes.
 
-use super::made::{NO_RANGE, 
-    ARM64, ARM64_VERSION, EXCEPTION_SIZE, FUNCTION_INDEX, OVER, SHORT, UNTOUCHED, X64, directory,
-    having, image, of_range, range, sections, untouched, view, words,
+use super::made::{
+    ARM64, ARM64_VERSION, EXCEPTION_SIZE, FUNCTION_INDEX, NO_RANGE, OVER, SHORT, UNTOUCHED, X64,
+    directory, having, image, of_range, range, sections, untouched, view, words,
 };
 use crate::arm64::functions::{
     Arm64Packed, pe_c_arm64_function_at, pe_c_arm64_packed_fields, pe_c_arm64_table,

@@ -193,11 +193,7 @@ fn walks_that_lie(rt: HostRuntime) {
     let want = (SHORT, NO_CODE, OVER_WALK);
     assert_eq!(rt; step(&bytes, &mut walk_over(range(1, 8), 0)), want);
     // shows: pe_c/src/arm64/codes.rt left_of_stream Arm64Stream
-    for (length, offset) in [
-        (4, 1),
-        (4, 4_294_967_292),
-        (4, u64::MAX - 3),
-    ] {
+    for (length, offset) in [(4, 1), (4, 4_294_967_292), (4, u64::MAX - 3)] {
         let mut walk = walk_over(range(1, length), offset);
         let want = (ARM64_STREAM, NO_CODE, OVER_WALK);
         assert_eq!(rt; step(&bytes, &mut walk), want, "{length} from {offset}");

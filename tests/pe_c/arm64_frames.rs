@@ -1,7 +1,9 @@
 //! Steps of a stack walk on ARM64. The unwind data are those of the tests of pe_frame: records that clang makes, and packed
 //! data whose prolog llvm-readobj prints. Stacks are by hand: what is expected is the state at the function's entry.
 
-use super::made::{ARM64, ARM64_CUT, ARM64_VERSION, SHORT, UNMAPPED, image, sections, view};
+use super::made::{
+    ARM64, ARM64_CUT, ARM64_VERSION, SHORT, UNMAPPED, bytes_of_words, image, sections, view,
+};
 use crate::arm64::frames::{Arm64FrameRegisters, Arm64StackFrame, pe_c_step_arm64};
 use crate::results::{BAD_ADDRESS, BAD_OPERATION, DONE, MISSING, NOT_RISING};
 use pe_frame::MemoryPiece;
@@ -138,15 +140,6 @@ fn with_records(alloc: Global) -> Result<Vec<u8>, AllocError> {
     )
 }
 
-/// The bytes of these words.
-fn stack_of(alloc: Global, words: &[u64]) -> Result<Vec<u8>, AllocError> {
-    let mut bytes = Vec::new(alloc);
-    for word in words {
-        bytes.extend_from_slice(&u64::to_le_bytes(*word))?;
-    }
-    Ok(bytes)
-}
-
 fn piece(start: u64, offset: u64, length: u64) -> MemoryPiece {
     MemoryPiece {
         start,
@@ -185,7 +178,7 @@ fn steps_undo_a_prolog(rt: HostRuntime) -> Result<(), Fail> {
     words[29] = caller.floats[1];
     words[30] = caller.general[19];
     words[31] = caller.general[20];
-    let stack = stack_of(rt.alloc(), &words)?;
+    let stack = bytes_of_words(rt.alloc(), &words)?;
     let start = ENTRY - 256;
     let mut registers = changed(start - 512, &[(19, 1), (20, 2), (29, start), (LR, 3)]);
     registers.floats[0] = 4;
@@ -199,7 +192,7 @@ fn steps_undo_a_prolog(rt: HostRuntime) -> Result<(), Fail> {
     assert_eq!(rt; step(&bytes, (start, &[]), &mut frame), DONE);
     assert_eq!(rt; fields_of(&frame.registers), fields_of(&caller));
     // Before the last load of an epilog.
-    let words = stack_of(rt.alloc(), &[caller.general[19]])?;
+    let words = bytes_of_words(rt.alloc(), &[caller.general[19]])?;
     let mut frame = frame_at(0x1020, 8, changed(ENTRY - 32, &[(19, 1)]));
     assert_eq!(rt; step(&bytes, (ENTRY - 32, &words), &mut frame), DONE);
     assert_eq!(rt; fields_of(&frame.registers), fields_of(&caller));
@@ -210,7 +203,7 @@ fn steps_undo_a_prolog(rt: HostRuntime) -> Result<(), Fail> {
 #[test]
 fn steps_tell_interrupts(rt: HostRuntime) -> Result<(), Fail> {
     let bytes = with_records(rt.alloc())?;
-    let stack = stack_of(rt.alloc(), &[0x7_0000, 0x1_2345])?;
+    let stack = bytes_of_words(rt.alloc(), &[0x7_0000, 0x1_2345])?;
     let registers = changed(ENTRY, &[]);
     let mut pushed = registers;
     pushed.sp = 0x7_0000;
@@ -237,7 +230,7 @@ fn steps_tell_interrupts(rt: HostRuntime) -> Result<(), Fail> {
 fn steps_undo_packed_data(rt: HostRuntime) -> Result<(), Fail> {
     let bytes = with_records(rt.alloc())?;
     let caller = of_caller();
-    let stack = stack_of(rt.alloc(), &[caller.general[19], 0])?;
+    let stack = bytes_of_words(rt.alloc(), &[caller.general[19], 0])?;
     let inside = changed(ENTRY - 16, &[(19, 1)]);
     for (data, place, registers) in [
         (0x0081_0101, 0, changed(ENTRY, &[])),

@@ -76,23 +76,8 @@ fn metadata(alloc: Global) -> Result<Vec<u8>, AllocError> {
     words(
         alloc,
         &[
-            0,
-            0x424A_5342,
-            0x0002_0001,
-            0,
-            8,
-            0x302E_3276,
-            0,
-            0x0002_0007,
-            52,
-            8,
-            0x7E23,
-            60,
-            1,
-            0x6F6C_4223,
-            0x62,
-            0x1111,
-            0x2222,
+            0, 0x424A5342, 0x00020001, 0, 8, 0x302E3276, 0, 0x00020007, 52, 8, 0x7E23, 60, 1,
+            0x6F6C4223, 0x62, 0x1111, 0x2222,
         ],
     )
 }
@@ -186,7 +171,10 @@ fn streams_in_turn(rt: HostRuntime) -> Result<(), Fail> {
         (DONE, [[40, 2], [56, 8]], [52, 8, 1], [all, [44, 20]], 1)
     );
     let found = step(&bytes, walk(all, [44, 20], 1));
-    assert_eq!(rt; found, (DONE, [[52, 5], OVER], [60, 1, 0], [all, [60, 4]], 0));
+    assert_eq!(rt;
+        found,
+        (DONE, [[52, 5], OVER], [60, 1, 0], [all, [60, 4]], 0)
+    );
     let over = |left: [[u64; 2]; 2], count| (NOTHING, [UNTOUCHED; 2], [7, 8, 9], left, count);
     let found = step(&bytes, walk(all, [60, 4], 0));
     assert_eq!(rt; found, over([all, [60, 4]], 0));

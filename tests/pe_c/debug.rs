@@ -488,7 +488,10 @@ fn checksums_of_pdbs(rt: HostRuntime) -> Result<(), Fail> {
         (number, of_range(out.algorithm), of_range(out.checksum))
     };
     assert_eq!(rt; read(STRICT, entry(3, 10)), (DONE, [3, 6], [10, 3]));
-    assert_eq!(rt; read(STRICT, entry(3, 6)), (DEBUG_SIZE, UNTOUCHED, UNTOUCHED));
+    assert_eq!(rt;
+        read(STRICT, entry(3, 6)),
+        (DEBUG_SIZE, UNTOUCHED, UNTOUCHED)
+    );
     let long = entry(3, 14);
     assert_eq!(rt; read(PERMISSIVE, long), (DEBUG_DATA, UNTOUCHED, UNTOUCHED));
     Ok(())

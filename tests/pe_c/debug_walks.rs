@@ -98,11 +98,7 @@ fn pogo_entries_in_turn(rt: HostRuntime) {
 /// refusal the walk is over.
 #[test]
 fn pogo_entries_that_are_refused(rt: HostRuntime) {
-    for (length, number) in [
-        (7, SHORT),
-        (8, POGO_NAME),
-        (11, POGO_NAME),
-    ] {
+    for (length, number) in [(7, SHORT), (8, POGO_NAME), (11, POGO_NAME)] {
         // after the first entry, the second, cut after so many bytes
         let mut walk = range(1, 12 + length);
         let first = (DONE, ([9, 4], [0x1000, 3]), [13, length]);

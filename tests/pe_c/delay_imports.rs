@@ -1,8 +1,9 @@
 //! The DLLs of the delay import directory, one a step, and what is imported of each.
 
-use super::made::{NO_RANGE, 
-    DIRECTORY_DELAY_IMPORT_NAME, DIRECTORY_VA_BELOW_BASE, OVER, SHORT, UNMAPPED, UNTOUCHED, X64,
-    directory, having, image, in_mode, of_range, range, sections, untouched, view, words,
+use super::made::{
+    DIRECTORY_DELAY_IMPORT_NAME, DIRECTORY_VA_BELOW_BASE, NO_RANGE, OVER, SHORT, UNMAPPED,
+    UNTOUCHED, X64, directory, having, image, in_mode, of_range, range, sections, untouched, view,
+    words,
 };
 use crate::delay_imports::{
     DelayLibrary, DelayWalk, DelayedFunction, DelayedFunctionWalk, DelayedFunctions,
@@ -23,37 +24,8 @@ pub(crate) fn bytes_of(alloc: Global) -> Result<Vec<u8>, AllocError> {
     words(
         alloc,
         &[
-            0xDD,
-            1,
-            0x1044,
-            3,
-            4,
-            0x1054,
-            6,
-            7,
-            8,
-            0,
-            0,
-            0,
-            0,
-            0,
-            0,
-            0,
-            0,
-            0x6C64_2E61,
-            0x6C,
-            0x6E66_0201,
-            0,
-            0x104C,
-            0,
-            0xFFFF_0009,
-            0x8000_0000,
-            0,
-            0,
-            0x104C,
-            0x8000_0009,
-            0,
-            0x2000,
+            0xDD, 1, 0x1044, 3, 4, 0x1054, 6, 7, 8, 0, 0, 0, 0, 0, 0, 0, 0, 0x6C642E61, 0x6C,
+            0x6E660201, 0, 0x104C, 0, 0xFFFF0009, 0x80000000, 0, 0, 0x104C, 0x80000009, 0, 0x2000,
             0,
         ],
     )

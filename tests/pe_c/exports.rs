@@ -123,11 +123,7 @@ pub(crate) fn from(exports: Exports) -> ExportWalk {
 
 fn step(bytes: &[u8], walk: &mut ExportWalk) -> (u32, Fields, Walk) {
     let mut out = UNTOUCHED;
-    let answer = pe_c_next_export(
-        &view(bytes, &image(X64), &sections()),
-        walk,
-        &mut out,
-    );
+    let answer = pe_c_next_export(&view(bytes, &image(X64), &sections()), walk, &mut out);
     let Export {
         name,
         offset,

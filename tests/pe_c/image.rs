@@ -1,8 +1,8 @@
 //! Headers, sections, and the file offsets of RVAs.
 
-use super::made::{image, 
-    BAD_MAGIC, HEADER_POINTER, MAPPED, PERMISSIVE, SHORT, STRICT, directory, in_mode, section,
-    sections, view,
+use super::made::{
+    BAD_MAGIC, HEADER_POINTER, MAPPED, PERMISSIVE, SHORT, STRICT, directory, image, in_mode,
+    section, sections, view,
 };
 use crate::image::{Image, pe_c_image, pe_c_offset, pe_c_sections};
 use crate::results::{DONE, NOTHING, ROOM};
@@ -159,11 +159,7 @@ fn headers_of_64_bits(rt: HostRuntime) -> Result<(), Fail> {
 /// An optional header keeps as many directories as it counts, and at most 16. The entry of the certificates is the fifth.
 #[test]
 fn headers_with_fewer_directories(rt: HostRuntime) -> Result<(), Fail> {
-    for (count, kept, offset) in [
-        (4, 4, 0),
-        (5, 5, 0xE8),
-        (17, 16, 0xE8),
-    ] {
+    for (count, kept, offset) in [(4, 4, 0), (5, 5, 0xE8), (17, 16, 0xE8)] {
         let mut bytes = with_every_directory(rt.alloc())?;
         put_numbers(&mut bytes);
         put(&mut bytes, &[(0x140, &[0x77, 0x77]), (0xC4, &[count])]);
@@ -320,10 +316,7 @@ fn sections_are_put_into_their_room(rt: HostRuntime) -> Result<(), Fail> {
 fn sections_that_are_refused(rt: HostRuntime) -> Result<(), Fail> {
     let bytes = two_sections(rt.alloc())?;
     let [other] = sections();
-    for (offset, count, number) in [
-        (3, 3, ROOM),
-        (4, 2, SHORT),
-    ] {
+    for (offset, count, number) in [(3, 3, ROOM), (4, 2, SHORT)] {
         let mut room = [other; 2];
         let answer = pe_c_sections(&bytes, &with_sections(offset, count), &mut room);
         assert_eq!(rt;

@@ -159,11 +159,7 @@ fn next_library(
     walk: &mut LibraryWalk,
 ) -> (u32, Fields, (u64, u32, u32)) {
     let mut out = NO_LIBRARY;
-    let answer = pe_c_next_library(
-        &view(bytes, image, &sections()),
-        walk,
-        &mut out,
-    );
+    let answer = pe_c_next_library(&view(bytes, image, &sections()), walk, &mut out);
     (answer, of_library(out), of_libraries(walk.libraries))
 }
 
@@ -172,11 +168,7 @@ type Step = (u32, ([u64; 2], u64, u32, u32), [u64; 2], u64);
 
 fn next_import(bytes: &[u8], image: &Image, walk: &mut ImportWalk) -> Step {
     let mut out = NO_IMPORT;
-    let answer = pe_c_next_import(
-        &view(bytes, image, &sections()),
-        walk,
-        &mut out,
-    );
+    let answer = pe_c_next_import(&view(bytes, image, &sections()), walk, &mut out);
     (
         answer,
         of_import(out),

@@ -1,6 +1,8 @@
 //! The list of the functions of all delay-loaded DLLs, whose names are read together in a room of the caller.
 
-use super::made::{RUN, OVER, SHORT, X64, directory, having, image, of_range, range, sections, view};
+use super::made::{
+    OVER, RUN, SHORT, X64, directory, having, image, of_range, range, sections, view,
+};
 use crate::delay_imports::{DelayedFunction, DelayedFunctions};
 use crate::image::Image;
 use crate::library_functions::{LibraryFunction, LibraryFunctions, pe_c_all_delayed_functions};

@@ -2,7 +2,7 @@
 
 use super::imports::{NO_IMPORT as ONLY_ONES, with_imports};
 use super::made::{
-    RUN, OVER, UNMAPPED, X64, directory, having, image, of_range, range, sections, view,
+    OVER, RUN, UNMAPPED, X64, directory, having, image, of_range, range, sections, view,
 };
 use crate::image::Image;
 use crate::imports::{Import, Imports, Libraries};

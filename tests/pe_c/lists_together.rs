@@ -76,35 +76,6 @@ fn exports() -> Exports {
     }
 }
 
-#[test]
-fn exports_together(rt: HostRuntime) -> Result<(), Fail> {
-    let bytes = with_texts(rt.alloc(), &TABLES)?;
-    let (image, sections) = (image(X64), sections());
-    let view = view(&bytes, &image, &sections);
-    let want = [
-        [0x148, 10],
-        [0x175, 60],
-        [0x100, 82],
-        [0x152, 0],
-        [0x146, 12],
-        [0x176, 59],
-    ];
-    let (mut runs, mut walk) = ([RUN; 7], exports());
-    let (mut entries, mut written) = ([NO_EXPORT; 7], 77);
-    let answer = pe_c_list_exports(&view, &mut walk, &mut runs, &mut entries, &mut written);
-    assert_eq!(rt; (answer, written, walk.next), (DONE, 6, 9));
-    for (entry, name) in entries.iter().zip(&want) {
-        assert_eq!(rt; of_range(entry.name), *name);
-        assert_eq!(rt; (entry.rva, entry.offset), (0x1008, 8));
-        assert_eq!(rt;
-            (of_range(entry.forwarder), entry.is_forwarder),
-            ([8, 0], 1)
-        );
-    }
-    assert_eq!(rt; entries[6].rva, 4);
-    Ok(())
-}
-
 /// The same ten times: a name at 100h, of 83 bytes with its zero; a name at 152h, a zero, with a forwarder's text at 100h; or both
 /// at 100h. That is more than the image has in all, so they are read together.
 #[test]
@@ -471,7 +442,10 @@ fn delay_imports_together(rt: HostRuntime) -> Result<(), Fail> {
         assert_eq!(rt; of_range(entry.functions.left), [0xA0, 0x160]);
     }
     let answer = pe_c_list_delay_imports(&view, &mut walk, &mut runs, &mut entries, &mut written);
-    assert_eq!(rt; (answer, of_range(walk)), (DIRECTORY_DELAY_IMPORT_NAME, OVER));
+    assert_eq!(rt;
+        (answer, of_range(walk)),
+        (DIRECTORY_DELAY_IMPORT_NAME, OVER)
+    );
     Ok(())
 }
 
@@ -569,7 +543,11 @@ fn bound_imports_together(rt: HostRuntime) -> Result<(), Fail> {
     );
     assert_eq!(rt; (answer, written), (DONE, 2));
     assert_eq!(rt;
-        entries.map(|it| (of_range(it.name), of_range(it.forwarders), it.time_date_stamp)),
+        entries.map(|it| (
+            of_range(it.name),
+            of_range(it.forwarders),
+            it.time_date_stamp
+        )),
         [
             ([0x148, 10], [0x18, 16], 1),
             ([0x100, 82], [0x30, 0], 4),
@@ -584,7 +562,10 @@ fn bound_imports_together(rt: HostRuntime) -> Result<(), Fail> {
         &mut entries,
         &mut written,
     );
-    assert_eq!(rt; (answer, of_range(walk)), (DIRECTORY_BOUND_IMPORT_NAME, OVER));
+    assert_eq!(rt;
+        (answer, of_range(walk)),
+        (DIRECTORY_BOUND_IMPORT_NAME, OVER)
+    );
     let none = BoundForwarder {
         name: NO_RANGE,
         time_date_stamp: 77,

@@ -112,10 +112,7 @@ fn ranges_from_rvas(rt: HostRuntime) {
         assert_eq!(rt; found, (number, range), "{rva:#x}");
     }
     let image = aligned(0x200, MAPPED);
-    for (rva, want) in [
-        (0x8FF, (DONE, [0x8FF, 1])),
-        (0x900, (NOTHING, UNTOUCHED)),
-    ] {
+    for (rva, want) in [(0x8FF, (DONE, [0x8FF, 1])), (0x900, (NOTHING, UNTOUCHED))] {
         assert_eq!(rt; range_at(&bytes, &image, &sections, rva), want);
     }
 }

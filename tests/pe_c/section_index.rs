@@ -86,11 +86,7 @@ fn rvas_by_an_index(rt: HostRuntime) {
 #[test]
 fn indices_that_lie(rt: HostRuntime) {
     let (bytes, image, sections) = ([0; 0x10400], aligned(0x200, STRICT), five_sections());
-    for (number, result, owner) in [
-        (4, DONE, 3),
-        (5, NOTHING, 9),
-        (u64::MAX, NOTHING, 9),
-    ] {
+    for (number, result, owner) in [(4, DONE, 3), (5, NOTHING, 9), (u64::MAX, NOTHING, 9)] {
         let entry = IndexEntry {
             start: 0x2000,
             section: number,

@@ -133,9 +133,7 @@ fn signed_data(rt: HostRuntime) -> Result<(), Fail> {
     assert!(rt; same(out.content, whole(59, 2, 105)));
     assert!(rt; same(out.digested, content(59, 2, 105)));
     assert!(rt; same(out.certificates, content(166, 4, 350)));
-    assert!(rt;
-        same(out.crls, NO_RANGE)
-    );
+    assert!(rt; same(out.crls, NO_RANGE));
     assert!(rt; same(out.signers, content(520, 4, 1393)));
     assert_eq!(rt; (out.has_content, out.spare), (1, 0));
     Ok(())
@@ -173,9 +171,7 @@ fn indirect_data(rt: HostRuntime) -> Result<(), Fail> {
     let result = pe_c_algorithm_identifier(&bytes, &one, &mut failure, &mut algorithm);
     assert_eq!(rt; result, DONE);
     assert!(rt; is_oid(algorithm.oid, content(189, 2, 8), 215));
-    assert!(rt;
-        same(algorithm.parameters, NO_RANGE)
-    );
+    assert!(rt; same(algorithm.parameters, NO_RANGE));
     assert!(rt; is_untouched(&failure));
     Ok(())
 }
@@ -237,9 +233,7 @@ fn signers(rt: HostRuntime) -> Result<(), Fail> {
     assert!(rt; same(signer.version, content(528, 2, 1)));
     assert!(rt; same(signer.issuer, whole(533, 2, 12)));
     assert!(rt; same(signer.serial, content(547, 2, 2)));
-    assert!(rt;
-        same(signer.key_identifier, NO_RANGE)
-    );
+    assert!(rt; same(signer.key_identifier, NO_RANGE));
     assert!(rt; is_oid(signer.digest_algorithm.oid, content(553, 2, 9), 203));
     assert!(rt; same(signer.signed_attributes, content(566, 3, 187)));
     // The octets after the tag, from the length on.
@@ -345,9 +339,7 @@ fn time_stamps(rt: HostRuntime) -> Result<(), Fail> {
     assert!(rt; same(stamp.time, whole(1001, 2, 15)));
     assert!(rt; same(stamp.accuracy, whole(1018, 2, 10)));
     assert!(rt; same(stamp.nonce, content(1030, 2, 9)));
-    assert!(rt;
-        same(stamp.authority, NO_RANGE)
-    );
+    assert!(rt; same(stamp.authority, NO_RANGE));
     let mut time = NO_TIME;
     let found = pe_c_time(&bytes, &stamp.time, &mut failure, &mut time);
     assert_eq!(rt; found, DONE);
@@ -499,7 +491,7 @@ fn refused_elements(rt: HostRuntime) {
 
 /// The result of reading an attribute, and the failure.
 fn refused_attribute(bytes: &[u8]) -> (u32, SignatureFailure) {
-    let range = range(0, bytes.len() as u64);
+    let all = range(0, bytes.len() as u64);
     let (mut failure, mut out) = (
         UNTOUCHED,
         SignerAttribute {
@@ -507,7 +499,7 @@ fn refused_attribute(bytes: &[u8]) -> (u32, SignatureFailure) {
             values: NO,
         },
     );
-    let result = pe_c_attribute(bytes, &range, &mut failure, &mut out);
+    let result = pe_c_attribute(bytes, &all, &mut failure, &mut out);
     (result, failure)
 }
 
@@ -566,16 +558,16 @@ fn attributes_of_a_type(rt: HostRuntime) {
 fn other_contents(rt: HostRuntime) {
     // Data in place of signed data.
     let data = b"\x30\x0F\x06\x09\x2A\x86\x48\x86\xF7\x0D\x01\x07\x01\xA0\x02\x05\x00";
-    let range = range(0, data.len() as u64);
+    let all = range(0, data.len() as u64);
     let (mut failure, mut out) = (UNTOUCHED, no_signed_data());
-    let result = pe_c_signature(data, &range, &mut failure, &mut out);
+    let result = pe_c_signature(data, &all, &mut failure, &mut out);
     assert!(rt; result == 510 && is_failure(&failure, 510, 2, 0, (0, 0)));
     assert!(rt; same(out.content, NO));
     // The month 13.
     let time = b"\0\x17\x0D261327010004Z";
-    let range = range(1, 15);
+    let all = range(1, 15);
     let mut out = NO_TIME;
-    let result = pe_c_time(time, &range, &mut failure, &mut out);
+    let result = pe_c_time(time, &all, &mut failure, &mut out);
     assert!(rt; result == 511 && is_failure(&failure, 511, 1, 0, (0, 0)));
     assert_eq!(rt; out.year, 1);
 }

@@ -2,7 +2,8 @@
 //! state before the prolog, with the return address popped.
 
 use super::made::{
-    FUNCTION_LINK, SHORT, UNMAPPED, UNWIND_CODE, UNWIND_VERSION, X64, image, sections, view,
+    FUNCTION_LINK, SHORT, UNMAPPED, UNWIND_CODE, UNWIND_VERSION, X64, bytes_of_words, image,
+    sections, view,
 };
 use crate::ranges::Range;
 use crate::results::{BAD_ADDRESS, BAD_OPERATION, DONE, LONG_CHAIN, MISSING, NOT_RISING};
@@ -152,15 +153,6 @@ fn with_records(alloc: Global) -> Result<Vec<u8>, AllocError> {
     )
 }
 
-/// The bytes of these words.
-fn stack_of(alloc: Global, words: &[u64]) -> Result<Vec<u8>, AllocError> {
-    let mut bytes = Vec::new(alloc);
-    for word in words {
-        bytes.extend_from_slice(&u64::to_le_bytes(*word))?;
-    }
-    Ok(bytes)
-}
-
 /// A step over pieces of memory, with this code.
 fn step_over(
     bytes: &[u8],
@@ -202,7 +194,7 @@ fn steps_undo_a_prolog(rt: HostRuntime) -> Result<(), Fail> {
         caller.general[RBP],
         RETURN_ADDRESS,
     ];
-    let stack = stack_of(rt.alloc(), &words)?;
+    let stack = bytes_of_words(rt.alloc(), &words)?;
     let mut registers = changed(&[(RSP, 0x1000), (RBP, ENTRY - 56), (RBX, 0)]);
     registers.xmm[12] = 1;
     registers.xmm[13] = 2;
@@ -238,7 +230,7 @@ fn epilogs_are_known_by_their_code(rt: HostRuntime) -> Result<(), Fail> {
         7,
         8,
     ];
-    let stack = stack_of(rt.alloc(), &words)?;
+    let stack = bytes_of_words(rt.alloc(), &words)?;
     let code = [0x48, 0x83, 0xC4, 0x28, 0x5D, 0xC3];
     let start = ENTRY - 48;
     for (from, rsp, rbp) in [
@@ -271,7 +263,7 @@ fn a_jump_is_followed_in_the_image(rt: HostRuntime) -> Result<(), Fail> {
         &mut bytes,
         &[(8, &[0xC0, 0x10]), (0xC0, &[1, 0, 1, 0, 0, 0x30])],
     );
-    let stack = stack_of(rt.alloc(), &[0x77, RETURN_ADDRESS])?;
+    let stack = bytes_of_words(rt.alloc(), &[0x77, RETURN_ADDRESS])?;
     let start = ENTRY - 8;
     let registers = changed(&[(RSP, start)]);
     // At 0x5010 jmp 0x5000
@@ -291,7 +283,7 @@ fn a_jump_is_followed_in_the_image(rt: HostRuntime) -> Result<(), Fail> {
 fn steps_that_are_refused(rt: HostRuntime) -> Result<(), Fail> {
     let bytes = with_records(rt.alloc())?;
     let high = u64::MAX - 7;
-    let stack = stack_of(rt.alloc(), &[RETURN_ADDRESS, 0x33, 0, 0x100, 0x2B])?;
+    let stack = bytes_of_words(rt.alloc(), &[RETURN_ADDRESS, 0x33, 0, 0x100, 0x2B])?;
     for (unwind, rsp, answer, address) in [
         (0x1060, ENTRY, BAD_OPERATION, NO_ADDRESS),
         (0x1070, ENTRY, BAD_OPERATION, NO_ADDRESS),
@@ -319,7 +311,7 @@ fn steps_that_are_refused(rt: HostRuntime) -> Result<(), Fail> {
     assert_eq!(rt; low.address, 31);
     // The caller's stack pointer is ENTRY + 8, below that of the function. After an interrupt it may be.
     let words = [0, 0, 0, 0, 0, 0, 0, 5, 6, RETURN_ADDRESS];
-    let saved = stack_of(rt.alloc(), &words)?;
+    let saved = bytes_of_words(rt.alloc(), &words)?;
     let sinking = changed(&[(RSP, ENTRY + 8), (RBP, ENTRY - 56)]);
     let mut frame = frame_at(0x1030, 22, sinking);
     assert_eq!(rt; step(&bytes, (ENTRY - 72, &saved), &mut frame), NOT_RISING);
@@ -348,7 +340,7 @@ fn put_chain(bytes: &mut [u8], count: usize) {
 /// The return address of a leaf function is at the stack pointer. Any number but 0 says that it is one.
 #[test]
 fn leaf_functions_return(rt: HostRuntime) -> Result<(), Fail> {
-    let stack = stack_of(rt.alloc(), &[RETURN_ADDRESS])?;
+    let stack = bytes_of_words(rt.alloc(), &[RETURN_ADDRESS])?;
     let registers = changed(&[(RSP, ENTRY)]);
     for leaf in [1, u32::MAX] {
         let mut frame = leaf_at(registers);
@@ -389,7 +381,7 @@ fn piece(start: u64, offset: u64, length: u64) -> MemoryPiece {
 fn steps_say_what_an_interrupt_left(rt: HostRuntime) -> Result<(), Fail> {
     let bytes = with_records(rt.alloc())?;
     let words = [RETURN_ADDRESS, 0x33, 0, 0x100, 0x2B];
-    let stack = stack_of(rt.alloc(), &words)?;
+    let stack = bytes_of_words(rt.alloc(), &words)?;
     let pieces = [piece(ENTRY, 0, 40)];
     let mut frame = frame_at(0x10B0, 0, changed(&[(RSP, ENTRY)]));
     assert_eq!(rt; step_pieces(&bytes, &stack, &pieces, &mut frame), [DONE, 1]);

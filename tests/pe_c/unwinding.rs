@@ -71,7 +71,7 @@ fn three_functions(alloc: Global) -> Result<Vec<u8>, Fail> {
     Ok(words(
         alloc,
         &[
-            0xFFFF_FFFF,
+            u32::MAX,
             0x1000,
             0x1010,
             0x2000,
@@ -284,7 +284,7 @@ fn with_scopes(alloc: Global) -> Result<Vec<u8>, Fail> {
     Ok(words(
         alloc,
         &[
-            0xFFFF_FFFF,
+            u32::MAX,
             2,
             0x1002,
             0x1008,
@@ -294,7 +294,7 @@ fn with_scopes(alloc: Global) -> Result<Vec<u8>, Fail> {
             0x1018,
             0x1100,
             0,
-            0xFFFF_FFFF,
+            u32::MAX,
         ],
     )?)
 }
