@@ -1,7 +1,7 @@
 //! All numbers of headers. The images have bytes that count up with their offset, so that a field at offset 0x48 of 4 bytes is
 //! 0x4B4A4948; the offsets of fields are those of winnt.h.
 
-use super::made::{HEADER_POINTER, MAPPED, PERMISSIVE, SHORT, STRICT};
+use super::made::{HEADER_POINTER, PERMISSIVE, SHORT, STRICT};
 use crate::headers::{CoffFields, DosFields, Headers, OptionalFields, pe_c_headers};
 use crate::ranges::Range;
 use crate::results::DONE;
@@ -217,36 +217,34 @@ const FIELDS_OF_32: [[u64; 28]; 2] = [
 fn every_number_of_64_bits(rt: HostRuntime) -> Result<(), Fail> {
     let mut bytes = with_every_directory(rt.alloc())?;
     count_up(&mut bytes, 0xC4);
-    for mode in [STRICT, MAPPED] {
-        let mut out = untouched();
-        assert_eq!(rt; pe_c_headers(&bytes, mode, &mut out), DONE);
-        let words = dos_words(&out.dos);
-        assert_eq!(rt;
-            (words[0], out.dos.pe_pointer, out.signature),
-            (0x5A4D, 0x40, 0x4550)
-        );
-        for i in 1..30 {
-            assert_eq!(rt; u64::from(words[i]), counted(2 * i as u64, 2), "{i}");
-        }
-        let coff = [
-            0x8664,
-            1,
-            0x4B4A_4948,
-            0x4F4E_4D4C,
-            0x5352_5150,
-            0xF0,
-            0x5756,
-        ];
-        assert_eq!(rt; coff_numbers(&out.coff), coff);
-        assert_eq!(rt; out.optional.magic, 0x20B);
-        let wanted = counted_fields(FIELDS_OF_64, 16);
-        assert_eq!(rt; optional_numbers(&out.optional), wanted);
-        assert_eq!(rt; out.optional.number_of_directories, 16);
-        assert_eq!(rt; (out.dos_stub.offset, out.dos_stub.length), (0x40, 0));
-        assert_eq!(rt; (out.optional_offset, out.directories_offset), (0x58, 0xC8));
-        let row = out.directories[6];
-        assert_eq!(rt; (row.virtual_address, row.size), (0x1440, 0x54));
+    let mut out = untouched();
+    assert_eq!(rt; pe_c_headers(&bytes, STRICT, &mut out), DONE);
+    let words = dos_words(&out.dos);
+    assert_eq!(rt;
+        (words[0], out.dos.pe_pointer, out.signature),
+        (0x5A4D, 0x40, 0x4550)
+    );
+    for i in 1..30 {
+        assert_eq!(rt; u64::from(words[i]), counted(2 * i as u64, 2), "{i}");
     }
+    let coff = [
+        0x8664,
+        1,
+        0x4B4A_4948,
+        0x4F4E_4D4C,
+        0x5352_5150,
+        0xF0,
+        0x5756,
+    ];
+    assert_eq!(rt; coff_numbers(&out.coff), coff);
+    assert_eq!(rt; out.optional.magic, 0x20B);
+    let wanted = counted_fields(FIELDS_OF_64, 16);
+    assert_eq!(rt; optional_numbers(&out.optional), wanted);
+    assert_eq!(rt; out.optional.number_of_directories, 16);
+    assert_eq!(rt; (out.dos_stub.offset, out.dos_stub.length), (0x40, 0));
+    assert_eq!(rt; (out.optional_offset, out.directories_offset), (0x58, 0xC8));
+    let row = out.directories[6];
+    assert_eq!(rt; (row.virtual_address, row.size), (0x1440, 0x54));
     Ok(())
 }
 

@@ -150,9 +150,8 @@ fn headers_of_64_bits(rt: HostRuntime) -> Result<(), Fail> {
     put_numbers(&mut bytes);
     put(&mut bytes, &[(0x140, &[0x77, 0x77])]);
     let want = image_of_64_bits();
-    for mode in [STRICT, u32::MAX] {
-        assert_eq!(rt; read(&bytes, mode), (DONE, of_image(in_mode(&want, mode))));
-    }
+    let odd = (DONE, of_image(in_mode(&want, u32::MAX)));
+    assert_eq!(rt; read(&bytes, u32::MAX), odd);
     Ok(())
 }
 

@@ -189,20 +189,6 @@ pub(crate) fn of_range(range: Range) -> [u64; 2] {
     [offset, length]
 }
 
-/// Ranges that do not lie in so many bytes: one byte too many, no bytes after the end, and numbers whose sum is 2^64 and
-/// more.
-pub(crate) fn lies(length: u64) -> [Range; 7] {
-    [
-        range(0, length + 1),
-        range(length, 1),
-        range(length + 1, 0),
-        range(u64::MAX, 1),
-        range(1, u64::MAX),
-        range(1 << 63, 1 << 63),
-        range(u64::MAX, u64::MAX),
-    ]
-}
-
 pub(crate) fn directory(virtual_address: u32, size: u32) -> DataDirectory {
     DataDirectory {
         virtual_address,

@@ -240,59 +240,27 @@ fn certificates_are_detached(rt: HostRuntime) -> Result<(), Fail> {
 /// A write that is refused leaves the room and the length as they were.
 #[test]
 fn refused_writes_change_nothing(rt: HostRuntime) -> Result<(), Fail> {
-    let certificate: &[u8] = &CERTIFICATE;
-    for (bytes, certificate, placement, number) in [
+    let parts: [(usize, &[u8], u32); 6] = [
         // Four data directories: their count is at 0xC4.
-        (
-            having(rt.alloc(), 0xC4, &[4])?,
-            certificate,
-            AFTER,
-            SIGN_NO_DIRECTORY,
-        ),
-        (
-            having(rt.alloc(), 0xED, &[1])?,
-            certificate,
-            AFTER,
-            CERTIFICATE_TABLE,
-        ),
-        (
-            having(rt.alloc(), 0xEC, &[8])?,
-            certificate,
-            AFTER,
-            SIGN_TABLE_NOT_LAST,
-        ),
+        (0xC4, &[4], SIGN_NO_DIRECTORY),
+        (0xED, &[1], CERTIFICATE_TABLE),
+        (0xEC, &[8], SIGN_TABLE_NOT_LAST),
         // The table starts in the headers, and in the section.
-        (
-            having(rt.alloc(), 0xE8, &[0x10, 0, 0, 0, 0, 4, 0, 0])?,
-            certificate,
-            AFTER,
-            SIGN_HEADERS,
-        ),
-        (
-            having(rt.alloc(), 0xE8, &[0xF8, 3, 0, 0, 0x18, 0, 0, 0])?,
-            certificate,
-            AFTER,
-            SIGN_SECTION,
-        ),
-        (
-            having(rt.alloc(), 0xE8, &[1, 4, 0, 0, 0xF, 0, 0, 0])?,
-            certificate,
-            AFTER,
-            SIGN_TABLE_OFFSET,
-        ),
-        (
-            with_functions(rt.alloc())?,
-            &[10, 0, 0, 0, 0, 2, 2, 0, 0x77],
-            AFTER,
-            CERTIFICATE_SIZE,
-        ),
-    ] {
-        let (numbers, lengths, room) = attached(rt.alloc(), &bytes, certificate, placement, 0x420)?;
+        (0xE8, &[0x10, 0, 0, 0, 0, 4, 0, 0], SIGN_HEADERS),
+        (0xE8, &[0xF8, 3, 0, 0, 0x18, 0, 0, 0], SIGN_SECTION),
+        (0xE8, &[1, 4, 0, 0, 0xF, 0, 0, 0], SIGN_TABLE_OFFSET),
+    ];
+    for (offset, part, number) in parts {
+        let bytes = having(rt.alloc(), offset, part)?;
+        let (numbers, lengths, room) = attached(rt.alloc(), &bytes, &CERTIFICATE, AFTER, 0x420)?;
         assert_eq!(rt; (numbers, lengths), ([number; 2], [OLD_LENGTH; 2]));
         assert!(rt; room.iter().all(|byte| *byte == OLD));
     }
+    // A certificate that says it has more bytes than it has.
+    let (bytes, long) = (with_functions(rt.alloc())?, [10, 0, 0, 0, 0, 2, 2, 0, 0x77]);
+    let (numbers, ..) = attached(rt.alloc(), &bytes, &long, AFTER, 0x420)?;
+    assert_eq!(rt; numbers, [CERTIFICATE_SIZE; 2]);
     // A room of one byte less than the file.
-    let bytes = with_functions(rt.alloc())?;
     let (numbers, lengths, room) = attached(rt.alloc(), &bytes, &CERTIFICATE, AFTER, 0x41F)?;
     assert_eq!(rt; (numbers, lengths), ([DONE, ROOM], [0x420; 2]));
     assert!(rt; room.iter().all(|byte| *byte == OLD));

@@ -129,33 +129,18 @@ fn image_of_pe32() -> Image {
 /// The second entry of a list, at 0x68, which is an ordinal.
 #[test]
 fn imports(rt: HostRuntime) -> Result<(), Fail> {
-    let changes: [(usize, &[u8], Said); 4] = [
-        (0x68, &[17], NONE),
+    let changes: [(&[u8; 8], Said); 4] = [
+        (&[17, 0, 0, 0, 0, 0, 0, 0x80], NONE),
         // Bits 31 to 62 are no part of the RVA.
-        (
-            0x68,
-            &[0x69, 0x45, 0, 0x80, 1, 0, 0, 0x40],
-            error(UNMAPPED, [0, 0, 0x4569]),
-        ),
-        (
-            0x68,
-            &[0xBE, 0x10, 0, 0, 0, 0, 0, 0],
-            error(IMPORT_NAME, [0, 0, 0x10BE]),
-        ),
-        (
-            0x68,
-            &[0xBF, 0x10, 0, 0, 0, 0, 0, 0],
-            error(SHORT, [0xBF, 2, 0]),
-        ),
+        (b"\x69\x45\0\x80\x01\0\0\x40", error(UNMAPPED, [0, 0, 0x4569])),
+        (b"\xBE\x10\0\0\0\0\0\0", error(IMPORT_NAME, [0, 0, 0x10BE])),
+        (b"\xBF\x10\0\0\0\0\0\0", error(SHORT, [0xBF, 2, 0])),
     ];
-    for (offset, change, wanted) in changes {
+    for (change, wanted) in changes {
         let mut bytes = with_imports(rt.alloc())?;
-        put(&mut bytes, &[(offset, change)]);
-        assert_eq!(rt;
-            import(&bytes, &image(X64), range(0x68, 16)),
-            wanted,
-            "{change:?}"
-        );
+        put(&mut bytes, &[(0x68, &change[..])]);
+        let found = import(&bytes, &image(X64), range(0x68, 16));
+        assert_eq!(rt; found, wanted, "{change:?}");
     }
     Ok(())
 }
@@ -200,12 +185,7 @@ fn links_that_never_end_are_told_early(rt: HostRuntime) -> Result<(), Fail> {
         start: 0,
         section: 20_001,
     }];
-    for (unwind, index) in [
-        (0x1001, &[][..]),
-        (0x100D, &[]),
-        (0x1001, &last),
-        (0x100D, &last),
-    ] {
+    for (unwind, index) in [(0x100D, &[][..]), (0x100D, &last)] {
         let view = View {
             index,
             ..view(&bytes, &image, &many)
@@ -277,34 +257,25 @@ fn resource_leaves(rt: HostRuntime) -> Result<(), Fail> {
 /// The second certificate, at 24.
 #[test]
 fn certificates(rt: HostRuntime) -> Result<(), Fail> {
-    let changes: [(usize, &[u8], Range, Said); 6] = [
-        (24, &[8], range(24, 24), NONE),
-        (
-            28,
-            &[0, 3],
-            range(24, 24),
-            error(CERTIFICATE_REVISION, [0, 0, 0x300]),
-        ),
-        (30, &[5], range(24, 24), error(CERTIFICATE_TYPE, [0, 0, 5])),
-        (
-            24,
-            &[33],
-            range(24, 24),
-            error(CERTIFICATE_SIZE, [0, 33, 0]),
-        ),
-        (24, &[8], range(49, 7), error(SHORT, [49, 8, 0])),
-        (
-            24,
-            &[8],
-            range(24, 33),
-            error(CERTIFICATE_TABLE, [57, 0, 0]),
-        ),
+    let changes: [(usize, &[u8], Said); 4] = [
+        (24, &[8], NONE),
+        (28, &[0, 3], error(CERTIFICATE_REVISION, [0, 0, 0x300])),
+        (30, &[5], error(CERTIFICATE_TYPE, [0, 0, 5])),
+        (24, &[33], error(CERTIFICATE_SIZE, [0, 33, 0])),
     ];
-    for (offset, change, walk, wanted) in changes {
+    for (offset, change, wanted) in changes {
         let mut bytes = three_certificates(rt.alloc())?;
         put(&mut bytes, &[(offset, change)]);
-        let found = said(|out| pe_c_certificate_failure(&bytes, &walk, out));
+        let found = said(|out| pe_c_certificate_failure(&bytes, &range(24, 24), out));
         assert_eq!(rt; found, wanted, "{change:?} at {offset}");
+    }
+    let bytes = three_certificates(rt.alloc())?;
+    for (walk, wanted) in [
+        (range(49, 7), error(SHORT, [49, 8, 0])),
+        (range(24, 33), error(CERTIFICATE_TABLE, [57, 0, 0])),
+    ] {
+        let found = said(|out| pe_c_certificate_failure(&bytes, &walk, out));
+        assert_eq!(rt; found, wanted);
     }
     Ok(())
 }
