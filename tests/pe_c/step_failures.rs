@@ -132,7 +132,10 @@ fn imports(rt: HostRuntime) -> Result<(), Fail> {
     let changes: [(&[u8; 8], Said); 4] = [
         (&[17, 0, 0, 0, 0, 0, 0, 0x80], NONE),
         // Bits 31 to 62 are no part of the RVA.
-        (b"\x69\x45\0\x80\x01\0\0\x40", error(UNMAPPED, [0, 0, 0x4569])),
+        (
+            b"\x69\x45\0\x80\x01\0\0\x40",
+            error(UNMAPPED, [0, 0, 0x4569]),
+        ),
         (b"\xBE\x10\0\0\0\0\0\0", error(IMPORT_NAME, [0, 0, 0x10BE])),
         (b"\xBF\x10\0\0\0\0\0\0", error(SHORT, [0xBF, 2, 0])),
     ];
