@@ -1,9 +1,8 @@
 //! The functions of ARM64 images, their unwind records and epilog scopes.
 
 use super::made::{
-    ARM64, ARM64_VERSION, EXCEPTION_BOUNDS, EXCEPTION_OFFSET, EXCEPTION_SIZE, FUNCTION_INDEX,
-    MAPPED, OVER, PERMISSIVE, SHORT, STRICT, UNMAPPED, UNTOUCHED, X64, directory, having, image,
-    images_without_tables, in_mode, lies, of_range, range, sections, untouched, view, words,
+    ARM64, ARM64_VERSION, EXCEPTION_SIZE, FUNCTION_INDEX, NO_RANGE, OVER, SHORT, UNTOUCHED, X64,
+    directory, having, image, of_range, range, sections, untouched, view, words,
 };
 use crate::arm64::functions::{
     Arm64Packed, pe_c_arm64_function_at, pe_c_arm64_packed_fields, pe_c_arm64_table,
@@ -24,9 +23,9 @@ pub(crate) fn with_table(virtual_address: u32, size: u32) -> Image {
     having(image(ARM64), 3, directory(virtual_address, size))
 }
 
-fn table_of(bytes: &[u8], image: &Image, mode: u32) -> (u32, [u64; 2]) {
+fn table_of(bytes: &[u8], image: &Image) -> (u32, [u64; 2]) {
     let mut out = untouched();
-    let answer = pe_c_arm64_table(&view(bytes, &in_mode(image, mode), &sections()), &mut out);
+    let answer = pe_c_arm64_table(&view(bytes, image, &sections()), &mut out);
     (answer, of_range(out))
 }
 
@@ -35,12 +34,16 @@ fn table_of(bytes: &[u8], image: &Image, mode: u32) -> (u32, [u64; 2]) {
 fn function_tables(rt: HostRuntime) {
     let bytes = [0; 0x40];
     let whole = with_table(0x1010, 0x28);
-    for mode in [STRICT, PERMISSIVE] {
-        assert_eq!(rt; table_of(&bytes, &whole, mode), (DONE, [0x10, 0x28]));
-        for (image, number) in images_without_tables(whole, X64, 8) {
-            assert_eq!(rt; table_of(&bytes, &image, mode), (number, UNTOUCHED));
-        }
-    }
+    assert_eq!(rt; table_of(&bytes, &whole), (DONE, [0x10, 0x28]));
+    let (other, odd) = (
+        Image {
+            machine: X64,
+            ..whole
+        },
+        with_table(0x1010, 0x2C),
+    );
+    assert_eq!(rt; table_of(&bytes, &other), (NOTHING, UNTOUCHED));
+    assert_eq!(rt; table_of(&bytes, &odd), (EXCEPTION_SIZE, UNTOUCHED));
 }
 
 fn function(begin_address: u32, unwind_data: u32) -> Arm64RuntimeFunction {
@@ -89,7 +92,6 @@ fn functions_of_addresses(rt: HostRuntime) -> Result<(), Fail> {
     let second = function(0x1020, 0x101C);
     let last = function(0x1040, 0x21);
     for (rva, want) in [
-        (0, (NOTHING, OTHER)),
         (0x0FFF, (NOTHING, OTHER)),
         (0x1000, (DONE, first)),
         (0x100F, (DONE, first)),
@@ -100,37 +102,13 @@ fn functions_of_addresses(rt: HostRuntime) -> Result<(), Fail> {
         (0x1040, (DONE, last)),
         (0x105F, (DONE, last)),
         (0x1060, (NOTHING, OTHER)),
-        (u32::MAX, (NOTHING, OTHER)),
     ] {
         assert_eq!(rt; find(&bytes, &whole, &table, rva), want, "of {rva:#x}");
     }
-    assert_eq!(rt;
-        find(&bytes, &whole, &range(4, 0), 0x1000),
-        (NOTHING, OTHER)
-    );
     // The record alone is refused, and where it is not the one to read, it is not read.
-    let unmapped = Image {
-        file_alignment: 3,
-        ..whole
-    };
-    for (bytes, image, number) in [
-        (&bytes[..0x1F], &whole, SHORT),
-        (&bytes[..], &in_mode(&whole, MAPPED), SHORT),
-        (&bytes[..], &unmapped, UNMAPPED),
-    ] {
-        assert_eq!(rt; find(bytes, image, &table, 0x1020), (number, OTHER));
-        assert_eq!(rt; find(bytes, image, &table, 0x103F), (number, OTHER));
-        assert_eq!(rt; find(bytes, image, &table, 0x100F), (DONE, first));
-        assert_eq!(rt; find(bytes, image, &table, 0x1040), (DONE, last));
-    }
-    for lie in lies(32) {
-        assert_eq!(rt;
-            find(&bytes, &whole, &lie, 0x1000),
-            (SHORT, OTHER),
-            "{:?}",
-            of_range(lie)
-        );
-    }
+    let cut = &bytes[..0x1F];
+    assert_eq!(rt; find(cut, &whole, &table, 0x1020), (SHORT, OTHER));
+    assert_eq!(rt; find(cut, &whole, &table, 0x100F), (DONE, first));
     Ok(())
 }
 
@@ -147,15 +125,9 @@ fn functions_by_index(rt: HostRuntime) -> Result<(), Fail> {
         (answer, out)
     };
     let table = range(4, 16);
-    assert_eq!(rt; at(&table, 0), (DONE, function(0x1000, 0x0062_0021)));
     assert_eq!(rt; at(&table, 1), (DONE, function(0x1020, 0x1040)));
-    for index in [2, 1 << 32, u64::MAX / 8 + 1, u64::MAX] {
-        assert_eq!(rt; at(&table, index), (FUNCTION_INDEX, OTHER), "{index}");
-    }
+    assert_eq!(rt; at(&table, 2), (FUNCTION_INDEX, OTHER));
     assert_eq!(rt; at(&range(4, 15), 1), (FUNCTION_INDEX, OTHER));
-    for lie in lies(20) {
-        assert_eq!(rt; at(&lie, 0), (SHORT, OTHER), "{:?}", of_range(lie));
-    }
     Ok(())
 }
 
@@ -201,8 +173,6 @@ fn packed(unwind_data: u32) -> (u32, [u32; 8]) {
 fn packed_unwind_data(rt: HostRuntime) {
     for (data, want) in [
         (0, [0; 8]),
-        (1, [1, 0, 0, 0, 0, 0, 0, 1]),
-        (2, [2, 0, 0, 0, 0, 0, 0, 1]),
         (3, [3, 0, 0, 0, 0, 0, 0, 1]),
         (0x0000_1FFC, [0, 4 * 0x7FF, 0, 0, 0, 0, 0, 0]),
         (0x0000_E001, [1, 0, 0, 7, 0, 0, 0, 1]),
@@ -221,18 +191,21 @@ fn packed_unwind_data(rt: HostRuntime) {
 /// All fields of a record: its scopes, its codes, its handler's data, and the other numbers.
 type Fields = ([u64; 2], [u64; 2], [u64; 2], [u32; 6]);
 
+/// What a record is before a call that hands out another.
+pub(crate) const NO_RECORD: Arm64Record = Arm64Record {
+    scopes: NO_RANGE,
+    codes: NO_RANGE,
+    handler_data: NO_RANGE,
+    handler: 7,
+    has_handler: 8,
+    function_length: 9,
+    epilog_in_header: 10,
+    epilog_start: 11,
+    version: 12,
+};
+
 fn record_of(bytes: &[u8], image: &Image, unwind_data: u32) -> (u32, Fields) {
-    let mut out = Arm64Record {
-        scopes: range(1, 2),
-        codes: range(3, 4),
-        handler_data: range(5, 6),
-        handler: 7,
-        has_handler: 8,
-        function_length: 9,
-        epilog_in_header: 10,
-        epilog_start: 11,
-        version: 12,
-    };
+    let mut out = NO_RECORD;
     let function = function(0x5000, unwind_data);
     let answer = pe_c_arm64_unwind_record(&view(bytes, image, &sections()), &function, &mut out);
     let Arm64Record {
@@ -258,7 +231,7 @@ fn record_of(bytes: &[u8], image: &Image, unwind_data: u32) -> (u32, Fields) {
     (answer, (ranges.0, ranges.1, ranges.2, numbers))
 }
 
-const UNTOUCHED_FIELDS: Fields = ([1, 2], [3, 4], [5, 6], [7, 8, 9, 10, 11, 12]);
+const UNTOUCHED_FIELDS: Fields = (OVER, OVER, OVER, [7, 8, 9, 10, 11, 12]);
 
 /// Records of 16 bytes each from offset 0x10 on. A header has the length of the function by 4 in bits 0 to 17, the
 /// version in 18 and 19, whether there is a handler in 20, whether the epilog is in the header in 21, the count of
@@ -308,6 +281,11 @@ pub(crate) fn with_records(alloc: Global) -> Result<Vec<u8>, Fail> {
 fn records_are_read(rt: HostRuntime) -> Result<(), Fail> {
     let bytes = with_records(rt.alloc())?;
     let image = with_table(0x1000, 8);
+    let version = record_of(&bytes, &image, 0x1060);
+    assert_eq!(rt; version, (ARM64_VERSION, UNTOUCHED_FIELDS));
+    // Packed data have no record.
+    let none = record_of(&bytes, &image, 0x1011);
+    assert_eq!(rt; none, (NOTHING, UNTOUCHED_FIELDS));
     for (unwind_data, want) in [
         (
             0x1010,
@@ -323,42 +301,6 @@ fn records_are_read(rt: HostRuntime) -> Result<(), Fail> {
             record_of(&bytes, &image, unwind_data),
             (DONE, want),
             "at {unwind_data:#x}"
-        );
-    }
-    Ok(())
-}
-
-#[test]
-fn records_that_are_refused(rt: HostRuntime) -> Result<(), Fail> {
-    let bytes = with_records(rt.alloc())?;
-    let image = with_table(0x1000, 8);
-    for (unwind_data, number) in [
-        (0x1011, NOTHING),
-        (0x1012, NOTHING),
-        (0x1013, NOTHING),
-        (0x3000, UNMAPPED),
-        (0x1060, ARM64_VERSION),
-        (0x107C, SHORT),
-        (0x1080, SHORT),
-        (0x1FFC, SHORT),
-        (0xFFFF_FFFC, UNMAPPED),
-    ] {
-        let want = (number, UNTOUCHED_FIELDS);
-        assert_eq!(rt;
-            record_of(&bytes, &image, unwind_data),
-            want,
-            "at {unwind_data:#x}"
-        );
-    }
-    for (image, number) in [
-        (with_table(0x1000, 12), EXCEPTION_SIZE),
-        (with_table(0x3000, 8), UNMAPPED),
-        (with_table(0x1002, 8), EXCEPTION_OFFSET),
-        (with_table(0x1000, 0x88), EXCEPTION_BOUNDS),
-    ] {
-        assert_eq!(rt;
-            record_of(&bytes, &image, 0x1010),
-            (number, UNTOUCHED_FIELDS)
         );
     }
     Ok(())
@@ -412,25 +354,7 @@ fn scopes_in_turn(rt: HostRuntime) -> Result<(), Fail> {
     ] {
         assert_eq!(rt; step(&bytes, &mut walk), (DONE, scope, after));
     }
-    for _ in 0..2u8 {
-        assert_eq!(rt; step(&bytes, &mut walk), (NOTHING, NO_SCOPE, [20, 0]));
-    }
-    // one whole scope and one that is truncated, after which the walk is over
-    let mut cut = range(4, 7);
-    assert_eq!(rt;
-        step(&bytes, &mut cut),
-        (DONE, [48, 5, 0, 0x0140_000C], [8, 3])
-    );
-    assert_eq!(rt; step(&bytes, &mut cut), (SHORT, NO_SCOPE, OVER));
-    assert_eq!(rt; step(&bytes, &mut cut), (NOTHING, NO_SCOPE, OVER));
-    for lie in lies(20) {
-        let mut walk = lie;
-        assert_eq!(rt;
-            step(&bytes, &mut walk),
-            (SHORT, NO_SCOPE, OVER),
-            "{:?}",
-            of_range(lie)
-        );
-    }
+    assert_eq!(rt; step(&bytes, &mut walk), (NOTHING, NO_SCOPE, [20, 0]));
+    assert_eq!(rt; step(&bytes, &mut range(4, 3)), (SHORT, NO_SCOPE, OVER));
     Ok(())
 }

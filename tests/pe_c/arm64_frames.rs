@@ -1,11 +1,13 @@
 //! Steps of a stack walk on ARM64. The unwind data are those of the tests of pe_frame: records that clang makes, and packed
 //! data whose prolog llvm-readobj prints. Stacks are by hand: what is expected is the state at the function's entry.
 
-use super::made::{ARM64, ARM64_CUT, ARM64_VERSION, SHORT, UNMAPPED, image, sections, view};
+use super::made::{
+    ARM64, ARM64_CUT, ARM64_VERSION, SHORT, UNMAPPED, bytes_of_words, image, sections, view,
+};
 use crate::arm64::frames::{Arm64FrameRegisters, Arm64StackFrame, pe_c_step_arm64};
 use crate::results::{BAD_ADDRESS, BAD_OPERATION, DONE, MISSING, NOT_RISING};
 use pe_frame::MemoryPiece;
-use pe_images::{image as bytes_of, put};
+use pe_images::image as bytes_of;
 use pe_unwind::Arm64RuntimeFunction;
 use std::alloc::{AllocError, Global};
 use std::test::Fail;
@@ -138,15 +140,6 @@ fn with_records(alloc: Global) -> Result<Vec<u8>, AllocError> {
     )
 }
 
-/// The bytes of these words.
-fn stack_of(alloc: Global, words: &[u64]) -> Result<Vec<u8>, AllocError> {
-    let mut bytes = Vec::new(alloc);
-    for word in words {
-        bytes.extend_from_slice(&u64::to_le_bytes(*word))?;
-    }
-    Ok(bytes)
-}
-
 fn piece(start: u64, offset: u64, length: u64) -> MemoryPiece {
     MemoryPiece {
         start,
@@ -185,7 +178,7 @@ fn steps_undo_a_prolog(rt: HostRuntime) -> Result<(), Fail> {
     words[29] = caller.floats[1];
     words[30] = caller.general[19];
     words[31] = caller.general[20];
-    let stack = stack_of(rt.alloc(), &words)?;
+    let stack = bytes_of_words(rt.alloc(), &words)?;
     let start = ENTRY - 256;
     let mut registers = changed(start - 512, &[(19, 1), (20, 2), (29, start), (LR, 3)]);
     registers.floats[0] = 4;
@@ -199,7 +192,7 @@ fn steps_undo_a_prolog(rt: HostRuntime) -> Result<(), Fail> {
     assert_eq!(rt; step(&bytes, (start, &[]), &mut frame), DONE);
     assert_eq!(rt; fields_of(&frame.registers), fields_of(&caller));
     // Before the last load of an epilog.
-    let words = stack_of(rt.alloc(), &[caller.general[19]])?;
+    let words = bytes_of_words(rt.alloc(), &[caller.general[19]])?;
     let mut frame = frame_at(0x1020, 8, changed(ENTRY - 32, &[(19, 1)]));
     assert_eq!(rt; step(&bytes, (ENTRY - 32, &words), &mut frame), DONE);
     assert_eq!(rt; fields_of(&frame.registers), fields_of(&caller));
@@ -210,7 +203,7 @@ fn steps_undo_a_prolog(rt: HostRuntime) -> Result<(), Fail> {
 #[test]
 fn steps_tell_interrupts(rt: HostRuntime) -> Result<(), Fail> {
     let bytes = with_records(rt.alloc())?;
-    let stack = stack_of(rt.alloc(), &[0x7_0000, 0x1_2345])?;
+    let stack = bytes_of_words(rt.alloc(), &[0x7_0000, 0x1_2345])?;
     let registers = changed(ENTRY, &[]);
     let mut pushed = registers;
     pushed.sp = 0x7_0000;
@@ -237,7 +230,7 @@ fn steps_tell_interrupts(rt: HostRuntime) -> Result<(), Fail> {
 fn steps_undo_packed_data(rt: HostRuntime) -> Result<(), Fail> {
     let bytes = with_records(rt.alloc())?;
     let caller = of_caller();
-    let stack = stack_of(rt.alloc(), &[caller.general[19], 0])?;
+    let stack = bytes_of_words(rt.alloc(), &[caller.general[19], 0])?;
     let inside = changed(ENTRY - 16, &[(19, 1)]);
     for (data, place, registers) in [
         (0x0081_0101, 0, changed(ENTRY, &[])),
@@ -255,32 +248,6 @@ fn steps_undo_packed_data(rt: HostRuntime) -> Result<(), Fail> {
         let wanted = left_at(data, place, caller);
         assert_eq!(rt; numbers_of(&frame), numbers_of(&wanted), "at {place}");
     }
-    Ok(())
-}
-
-/// Memory that is missing is named by its address, each word in turn, and with a piece that has it the same call succeeds.
-#[test]
-fn missing_memory_is_asked_for(rt: HostRuntime) -> Result<(), Fail> {
-    let bytes = with_records(rt.alloc())?;
-    let caller = of_caller();
-    let words = [caller.general[19], 0xDD, RETURN_ADDRESS, 0xDD];
-    let stack = stack_of(rt.alloc(), &words)?;
-    let registers = changed(ENTRY - 1056, &[(19, 1), (LR, 2)]);
-    let start = ENTRY - 32;
-    let mut frame = frame_at(0x1020, 3, registers);
-    for (first, length, address) in [(0, 0, ENTRY - 16), (0, 23, ENTRY - 16), (8, 24, ENTRY - 32)] {
-        frame.address = NO_ADDRESS;
-        let piece = &stack[first..first + length];
-        assert_eq!(rt;
-            step(&bytes, (start + first as u64, piece), &mut frame),
-            MISSING
-        );
-        let mut wanted = frame_at(0x1020, 3, registers);
-        wanted.address = address;
-        assert_eq!(rt; numbers_of(&frame), numbers_of(&wanted));
-    }
-    assert_eq!(rt; step(&bytes, (start, &stack), &mut frame), DONE);
-    assert_eq!(rt; fields_of(&frame.registers), fields_of(&caller));
     Ok(())
 }
 
@@ -316,49 +283,11 @@ fn steps_are_refused(rt: HostRuntime) -> Result<(), Fail> {
 /// piece outside the memory is refused.
 #[test]
 fn leaves_a_leaf(rt: HostRuntime) {
-    for leaf in [1, u32::MAX] {
-        let mut frame = frame_at(7, 8, changed(ENTRY, &[]));
-        frame.leaf = leaf;
-        let before = frame;
-        assert_eq!(rt; step_over(&[], &[], &[piece(0, 0, 1)], &mut frame), SHORT);
-        assert_eq!(rt; numbers_of(&frame), numbers_of(&before));
-        assert_eq!(rt; step_over(&[], &[], &[], &mut frame), DONE);
-        let mut wanted = left_at(7, 8, of_caller());
-        wanted.leaf = leaf;
-        assert_eq!(rt; numbers_of(&frame), numbers_of(&wanted));
-    }
-}
-
-/// A word may stand in two pieces, in any order. A piece outside the memory is refused before anything else.
-#[test]
-fn steps_read_memory_in_pieces(rt: HostRuntime) -> Result<(), Fail> {
-    let bytes = with_records(rt.alloc())?;
-    let caller = of_caller();
-    let words = [caller.general[19], 0xDD, RETURN_ADDRESS, 0xDD];
-    let stack = stack_of(rt.alloc(), &words)?;
-    let mut memory = [0xEE; 40];
-    put(&mut memory, &[(30, &stack[..3]), (1, &stack[3..])]);
-    let start = ENTRY - 32;
-    let (first, second) = (piece(start, 30, 3), piece(start + 3, 1, 29));
-    let registers = changed(ENTRY - 1056, &[(19, 1), (LR, 2)]);
-    let cases: [(&[MemoryPiece], u32, u32, u64); 5] = [
-        (&[first, second], 0x1020, DONE, NO_ADDRESS),
-        (&[second, first], 0x1020, DONE, NO_ADDRESS),
-        (&[second], 0x1020, MISSING, start),
-        (&[first, second, piece(0, 40, 1)], 0x1060, SHORT, NO_ADDRESS),
-        (&[first, second], 0x1060, ARM64_VERSION, NO_ADDRESS),
-    ];
-    for (pieces, data, number, address) in cases {
-        let mut frame = frame_at(data, 3, registers);
-        let answer = step_over(&bytes, &memory, pieces, &mut frame);
-        assert_eq!(rt; answer, number);
-        let mut wanted = if number == DONE {
-            left_at(data, 3, caller)
-        } else {
-            frame_at(data, 3, registers)
-        };
-        wanted.address = address;
-        assert_eq!(rt; numbers_of(&frame), numbers_of(&wanted));
-    }
-    Ok(())
+    let mut frame = frame_at(7, 8, changed(ENTRY, &[]));
+    frame.leaf = u32::MAX;
+    assert_eq!(rt; step_over(&[], &[], &[piece(0, 0, 1)], &mut frame), SHORT);
+    assert_eq!(rt; step_over(&[], &[], &[], &mut frame), DONE);
+    let mut wanted = left_at(7, 8, of_caller());
+    wanted.leaf = u32::MAX;
+    assert_eq!(rt; numbers_of(&frame), numbers_of(&wanted));
 }

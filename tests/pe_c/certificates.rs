@@ -2,7 +2,7 @@
 
 use super::made::{
     CERTIFICATE_REVISION, CERTIFICATE_SIZE, CERTIFICATE_TABLE, CERTIFICATE_TYPE, OVER, SHORT,
-    UNTOUCHED, lies, of_range, range, untouched,
+    UNTOUCHED, of_range, range, untouched,
 };
 use crate::certificates::{Certificate, pe_c_next_certificate};
 use crate::ranges::Range;
@@ -61,17 +61,7 @@ fn certificates_in_turn(rt: HostRuntime) -> Result<(), Fail> {
     ] {
         assert_eq!(rt; step(&bytes, &mut walk), (DONE, fields, after));
     }
-    for _ in 0..2u8 {
-        assert_eq!(rt; step(&bytes, &mut walk), (NOTHING, NO_CERTIFICATE, OVER));
-    }
-    // A walk of no bytes of the file is at its end.
-    for offset in [0, 8, 48] {
-        let mut empty = range(offset, 0);
-        assert_eq!(rt;
-            step(&bytes, &mut empty),
-            (NOTHING, NO_CERTIFICATE, [offset, 0])
-        );
-    }
+    assert_eq!(rt; step(&bytes, &mut walk), (NOTHING, NO_CERTIFICATE, OVER));
     Ok(())
 }
 
@@ -89,38 +79,25 @@ fn certificates_at_the_end_of_a_walk(rt: HostRuntime) -> Result<(), Fail> {
         );
     }
     let mut next = range(24, 1);
-    assert_eq!(rt;
-        step(&bytes, &mut next),
-        (DONE, ([32, 0], 8, 0x100, 1), OVER)
-    );
+    let found = step(&bytes, &mut next);
+    assert_eq!(rt; found, (DONE, ([32, 0], 8, 0x100, 1), OVER));
     Ok(())
 }
 
 /// After a refusal the walk is over. A damage is bytes at an offset.
 #[test]
 fn certificates_that_are_refused(rt: HostRuntime) -> Result<(), Fail> {
-    let damages: [(usize, &[u8], u32); 8] = [
-        (12, &[0, 0], CERTIFICATE_REVISION),
+    let damages: [(usize, &[u8], u32); 3] = [
         (12, &[0, 3], CERTIFICATE_REVISION),
-        (14, &[0], CERTIFICATE_TYPE),
         (14, &[5], CERTIFICATE_TYPE),
         (8, &[49], CERTIFICATE_SIZE),
-        (10, &[1], CERTIFICATE_SIZE),
-        (8, &[0xFF; 4], CERTIFICATE_SIZE),
-        (8, &[48], DONE),
     ];
     for (offset, damage, number) in damages {
         let mut bytes = three_certificates(rt.alloc())?;
         put(&mut bytes, &[(offset, damage)]);
         let mut walk = range(8, 40);
-        if number == DONE {
-            let want = (DONE, ([16, 40], 48, 0x200, 2), OVER);
-            assert_eq!(rt; step(&bytes, &mut walk), want, "{damage:?} at {offset}");
-        } else {
-            let want = (number, NO_CERTIFICATE, OVER);
-            assert_eq!(rt; step(&bytes, &mut walk), want, "{damage:?} at {offset}");
-            assert_eq!(rt; step(&bytes, &mut walk), (NOTHING, NO_CERTIFICATE, OVER));
-        }
+        let want = (number, NO_CERTIFICATE, OVER);
+        assert_eq!(rt; step(&bytes, &mut walk), want, "{damage:?} at {offset}");
     }
     // a length below that of the header is one of no body
     let mut bytes = three_certificates(rt.alloc())?;
@@ -130,12 +107,8 @@ fn certificates_that_are_refused(rt: HostRuntime) -> Result<(), Fail> {
     let mut cut = range(49, 7);
     assert_eq!(rt; step(&bytes, &mut cut), (SHORT, NO_CERTIFICATE, OVER));
     // shows: pe_c/src/certificates.rt step CertificateTable
-    for lie in lies(56) {
-        let mut walk = lie;
-        for number in [CERTIFICATE_TABLE, NOTHING] {
-            let want = (number, NO_CERTIFICATE, OVER);
-            assert_eq!(rt; step(&bytes, &mut walk), want, "{:?}", of_range(lie));
-        }
-    }
+    let mut lie = range(8, 49);
+    let want = (CERTIFICATE_TABLE, NO_CERTIFICATE, OVER);
+    assert_eq!(rt; step(&bytes, &mut lie), want);
     Ok(())
 }

@@ -1,9 +1,8 @@
 //! The debug directory's table, and the records that its entries lead to.
 
 use super::made::{
-    BAD_MAGIC, DEBUG_BOUNDS, DEBUG_DATA, DEBUG_SIZE, MAPPED, PERMISSIVE, POGO_SIZE, SHORT, STRICT,
-    UNMAPPED, UNTOUCHED, X64, directory, having, image, in_mode, lies, of_range, range, sections,
-    untouched, view,
+    BAD_MAGIC, DEBUG_BOUNDS, DEBUG_DATA, DEBUG_SIZE, MAPPED, PERMISSIVE, SHORT, STRICT, UNTOUCHED,
+    X64, directory, having, image, in_mode, of_range, range, sections, untouched, view,
 };
 use crate::debug::{
     DebugRecords, pe_c_debug_data, pe_c_debug_entries, pe_c_first_debug_entry, pe_c_symbol_key,
@@ -40,23 +39,13 @@ fn tables_of_entries(rt: HostRuntime) {
         );
         (answer, of_range(out))
     };
-    for mode in [STRICT, PERMISSIVE] {
-        assert_eq!(rt; at(&with_table(0x1010, 0x38), mode), (DONE, [0x10, 0x38]));
-        assert_eq!(rt; at(&with_table(0x1010, 0x40), mode), (DONE, [0x10, 0x40]));
-        assert_eq!(rt; at(&with_table(0x1012, 5), mode), (DONE, [0x12, 5]));
-        assert_eq!(rt; at(&with_table(0, 0), mode), (NOTHING, UNTOUCHED));
-        assert_eq!(rt; at(&with_table(0x3000, 0x1C), mode), (UNMAPPED, UNTOUCHED));
-        assert_eq!(rt; at(&with_table(0, 0x1C), mode), (UNMAPPED, UNTOUCHED));
-    }
+    let there = with_table(0x1010, 0x38);
+    assert_eq!(rt; at(&there, STRICT), (DONE, [0x10, 0x38]));
+    assert_eq!(rt; at(&with_table(0, 0), STRICT), (NOTHING, UNTOUCHED));
     let long = with_table(0x1010, 0x41);
     assert_eq!(rt; at(&long, STRICT), (DEBUG_BOUNDS, UNTOUCHED));
     assert_eq!(rt; at(&long, PERMISSIVE), (DONE, [0x10, 0x40]));
-    let huge = with_table(0x1010, u32::MAX);
-    assert_eq!(rt; at(&huge, STRICT), (DEBUG_BOUNDS, UNTOUCHED));
-    assert_eq!(rt; at(&huge, u32::MAX - MAPPED), (DONE, [0x10, 0x40]));
-    let after = with_table(0x1100, 0x1C);
-    assert_eq!(rt; at(&after, STRICT), (DEBUG_BOUNDS, UNTOUCHED));
-    let (answer, [_, length]) = at(&after, PERMISSIVE);
+    let (answer, [_, length]) = at(&with_table(0x1100, 0x1C), PERMISSIVE);
     assert_eq!(rt; (answer, length), (DONE, 0));
 }
 
@@ -149,7 +138,6 @@ fn key_of(bytes: &[u8], image: &Image, mode: u32) -> (u32, [u8; 16], [u32; 2], [
 fn records_that_stand_alone(rt: HostRuntime) -> Result<(), Fail> {
     let mut bytes = with_records(rt.alloc())?;
     put(&mut bytes, &[(0x10, &[0xFF; 0x80])]);
-    let length = bytes.len() as u64;
     let codeview = |record: Range| {
         let mut out = SymbolKey {
             guid: [7; 16],
@@ -162,13 +150,10 @@ fn records_that_stand_alone(rt: HostRuntime) -> Result<(), Fail> {
     };
     let (_, guid, numbers, _) = reported_of_records().key;
     assert_eq!(rt; codeview(range(0xA0, 30)), (DONE, guid, numbers, [0xB8, 6]));
-    assert_eq!(rt; codeview(range(0xA0, 24)), (DONE, guid, numbers, [0xB8, 0]));
     let refused = |number| (number, [7; 16], [8, 9], UNTOUCHED);
     assert_eq!(rt; codeview(range(0xA0, 23)), refused(DEBUG_SIZE));
     assert_eq!(rt; codeview(range(0xA1, 30)), refused(NOTHING));
-    for record in lies(length) {
-        assert_eq!(rt; codeview(record), refused(SHORT));
-    }
+    assert_eq!(rt; codeview(range(0x123, 30)), refused(SHORT));
     Ok(())
 }
 
@@ -291,31 +276,14 @@ const TABLE_SIZE: u32 = 5 * 28;
 fn records_of_debug_data(rt: HostRuntime) -> Result<(), Fail> {
     let bytes = with_records(rt.alloc())?;
     let image = with_table(0x1010, TABLE_SIZE);
-    for mode in [STRICT, PERMISSIVE, u32::MAX - MAPPED] {
-        assert_eq!(rt; reported_by(&bytes, &image, mode), reported_of_records());
-        assert_eq!(rt; key_of(&bytes, &image, mode), reported_of_records().key);
-    }
+    let want = reported_of_records();
+    assert_eq!(rt; reported_by(&bytes, &image, STRICT), want);
+    assert_eq!(rt; key_of(&bytes, &image, STRICT), want.key);
     Ok(())
 }
 
-/// The name of PDB 2.0 stands after 16 bytes. A time stamp of Repro has no range.
-#[test]
-fn older_records_of_debug_data(rt: HostRuntime) -> Result<(), Fail> {
-    let bytes = with_old_records(rt.alloc())?;
-    let image = with_table(0x1010, TABLE_SIZE);
-    let want = Reported {
-        pdb20: (DONE, [0xB0, 7], [0x0403_0201, 0x0807_0605, 6, 0]),
-        repro: (DONE, [0, 0], [0, 0]),
-        ..nothing_but(NOTHING)
-    };
-    for mode in [PERMISSIVE, u32::MAX - MAPPED] {
-        assert_eq!(rt; reported_by(&bytes, &image, mode), want);
-    }
-    Ok(())
-}
-
-/// The same image in strict mode, where a CodeView record of 23 bytes is too small to be one of PDB 7.0, and is one of PDB 2.0;
-/// with 15 it is too small for both.
+/// The name of PDB 2.0 stands after 16 bytes. A time stamp of Repro has no range. In strict mode a CodeView record of 23 bytes is too
+/// small to be one of PDB 7.0, and with 15 it is too small for both.
 #[test]
 fn older_records_in_strict_mode(rt: HostRuntime) -> Result<(), Fail> {
     let mut bytes = with_old_records(rt.alloc())?;
@@ -332,178 +300,6 @@ fn older_records_in_strict_mode(rt: HostRuntime) -> Result<(), Fail> {
         let said = reported_by(&bytes, &image, mode);
         assert_eq!(rt; (said.key.0, said.pdb20.0), (number, number));
     }
-    Ok(())
-}
-
-/// Without a directory, with an empty table, or with entries of no known type there is nothing.
-#[test]
-fn no_debug_data(rt: HostRuntime) -> Result<(), Fail> {
-    let mut bytes = with_records(rt.alloc())?;
-    for mode in [STRICT, PERMISSIVE] {
-        assert_eq!(rt;
-            reported_by(&bytes, &with_table(0, 0), mode),
-            nothing_but(NOTHING)
-        );
-        assert_eq!(rt;
-            reported_by(&bytes, &with_table(0x1010, 0), mode),
-            nothing_but(NOTHING)
-        );
-        // a first entry that is truncated is none
-        assert_eq!(rt;
-            reported_by(&bytes, &with_table(0x1010, 27), mode),
-            nothing_but(NOTHING)
-        );
-    }
-    put(
-        &mut bytes,
-        &[
-            (0x1C, &[99]),
-            (0x38, &[98]),
-            (0x54, &[97]),
-            (0x70, &[96]),
-            (0x8C, &[95]),
-        ],
-    );
-    let image = with_table(0x1010, TABLE_SIZE);
-    assert_eq!(rt; reported_by(&bytes, &image, STRICT), nothing_but(NOTHING));
-    // records of a signature that is not theirs
-    let mut other = with_records(rt.alloc())?;
-    put(&mut other, &[(0xA0, b"XXXX"), (0xE0, b"XXXX")]);
-    let want = Reported {
-        key: nothing_but(NOTHING).key,
-        pogo: nothing_but(NOTHING).pogo,
-        ..reported_of_records()
-    };
-    assert_eq!(rt; reported_by(&other, &image, STRICT), want);
-    Ok(())
-}
-
-/// Whose record is damaged: what it reports then, beside what the others report.
-fn with_damaged(whole: Reported, number: u32, kind: u32) -> Reported {
-    let refused = nothing_but(number);
-    match kind {
-        2 => Reported {
-            key: refused.key,
-            ..whole
-        },
-        12 => Reported {
-            features: refused.features,
-            ..whole
-        },
-        13 => Reported {
-            pogo: refused.pogo,
-            ..whole
-        },
-        16 => Reported {
-            repro: refused.repro,
-            ..whole
-        },
-        _ => Reported {
-            characteristics: refused.characteristics,
-            ..whole
-        },
-    }
-}
-
-/// What refuses one record refuses no other, and nothing goes out of it. A damage is a byte at an offset, of the record of a
-/// type.
-#[test]
-fn damaged_records_are_refused_alone(rt: HostRuntime) -> Result<(), Fail> {
-    let image = with_table(0x1010, TABLE_SIZE);
-    for (offset, byte, kind, strict, permissive) in [
-        // CodeView: 23 bytes; 0x1E bytes and 256 times 0x10
-        (0x20, 23, 2, DEBUG_SIZE, NOTHING),
-        (0x21, 0x10, 2, DEBUG_DATA, DEBUG_DATA),
-        // VC feature: an offset after the end
-        (0x45, 2, 12, SHORT, SHORT),
-        // POGO: 4 bytes; too many; an offset after the end
-        (0x58, 4, 13, POGO_SIZE, POGO_SIZE),
-        (0x59, 1, 13, DEBUG_DATA, DEBUG_DATA),
-        (0x61, 2, 13, SHORT, SHORT),
-        // Repro: a length that is too great; an offset after the end
-        (0x101, 1, 16, DEBUG_DATA, DEBUG_DATA),
-        (0x7D, 2, 16, SHORT, SHORT),
-        // further characteristics: an offset after the end
-        (0x99, 2, 20, SHORT, SHORT),
-    ] {
-        let mut bytes = with_records(rt.alloc())?;
-        put(&mut bytes, &[(offset, &[byte])]);
-        for (mode, number) in [(STRICT, strict), (PERMISSIVE, permissive)] {
-            let want = with_damaged(reported_of_records(), number, kind);
-            assert_eq!(rt; reported_by(&bytes, &image, mode), want, "at {offset:#x}");
-            assert_eq!(rt; key_of(&bytes, &image, mode), want.key);
-        }
-    }
-    Ok(())
-}
-
-/// Two entries whose size, RVA and offset are all 0xFFFFFFFF, in both modes: their records are refused at the first number,
-/// and the key and the other two records stay what they are.
-#[test]
-fn two_damaged_entries_are_refused_alone(rt: HostRuntime) -> Result<(), Fail> {
-    let image = with_table(0x1010, TABLE_SIZE);
-    // where the size, the RVA and the offset of the entry of a type stand: 16 bytes into it
-    let entries = [(12, 0x3C), (13, 0x58), (16, 0x74), (20, 0x90)];
-    for (at, &(first, one)) in entries.iter().enumerate() {
-        for &(second, other) in &entries[at + 1..] {
-            let mut bytes = with_records(rt.alloc())?;
-            put(&mut bytes, &[(one, &[0xFF; 12]), (other, &[0xFF; 12])]);
-            let want = with_damaged(reported_of_records(), SHORT, first);
-            let want = with_damaged(want, SHORT, second);
-            for mode in [STRICT, PERMISSIVE] {
-                assert_eq!(rt;
-                    reported_by(&bytes, &image, mode),
-                    want,
-                    "of {first} and {second}"
-                );
-            }
-            let damaged = ImageDebugDirectory {
-                data_type: first,
-                size_of_data: u32::MAX,
-                address_of_raw_data: u32::MAX,
-                pointer_to_raw_data: u32::MAX,
-                ..ImageDebugDirectory::default()
-            };
-            assert_eq!(rt; first_entry(&bytes, &image, first), (DONE, damaged));
-        }
-    }
-    Ok(())
-}
-
-/// Both CodeView records are read where the first entry leads, which may be at the end of all numbers.
-#[test]
-fn records_after_the_end(rt: HostRuntime) -> Result<(), Fail> {
-    let image = with_table(0x1010, TABLE_SIZE);
-    for (offset, byte) in [(0x29, &[2u8] as &[u8]), (0x28, &[0xFF; 4])] {
-        let mut bytes = with_records(rt.alloc())?;
-        put(&mut bytes, &[(offset, byte)]);
-        let want = Reported {
-            key: nothing_but(SHORT).key,
-            pdb20: nothing_but(SHORT).pdb20,
-            ..reported_of_records()
-        };
-        assert_eq!(rt; reported_by(&bytes, &image, STRICT), want);
-    }
-    Ok(())
-}
-
-/// A table that is not there is an error of each record, and permissive mode truncates one.
-#[test]
-fn tables_that_are_refused(rt: HostRuntime) -> Result<(), Fail> {
-    let bytes = with_records(rt.alloc())?;
-    assert_eq!(rt;
-        reported_by(&bytes, &with_table(0x3000, 28), STRICT),
-        nothing_but(UNMAPPED)
-    );
-    let long = with_table(0x1010, 0x131);
-    assert_eq!(rt;
-        reported_by(&bytes, &long, STRICT),
-        nothing_but(DEBUG_BOUNDS)
-    );
-    assert_eq!(rt;
-        reported_by(&bytes, &long, PERMISSIVE),
-        reported_of_records()
-    );
     Ok(())
 }
 
@@ -546,12 +342,6 @@ fn first_entries_of_types(rt: HostRuntime) -> Result<(), Fail> {
         assert_eq!(rt; first_entry(&bytes, &image, data_type), (DONE, want));
     }
     assert_eq!(rt; first_entry(&bytes, &image, 17), (NOTHING, NO_ENTRY));
-    let short = with_table(0x1010, TABLE_SIZE - 1);
-    assert_eq!(rt; first_entry(&bytes, &short, 20), (NOTHING, NO_ENTRY));
-    let far = with_table(0x3000, 28);
-    assert_eq!(rt; first_entry(&bytes, &far, 2), (UNMAPPED, NO_ENTRY));
-    let long = with_table(0x1010, 0x131);
-    assert_eq!(rt; first_entry(&bytes, &long, 2), (DEBUG_BOUNDS, NO_ENTRY));
     // the last entry is of CodeView too, and leads nowhere
     put(&mut bytes, &[(0x8C, &[2]), (0x98, &[0xFF; 4])]);
     let want = Reported {
@@ -613,10 +403,8 @@ fn records_of_entries(rt: HostRuntime) -> Result<(), Fail> {
     assert_eq!(rt; (number, flags), whole.characteristics);
     // in an image as loaded the record stands at its RVA
     entries[4].address_of_raw_data = 0x111;
-    assert_eq!(rt;
-        pe_c_characteristics_of(&bytes, MAPPED, &entries[4], &mut flags),
-        DONE
-    );
+    let found = pe_c_characteristics_of(&bytes, MAPPED, &entries[4], &mut flags);
+    assert_eq!(rt; found, DONE);
     assert_eq!(rt; flags, 0x0004_0302);
     let mut old = Pdb20 {
         name: untouched(),
@@ -659,18 +447,13 @@ fn embedded_pdbs(rt: HostRuntime) -> Result<(), Fail> {
         let number = pe_c_embedded_pdb_of(&bytes, mode, &entry, &mut out);
         (number, of_range(out.compressed), out.uncompressed_size)
     };
-    for mode in [STRICT, PERMISSIVE] {
-        assert_eq!(rt; read(mode, entry(3, 13)), (DONE, [11, 5], 0x201));
-        assert_eq!(rt; read(mode, entry(3, 8)), (DONE, [11, 0], 0x201));
-        for (entry, number) in [
-            (entry(3, 7), DEBUG_SIZE),
-            (entry(9, 8), SHORT),
-            (entry(u32::MAX, 8), SHORT),
-            (entry(4, 8), BAD_MAGIC),
-            (entry(3, 14), DEBUG_DATA),
-        ] {
-            assert_eq!(rt; read(mode, entry), (number, UNTOUCHED, 5));
-        }
+    assert_eq!(rt; read(STRICT, entry(3, 13)), (DONE, [11, 5], 0x201));
+    for (mode, entry, number) in [
+        (STRICT, entry(3, 7), DEBUG_SIZE),
+        (PERMISSIVE, entry(4, 8), BAD_MAGIC),
+        (PERMISSIVE, entry(3, 14), DEBUG_DATA),
+    ] {
+        assert_eq!(rt; read(mode, entry), (number, UNTOUCHED, 5));
     }
     Ok(())
 }
@@ -687,18 +470,10 @@ fn checksums_of_pdbs(rt: HostRuntime) -> Result<(), Fail> {
         let number = pe_c_pdb_checksum_of(&bytes, mode, &entry, &mut out);
         (number, of_range(out.algorithm), of_range(out.checksum))
     };
-    for mode in [STRICT, PERMISSIVE] {
-        assert_eq!(rt; read(mode, entry(3, 10)), (DONE, [3, 6], [10, 3]));
-        assert_eq!(rt; read(mode, entry(3, 7)), (DONE, [3, 6], [10, 0]));
-        assert_eq!(rt; read(mode, entry(9, 1)), (DONE, [9, 0], [10, 0]));
-        for (entry, number) in [
-            (entry(3, 6), DEBUG_SIZE),
-            (entry(3, 0), DEBUG_SIZE),
-            (entry(3, 14), DEBUG_DATA),
-            (entry(u32::MAX, u32::MAX), DEBUG_DATA),
-        ] {
-            assert_eq!(rt; read(mode, entry), (number, UNTOUCHED, UNTOUCHED));
-        }
-    }
+    assert_eq!(rt; read(STRICT, entry(3, 10)), (DONE, [3, 6], [10, 3]));
+    let found = read(STRICT, entry(3, 6));
+    assert_eq!(rt; found, (DEBUG_SIZE, UNTOUCHED, UNTOUCHED));
+    let long = entry(3, 14);
+    assert_eq!(rt; read(PERMISSIVE, long), (DEBUG_DATA, UNTOUCHED, UNTOUCHED));
     Ok(())
 }

@@ -114,20 +114,11 @@ fn sizes_and_signatures(rt: HostRuntime) -> Result<(), Fail> {
     // What strict mode alone refuses, records with other signatures, records that are there.
     for (mode, kind, record) in [
         (PERMISSIVE, 0, (0x20, 23)),
-        (PERMISSIVE, 1, (0x20, 15)),
-        (STRICT, 0, (0x30, 24)),
         (STRICT, 1, (0x20, 16)),
-        (STRICT, 2, (0x4C, 20)),
-        (STRICT, 3, (0x5C, 4)),
-        (STRICT, 5, (0x30, 4)),
         (STRICT, 5, (0x34, 44)),
-        (STRICT, 6, (0x40, 32)),
-        (STRICT, 7, (0x48, 7)),
+        (STRICT, 8, (0x5F, 4)),
     ] {
         assert_eq!(rt; said(&bytes, mode, record, kind), NONE, "{kind} {record:?}");
-    }
-    for kind in [8, 9, u32::MAX] {
-        assert_eq!(rt; said(&bytes, STRICT, (0x5F, 4), kind), NONE);
     }
     Ok(())
 }

@@ -1,8 +1,9 @@
 //! The DLLs of the delay import directory, one a step, and what is imported of each.
 
 use super::made::{
-    DIRECTORY_DELAY_IMPORT_NAME, DIRECTORY_VA_BELOW_BASE, OVER, SHORT, UNMAPPED, UNTOUCHED, X64,
-    directory, having, image, in_mode, lies, of_range, range, sections, untouched, view, words,
+    DIRECTORY_DELAY_IMPORT_NAME, DIRECTORY_VA_BELOW_BASE, NO_RANGE, OVER, SHORT, UNMAPPED,
+    UNTOUCHED, X64, directory, having, image, in_mode, of_range, range, sections, untouched, view,
+    words,
 };
 use crate::delay_imports::{
     DelayLibrary, DelayWalk, DelayedFunction, DelayedFunctionWalk, DelayedFunctions,
@@ -10,9 +11,8 @@ use crate::delay_imports::{
 };
 use crate::image::Image;
 use crate::kept_sections::NO_SECTIONS;
-use crate::lists::delay_imports::{pe_c_list_delay_imports, pe_c_list_delayed_functions};
 use crate::ranges::Range;
-use crate::results::{DONE, NOTHING, ROOM};
+use crate::results::{DONE, NOTHING};
 use pe_directories::DelayImport;
 use std::alloc::{AllocError, Global};
 use std::test::Fail;
@@ -24,37 +24,8 @@ pub(crate) fn bytes_of(alloc: Global) -> Result<Vec<u8>, AllocError> {
     words(
         alloc,
         &[
-            0xDD,
-            1,
-            0x1044,
-            3,
-            4,
-            0x1054,
-            6,
-            7,
-            8,
-            0,
-            0,
-            0,
-            0,
-            0,
-            0,
-            0,
-            0,
-            0x6C64_2E61,
-            0x6C,
-            0x6E66_0201,
-            0,
-            0x104C,
-            0,
-            0xFFFF_0009,
-            0x8000_0000,
-            0,
-            0,
-            0x104C,
-            0x8000_0009,
-            0,
-            0x2000,
+            0xDD, 1, 0x1044, 3, 4, 0x1054, 6, 7, 8, 0, 0, 0, 0, 0, 0, 0, 0, 0x6C642E61, 0x6C,
+            0x6E660201, 0, 0x104C, 0, 0xFFFF0009, 0x80000000, 0, 0, 0x104C, 0x80000009, 0, 0x2000,
             0,
         ],
     )
@@ -69,6 +40,23 @@ const NO_ENTRY: DelayImport = DelayImport {
     bound_import_address_table: 16,
     unload_information_table: 17,
     time_date_stamp: 18,
+};
+
+/// What `out` is before each call.
+pub(crate) const NO_LIBRARY: DelayLibrary = DelayLibrary {
+    name: NO_RANGE,
+    functions: DelayedFunctions {
+        left: NO_RANGE,
+        attributes: 7,
+        spare: 0,
+    },
+    descriptor: NO_ENTRY,
+};
+
+pub(crate) const NO_FUNCTION: DelayedFunction = DelayedFunction {
+    name: NO_RANGE,
+    ordinal: 7,
+    has_name: 8,
 };
 
 const ENTRY: DelayImport = DelayImport {
@@ -87,9 +75,7 @@ fn tables_of_entries(rt: HostRuntime) -> Result<(), Fail> {
     let bytes = bytes_of(rt.alloc())?;
     for (address, size, want) in [
         (0x1004, 64, (DONE, [4, 64])),
-        (0x1004, 124, (DONE, [4, 124])),
         (0x1004, 125, (SHORT, UNTOUCHED)),
-        (0x2000, 32, (UNMAPPED, UNTOUCHED)),
         (0, 0, (NOTHING, UNTOUCHED)),
     ] {
         let image = having(image(X64), 13, directory(address, size));
@@ -123,11 +109,7 @@ fn next(
     walk: [u64; 2],
 ) -> (u32, [[u64; 2]; 2], u32, DelayImport, [u64; 2]) {
     let mut walk = from(range(walk[0], walk[1]));
-    let mut out = DelayLibrary {
-        name: untouched(),
-        functions: functions(UNTOUCHED, 7),
-        descriptor: NO_ENTRY,
-    };
+    let mut out = NO_LIBRARY;
     let answer = pe_c_next_delay_import(&view(bytes, image, &sections()), &mut walk, &mut out);
     (
         answer,
@@ -153,16 +135,10 @@ fn entries_in_turn(rt: HostRuntime) -> Result<(), Fail> {
     let found = |left| (DONE, [[68, 5], [84, 44]], 1, ENTRY, left);
     // shows: pe_c/src/delay_imports.rt name_range DelayImportName
     assert_eq!(rt; next(&bytes, &image, [4, 64]), found([36, 32]));
-    assert_eq!(rt; next(&bytes, &image, [4, 32]), found([36, 0]));
-    let nothing = |answer, left| (answer, [UNTOUCHED; 2], 7, NO_ENTRY, left);
-    for left in [[36, 32], [36, 0], OVER] {
-        assert_eq!(rt; next(&bytes, &image, left), nothing(NOTHING, left));
-    }
+    let nothing = |answer, left| (answer, [OVER; 2], 7, NO_ENTRY, left);
+    let end = [36, 32];
+    assert_eq!(rt; next(&bytes, &image, end), nothing(NOTHING, end));
     assert_eq!(rt; next(&bytes, &image, [4, 31]), nothing(SHORT, OVER));
-    assert_eq!(rt; next(&bytes, &image, [36, 31]), nothing(SHORT, OVER));
-    for lie in lies(128) {
-        assert_eq!(rt; next(&bytes, &image, of_range(lie)), nothing(SHORT, OVER));
-    }
     // The image as loaded: its addresses are offsets.
     assert_eq!(rt;
         next(&bytes, &in_mode(&image, 2), [4, 64]),
@@ -191,15 +167,8 @@ fn names_and_tables(rt: HostRuntime) -> Result<(), Fail> {
     for (image, attributes, name, table, want) in [
         // shows: pe_c/src/delay_imports.rt address_offset Unmapped
         (&wide, 1, 0x2000, 0x1054, UNMAPPED),
-        (&wide, 1, 0x1044, 0x2000, UNMAPPED),
-        // The last byte of all is a name, which is empty; after it there is none, and the name is tested first.
-        (&wide, 3, 0x107F, 0x2000, UNMAPPED),
         (&wide, 1, 0x1080, 0x2000, DIRECTORY_DELAY_IMPORT_NAME),
-        (&wide, 0, 0x1044, 0x1054, DIRECTORY_VA_BELOW_BASE),
         (&low, 0, 0x3F_FFFF, 0x40_1054, DIRECTORY_VA_BELOW_BASE),
-        (&low, 0, 0x40_1044, 0x3F_FFFF, DIRECTORY_VA_BELOW_BASE),
-        (&low, 0, 0x40_2000, 0x40_1054, UNMAPPED),
-        (&low, 0, 0x40_1044, 0x40_2000, UNMAPPED),
     ] {
         let bytes = entry_of(rt.alloc(), attributes, name, table)?;
         let (answer, _, _, _, left) = next(&bytes, image, [4, 64]);
@@ -211,13 +180,6 @@ fn names_and_tables(rt: HostRuntime) -> Result<(), Fail> {
         (answer, ranges, attributes, left),
         (DONE, [[68, 5], [84, 44]], 2, [36, 32])
     );
-    // A table after the end of the bytes has no bytes.
-    let bytes = entry_of(rt.alloc(), 1, 0x1044, 0x1090)?;
-    let (answer, ranges, _, _, _) = next(&bytes, &wide, [4, 64]);
-    assert_eq!(rt; (answer, ranges), (DONE, [[68, 5], [144, 0]]));
-    let mut bytes = bytes_of(rt.alloc())?;
-    bytes[70] = 0xFF;
-    assert_eq!(rt; next(&bytes, &wide, [4, 64]).0, DIRECTORY_DELAY_IMPORT_NAME);
     Ok(())
 }
 
@@ -229,11 +191,7 @@ fn step(
     attributes: u32,
 ) -> (u32, [u64; 2], [u32; 2], [u64; 2]) {
     let mut walk = from_function(functions(left, attributes));
-    let mut out = DelayedFunction {
-        name: untouched(),
-        ordinal: 7,
-        has_name: 8,
-    };
+    let mut out = NO_FUNCTION;
     let answer = pe_c_next_delayed_function(&view(bytes, image, &sections()), &mut walk, &mut out);
     let numbers = [out.ordinal, out.has_name];
     let left = of_range(walk.functions.left);
@@ -248,130 +206,18 @@ fn functions_in_turn(rt: HostRuntime) -> Result<(), Fail> {
     for (image, left, want) in [
         (&wide, [84, 44], (DONE, [78, 2], [0x201, 1], [92, 36])),
         (&wide, [92, 36], (DONE, OVER, [9, 0], [100, 28])),
-        (&wide, [100, 28], (NOTHING, UNTOUCHED, [7, 8], [100, 28])),
+        (&wide, [100, 28], (NOTHING, OVER, [7, 8], [100, 28])),
         (&narrow, [108, 20], (DONE, [78, 2], [0x201, 1], [112, 16])),
         (&narrow, [112, 16], (DONE, OVER, [9, 0], [116, 12])),
-        (&narrow, [116, 12], (NOTHING, UNTOUCHED, [7, 8], [116, 12])),
-        (&wide, OVER, (NOTHING, UNTOUCHED, [7, 8], OVER)),
-        (&wide, [120, 8], (UNMAPPED, UNTOUCHED, [7, 8], OVER)),
-        (&wide, [128, 0], (SHORT, UNTOUCHED, [7, 8], OVER)),
-        (&wide, [84, 7], (SHORT, UNTOUCHED, [7, 8], OVER)),
-        (&narrow, [108, 3], (SHORT, UNTOUCHED, [7, 8], OVER)),
+        (&narrow, [116, 12], (NOTHING, OVER, [7, 8], [116, 12])),
+        (&wide, [120, 8], (UNMAPPED, OVER, [7, 8], OVER)),
+        (&wide, [84, 7], (SHORT, OVER, [7, 8], OVER)),
         // Of PE32 the high half of a number of 8 bytes is the next number.
         (&narrow, [92, 36], (DONE, OVER, [9, 0], [96, 32])),
-        (&narrow, [96, 32], (DONE, OVER, [0, 0], [100, 28])),
     ] {
         assert_eq!(rt; step(&bytes, image, left, 1), want);
     }
-    for lie in lies(128) {
-        assert_eq!(rt;
-            step(&bytes, &wide, of_range(lie), 1),
-            (SHORT, UNTOUCHED, [7, 8], OVER)
-        );
-    }
-    assert_eq!(rt;
-        step(&bytes, &wide, [84, 44], 0),
-        (DIRECTORY_VA_BELOW_BASE, UNTOUCHED, [7, 8], OVER)
-    );
-    Ok(())
-}
-
-#[test]
-fn names_of_functions(rt: HostRuntime) -> Result<(), Fail> {
-    let wide = image(X64);
-    for (address, want) in [
-        (0x104C, (DONE, [78, 2], [0x201, 1], [92, 36])),
-        (0x107C, (DONE, [126, 0], [0, 1], [92, 36])),
-        (
-            0x107E,
-            (DIRECTORY_DELAY_IMPORT_NAME, UNTOUCHED, [7, 8], OVER),
-        ),
-        (0x107F, (SHORT, UNTOUCHED, [7, 8], OVER)),
-        (0x2000, (UNMAPPED, UNTOUCHED, [7, 8], OVER)),
-    ] {
-        let mut bytes = bytes_of(rt.alloc())?;
-        let number: u32 = address;
-        bytes[84..88].copy_from_slice(&number.to_le_bytes());
-        assert_eq!(rt; step(&bytes, &wide, [84, 44], 1), want);
-    }
-    // Bits 31 to 62 of a number of PE32+ are no part of the address.
-    let mut bytes = bytes_of(rt.alloc())?;
-    bytes[87] = 0x80;
-    bytes[88..92].copy_from_slice(&[0xFF, 0xFF, 0xFF, 0x7F]);
-    assert_eq!(rt;
-        step(&bytes, &wide, [84, 44], 1),
-        (DONE, [78, 2], [0x201, 1], [92, 36])
-    );
-    // A name that is not UTF-8, after the hint.
-    bytes[78] = 0xFF;
-    assert_eq!(rt;
-        step(&bytes, &wide, [84, 44], 1),
-        (DIRECTORY_DELAY_IMPORT_NAME, UNTOUCHED, [7, 8], OVER)
-    );
-    // An address of an old linker is virtual.
-    let low = Image {
-        base: 0x40_0000,
-        ..wide
-    };
-    let mut bytes = bytes_of(rt.alloc())?;
-    bytes[86] = 0x40;
-    assert_eq!(rt;
-        step(&bytes, &low, [84, 44], 0),
-        (DONE, [78, 2], [0x201, 1], [92, 36])
-    );
-    Ok(())
-}
-
-/// Lists of the DLLs and of what is imported of them: the entries, then none; an error where no entry comes before it.
-#[test]
-fn lists_of_both(rt: HostRuntime) -> Result<(), Fail> {
-    let bytes = bytes_of(rt.alloc())?;
-    let (image, sections) = (image(X64), sections());
-    let view = view(&bytes, &image, &sections);
-    let none = DelayLibrary {
-        name: untouched(),
-        functions: functions(UNTOUCHED, 7),
-        descriptor: NO_ENTRY,
-    };
-    let (mut walk, mut entries, mut written) = (range(4, 64), [none; 2], 77);
-    let answer = pe_c_list_delay_imports(
-        &view,
-        &mut walk,
-        &mut [],
-        &mut entries[..0],
-        &mut written,
-    );
-    assert_eq!(rt; (answer, written, of_range(walk)), (ROOM, 77, [4, 64]));
-    for (count, name) in [(1, [68, 5]), (0, [68, 5])] {
-        let answer = pe_c_list_delay_imports(&view, &mut walk, &mut [], &mut entries, &mut written);
-        assert_eq!(rt; (answer, written, of_range(walk)), (DONE, count, [36, 32]));
-        assert_eq!(rt; of_range(entries[0].name), name);
-        assert_eq!(rt; of_range(entries[1].name), UNTOUCHED);
-    }
-    let mut cut = range(4, 31);
-    let answer = pe_c_list_delay_imports(&view, &mut cut, &mut [], &mut entries, &mut written);
-    assert_eq!(rt; (answer, written, of_range(cut)), (SHORT, 0, OVER));
-    let none = DelayedFunction {
-        name: untouched(),
-        ordinal: 5,
-        has_name: 6,
-    };
-    let (mut walk, mut found) = (functions([84, 44], 1), [none; 3]);
-    for (count, left) in [(2, [100, 28]), (0, [100, 28])] {
-        let answer = pe_c_list_delayed_functions(
-            &view,
-            &mut walk,
-            &mut [],
-            &mut found,
-            &mut written,
-        );
-        assert_eq!(rt; (answer, written, of_range(walk.left)), (DONE, count, left));
-        assert_eq!(rt;
-            (of_range(found[0].name), found[0].ordinal),
-            ([78, 2], 0x201)
-        );
-        assert_eq!(rt; (found[1].has_name, found[1].ordinal), (0, 9));
-        assert_eq!(rt; (found[2].has_name, found[2].ordinal), (6, 5));
-    }
+    let found = step(&bytes, &wide, [84, 44], 0);
+    assert_eq!(rt; found, (DIRECTORY_VA_BELOW_BASE, OVER, [7, 8], OVER));
     Ok(())
 }

@@ -65,7 +65,6 @@ fn truncated(rt: HostRuntime) -> Result<(), Fail> {
         (13, 0x1020, 0x81, (SHORT, [0x20, 0x81, 0])),
         // Bound imports stand at a file offset.
         (11, 0x30, 0x71, (SHORT, [0x30, 0x71, 0])),
-        (11, 0x1030, 8, (SHORT, [0x1030, 8, 0])),
         // Tables of functions and of debug entries are refused by their ends.
         (3, 0x1004, 156 + 12, (EXCEPTION_BOUNDS, [4 + 168, 0, 0])),
         (6, 0x1011, 0x90, (DEBUG_BOUNDS, [0xA1, 0, 0])),
@@ -74,33 +73,10 @@ fn truncated(rt: HostRuntime) -> Result<(), Fail> {
         let image = with(index, rva, size);
         assert_eq!(rt; said(&bytes, &image, index as u32), (DONE, wanted, 0));
     }
-    let pe32 = Image {
-        width: 32,
-        ..with(9, 0x1089, 1)
-    };
-    assert_eq!(rt; said(&bytes, &pe32, 9), (DONE, (SHORT, [0x89, 24, 0]), 0));
     Ok(())
 }
 
-/// Tables that end where the bytes do, and one that permissive mode reads as far as it goes.
-#[test]
-fn nothing_is_truncated(rt: HostRuntime) -> Result<(), Fail> {
-    let bytes = bytes_of(rt.alloc(), 160, &[])?;
-    let whole = [
-        (5, 0x1010, 0x90),
-        (13, 0x1020, 0x80),
-        (11, 0x30, 0x70),
-        (6, 0x1010, 0x90),
-    ];
-    for (index, rva, size) in whole {
-        assert_eq!(rt; said(&bytes, &with(index, rva, size), index as u32), NONE);
-    }
-    let permissive = in_mode(&with(6, 0x1011, 0x90), PERMISSIVE);
-    assert_eq!(rt; said(&bytes, &permissive, 6), NONE);
-    Ok(())
-}
-
-/// The tables of exports, each at an unmapped RVA and truncated: addresses, names, ordinals.
+/// The tables of exports, each truncated: ordinals, names, addresses.
 #[test]
 fn tables_of_exports(rt: HostRuntime) -> Result<(), Fail> {
     let image = with(0, 0x1010, 40);
@@ -117,9 +93,6 @@ fn tables_of_exports(rt: HostRuntime) -> Result<(), Fail> {
         put(&mut bytes, &[(field, &[0x9B, 0x10])]);
         let wanted = (DONE, (SHORT, [0x9B, needed, 0]), 0);
         assert_eq!(rt; said(&bytes, &image, 0), wanted);
-        put(&mut bytes, &[(field, &[0x34, 0x72])]);
-        let wanted = (DONE, (UNMAPPED, [0, 0, 0x7234]), 0);
-        assert_eq!(rt; said(&bytes, &image, 0), wanted);
     }
     Ok(())
 }
@@ -132,9 +105,6 @@ fn function_tables(rt: HostRuntime) -> Result<(), Fail> {
         (with(3, 0x1010, 25), (EXCEPTION_SIZE, [0, 0, 25])),
         (with(3, 0x1012, 24), (EXCEPTION_OFFSET, [0x12, 0, 0])),
         (arm64(0x1010, 12), (EXCEPTION_SIZE, [0, 0, 12])),
-        (arm64(0x1016, 16), (EXCEPTION_OFFSET, [0x16, 0, 0])),
-        (arm64(0x1098, 24), (EXCEPTION_BOUNDS, [0xB0, 0, 0])),
-        (arm64(0x3098, 24), (UNMAPPED, [0, 0, 0x3098])),
     ] {
         assert_eq!(rt; said(&bytes, &image, 3), (DONE, wanted, 0));
     }
@@ -179,22 +149,17 @@ fn certificates(rt: HostRuntime) -> Result<(), Fail> {
 /// The first directory of resources, its entries, and a CLR header that says it is too small.
 #[test]
 fn records_that_are_read(rt: HostRuntime) -> Result<(), Fail> {
-    let mut bytes = bytes_of(rt.alloc(), 160, &[(0x20, &[71]), (0x4E, &[4])])?;
+    let bytes = bytes_of(rt.alloc(), 160, &[(0x20, &[71]), (0x4E, &[4])])?;
     let clr = with(14, 0x1020, 72);
     let wanted = (DONE, (DIRECTORY_CLR_HEADER_SIZE, [0, 0, 71]), 0);
     assert_eq!(rt; said(&bytes, &clr, 14), wanted);
     // Four entries of 8 bytes follow the 16 bytes of the directory: they end at 0x70.
     let resources = |size| with(2, 0x1040, size);
     assert_eq!(rt; said(&bytes, &resources(0x30), 2), NONE);
-    for size in [0x2F, 0x10, 0xF] {
-        let image = resources(size);
-        let wanted = (DONE, (RESOURCE_BOUNDS, [0x70, 0, 0]), 0);
-        assert_eq!(rt; said(&bytes, &image, 2), wanted);
-        let permissive = in_mode(&image, PERMISSIVE);
-        assert_eq!(rt; said(&bytes, &permissive, 2), NONE);
-    }
-    put(&mut bytes, &[(0x20, &[72])]);
-    assert_eq!(rt; said(&bytes, &clr, 14), NONE);
+    let short = resources(0x2F);
+    let wanted = (DONE, (RESOURCE_BOUNDS, [0x70, 0, 0]), 0);
+    assert_eq!(rt; said(&bytes, &short, 2), wanted);
+    assert_eq!(rt; said(&bytes, &in_mode(&short, PERMISSIVE), 2), NONE);
     Ok(())
 }
 
@@ -209,8 +174,6 @@ fn nothing_is_wrong(rt: HostRuntime) -> Result<(), Fail> {
         let image = with(index, 0x4568, 24);
         assert_eq!(rt; said(&bytes, &image, index as u32), NONE);
     }
-    for index in [16, 17, u32::MAX] {
-        assert_eq!(rt; said(&bytes, &with(0, 0x4568, 24), index), NONE);
-    }
+    assert_eq!(rt; said(&bytes, &with(0, 0x4568, 24), 16), NONE);
     Ok(())
 }

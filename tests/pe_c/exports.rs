@@ -1,8 +1,7 @@
 //! The tables of exports, the exports that have a name, one a step, and all exports by their index.
 
 use super::made::{
-    MAPPED, OVER, PERMISSIVE, SHORT, STRICT, UNMAPPED, X64, directory, having, image, in_mode,
-    lies, of_range, range, sections, view,
+    OVER, SHORT, UNMAPPED, X64, directory, having, image, of_range, range, sections, view,
 };
 use crate::export_addresses::{AddressTable, Exported, pe_c_export_addresses, pe_c_export_at};
 use crate::exports::{Export, ExportWalk, Exports, pe_c_export_tables, pe_c_next_export};
@@ -80,7 +79,7 @@ pub(crate) fn walk_over(next: u64) -> Exports {
 
 const UNTOUCHED_WALK: Walk = ([1, 2], [3, 4], [5, 6], 7, [8, 9]);
 
-fn tables_of(bytes: &[u8], image: &Image, mode: u32) -> (u32, Walk) {
+fn tables_of(bytes: &[u8], image: &Image) -> (u32, Walk) {
     let mut out = Exports {
         names: range(1, 2),
         ordinals: range(3, 4),
@@ -88,7 +87,7 @@ fn tables_of(bytes: &[u8], image: &Image, mode: u32) -> (u32, Walk) {
         next: 7,
         directory: directory(8, 9),
     };
-    let answer = pe_c_export_tables(&view(bytes, &in_mode(image, mode), &sections()), &mut out);
+    let answer = pe_c_export_tables(&view(bytes, image, &sections()), &mut out);
     (answer, of_walk(out))
 }
 
@@ -96,62 +95,16 @@ fn tables_of(bytes: &[u8], image: &Image, mode: u32) -> (u32, Walk) {
 fn tables_of_exports(rt: HostRuntime) -> Result<(), Fail> {
     let mut bytes = with_exports(rt.alloc())?;
     let image = with_directory(0x1010);
-    for mode in [STRICT, PERMISSIVE, u32::MAX - MAPPED] {
-        assert_eq!(rt;
-            tables_of(&bytes, &image, mode),
-            (DONE, of_walk(walk_over(0)))
-        );
-        let absent = having(image, 0, directory(0, 0));
-        assert_eq!(rt; tables_of(&bytes, &absent, mode), (NOTHING, UNTOUCHED_WALK));
-    }
+    let whole = (DONE, of_walk(walk_over(0)));
+    assert_eq!(rt; tables_of(&bytes, &image), whole);
+    let absent = having(image, 0, directory(0, 0));
+    assert_eq!(rt; tables_of(&bytes, &absent), (NOTHING, UNTOUCHED_WALK));
+    let far = with_directory(0x3000);
+    assert_eq!(rt; tables_of(&bytes, &far), (UNMAPPED, UNTOUCHED_WALK));
     // tables without entries are unmapped, whatever their addresses are
     put(&mut bytes, &[(0x24, &[0]), (0x28, &[0]), (0x2F, &[0xFF])]);
-    assert_eq!(rt;
-        tables_of(&bytes, &image, STRICT),
-        (DONE, (OVER, OVER, OVER, 0, DIRECTORY))
-    );
-    Ok(())
-}
-
-/// A damage is a byte at an offset: one of the addresses of tables, or of their counts.
-#[test]
-fn tables_that_are_refused(rt: HostRuntime) -> Result<(), Fail> {
-    for (offset, byte, number) in [
-        (0x2D, 0x30, UNMAPPED),
-        (0x31, 0x30, UNMAPPED),
-        (0x35, 0x30, UNMAPPED),
-        (0x26, 1, SHORT),
-        (0x2A, 1, SHORT),
-        (0x2C, 0xAC, SHORT),
-        (0x30, 0xA0, SHORT),
-        (0x34, 0xAE, SHORT),
-    ] {
-        let mut bytes = with_exports(rt.alloc())?;
-        put(&mut bytes, &[(offset, &[byte])]);
-        for mode in [STRICT, PERMISSIVE] {
-            let want = (number, UNTOUCHED_WALK);
-            assert_eq!(rt;
-                tables_of(&bytes, &with_directory(0x1010), mode),
-                want,
-                "at {offset:#x}"
-            );
-        }
-    }
-    let bytes = with_exports(rt.alloc())?;
-    for (address, number) in [
-        (0x3000, UNMAPPED),
-        (0, UNMAPPED),
-        (u32::MAX, UNMAPPED),
-        (0x10A0, SHORT),
-        (0x1FFF, SHORT),
-    ] {
-        let want = (number, UNTOUCHED_WALK);
-        assert_eq!(rt;
-            tables_of(&bytes, &with_directory(address), STRICT),
-            want,
-            "{address:#x}"
-        );
-    }
+    let found = tables_of(&bytes, &image);
+    assert_eq!(rt; found, (DONE, (OVER, OVER, OVER, 0, DIRECTORY)));
     Ok(())
 }
 
@@ -168,13 +121,9 @@ pub(crate) fn from(exports: Exports) -> ExportWalk {
     }
 }
 
-fn step(bytes: &[u8], mode: u32, walk: &mut ExportWalk) -> (u32, Fields, Walk) {
+fn step(bytes: &[u8], walk: &mut ExportWalk) -> (u32, Fields, Walk) {
     let mut out = UNTOUCHED;
-    let answer = pe_c_next_export(
-        &view(bytes, &in_mode(&image(X64), mode), &sections()),
-        walk,
-        &mut out,
-    );
+    let answer = pe_c_next_export(&view(bytes, &image(X64), &sections()), walk, &mut out);
     let Export {
         name,
         offset,
@@ -193,110 +142,26 @@ fn step(bytes: &[u8], mode: u32, walk: &mut ExportWalk) -> (u32, Fields, Walk) {
 #[test]
 fn exports_in_turn(rt: HostRuntime) -> Result<(), Fail> {
     let bytes = with_exports(rt.alloc())?;
-    for mode in [STRICT, PERMISSIVE] {
-        let mut walk = from(walk_over(0));
-        for (answer, export, next) in [
-            (DONE, ([0x90, 5], 0, 0x9000, 0), 1),
-            (DONE, ([0xA0, 1], 8, 0x1008, 1), 5),
-            (NOTHING, NO_EXPORT, 6),
-            (NOTHING, NO_EXPORT, 6),
-        ] {
-            let want = (answer, export, of_walk(walk_over(next)));
-            assert_eq!(rt; step(&bytes, mode, &mut walk), want);
-        }
+    let mut walk = from(walk_over(0));
+    for (answer, export, next) in [
+        (DONE, ([0x90, 5], 0, 0x9000, 0), 1),
+        (DONE, ([0xA0, 1], 8, 0x1008, 1), 5),
+        (NOTHING, NO_EXPORT, 6),
+    ] {
+        let want = (answer, export, of_walk(walk_over(next)));
+        assert_eq!(rt; step(&bytes, &mut walk), want);
     }
-    Ok(())
-}
-
-/// Tables that are truncated: an entry that is not whole is none, and an index after the addresses leaves its export out.
-#[test]
-fn exports_of_cut_tables(rt: HostRuntime) -> Result<(), Fail> {
-    let bytes = with_exports(rt.alloc())?;
-    let mut names = from(Exports {
-        names: range(0x60, 19),
-        ..walk_over(1)
-    });
-    let want = (
-        NOTHING,
-        NO_EXPORT,
-        ([0x60, 19], [0x80, 12], [0x50, 12], 4, DIRECTORY),
-    );
-    assert_eq!(rt; step(&bytes, STRICT, &mut names), want);
-    let mut ordinals = from(Exports {
-        ordinals: range(0x80, 9),
+    // A range that lies is refused while entries are left.
+    let mut lie = from(Exports {
+        names: range(0x60, 0x51),
         ..walk_over(0)
     });
-    assert_eq!(rt;
-        step(&bytes, STRICT, &mut ordinals).1,
-        ([0x90, 5], 0, 0x9000, 0)
-    );
-    assert_eq!(rt; step(&bytes, STRICT, &mut ordinals).0, NOTHING);
-    let mut addresses = from(Exports {
-        addresses: range(0x50, 7),
-        ..walk_over(0)
-    });
-    let want = (
-        DONE,
-        ([0xA0, 1], 8, 0x1008, 1),
-        ([0x60, 24], [0x80, 12], [0x50, 7], 5, DIRECTORY),
-    );
-    assert_eq!(rt; step(&bytes, STRICT, &mut addresses), want);
+    assert_eq!(rt; step(&bytes, &mut lie).0, SHORT);
+    assert_eq!(rt; of_range(lie.exports.names), OVER);
     Ok(())
 }
 
-/// A range that lies is refused while entries are left, and then the walk is over.
-#[test]
-fn walks_that_lie(rt: HostRuntime) -> Result<(), Fail> {
-    let bytes = with_exports(rt.alloc())?;
-    let (_, ordinals, addresses, _, _) = of_walk(walk_over(0));
-    for lie in lies(0xB0) {
-        let mut walk = from(Exports {
-            names: lie,
-            ..walk_over(0)
-        });
-        let (number, names) = if lie.length < 4 {
-            (NOTHING, of_range(lie))
-        } else {
-            (SHORT, OVER)
-        };
-        let want = (
-            number,
-            NO_EXPORT,
-            (names, ordinals, addresses, 0, DIRECTORY),
-        );
-        assert_eq!(rt; step(&bytes, STRICT, &mut walk), want);
-        assert_eq!(rt; step(&bytes, STRICT, &mut walk).0, NOTHING);
-        let mut walk = from(Exports {
-            ordinals: lie,
-            ..walk_over(5)
-        });
-        let want = (
-            SHORT,
-            NO_EXPORT,
-            (OVER, of_range(lie), addresses, 5, DIRECTORY),
-        );
-        assert_eq!(rt; step(&bytes, STRICT, &mut walk), want);
-        let mut walk = from(Exports {
-            addresses: lie,
-            ..walk_over(5)
-        });
-        let want = (
-            SHORT,
-            NO_EXPORT,
-            (OVER, ordinals, of_range(lie), 5, DIRECTORY),
-        );
-        assert_eq!(rt; step(&bytes, STRICT, &mut walk), want);
-        assert_eq!(rt; step(&bytes, STRICT, &mut walk).0, NOTHING);
-    }
-    for next in [6, 7, u64::MAX] {
-        let mut walk = from(walk_over(next));
-        let want = (NOTHING, NO_EXPORT, of_walk(walk_over(next)));
-        assert_eq!(rt; step(&bytes, STRICT, &mut walk), want);
-    }
-    Ok(())
-}
-
-const UNTOUCHED: Export = Export {
+pub(crate) const UNTOUCHED: Export = Export {
     name: Range {
         offset: 1,
         length: 2,
@@ -356,13 +221,7 @@ fn forwarders_by_name(rt: HostRuntime) -> Result<(), Fail> {
         (0x1008, 0x20, 1),
         (0x1000, 9, 1),
         (0x1000, 8, 0),
-        // A directory of that byte, of none, and others at both ends.
-        (0x1008, 1, 1),
-        (0x1008, 0, 0),
-        (0, 0, 0),
-        (0, 0x1009, 1),
         (0x1000, u32::MAX, 1),
-        (u32::MAX, u32::MAX, 0),
     ] {
         let directory = directory(virtual_address, size);
         let after = Exports {
@@ -378,61 +237,8 @@ fn forwarders_by_name(rt: HostRuntime) -> Result<(), Fail> {
         );
         let (_, table) = table_at(&bytes, &with_directory(0x1010));
         let table = AddressTable { directory, ..table };
-        assert_eq!(rt;
-            exported(&bytes, &table, 0),
-            (DONE, text, [1, 0x1008, u64::from(is_forwarder)])
-        );
-    }
-    Ok(())
-}
-
-/// A forwarder whose RVA is unmapped, whose text is not UTF-8 or empty, or has no zero after it.
-#[test]
-fn forwarders_without_a_text(rt: HostRuntime) -> Result<(), Fail> {
-    let mut bytes = with_exports(rt.alloc())?;
-    let unmapped = directory(0x9000, 1);
-    let after = Exports {
-        directory: unmapped,
-        ..walk_over(1)
-    };
-    let export = ([0x90, 5], OVER, 0, 0x9000, 1);
-    assert_eq!(rt;
-        export_from(&bytes, unmapped, 0),
-        [(DONE, export, of_walk(after)); 2]
-    );
-    let mapped = directory(0x1008, 1);
-    let after = Exports {
-        directory: mapped,
-        ..walk_over(5)
-    };
-    for (text, range) in [
-        (b"A\xC3\0".as_slice(), OVER),
-        (b"A\xC3\xA9\0", [8, 3]),
-        (b"\0", [8, 0]),
-    ] {
-        put(&mut bytes, &[(8, text)]);
-        let export = ([0xA0, 1], range, 8, 0x1008, 1);
-        assert_eq!(rt;
-            export_from(&bytes, mapped, 1),
-            [(DONE, export, of_walk(after)); 2]
-        );
-    }
-    // The first entry of the address table leads to the last two bytes.
-    let last = bytes.len() - 2;
-    let rva = 0x1000 + last as u32;
-    bytes[0x50..0x54].copy_from_slice(&rva.to_le_bytes());
-    let at_end = directory(rva, 1);
-    let after = Exports {
-        directory: at_end,
-        ..walk_over(5)
-    };
-    for (text, range) in [([b'A', 0], [last as u64, 1]), ([b'A', b'B'], OVER)] {
-        bytes[last..].copy_from_slice(&text);
-        let export = ([0xA0, 1], range, last as u64, rva, 1);
-        assert_eq!(rt;
-            export_from(&bytes, at_end, 1),
-            [(DONE, export, of_walk(after)); 2]
-        );
+        let found = exported(&bytes, &table, 0);
+        assert_eq!(rt; found, (DONE, text, [1, 0x1008, u64::from(is_forwarder)]));
     }
     Ok(())
 }
@@ -468,8 +274,7 @@ fn exported(bytes: &[u8], table: &AddressTable, index: u64) -> (u32, [u64; 2], [
     (answer, of_range(out.forwarder), numbers)
 }
 
-/// The ordinal base is 1. The directory is made to reach up to 0x1009 and then up to 0x10A1: of the three addresses the
-/// first is inside of it then, where the text is of 8 bytes, and up to its end.
+/// The ordinal base is 1. The directory is made to reach up to 0x1009: of the three addresses the first is inside of it then.
 #[test]
 fn exports_by_their_index(rt: HostRuntime) -> Result<(), Fail> {
     let mut bytes = with_exports(rt.alloc())?;
@@ -489,36 +294,18 @@ fn exports_by_their_index(rt: HostRuntime) -> Result<(), Fail> {
     );
     assert_eq!(rt; exported(&bytes, &table, 0), (DONE, OVER, [1, 0x1008, 0]));
     assert_eq!(rt; exported(&bytes, &table, 1), (DONE, OVER, [2, 0x9000, 0]));
-    assert_eq!(rt;
-        exported(&bytes, &table, 2),
-        (DONE, OVER, [3, 0xFFFF_FFFF, 0])
-    );
-    for index in [3, u64::MAX / 4, u64::MAX] {
-        assert_eq!(rt;
-            exported(&bytes, &table, index),
-            (NOTHING, [1, 2], [3, 4, 5])
-        );
-    }
-    let before = AddressTable {
-        directory: directory(0x1000, 8),
-        ..table
-    };
-    assert_eq!(rt; exported(&bytes, &before, 0), (DONE, OVER, [1, 0x1008, 0]));
+    let found = exported(&bytes, &table, 2);
+    assert_eq!(rt; found, (DONE, OVER, [3, 0xFFFF_FFFF, 0]));
+    let found = exported(&bytes, &table, 3);
+    assert_eq!(rt; found, (NOTHING, [1, 2], [3, 4, 5]));
     let inside = AddressTable {
         directory: directory(0x1000, 9),
         ordinal_base: u32::MAX,
         ..table
     };
     put(&mut bytes, &[(8, b"A.#7\0")]);
-    assert_eq!(rt;
-        exported(&bytes, &inside, 0),
-        (DONE, [8, 4], [0xFFFF_FFFF, 0x1008, 1])
-    );
-    let all = AddressTable {
-        directory: directory(0x1000, u32::MAX),
-        ..table
-    };
-    assert_eq!(rt; exported(&bytes, &all, 1), (DONE, OVER, [2, 0x9000, 1]));
+    let found = exported(&bytes, &inside, 0);
+    assert_eq!(rt; found, (DONE, [8, 4], [0xFFFF_FFFF, 0x1008, 1]));
     Ok(())
 }
 
@@ -531,18 +318,15 @@ fn address_tables_that_are_refused(rt: HostRuntime) -> Result<(), Fail> {
     assert_eq!(rt; (of_range(table.name), table.has_name), (OVER, 0));
     let absent = having(image, 0, directory(0, 0));
     assert_eq!(rt; table_at(&bytes, &absent).0, NOTHING);
-    assert_eq!(rt; table_at(&bytes, &with_directory(0x3000)).0, UNMAPPED);
     let (number, kept) = table_at(&bytes, &with_directory(0x10A0));
     assert_eq!(rt;
         (number, of_range(kept.name), kept.has_name),
         (SHORT, [1, 2], 8)
     );
-    for lie in lies(0xB0) {
-        let table = AddressTable {
-            addresses: lie,
-            ..table
-        };
-        assert_eq!(rt; exported(&bytes, &table, 0), (SHORT, [1, 2], [3, 4, 5]));
-    }
+    let lie = AddressTable {
+        addresses: range(0x50, 0x61),
+        ..table
+    };
+    assert_eq!(rt; exported(&bytes, &lie, 0), (SHORT, [1, 2], [3, 4, 5]));
     Ok(())
 }

@@ -1,17 +1,14 @@
 //! Why headers are refused: where, and by which number. Offsets are those of winnt.h, and every number is worked out by hand.
 
 use super::coff::{header_of, object};
-use super::made::{
-    BAD_MAGIC, HEADER_POINTER, MAPPED, PERMISSIVE, SHORT, STRICT, TE_SIZE, X64, image, in_mode,
-    sections,
-};
+use super::made::{BAD_MAGIC, HEADER_POINTER, PERMISSIVE, SHORT, STRICT, TE_SIZE, X64, image};
 use super::te::image_of;
 use crate::failure::{
     Failure, pe_c_coff_sections_failure, pe_c_image_failure, pe_c_sections_failure,
     pe_c_te_failure, pe_c_te_sections_failure,
 };
 use crate::headers::CoffFields;
-use crate::image::{Image, pe_c_image, pe_c_sections};
+use crate::image::Image;
 use crate::results::{DONE, NOTHING};
 use crate::te::TeImage;
 use pe_images::{headers_alone, image as bytes_of, pointer_below_64, put, te};
@@ -48,104 +45,38 @@ fn failures_of_images(rt: HostRuntime) -> Result<(), Fail> {
     // The optional header is at 0x90: 112 bytes of fields, then 16 directories.
     for (length, offset, needed) in [
         (0x17F, 0x100, 128),
-        (0x100, 0x100, 128),
         (0xFF, 0x90, 112),
-        (0x92, 0x90, 112),
         (0x91, 0x90, 2),
-        (0x90, 0x90, 2),
         (0x8F, 0x7C, 20),
-        (0x7C, 0x7C, 20),
         (0x7B, 0x78, 4),
-        (0x40, 0x78, 4),
         (0x3F, 0, 64),
-        (0, 0, 64),
     ] {
         let wanted = (DONE, SHORT, [offset, needed, 0]);
         assert_eq!(rt; image_failure(&bytes[..length], STRICT), wanted);
-        assert_eq!(rt; image_failure(&bytes[..length], MAPPED), wanted);
     }
     assert_eq!(rt; image_failure(&bytes[..0x180], STRICT), NONE);
-    // Fewer directories need fewer bytes, and more than 16 need no more.
-    put(&mut bytes, &[(0xFC, &[3])]);
-    assert_eq!(rt;
-        image_failure(&bytes[..0x117], STRICT),
-        (DONE, SHORT, [0x100, 24, 0])
-    );
-    put(&mut bytes, &[(0xFC, &[0xFF, 0xFF])]);
-    assert_eq!(rt;
-        image_failure(&bytes[..0x17F], STRICT),
-        (DONE, SHORT, [0x100, 128, 0])
-    );
-    // PE32 has 96 bytes of fields.
+    // PE32 has 96 bytes of fields, and fewer directories need fewer bytes.
     put(&mut bytes, &[(0x91, &[1]), (0xEC, &[2])]);
-    assert_eq!(rt;
-        image_failure(&bytes[..0xFF], STRICT),
-        (DONE, SHORT, [0xF0, 16, 0])
-    );
-    assert_eq!(rt;
-        image_failure(&bytes[..0xEF], STRICT),
-        (DONE, SHORT, [0x90, 96, 0])
-    );
+    let found = image_failure(&bytes[..0xFF], STRICT);
+    assert_eq!(rt; found, (DONE, SHORT, [0xF0, 16, 0]));
+    let found = image_failure(&bytes[..0xEF], STRICT);
+    assert_eq!(rt; found, (DONE, SHORT, [0x90, 96, 0]));
     put(&mut bytes, &[(0x90, &[0x07, 0x03])]);
-    assert_eq!(rt;
-        image_failure(&bytes, STRICT),
-        (DONE, BAD_MAGIC, [0x90, 2, 0x307])
-    );
+    let found = image_failure(&bytes, STRICT);
+    assert_eq!(rt; found, (DONE, BAD_MAGIC, [0x90, 2, 0x307]));
     // Without an optional header nothing of it is read.
     put(&mut bytes, &[(0x8C, &[0])]);
     assert_eq!(rt; image_failure(&bytes, STRICT), NONE);
     put(&mut bytes, &[(0x7B, &[0x12])]);
-    assert_eq!(rt;
-        image_failure(&bytes, STRICT),
-        (DONE, BAD_MAGIC, [0x78, 4, 0x1200_4550])
-    );
-    put(&mut bytes, &[(0x3C, &[0xFE, 0xFF, 0xFF, 0xFF])]);
-    assert_eq!(rt;
-        image_failure(&bytes, STRICT),
-        (DONE, SHORT, [0xFFFF_FFFE, 4, 0])
-    );
+    let found = image_failure(&bytes, STRICT);
+    assert_eq!(rt; found, (DONE, BAD_MAGIC, [0x78, 4, 0x1200_4550]));
+    let low = pointer_below_64(rt.alloc())?;
+    let found = image_failure(&low, STRICT);
+    assert_eq!(rt; found, (DONE, HEADER_POINTER, [0x3C, 4, 0x30]));
+    assert_eq!(rt; image_failure(&low, PERMISSIVE), NONE);
     put(&mut bytes, &[(0, b"NE")]);
-    assert_eq!(rt;
-        image_failure(&bytes, STRICT),
-        (DONE, BAD_MAGIC, [0, 2, 0x454E])
-    );
-    Ok(())
-}
-
-#[test]
-fn failures_by_mode(rt: HostRuntime) -> Result<(), Fail> {
-    let bytes = pointer_below_64(rt.alloc())?;
-    let wanted = (DONE, HEADER_POINTER, [0x3C, 4, 0x30]);
-    assert_eq!(rt; image_failure(&bytes, STRICT), wanted);
-    assert_eq!(rt; image_failure(&bytes, MAPPED), wanted);
-    assert_eq!(rt; image_failure(&bytes, PERMISSIVE), NONE);
-    assert_eq!(rt; image_failure(&bytes, PERMISSIVE | MAPPED), NONE);
-    Ok(())
-}
-
-/// A failure is what the call that it stands for returns.
-#[test]
-fn failures_are_those_of_the_calls(rt: HostRuntime) -> Result<(), Fail> {
-    let mut bytes = headers_alone(rt.alloc())?;
-    let no_image: Image = in_mode(&super::made::image(0), STRICT);
-    for offset in 0..0x200 {
-        let was = bytes[offset];
-        bytes[offset] = was.wrapping_add(0x81);
-        for length in [0x200, offset] {
-            for mode in [STRICT, PERMISSIVE] {
-                let mut out = no_image;
-                let answer = pe_c_image(&bytes[..length], mode, &mut out);
-                let (found, result, _) = image_failure(&bytes[..length], mode);
-                let wanted = if answer == DONE {
-                    (NOTHING, 9)
-                } else {
-                    (DONE, answer)
-                };
-                assert_eq!(rt; (found, result), wanted);
-            }
-        }
-        bytes[offset] = was;
-    }
+    let found = image_failure(&bytes, STRICT);
+    assert_eq!(rt; found, (DONE, BAD_MAGIC, [0, 2, 0x454E]));
     Ok(())
 }
 
@@ -153,13 +84,11 @@ fn failures_are_those_of_the_calls(rt: HostRuntime) -> Result<(), Fail> {
 fn failures_of_te_images(rt: HostRuntime) -> Result<(), Fail> {
     let mut bytes = te(rt.alloc())?;
     assert_eq!(rt; te_failure(&bytes), NONE);
-    assert_eq!(rt; te_failure(&bytes[..40]), NONE);
     assert_eq!(rt; te_failure(&bytes[..39]), (DONE, SHORT, [0, 40, 0]));
     put(&mut bytes, &[(6, &[0x27, 0])]);
     assert_eq!(rt; te_failure(&bytes), (DONE, TE_SIZE, [6, 2, 0x27]));
     put(&mut bytes, &[(1, &[0x4D])]);
     assert_eq!(rt; te_failure(&bytes), (DONE, BAD_MAGIC, [0, 2, 0x4D56]));
-    assert_eq!(rt; te_failure(&[]), (DONE, SHORT, [0, 40, 0]));
     Ok(())
 }
 
@@ -176,21 +105,13 @@ fn failures_of_section_headers(rt: HostRuntime) -> Result<(), Fail> {
     for (image, length, wanted) in [
         (of(3, 0x148), whole, NONE),
         (of(3, 0x148), whole - 1, (DONE, SHORT, [0x148, 120, 0])),
-        (of(3, 0x148), 0, (DONE, SHORT, [0x148, 120, 0])),
-        (of(3, 0x149), whole, (DONE, SHORT, [0x149, 120, 0])),
         (of(0, 0x149), 0, NONE),
-        (of(u16::MAX, 0), whole, (DONE, SHORT, [0, 2_621_400, 0])),
     ] {
         let mut out = NO_FAILURE;
         let answer = pe_c_sections_failure(&bytes[..length], &image, &mut out);
         let found = (answer, out.result, [out.offset, out.needed, out.value]);
         assert_eq!(rt; found, wanted);
         assert_eq!(rt; out.spare, if answer == DONE { 0 } else { 9 });
-        if image.number_of_sections <= 3 {
-            let [section] = sections();
-            let answer = pe_c_sections(&bytes[..length], &image, &mut [section; 3]);
-            assert_eq!(rt; answer, if wanted.0 == DONE { SHORT } else { DONE });
-        }
     }
     Ok(())
 }
@@ -206,13 +127,9 @@ fn failures_of_section_headers_of_objects(rt: HostRuntime) -> Result<(), Fail> {
         ..coff
     };
     for (coff, length, wanted) in [
-        (of(3, 0), 140, NONE),
-        (of(3, 0), 139, (DONE, SHORT, [20, 120, 0])),
         (of(3, 5), 145, NONE),
         (of(3, 5), 144, (DONE, SHORT, [25, 120, 0])),
-        (of(4, u16::MAX), 404, (DONE, SHORT, [0x1_0013, 160, 0])),
         (of(0, u16::MAX), 0, NONE),
-        (of(u16::MAX, 1), 404, (DONE, SHORT, [21, 2_621_400, 0])),
     ] {
         let mut out = NO_FAILURE;
         let answer = pe_c_coff_sections_failure(&bytes[..length], &coff, &mut out);
@@ -230,10 +147,7 @@ fn failures_of_section_headers_of_te_images(rt: HostRuntime) -> Result<(), Fail>
     for (number_of_sections, length, wanted) in [
         (3, 160, NONE),
         (3, 159, (DONE, SHORT, [40, 120, 0])),
-        (2, 120, NONE),
-        (2, 41, (DONE, SHORT, [40, 80, 0])),
         (0, 0, NONE),
-        (u8::MAX, 160, (DONE, SHORT, [40, 10_200, 0])),
     ] {
         let te = TeImage {
             number_of_sections,

@@ -1,7 +1,7 @@
 //! All numbers of headers. The images have bytes that count up with their offset, so that a field at offset 0x48 of 4 bytes is
 //! 0x4B4A4948; the offsets of fields are those of winnt.h.
 
-use super::made::{HEADER_POINTER, MAPPED, PERMISSIVE, SHORT, STRICT};
+use super::made::{HEADER_POINTER, PERMISSIVE, SHORT, STRICT};
 use crate::headers::{CoffFields, DosFields, Headers, OptionalFields, pe_c_headers};
 use crate::ranges::Range;
 use crate::results::DONE;
@@ -185,110 +185,66 @@ fn counted(offset: u64, size: u64) -> u64 {
 }
 
 /// What the fields of an optional header at 0x58 are, by the offsets and sizes in the header of what follows its magic number.
-fn counted_fields(fields: [(u64, u64); 28], directories: u64) -> [u64; 29] {
+fn counted_fields([offsets, sizes]: [[u64; 28]; 2], directories: u64) -> [u64; 29] {
     let mut numbers = [directories; 29];
-    for (number, (offset, size)) in numbers.iter_mut().zip(fields) {
-        *number = counted(0x58 + offset, size);
+    for i in 0..28 {
+        numbers[i] = counted(0x58 + offsets[i], sizes[i]);
     }
     numbers
 }
 
-const FIELDS_OF_64: [(u64, u64); 28] = [
-    (2, 1),
-    (3, 1),
-    (4, 4),
-    (8, 4),
-    (12, 4),
-    (16, 4),
-    (20, 4),
-    (0, 0),
-    (24, 8),
-    (32, 4),
-    (36, 4),
-    (40, 2),
-    (42, 2),
-    (44, 2),
-    (46, 2),
-    (48, 2),
-    (50, 2),
-    (52, 4),
-    (56, 4),
-    (60, 4),
-    (64, 4),
-    (68, 2),
-    (70, 2),
-    (72, 8),
-    (80, 8),
-    (88, 8),
-    (96, 8),
-    (104, 4),
+const FIELDS_OF_64: [[u64; 28]; 2] = [
+    [
+        2, 3, 4, 8, 12, 16, 20, 0, 24, 32, 36, 40, 42, 44, 46, 48, 50, 52, 56, 60, 64, 68, 70, 72,
+        80, 88, 96, 104,
+    ],
+    [
+        1, 1, 4, 4, 4, 4, 4, 0, 8, 4, 4, 2, 2, 2, 2, 2, 2, 4, 4, 4, 4, 2, 2, 8, 8, 8, 8, 4,
+    ],
 ];
 
-const FIELDS_OF_32: [(u64, u64); 28] = [
-    (2, 1),
-    (3, 1),
-    (4, 4),
-    (8, 4),
-    (12, 4),
-    (16, 4),
-    (20, 4),
-    (24, 4),
-    (28, 4),
-    (32, 4),
-    (36, 4),
-    (40, 2),
-    (42, 2),
-    (44, 2),
-    (46, 2),
-    (48, 2),
-    (50, 2),
-    (52, 4),
-    (56, 4),
-    (60, 4),
-    (64, 4),
-    (68, 2),
-    (70, 2),
-    (72, 4),
-    (76, 4),
-    (80, 4),
-    (84, 4),
-    (88, 4),
+const FIELDS_OF_32: [[u64; 28]; 2] = [
+    [
+        2, 3, 4, 8, 12, 16, 20, 24, 28, 32, 36, 40, 42, 44, 46, 48, 50, 52, 56, 60, 64, 68, 70, 72,
+        76, 80, 84, 88,
+    ],
+    [
+        1, 1, 4, 4, 4, 4, 4, 4, 4, 4, 4, 2, 2, 2, 2, 2, 2, 4, 4, 4, 4, 2, 2, 4, 4, 4, 4, 4,
+    ],
 ];
 
 #[test]
 fn every_number_of_64_bits(rt: HostRuntime) -> Result<(), Fail> {
     let mut bytes = with_every_directory(rt.alloc())?;
     count_up(&mut bytes, 0xC4);
-    for mode in [STRICT, PERMISSIVE, MAPPED, u32::MAX] {
-        let mut out = untouched();
-        assert_eq!(rt; pe_c_headers(&bytes, mode, &mut out), DONE);
-        let words = dos_words(&out.dos);
-        assert_eq!(rt;
-            (words[0], out.dos.pe_pointer, out.signature),
-            (0x5A4D, 0x40, 0x4550)
-        );
-        for i in 1..30 {
-            assert_eq!(rt; u64::from(words[i]), counted(2 * i as u64, 2), "{i}");
-        }
-        let coff = [
-            0x8664,
-            1,
-            0x4B4A_4948,
-            0x4F4E_4D4C,
-            0x5352_5150,
-            0xF0,
-            0x5756,
-        ];
-        assert_eq!(rt; coff_numbers(&out.coff), coff);
-        assert_eq!(rt; out.optional.magic, 0x20B);
-        let wanted = counted_fields(FIELDS_OF_64, 16);
-        assert_eq!(rt; optional_numbers(&out.optional), wanted);
-        assert_eq!(rt; out.optional.number_of_directories, 16);
-        assert_eq!(rt; (out.dos_stub.offset, out.dos_stub.length), (0x40, 0));
-        assert_eq!(rt; (out.optional_offset, out.directories_offset), (0x58, 0xC8));
-        let row = out.directories[6];
-        assert_eq!(rt; (row.virtual_address, row.size), (0x1440, 0x54));
+    let mut out = untouched();
+    assert_eq!(rt; pe_c_headers(&bytes, STRICT, &mut out), DONE);
+    let words = dos_words(&out.dos);
+    assert_eq!(rt;
+        (words[0], out.dos.pe_pointer, out.signature),
+        (0x5A4D, 0x40, 0x4550)
+    );
+    for i in 1..30 {
+        assert_eq!(rt; u64::from(words[i]), counted(2 * i as u64, 2), "{i}");
     }
+    let coff = [
+        0x8664,
+        1,
+        0x4B4A_4948,
+        0x4F4E_4D4C,
+        0x5352_5150,
+        0xF0,
+        0x5756,
+    ];
+    assert_eq!(rt; coff_numbers(&out.coff), coff);
+    assert_eq!(rt; out.optional.magic, 0x20B);
+    let wanted = counted_fields(FIELDS_OF_64, 16);
+    assert_eq!(rt; optional_numbers(&out.optional), wanted);
+    assert_eq!(rt; out.optional.number_of_directories, 16);
+    assert_eq!(rt; (out.dos_stub.offset, out.dos_stub.length), (0x40, 0));
+    assert_eq!(rt; (out.optional_offset, out.directories_offset), (0x58, 0xC8));
+    let row = out.directories[6];
+    assert_eq!(rt; (row.virtual_address, row.size), (0x1440, 0x54));
     Ok(())
 }
 

@@ -1,8 +1,8 @@
 //! The libraries of an import directory, and the imports of each, one a step.
 
 use super::made::{
-    IMPORT_NAME, OVER, PERMISSIVE, SHORT, STRICT, UNMAPPED, X64, directory, having, image, in_mode,
-    lies, of_range, range, sections, view,
+    IMPORT_NAME, OVER, SHORT, UNMAPPED, X64, directory, having, image, of_range, range, sections,
+    view,
 };
 use crate::image::Image;
 use crate::imports::{
@@ -156,28 +156,19 @@ fn of_import(import: Import) -> ([u64; 2], u64, u32, u32) {
 fn next_library(
     bytes: &[u8],
     image: &Image,
-    mode: u32,
     walk: &mut LibraryWalk,
 ) -> (u32, Fields, (u64, u32, u32)) {
     let mut out = NO_LIBRARY;
-    let answer = pe_c_next_library(
-        &view(bytes, &in_mode(image, mode), &sections()),
-        walk,
-        &mut out,
-    );
+    let answer = pe_c_next_library(&view(bytes, image, &sections()), walk, &mut out);
     (answer, of_library(out), of_libraries(walk.libraries))
 }
 
 /// The answer, what went out, and the entries that are left and the next slot after it.
 type Step = (u32, ([u64; 2], u64, u32, u32), [u64; 2], u64);
 
-fn next_import(bytes: &[u8], image: &Image, mode: u32, walk: &mut ImportWalk) -> Step {
+fn next_import(bytes: &[u8], image: &Image, walk: &mut ImportWalk) -> Step {
     let mut out = NO_IMPORT;
-    let answer = pe_c_next_import(
-        &view(bytes, &in_mode(image, mode), &sections()),
-        walk,
-        &mut out,
-    );
+    let answer = pe_c_next_import(&view(bytes, image, &sections()), walk, &mut out);
     (
         answer,
         of_import(out),
@@ -193,16 +184,10 @@ fn directories(rt: HostRuntime) -> Result<(), Fail> {
         (with_directory(0x1010, 60), (DONE, (0x10, 0, 0))),
         (with_directory(0, 0), (NOTHING, (9, 9, 0))),
         (with_directory(0x3000, 60), (UNMAPPED, (9, 9, 0))),
-        (with_directory(0, 60), (UNMAPPED, (9, 9, 0))),
     ] {
-        for mode in [STRICT, PERMISSIVE] {
-            let mut walk = libraries(9, 9);
-            let answer = pe_c_import_libraries(
-                &view(&bytes, &in_mode(&image, mode), &sections()),
-                &mut walk,
-            );
-            assert_eq!(rt; (answer, of_libraries(walk)), want);
-        }
+        let mut walk = libraries(9, 9);
+        let answer = pe_c_import_libraries(&view(&bytes, &image, &sections()), &mut walk);
+        assert_eq!(rt; (answer, of_libraries(walk)), want);
     }
     Ok(())
 }
@@ -213,59 +198,47 @@ fn libraries_in_their_order(rt: HostRuntime) -> Result<(), Fail> {
     let image = with_directory(0x1010, 60);
     let first = [0x1060, 0x0403_0201, 0x0807_0605, 0x10A0, 0x2000, 0];
     let second = [0, 0, 0, 0x10A2, 0x1088, 0];
-    for mode in [STRICT, PERMISSIVE] {
-        let mut walk = from_library(libraries(0x10, 0));
-        assert_eq!(rt;
-            next_library(&bytes, &image, mode, &mut walk),
-            (DONE, ([0xA0, 1], [0x60, 16], 0x2000, first), (0x24, 0, 0))
-        );
-        assert_eq!(rt;
-            next_library(&bytes, &image, mode, &mut walk),
-            (DONE, ([0xA2, 2], [0x88, 8], 0x1088, second), (0x38, 0, 0))
-        );
-        for _ in 0..2 {
-            assert_eq!(rt;
-                next_library(&bytes, &image, mode, &mut walk),
-                (NOTHING, UNTOUCHED_LIBRARY, (0, 1, 0))
-            );
-        }
-    }
+    let mut walk = from_library(libraries(0x10, 0));
+    assert_eq!(rt;
+        next_library(&bytes, &image, &mut walk),
+        (DONE, ([0xA0, 1], [0x60, 16], 0x2000, first), (0x24, 0, 0))
+    );
+    assert_eq!(rt;
+        next_library(&bytes, &image, &mut walk),
+        (DONE, ([0xA2, 2], [0x88, 8], 0x1088, second), (0x38, 0, 0))
+    );
+    let found = next_library(&bytes, &image, &mut walk);
+    assert_eq!(rt; found, (NOTHING, UNTOUCHED_LIBRARY, (0, 1, 0)));
     // A walk that a caller says is over stays as it is.
     let mut walk = from_library(libraries(0x10, 7));
-    assert_eq!(rt;
-        next_library(&bytes, &image, STRICT, &mut walk),
-        (NOTHING, UNTOUCHED_LIBRARY, (0x10, 7, 0))
-    );
+    let found = next_library(&bytes, &image, &mut walk);
+    assert_eq!(rt; found, (NOTHING, UNTOUCHED_LIBRARY, (0x10, 7, 0)));
     Ok(())
 }
 
 #[test]
 fn refused_libraries(rt: HostRuntime) -> Result<(), Fail> {
     let image = with_directory(0x1010, 60);
-    let damages: [(usize, &[u8], u64, u32); 8] = [
+    let damages: [(usize, &[u8], u64, u32); 4] = [
         // shows: pe_c/src/kept_sections.rt require_kept Unmapped
-        // The name's address is unmapped, its first byte is not UTF-8, or it has no end.
+        // The name's address is unmapped, or its first byte is not UTF-8.
         (0x1D, &[0x30], 0x10, UNMAPPED),
         (0xA0, &[0xFF], 0x10, IMPORT_NAME),
-        (0x1C, &[0xBC, 0x10, 0, 0], 0x10, IMPORT_NAME),
-        // The list has no end, or starts where an entry is truncated.
+        // The list has no end.
         (0x10, &[0xB8, 0x10], 0x10, SHORT),
-        (0x10, &[0xBC, 0x10], 0x10, SHORT),
-        // The record is truncated, or is not in the file.
+        // The record is truncated.
         (0, &[], LENGTH - 19, SHORT),
-        (0, &[], LENGTH, SHORT),
-        (0, &[], u64::MAX, SHORT),
     ];
     for (offset, part, next, number) in damages {
         let mut bytes = with_imports(rt.alloc())?;
         put(&mut bytes, &[(0xB8, &[b'x'; 8]), (offset, part)]);
         let mut walk = from_library(libraries(next, 0));
         assert_eq!(rt;
-            next_library(&bytes, &image, STRICT, &mut walk),
+            next_library(&bytes, &image, &mut walk),
             (number, UNTOUCHED_LIBRARY, (0, 1, 0)),
             "{offset:#x}, {next:#x}"
         );
-        let (answer, ..) = next_library(&bytes, &image, STRICT, &mut walk);
+        let (answer, ..) = next_library(&bytes, &image, &mut walk);
         assert_eq!(rt; answer, NOTHING);
     }
     // A list whose address is unmapped is empty, and the walk goes on.
@@ -274,7 +247,6 @@ fn refused_libraries(rt: HostRuntime) -> Result<(), Fail> {
     let (answer, (_, list, ..), walk) = next_library(
         &bytes,
         &image,
-        STRICT,
         &mut from_library(libraries(0x10, 0)),
     );
     assert_eq!(rt; (answer, list, walk), (DONE, OVER, (0x24, 0, 0)));
@@ -285,35 +257,16 @@ fn refused_libraries(rt: HostRuntime) -> Result<(), Fail> {
 fn imports_of_a_library(rt: HostRuntime) -> Result<(), Fail> {
     let bytes = with_imports(rt.alloc())?;
     let pe32_plus = with_directory(0x1010, 60);
-    for mode in [STRICT, PERMISSIVE] {
-        let mut walk = from_import(Imports {
-            left: range(0x60, 16),
-            rva: 0x2000,
-        });
-        assert_eq!(rt;
-            next_import(&bytes, &pe32_plus, mode, &mut walk),
-            (DONE, ([0xB2, 1], 0x2000, 7, 1), [0x68, 8], 0x2008)
-        );
-        assert_eq!(rt;
-            next_import(&bytes, &pe32_plus, mode, &mut walk),
-            (DONE, (OVER, 0x2008, 17, 0), [0x70, 0], 0x2010)
-        );
-        for _ in 0..2 {
-            assert_eq!(rt;
-                next_import(&bytes, &pe32_plus, mode, &mut walk),
-                (NOTHING, ([1, 1], 1, 1, 1), [0x70, 0], 0x2010)
-            );
-        }
-    }
-    // The slot after the last address is the first: a caller may say where slots start.
     let mut walk = from_import(Imports {
-        left: range(0x68, 8),
-        rva: u64::MAX,
+        left: range(0x60, 16),
+        rva: 0x2000,
     });
-    assert_eq!(rt;
-        next_import(&bytes, &pe32_plus, STRICT, &mut walk),
-        (DONE, (OVER, u64::MAX, 17, 0), [0x70, 0], 7)
-    );
+    let found = next_import(&bytes, &pe32_plus, &mut walk);
+    assert_eq!(rt; found, (DONE, ([0xB2, 1], 0x2000, 7, 1), [0x68, 8], 0x2008));
+    let found = next_import(&bytes, &pe32_plus, &mut walk);
+    assert_eq!(rt; found, (DONE, (OVER, 0x2008, 17, 0), [0x70, 0], 0x2010));
+    let found = next_import(&bytes, &pe32_plus, &mut walk);
+    assert_eq!(rt; found, (NOTHING, ([1, 1], 1, 1, 1), [0x70, 0], 0x2010));
     Ok(())
 }
 
@@ -331,14 +284,10 @@ fn pe32_imports(rt: HostRuntime) -> Result<(), Fail> {
     let answer = pe_c_next_library(&view(&bytes, &pe32, &sections()), &mut walk, &mut out);
     let mut walk = from_import(out.imports);
     assert_eq!(rt; (answer, of_range(walk.imports.left)), (DONE, [0x60, 8]));
-    assert_eq!(rt;
-        next_import(&bytes, &pe32, STRICT, &mut walk),
-        (DONE, ([0xB2, 1], 0x2000, 7, 1), [0x64, 4], 0x2004)
-    );
-    assert_eq!(rt;
-        next_import(&bytes, &pe32, STRICT, &mut walk),
-        (DONE, (OVER, 0x2004, 9, 0), [0x68, 0], 0x2008)
-    );
+    let found = next_import(&bytes, &pe32, &mut walk);
+    assert_eq!(rt; found, (DONE, ([0xB2, 1], 0x2000, 7, 1), [0x64, 4], 0x2004));
+    let found = next_import(&bytes, &pe32, &mut walk);
+    assert_eq!(rt; found, (DONE, (OVER, 0x2004, 9, 0), [0x68, 0], 0x2008));
     Ok(())
 }
 
@@ -346,12 +295,11 @@ fn pe32_imports(rt: HostRuntime) -> Result<(), Fail> {
 fn refused_imports(rt: HostRuntime) -> Result<(), Fail> {
     let image = with_directory(0x1010, 60);
     // shows: pe_c/src/imports.rt name_at ImportName
-    let damages: [(usize, &[u8], u32); 4] = [
-        // The address is unmapped, the hint is truncated, the name is not UTF-8, or it has no end.
+    let damages: [(usize, &[u8], u32); 3] = [
+        // The address is unmapped, the hint is truncated, or the name is not UTF-8.
         (0x61, &[0x30], UNMAPPED),
         (0x60, &[0xBF, 0x10], SHORT),
         (0xB2, &[0xFF], IMPORT_NAME),
-        (0x60, &[0xBA, 0x10], IMPORT_NAME),
     ];
     for (offset, part, number) in damages {
         let mut bytes = with_imports(rt.alloc())?;
@@ -362,28 +310,18 @@ fn refused_imports(rt: HostRuntime) -> Result<(), Fail> {
         });
         for number in [number, NOTHING] {
             assert_eq!(rt;
-                next_import(&bytes, &image, STRICT, &mut walk),
+                next_import(&bytes, &image, &mut walk),
                 (number, ([1, 1], 1, 1, 1), OVER, 0x2000),
                 "{offset:#x}"
             );
         }
     }
     let bytes = with_imports(rt.alloc())?;
-    let cut = range(0x60, 7);
-    for left in lies(LENGTH).iter().chain([cut].iter()) {
-        let mut walk = from_import(Imports {
-            left: *left,
-            rva: 5,
-        });
-        for number in [SHORT, NOTHING] {
-            assert_eq!(rt;
-                next_import(&bytes, &image, STRICT, &mut walk),
-                (number, ([1, 1], 1, 1, 1), OVER, 5),
-                "{:#x}, {:#x}",
-                left.offset,
-                left.length
-            );
-        }
-    }
+    let mut walk = from_import(Imports {
+        left: range(0x60, 7),
+        rva: 5,
+    });
+    let found = next_import(&bytes, &image, &mut walk);
+    assert_eq!(rt; found, (SHORT, ([1, 1], 1, 1, 1), OVER, 5));
     Ok(())
 }

@@ -1,25 +1,17 @@
 //! The list of the functions of all delay-loaded DLLs, whose names are read together in a room of the caller.
 
 use super::made::{
-    DIRECTORY_DELAY_IMPORT_NAME, DIRECTORY_VA_BELOW_BASE, OVER, SHORT, UNMAPPED, X64, directory,
-    having, image, lies, of_range, range, sections, view,
+    OVER, RUN, SHORT, X64, directory, having, image, of_range, range, sections, view,
 };
 use crate::delay_imports::{DelayedFunction, DelayedFunctions};
 use crate::image::Image;
 use crate::library_functions::{LibraryFunction, LibraryFunctions, pe_c_all_delayed_functions};
 use crate::lists::library_functions::pe_c_list_all_delayed_functions;
 use crate::ranges::Range;
-use crate::results::{DONE, NOTHING, ROOM};
-use crate::text_runs::Run;
-use pe_images::{image as bytes_of, put};
+use crate::results::{DONE, NOTHING};
+use pe_images::image as bytes_of;
 use std::alloc::Global;
 use std::test::Fail;
-
-const RUN: Run = Run {
-    start: 0x7777,
-    end: 0x77,
-    text: 7,
-};
 
 /// What is in the array before a call.
 const NO_FUNCTION: LibraryFunction = LibraryFunction {
@@ -133,21 +125,11 @@ fn list(
     (answer, written, room.map(of_function))
 }
 
-/// The result of a list of all, with how many it has, and then that of the next call.
-fn ends(bytes: &[u8], image: &Image, start: LibraryFunctions) -> [(u32, u64); 2] {
-    let mut walk = start;
-    let (answer, written, _) = list(bytes, image, &mut walk, 8, 5);
-    let (other, more, _) = list(bytes, image, &mut walk, 8, 5);
-    [(answer, written), (other, more)]
-}
-
 #[test]
 fn walks_over_all_delayed_functions(rt: HostRuntime) -> Result<(), Fail> {
     let bytes = with_dlls(rt.alloc())?;
     for (virtual_address, size, number, start) in [
         (0x1010, 96, DONE, ([0x10, 96], OVER, 0, OVER, 0)),
-        (0x1010, 241, SHORT, ([9, 9], OVER, 0, OVER, 0)),
-        (0x2000, 96, UNMAPPED, ([9, 9], OVER, 0, OVER, 0)),
         (0, 0, NOTHING, ([9, 9], OVER, 0, OVER, 0)),
     ] {
         let image = having(image(X64), 13, directory(virtual_address, size));
@@ -163,200 +145,29 @@ fn all_delayed_functions_in_their_order(rt: HostRuntime) -> Result<(), Fail> {
     let bytes = with_dlls(rt.alloc())?;
     let image = image(X64);
     let [first, second, third, fourth] = FUNCTIONS;
-    for names in 0..8 {
-        let mut walk = walk_over([0x10, 96]);
-        assert_eq!(rt;
-            list(&bytes, &image, &mut walk, names, 5),
-            (DONE, 4, [first, second, third, fourth, UNTOUCHED])
-        );
-        let end = ([0x50, 0x20], [0xE0, 0x20], 1, [0xA2, 2], 2);
-        assert_eq!(rt; of_walk(walk), end);
-        assert_eq!(rt;
-            list(&bytes, &image, &mut walk, names, 5),
-            (DONE, 0, [UNTOUCHED; 5])
-        );
-        assert_eq!(rt; of_walk(walk), end);
-        // One a call: a DLL is left once the first function of the next is asked for.
-        let mut walk = walk_over([0x10, 96]);
-        for (function, after) in [
-            (first, ([0x30, 0x40], [0x88, 0x78], 1, [0xA0, 1], 1)),
-            (second, ([0x30, 0x40], [0x90, 0x70], 1, [0xA0, 1], 1)),
-            (third, ([0x50, 0x20], [0xD8, 0x28], 1, [0xA2, 2], 2)),
-            (fourth, ([0x50, 0x20], [0xE0, 0x20], 1, [0xA2, 2], 2)),
-        ] {
-            let (answer, written, [entry, ..]) = list(&bytes, &image, &mut walk, names, 1);
-            assert_eq!(rt;
-                (answer, written, entry, of_walk(walk)),
-                (DONE, 1, function, after)
-            );
-        }
-    }
     let mut walk = walk_over([0x10, 96]);
-    assert_eq!(rt;
-        list(&bytes, &image, &mut walk, 8, 0),
-        (ROOM, 77, [UNTOUCHED; 5])
-    );
-    assert_eq!(rt; of_walk(walk), ([0x10, 96], OVER, 0, OVER, 0));
-    Ok(())
-}
-
-/// In an image of 32 bits numbers have four bytes: of `a` they are 10B0h and 80000009h, of `bc` 5, an RVA that is not mapped.
-#[test]
-fn all_pe32_delayed_functions(rt: HostRuntime) -> Result<(), Fail> {
-    let mut bytes = with_dlls(rt.alloc())?;
-    put(&mut bytes, &[(0x84, &[9, 0, 0, 0x80, 0, 0, 0, 0])]);
-    let pe32 = Image {
-        width: 32,
-        ..image(X64)
-    };
+    let found = list(&bytes, &image, &mut walk, 8, 5);
+    assert_eq!(rt; found, (DONE, 4, [first, second, third, fourth, UNTOUCHED]));
+    let end = ([0x50, 0x20], [0xE0, 0x20], 1, [0xA2, 2], 2);
+    assert_eq!(rt; of_walk(walk), end);
+    // One a call: a DLL is left once the first function of the next is asked for.
     let mut walk = walk_over([0x10, 96]);
-    let [first, ..] = FUNCTIONS;
-    let second = (OVER, 9, 0, [0xA0, 1], 0);
-    assert_eq!(rt;
-        list(&bytes, &pe32, &mut walk, 4, 5),
-        (DONE, 2, [first, second, UNTOUCHED, UNTOUCHED, UNTOUCHED])
-    );
-    // The walk is before the error, and over after it.
-    assert_eq!(rt;
-        of_walk(walk),
-        ([0x30, 0x40], [0x88, 0x78], 1, [0xA0, 1], 1)
-    );
-    assert_eq!(rt;
-        list(&bytes, &pe32, &mut walk, 4, 5),
-        (UNMAPPED, 77, [UNTOUCHED; 5])
-    );
-    assert_eq!(rt;
-        list(&bytes, &pe32, &mut walk, 4, 5),
-        (DONE, 0, [UNTOUCHED; 5])
-    );
-    Ok(())
-}
-
-#[test]
-fn dlls_without_a_function(rt: HostRuntime) -> Result<(), Fail> {
-    let image = image(X64);
-    let [_, _, third, fourth] = FUNCTIONS;
-    // The table of `a` starts at a zero.
-    let mut bytes = with_dlls(rt.alloc())?;
-    put(&mut bytes, &[(0x20, &[0x90])]);
-    for names in 0..5 {
-        let mut walk = walk_over([0x10, 96]);
+    for (function, after) in [
+        (first, ([0x30, 0x40], [0x88, 0x78], 1, [0xA0, 1], 1)),
+        (second, ([0x30, 0x40], [0x90, 0x70], 1, [0xA0, 1], 1)),
+        (third, ([0x50, 0x20], [0xD8, 0x28], 1, [0xA2, 2], 2)),
+    ] {
+        let (answer, written, [entry, ..]) = list(&bytes, &image, &mut walk, 0, 1);
         assert_eq!(rt;
-            list(&bytes, &image, &mut walk, names, 5),
-            (DONE, 2, [third, fourth, UNTOUCHED, UNTOUCHED, UNTOUCHED])
+            (answer, written, entry, of_walk(walk)),
+            (DONE, 1, function, after)
         );
     }
-    // Its name is read all the same.
-    put(&mut bytes, &[(0xA0, &[0xFF])]);
-    let mut walk = walk_over([0x10, 96]);
-    assert_eq!(rt;
-        list(&bytes, &image, &mut walk, 3, 5),
-        (DIRECTORY_DELAY_IMPORT_NAME, 77, [UNTOUCHED; 5])
-    );
-    assert_eq!(rt; of_walk(walk), (OVER, OVER, 0, OVER, 0));
-    Ok(())
-}
-
-/// What three lists of all functions return and write, one after the other, and the walk after the second.
-fn lists(bytes: &[u8], names: usize) -> ([(u32, u64, [Fields; 5]); 3], Walk) {
-    let (image, mut walk) = (image(X64), walk_over([0x10, 96]));
-    let first = list(bytes, &image, &mut walk, names, 5);
-    let second = list(bytes, &image, &mut walk, names, 5);
-    let after = of_walk(walk);
-    let third = list(bytes, &image, &mut walk, names, 5);
-    ([first, second, third], after)
-}
-
-/// Errors of the second DLL, and of a function of it: what comes before them is listed, and the walk is over after them.
-#[test]
-fn errors_of_both_walks(rt: HostRuntime) -> Result<(), Fail> {
-    let parts: [(usize, &[u8], u32, u64); 8] = [
-        (0x35, &[0x30], UNMAPPED, 2),
-        (0x41, &[0x30], UNMAPPED, 2),
-        (0x30, &[2], DIRECTORY_VA_BELOW_BASE, 2),
-        (0xA3, &[0xFF], DIRECTORY_DELAY_IMPORT_NAME, 2),
-        (0xD7, &[0], UNMAPPED, 2),
-        (0xD9, &[0x30], UNMAPPED, 3),
-        (0xC2, &[0xFF], DIRECTORY_DELAY_IMPORT_NAME, 3),
-        // A hint of one byte.
-        (0xD8, &[0xFF, 0x10], SHORT, 3),
-    ];
-    for (offset, part, number, before) in parts {
-        let mut bytes = with_dlls(rt.alloc())?;
-        put(&mut bytes, &[(offset, part)]);
-        for names in 0..8 {
-            let ([(answer, written, _), refused, over], walk) = lists(&bytes, names);
-            assert_eq!(rt; (answer, written), (DONE, before));
-            assert_eq!(rt; refused, (number, 77, [UNTOUCHED; 5]));
-            assert_eq!(rt; over, (DONE, 0, [UNTOUCHED; 5]));
-            let (libraries, left, attributes, _, begun) = walk;
-            let of_bc = offset >= 0xC0;
-            assert_eq!(rt; (libraries, left, attributes), (OVER, OVER, 1));
-            assert_eq!(rt; begun, if of_bc { 2 } else { 1 });
-        }
-    }
-    // The second entry is truncated.
-    let bytes = with_dlls(rt.alloc())?;
-    assert_eq!(rt;
-        ends(&bytes, &image(X64), walk_over([0x10, 63])),
-        [(DONE, 2), (SHORT, 77)]
-    );
-    Ok(())
-}
-
-/// Walks that no call returns, of functions of a DLL.
-#[test]
-fn walks_of_any_numbers(rt: HostRuntime) -> Result<(), Fail> {
-    let bytes = with_dlls(rt.alloc())?;
-    let image = image(X64);
-    // Functions that are left of a DLL of any name, as which none was begun, or all that can be counted.
-    for (begun, library, next) in [(0, 0, 1), (u64::MAX, u64::MAX - 1, u64::MAX)] {
-        let mut walk = LibraryFunctions {
-            functions: DelayedFunctions {
-                left: range(0x88, 0x10),
-                attributes: 1,
-                spare: 9,
-            },
-            library_name: range(0x7777, 0x77),
-            begun,
-            ..walk_over([0x30, 32])
-        };
-        let [_, _, third, fourth] = FUNCTIONS;
-        let own = (OVER, 17, 0, [0x7777, 0x77], library);
-        let of_bc = |it: Fields| (it.0, it.1, it.2, it.3, next - 1);
-        assert_eq!(rt;
-            list(&bytes, &image, &mut walk, 3, 5),
-            (
-                DONE,
-                3,
-                [own, of_bc(third), of_bc(fourth), UNTOUCHED, UNTOUCHED]
-            )
-        );
-        assert_eq!(rt; (walk.begun, walk.functions.spare), (next, 0));
-    }
-    Ok(())
-}
-
-#[test]
-fn walks_outside_the_bytes(rt: HostRuntime) -> Result<(), Fail> {
-    let bytes = with_dlls(rt.alloc())?;
-    let image = image(X64);
-    for lie in lies(0x100) {
-        let mut walk = walk_over(of_range(lie));
-        assert_eq!(rt;
-            list(&bytes, &image, &mut walk, 8, 5),
-            (SHORT, 77, [UNTOUCHED; 5])
-        );
-        let functions = DelayedFunctions {
-            left: lie,
-            attributes: 1,
-            spare: 0,
-        };
-        let start = LibraryFunctions {
-            functions,
-            ..walk_over([0x10, 96])
-        };
-        assert_eq!(rt; ends(&bytes, &image, start), [(SHORT, 77), (DONE, 0)]);
-    }
+    // The second entry is truncated: what comes before it is listed, and the walk is over after the error.
+    let mut walk = walk_over([0x10, 63]);
+    let (answer, written, _) = list(&bytes, &image, &mut walk, 8, 5);
+    assert_eq!(rt; (answer, written), (DONE, 2));
+    let (answer, written, _) = list(&bytes, &image, &mut walk, 8, 5);
+    assert_eq!(rt; (answer, written, of_walk(walk).0), (SHORT, 77, OVER));
     Ok(())
 }

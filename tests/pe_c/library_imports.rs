@@ -2,24 +2,16 @@
 
 use super::imports::{NO_IMPORT as ONLY_ONES, with_imports};
 use super::made::{
-    IMPORT_NAME, OVER, SHORT, UNMAPPED, X64, directory, having, image, of_range, range, sections,
-    view,
+    OVER, RUN, UNMAPPED, X64, directory, having, image, of_range, range, sections, view,
 };
 use crate::image::Image;
 use crate::imports::{Import, Imports, Libraries};
 use crate::library_imports::{LibraryImport, LibraryImports, pe_c_all_imports};
 use crate::lists::library_imports::pe_c_list_all_imports;
 use crate::ranges::Range;
-use crate::results::{DONE, NOTHING, ROOM};
-use crate::text_runs::Run;
+use crate::results::{DONE, NOTHING};
 use pe_images::put;
 use std::test::Fail;
-
-const RUN: Run = Run {
-    start: 0x7777,
-    end: 0x77,
-    text: 7,
-};
 
 /// What is in the array before a call.
 const NO_IMPORT: LibraryImport = LibraryImport {
@@ -128,7 +120,6 @@ fn walks_over_all_imports(rt: HostRuntime) -> Result<(), Fail> {
     for (virtual_address, number, start) in [
         (0x1010, DONE, (0x10, 0, OVER, 0, OVER, 0)),
         (0, NOTHING, (9, 0, OVER, 0, OVER, 0)),
-        (0x3000, UNMAPPED, (9, 0, OVER, 0, OVER, 0)),
     ] {
         let image = match virtual_address {
             0 => image(X64),
@@ -146,197 +137,39 @@ fn all_imports_in_their_order(rt: HostRuntime) -> Result<(), Fail> {
     let bytes = with_imports(rt.alloc())?;
     let image = with_directory(0x1010);
     let [first, second, third] = IMPORTS;
-    for names in 0..6 {
-        let mut walk = walk_at(0x10);
-        assert_eq!(rt;
-            list(&bytes, &image, &mut walk, names, 4),
-            (DONE, 3, [first, second, third, UNTOUCHED])
-        );
-        let end = (0, 1, [0x90, 0], 0x1090, [0xA2, 2], 2);
-        assert_eq!(rt; of_walk(walk), end);
-        assert_eq!(rt;
-            list(&bytes, &image, &mut walk, names, 4),
-            (DONE, 0, [UNTOUCHED; 4])
-        );
-        assert_eq!(rt; of_walk(walk), end);
-        // One a call: a library is left once the first import of the next is asked for.
-        let mut walk = walk_at(0x10);
-        for (import, after) in [
-            (first, (0x24, 0, [0x68, 8], 0x2008, [0xA0, 1], 1)),
-            (second, (0x24, 0, [0x70, 0], 0x2010, [0xA0, 1], 1)),
-            (third, (0x38, 0, [0x90, 0], 0x1090, [0xA2, 2], 2)),
-        ] {
-            let (answer, written, [entry, ..]) = list(&bytes, &image, &mut walk, names, 1);
-            assert_eq!(rt;
-                (answer, written, entry, of_walk(walk)),
-                (DONE, 1, import, after)
-            );
-        }
-    }
     let mut walk = walk_at(0x10);
-    assert_eq!(rt;
-        list(&bytes, &image, &mut walk, 6, 0),
-        (ROOM, 77, [UNTOUCHED; 4])
-    );
-    assert_eq!(rt; of_walk(walk).0, 0x10);
-    Ok(())
-}
-
-/// In an image of 32 bits entries have four bytes: of `a` they are 10B0h and 80000009h, of `bc` 5, an RVA that is not mapped.
-#[test]
-fn all_pe32_imports(rt: HostRuntime) -> Result<(), Fail> {
-    let mut bytes = with_imports(rt.alloc())?;
-    put(&mut bytes, &[(0x64, &[9, 0, 0, 0x80, 0, 0, 0, 0])]);
-    let pe32 = Image {
-        width: 32,
-        ..with_directory(0x1010)
-    };
+    let found = list(&bytes, &image, &mut walk, 6, 4);
+    assert_eq!(rt; found, (DONE, 3, [first, second, third, UNTOUCHED]));
+    assert_eq!(rt; of_walk(walk), (0, 1, [0x90, 0], 0x1090, [0xA2, 2], 2));
+    // One a call: a library is left once the first import of the next is asked for.
     let mut walk = walk_at(0x10);
-    let [first, ..] = IMPORTS;
-    let second = ((OVER, 0x2004, 9, 0), ([0xA0, 1], 0), 0);
-    assert_eq!(rt;
-        list(&bytes, &pe32, &mut walk, 3, 4),
-        (DONE, 2, [first, second, UNTOUCHED, UNTOUCHED])
-    );
-    // The walk is before the error, and over after it.
-    assert_eq!(rt; of_walk(walk), (0x24, 0, [0x68, 0], 0x2008, [0xA0, 1], 1));
-    assert_eq!(rt;
-        list(&bytes, &pe32, &mut walk, 3, 4),
-        (UNMAPPED, 77, [UNTOUCHED; 4])
-    );
-    assert_eq!(rt;
-        list(&bytes, &pe32, &mut walk, 3, 4),
-        (DONE, 0, [UNTOUCHED; 4])
-    );
-    Ok(())
-}
-
-#[test]
-fn libraries_without_an_import(rt: HostRuntime) -> Result<(), Fail> {
-    let image = with_directory(0x1010);
-    let [_, _, third] = IMPORTS;
-    // The list of `a` is not mapped, or starts at a zero entry.
-    for part in [[0x60, 0x90], [0x70, 0x10]] {
-        let mut bytes = with_imports(rt.alloc())?;
-        put(&mut bytes, &[(0x10, &part)]);
-        for names in 0..4 {
-            let mut walk = walk_at(0x10);
-            assert_eq!(rt;
-                list(&bytes, &image, &mut walk, names, 4),
-                (DONE, 1, [third, UNTOUCHED, UNTOUCHED, UNTOUCHED])
-            );
-        }
-        // Its name is read all the same.
-        put(&mut bytes, &[(0xA0, &[0xFF])]);
-        let mut walk = walk_at(0x10);
+    for (import, after) in [
+        (first, (0x24, 0, [0x68, 8], 0x2008, [0xA0, 1], 1)),
+        (second, (0x24, 0, [0x70, 0], 0x2010, [0xA0, 1], 1)),
+        (third, (0x38, 0, [0x90, 0], 0x1090, [0xA2, 2], 2)),
+    ] {
+        let (answer, written, [entry, ..]) = list(&bytes, &image, &mut walk, 0, 1);
         assert_eq!(rt;
-            list(&bytes, &image, &mut walk, 2, 4),
-            (IMPORT_NAME, 77, [UNTOUCHED; 4])
+            (answer, written, entry, of_walk(walk)),
+            (DONE, 1, import, after)
         );
-        assert_eq!(rt; of_walk(walk), (0, 1, OVER, 0, OVER, 0));
     }
     Ok(())
 }
 
-/// Of two errors that which the walk meets first: an import of `a` comes before the record of `bc`.
+/// What comes before an error is listed, and the walk is over after it.
 #[test]
-fn errors_of_both_walks(rt: HostRuntime) -> Result<(), Fail> {
+fn errors_of_a_library(rt: HostRuntime) -> Result<(), Fail> {
     let image = with_directory(0x1010);
     let mut bytes = with_imports(rt.alloc())?;
     // The name of `bc` is not mapped.
     put(&mut bytes, &[(0x31, &[0x30])]);
     let mut walk = walk_at(0x10);
     let [first, second, _] = IMPORTS;
-    assert_eq!(rt;
-        list(&bytes, &image, &mut walk, 0, 4),
-        (DONE, 2, [first, second, UNTOUCHED, UNTOUCHED])
-    );
-    assert_eq!(rt;
-        list(&bytes, &image, &mut walk, 0, 4),
-        (UNMAPPED, 77, [UNTOUCHED; 4])
-    );
+    let found = list(&bytes, &image, &mut walk, 0, 4);
+    assert_eq!(rt; found, (DONE, 2, [first, second, UNTOUCHED, UNTOUCHED]));
+    let found = list(&bytes, &image, &mut walk, 0, 4);
+    assert_eq!(rt; found, (UNMAPPED, 77, [UNTOUCHED; 4]));
     assert_eq!(rt; of_walk(walk), (0, 1, OVER, 0x2010, [0xA0, 1], 1));
-    // So is the name of the import.
-    put(&mut bytes, &[(0xB2, &[0xFF])]);
-    let mut walk = walk_at(0x10);
-    assert_eq!(rt;
-        list(&bytes, &image, &mut walk, 5, 4),
-        (IMPORT_NAME, 77, [UNTOUCHED; 4])
-    );
-    assert_eq!(rt; of_walk(walk), (0, 1, OVER, 0x2000, [0xA0, 1], 1));
-    assert_eq!(rt;
-        list(&bytes, &image, &mut walk, 5, 4),
-        (DONE, 0, [UNTOUCHED; 4])
-    );
-    Ok(())
-}
-
-/// The RVA of a hint is the low 31 bits of an entry: in PE32+ the bits 31 to 62 are left out.
-#[test]
-fn bits_above_the_hint_rva(rt: HostRuntime) -> Result<(), Fail> {
-    let mut bytes = with_imports(rt.alloc())?;
-    put(&mut bytes, &[(0x63, &[0x80, 1, 2, 3, 0x7F])]);
-    let mut walk = walk_at(0x10);
-    let [first, second, third] = IMPORTS;
-    assert_eq!(rt;
-        list(&bytes, &with_directory(0x1010), &mut walk, 3, 4),
-        (DONE, 3, [first, second, third, UNTOUCHED])
-    );
-    Ok(())
-}
-
-/// Records that are not all in the bytes, which no call returns as the next one.
-#[test]
-fn walks_past_the_bytes(rt: HostRuntime) -> Result<(), Fail> {
-    let bytes = with_imports(rt.alloc())?;
-    let image = with_directory(0x1010);
-    for next in [0xC0 - 19, 0xC0, u64::MAX] {
-        let mut walk = walk_at(next);
-        assert_eq!(rt;
-            list(&bytes, &image, &mut walk, 3, 4),
-            (SHORT, 77, [UNTOUCHED; 4])
-        );
-        assert_eq!(rt; of_walk(walk).1, 1);
-    }
-    Ok(())
-}
-
-/// Entries that no call returns as those that are left.
-#[test]
-fn walks_of_any_numbers(rt: HostRuntime) -> Result<(), Fail> {
-    let bytes = with_imports(rt.alloc())?;
-    let image = with_directory(0x1010);
-    // Entries that are left of a library of any name, as which none was begun, or all that can be counted.
-    for (begun, library, next) in [(0, 0, 1), (u64::MAX, u64::MAX - 1, u64::MAX)] {
-        let mut walk = LibraryImports {
-            imports: Imports {
-                left: range(0x68, 8),
-                rva: u64::MAX,
-            },
-            library_name: range(0x7777, 0x77),
-            begun,
-            ..walk_at(0x24)
-        };
-        let [_, _, third] = IMPORTS;
-        let own = ((OVER, u64::MAX, 17, 0), ([0x7777, 0x77], library), 0);
-        let other = (third.0, ([0xA2, 2], next - 1), third.2);
-        assert_eq!(rt;
-            list(&bytes, &image, &mut walk, 2, 4),
-            (DONE, 2, [own, other, UNTOUCHED, UNTOUCHED])
-        );
-        assert_eq!(rt; walk.begun, next);
-    }
-    let mut walk = LibraryImports {
-        imports: Imports {
-            left: range(0xC0, 1),
-            rva: 5,
-        },
-        ..walk_at(0x10)
-    };
-    assert_eq!(rt;
-        list(&bytes, &image, &mut walk, 2, 4),
-        (SHORT, 77, [UNTOUCHED; 4])
-    );
-    assert_eq!(rt; of_walk(walk), (0, 1, OVER, 5, OVER, 0));
     Ok(())
 }

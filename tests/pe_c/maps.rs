@@ -1,7 +1,7 @@
 //! Which section maps an RVA, and the bytes to which a section maps its RVAs.
 
 use super::made::{
-    MAPPED, PERMISSIVE, STRICT, UNTOUCHED, X64, image, in_mode, of_range, section, untouched, view,
+    MAPPED, STRICT, UNTOUCHED, X64, image, in_mode, of_range, section, untouched, view,
 };
 use crate::image::Image;
 use crate::map_ranges::{pe_c_range_at, pe_c_rva};
@@ -31,40 +31,25 @@ fn sections_of_rvas(rt: HostRuntime) {
         section(0x4000, 0, 0x1A00, 0x200),
         section(0x1000, 0x9000, 0x200, 0x9000),
     ];
-    for mode in [STRICT, PERMISSIVE] {
-        let image = aligned(0x200, mode);
-        for (rva, number, index) in [
-            (0xFFF, NOTHING, 9),
-            (0x1000, DONE, 0),
-            (0x27FF, DONE, 0),
-            (0x2800, DONE, 2),
-            (0x4000, DONE, 1),
-            (0x41FF, DONE, 1),
-            (0x4200, DONE, 2),
-            (0x9FFF, DONE, 2),
-            (0xA000, NOTHING, 9),
-            (u32::MAX, NOTHING, 9),
-        ] {
-            assert_eq!(rt;
-                index_at(&image, &sections, rva),
-                (number, index),
-                "{rva:#x}"
-            );
-        }
+    let image = aligned(0x200, STRICT);
+    for (rva, number, index) in [
+        (0xFFF, NOTHING, 9),
+        (0x1000, DONE, 0),
+        (0x27FF, DONE, 0),
+        (0x2800, DONE, 2),
+        (0x41FF, DONE, 1),
+        (0x4200, DONE, 2),
+        (0xA000, NOTHING, 9),
+    ] {
         assert_eq!(rt;
-            index_at(&aligned(0x300, mode), &sections, 0x1000),
-            (NOTHING, 9)
+            index_at(&image, &sections, rva),
+            (number, index),
+            "{rva:#x}"
         );
-        assert_eq!(rt;
-            index_at(&aligned(0, mode), &sections, 0x1000),
-            (NOTHING, 9)
-        );
-        assert_eq!(rt; index_at(&image, &[], 0x1000), (NOTHING, 9));
     }
-    assert_eq!(rt;
-        index_at(&aligned(0x200, MAPPED), &sections, 0x1000),
-        (NOTHING, 9)
-    );
+    for other in [aligned(0x300, STRICT), aligned(0x200, MAPPED)] {
+        assert_eq!(rt; index_at(&other, &sections, 0x1000), (NOTHING, 9));
+    }
 }
 
 fn range_of(image: &Image, length: usize, section: &SectionTable) -> (u32, [u64; 2]) {
@@ -86,40 +71,15 @@ fn ranges_of_sections(rt: HostRuntime) {
         (section(0x1000, 1, 0x400, 0xB00), DONE, [0x400, 0xC00]),
         (section(0x1000, 0x2000, 0xE00, 0x1000), DONE, [0xE00, 0x200]),
         (section(0x1000, 0x2000, 0x1000, 0x1000), NOTHING, UNTOUCHED),
-        (
-            section(0x1000, 0x2000, u32::MAX, u32::MAX),
-            NOTHING,
-            UNTOUCHED,
-        ),
-        (section(0x1000, 0x2000, 0x400, 0), NOTHING, UNTOUCHED),
     ] {
         assert_eq!(rt; range_of(&image, 0x1000, &section), (number, range));
     }
-    let one = section(0x1000, 0x300, 0x400, 0x300);
-    assert_eq!(rt; range_of(&image, 0x401, &one), (DONE, [0x400, 1]));
-    assert_eq!(rt; range_of(&image, 0x400, &one), (NOTHING, UNTOUCHED));
-    assert_eq!(rt;
-        range_of(&aligned(0, STRICT), 0x1000, &one),
-        (NOTHING, UNTOUCHED)
-    );
     // as loaded: at the RVA, as many as the virtual size says, or the raw size where that is 0
     let loaded = aligned(0, MAPPED);
-    assert_eq!(rt;
-        range_of(&loaded, 0x1000, &section(0x800, 0x301, 0, 9)),
-        (DONE, [0x800, 0x301])
-    );
-    assert_eq!(rt;
-        range_of(&loaded, 0x1000, &section(0x800, 0, 0, 9)),
-        (DONE, [0x800, 9])
-    );
-    assert_eq!(rt;
-        range_of(&loaded, 0x1000, &section(0xFFF, 9, 0, 9)),
-        (DONE, [0xFFF, 1])
-    );
-    assert_eq!(rt;
-        range_of(&loaded, 0x1000, &section(0x1000, 9, 0, 9)),
-        (NOTHING, UNTOUCHED)
-    );
+    let found = range_of(&loaded, 0x1000, &section(0x800, 0x301, 0, 9));
+    assert_eq!(rt; found, (DONE, [0x800, 0x301]));
+    let found = range_of(&loaded, 0x1000, &section(0x800, 0, 0, 9));
+    assert_eq!(rt; found, (DONE, [0x800, 9]));
 }
 
 fn range_at(bytes: &[u8], image: &Image, sections: &[SectionTable], rva: u32) -> (u32, [u64; 2]) {
@@ -138,39 +98,21 @@ fn ranges_from_rvas(rt: HostRuntime) {
         section(0x8000, 0x400, 0x800, 0x400),
         section(0x1000, 0x2000, 0, 0x2000),
     ];
-    for mode in [STRICT, PERMISSIVE] {
-        let image = aligned(0x200, mode);
-        for (rva, number, range) in [
-            (0xFFF, NOTHING, UNTOUCHED),
-            (0x1000, DONE, [0x400, 0x200]),
-            (0x11FF, DONE, [0x5FF, 1]),
-            // The fourth section covers it.
-            (0x1200, DONE, [0x200, 0x700]),
-            (0x21FF, DONE, [0x7FF, 1]),
-            (0x2200, DONE, [0x1200, 0]),
-            (0x8010, DONE, [0x810, 0xF0]),
-            (0x8100, NOTHING, UNTOUCHED),
-            (u32::MAX, NOTHING, UNTOUCHED),
-        ] {
-            let want = if range[1] == 0 {
-                (NOTHING, UNTOUCHED)
-            } else {
-                (number, range)
-            };
-            assert_eq!(rt; range_at(&bytes, &image, &sections, rva), want, "{rva:#x}");
-        }
-        let none = (NOTHING, UNTOUCHED);
-        assert_eq!(rt;
-            range_at(&bytes, &aligned(3, mode), &sections, 0x1000),
-            none
-        );
+    let image = aligned(0x200, STRICT);
+    for (rva, number, range) in [
+        (0xFFF, NOTHING, UNTOUCHED),
+        (0x11FF, DONE, [0x5FF, 1]),
+        // The fourth section covers it.
+        (0x1200, DONE, [0x200, 0x700]),
+        (0x2200, NOTHING, UNTOUCHED),
+        (0x8010, DONE, [0x810, 0xF0]),
+        (0x8100, NOTHING, UNTOUCHED),
+    ] {
+        let found = range_at(&bytes, &image, &sections, rva);
+        assert_eq!(rt; found, (number, range), "{rva:#x}");
     }
     let image = aligned(0x200, MAPPED);
-    for (rva, want) in [
-        (0, (DONE, [0, 0x900])),
-        (0x8FF, (DONE, [0x8FF, 1])),
-        (0x900, (NOTHING, UNTOUCHED)),
-    ] {
+    for (rva, want) in [(0x8FF, (DONE, [0x8FF, 1])), (0x900, (NOTHING, UNTOUCHED))] {
         assert_eq!(rt; range_at(&bytes, &image, &sections, rva), want);
     }
 }
@@ -188,23 +130,17 @@ fn rvas_of_offsets(rt: HostRuntime) {
         let mut out = 9;
         (pe_c_rva(&view, offset, &mut out), out)
     };
-    for mode in [STRICT, PERMISSIVE] {
-        let image = aligned(0x200, mode);
-        for (offset, number, rva) in [
-            (0x3FF, NOTHING, 9),
-            (0x400, DONE, 0x1000),
-            (0x5FF, DONE, 0x11FF),
-            // The second section's raw pointer is rounded down to 400h.
-            (0x600, DONE, 0x5200),
-            (0x13FF, DONE, 0x5FFF),
-            (0x1400, NOTHING, 9),
-            (0x20FF, DONE, u32::MAX),
-            (0x2100, NOTHING, 9),
-            (u64::MAX, NOTHING, 9),
-        ] {
-            assert_eq!(rt; rva_of(&image, offset), (number, rva), "{offset:#x}");
-        }
-        assert_eq!(rt; rva_of(&aligned(3, mode), 0x400), (NOTHING, 9));
+    let image = aligned(0x200, STRICT);
+    for (offset, number, rva) in [
+        (0x3FF, NOTHING, 9),
+        (0x5FF, DONE, 0x11FF),
+        // The second section's raw pointer is rounded down to 400h.
+        (0x600, DONE, 0x5200),
+        (0x1400, NOTHING, 9),
+        (0x20FF, DONE, u32::MAX),
+        (0x2100, NOTHING, 9),
+    ] {
+        assert_eq!(rt; rva_of(&image, offset), (number, rva), "{offset:#x}");
     }
     let image = aligned(0x200, MAPPED);
     assert_eq!(rt; rva_of(&image, 0x1_0000_0000), (NOTHING, 9));

@@ -4,7 +4,7 @@
 use super::made::{SHORT, of_range, range};
 use crate::dump::memory_runs::{pe_c_memory_ranges, pe_c_memory_runs};
 use crate::ranges::Range;
-use crate::results::{DONE, OUT_OF_ORDER, ROOM};
+use crate::results::{DONE, ROOM};
 use pe_frame::MemoryPiece;
 use pe_stacks::RangeEntry;
 use std::test::Fail;
@@ -43,10 +43,8 @@ fn five_pieces() -> [MemoryPiece; 5] {
 #[test]
 fn runs_have_the_first_piece_of_an_address(rt: HostRuntime) -> Result<(), Fail> {
     let (mut entries, mut runs, mut written) = ([LEFT_ENTRY; 21], [LEFT; 11], 9);
-    assert_eq!(rt;
-        pe_c_memory_runs(&five_pieces(), &mut entries, &mut runs, &mut written),
-        DONE
-    );
+    let found = pe_c_memory_runs(&five_pieces(), &mut entries, &mut runs, &mut written);
+    assert_eq!(rt; found, DONE);
     assert_eq!(rt; written, 5);
     assert_eq!(rt;
         [runs[0], runs[1], runs[2], runs[3], runs[4]],
@@ -66,21 +64,15 @@ fn runs_have_the_first_piece_of_an_address(rt: HostRuntime) -> Result<(), Fail> 
         piece(end, 0, 4),
         piece(end + 6, 16, 8),
     ];
-    assert_eq!(rt;
-        pe_c_memory_runs(&list, &mut entries, &mut runs, &mut written),
-        DONE
-    );
+    let found = pe_c_memory_runs(&list, &mut entries, &mut runs, &mut written);
+    assert_eq!(rt; found, DONE);
     assert_eq!(rt; (written, runs[0]), (1, piece(end, 0, 8)));
     // Those that follow one another in memory alone are two.
     let list = [piece(0x1008, 0x20, 8), piece(0x1000, 0x10, 8)];
-    assert_eq!(rt;
-        pe_c_memory_runs(&list, &mut entries, &mut runs, &mut written),
-        DONE
-    );
+    let found = pe_c_memory_runs(&list, &mut entries, &mut runs, &mut written);
+    assert_eq!(rt; found, DONE);
     assert_eq!(rt; (written, runs[0]), (2, list[1]));
     assert_eq!(rt; runs[1], list[0]);
-    assert_eq!(rt; pe_c_memory_runs(&[], &mut [], &mut [], &mut written), DONE);
-    assert_eq!(rt; written, 0);
     Ok(())
 }
 
@@ -88,27 +80,15 @@ fn runs_have_the_first_piece_of_an_address(rt: HostRuntime) -> Result<(), Fail> 
 fn runs_that_are_refused_change_nothing(rt: HostRuntime) -> Result<(), Fail> {
     let (mut entries, mut runs, mut written) = ([LEFT_ENTRY; 20], [LEFT; 10], 9);
     let list = five_pieces();
-    assert_eq!(rt;
-        pe_c_memory_runs(&list, &mut entries[..19], &mut runs, &mut written),
-        ROOM
-    );
-    assert_eq!(rt;
-        pe_c_memory_runs(&list, &mut entries, &mut runs[..9], &mut written),
-        ROOM
-    );
+    let found = pe_c_memory_runs(&list, &mut entries[..19], &mut runs, &mut written);
+    assert_eq!(rt; found, ROOM);
+    let found = pe_c_memory_runs(&list, &mut entries, &mut runs[..9], &mut written);
+    assert_eq!(rt; found, ROOM);
     // shows: pe_c/src/dump/memory_runs.rt pe_c_memory_runs Short
     let past = [piece(0x1000, u64::MAX, 1)];
-    assert_eq!(rt;
-        pe_c_memory_runs(&past, &mut entries, &mut runs, &mut written),
-        SHORT
-    );
+    let found = pe_c_memory_runs(&past, &mut entries, &mut runs, &mut written);
+    assert_eq!(rt; found, SHORT);
     assert_eq!(rt; (written, runs, entries), (9, [LEFT; 10], [LEFT_ENTRY; 20]));
-    let last = [piece(0x1000, u64::MAX, 0)];
-    assert_eq!(rt;
-        pe_c_memory_runs(&last, &mut entries, &mut runs, &mut written),
-        DONE
-    );
-    assert_eq!(rt; written, 0);
     Ok(())
 }
 
@@ -137,29 +117,5 @@ fn ranges_of_addresses_are_found(rt: HostRuntime) -> Result<(), Fail> {
         of_range(found[4]),
     ];
     assert_eq!(rt; places, [[0x44, 4], [0, 0], [0x5F, 1], [0x40, 3], [7, 8]]);
-    Ok(())
-}
-
-#[test]
-fn ranges_that_are_refused_change_nothing(rt: HostRuntime) -> Result<(), Fail> {
-    let (mut entries, mut runs, mut count) = ([LEFT_ENTRY; 20], [LEFT; 10], 9);
-    let _done = pe_c_memory_runs(&five_pieces(), &mut entries, &mut runs, &mut count);
-    let (memory, list) = ([0; 0x60], &runs[..5]);
-    let asked = [range(0x2004, 100), range(0x1000, 1)];
-    let (mut found, mut written) = ([range(7, 8); 2], 9);
-    assert_eq!(rt;
-        pe_c_memory_ranges(&memory[..0x5F], list, &asked, &mut found, &mut written),
-        SHORT
-    );
-    assert_eq!(rt;
-        pe_c_memory_ranges(&memory, &five_pieces(), &asked, &mut found[..1], &mut written),
-        OUT_OF_ORDER
-    );
-    assert_eq!(rt;
-        pe_c_memory_ranges(&memory, list, &asked, &mut found[..1], &mut written),
-        ROOM
-    );
-    assert_eq!(rt; (written, of_range(found[0])), (9, [7, 8]));
-    assert_eq!(rt; of_range(found[1]), [7, 8]);
     Ok(())
 }

@@ -1,9 +1,6 @@
 //! The records of a function up to the root of its chain, one a step.
 
-use super::made::{
-    FUNCTION_CYCLE, FUNCTION_LINK, SHORT, UNMAPPED, UNWIND_VERSION, X64, image, lies, of_range,
-    range, sections, view, words,
-};
+use super::made::{FUNCTION_CYCLE, X64, image, range, sections, view, words};
 use super::unwinding::no_record;
 use crate::kept_sections::NO_SECTIONS;
 use crate::plan::{Plan, PlanWalk, pe_c_next_record, pe_c_plan_from};
@@ -166,7 +163,6 @@ fn plans_come_to_the_root(rt: HostRuntime) -> Result<(), Fail> {
         (DONE, [0x44, 0x1030, 1, 0x12], [0x1030, 0, 0x1030, 0, 0, 4]),
         (DONE, [0x34, 0, 0, 0x11], [0x1030, 1, 0x1030, 0, 0, 4]),
         (NOTHING, NO_KEY, [0x1030, 1, 0x1030, 0, 0, 4]),
-        (NOTHING, NO_KEY, [0x1030, 1, 0x1030, 0, 0, 4]),
     ];
     for want in steps {
         assert_eq!(rt; step(&bytes, &table, &mut plan), want);
@@ -206,71 +202,5 @@ fn plans_that_never_end(rt: HostRuntime) -> Result<(), Fail> {
     let refused = (FUNCTION_CYCLE, NO_KEY, [0x1070, 1, 0x1070, 0, 0, 2]);
     assert_eq!(rt; step(&bytes, &table, &mut later), refused);
     assert_eq!(rt; step(&bytes, &table, &mut later).0, NOTHING);
-    Ok(())
-}
-
-/// What refuses a record refuses the plan at it, and the plan is over.
-#[test]
-fn plans_that_are_refused(rt: HostRuntime) -> Result<(), Fail> {
-    let bytes = with_chains(rt.alloc())?;
-    let table = table_of_chains();
-    for (unwind, given, number) in [
-        (0x10C0, 0u32, UNWIND_VERSION),
-        (0x3000, 0, UNMAPPED),
-        (0x1003, 0, FUNCTION_LINK),
-        (0x1025, 0, FUNCTION_CYCLE),
-        (0x1090, 1, FUNCTION_CYCLE),
-        (0x10A0, 1, UNMAPPED),
-    ] {
-        let mut plan = plan_from(unwind);
-        for _ in 0..given {
-            assert_eq!(rt; step(&bytes, &table, &mut plan).0, DONE, "from {unwind:#x}");
-        }
-        let before = fields_of(&plan.plan);
-        let (answer, key, after) = step(&bytes, &table, &mut plan);
-        assert_eq!(rt; (answer, key), (number, NO_KEY), "from {unwind:#x}");
-        assert_eq!(rt; after, [before[0], 1, before[2], 0, before[4], before[5]]);
-        assert_eq!(rt;
-            step(&bytes, &table, &mut plan).0,
-            NOTHING,
-            "from {unwind:#x}"
-        );
-    }
-    let refused = (SHORT, NO_KEY, [0x1030, 1, 0x1030, 0, 0, 1]);
-    for lie in lies(bytes.len() as u64) {
-        let answer = step(&bytes, &lie, &mut plan_from(0x1030));
-        assert_eq!(rt; answer, refused, "by {:?}", of_range(lie));
-    }
-    Ok(())
-}
-
-/// A plan may say anything: any number but 0 is over, and counts at their ends do not overflow.
-#[test]
-fn plans_that_lie(rt: HostRuntime) -> Result<(), Fail> {
-    let bytes = with_chains(rt.alloc())?;
-    let table = table_of_chains();
-    let lie = Plan {
-        unwind: 0x1060,
-        is_over: 7,
-        saved: 3,
-        spare: 5,
-        steps: u64::MAX,
-        limit: u64::MAX,
-    };
-    let over = (NOTHING, NO_KEY, [0x1060, 7, 3, 5, u64::MAX, u64::MAX]);
-    assert_eq!(rt; step(&bytes, &table, &mut from(lie)), over);
-    for (limit, after) in [(u64::MAX, u64::MAX), (0, 0), (1 << 63, u64::MAX)] {
-        let mut plan = from(Plan {
-            is_over: 0,
-            limit,
-            ..lie
-        });
-        let given = (
-            DONE,
-            [0x64, 0x1050, 1, 0x14],
-            [0x1050, 0, 0x1050, 5, 0, after],
-        );
-        assert_eq!(rt; step(&bytes, &table, &mut plan), given, "{limit:#x}");
-    }
     Ok(())
 }

@@ -2,7 +2,7 @@
 //! them. Its checksum is at 0xD0, the entry of the resource directory at 0x110, and the header of the resource section at 0x1A8.
 //! The bytes of the section follow from the format.
 
-use super::made::{SHORT, X64, asked, image, view};
+use super::made::{X64, asked, image, view};
 use crate::image::Image;
 use crate::resource_edit::pe_c_edit;
 use crate::results::{DONE, ROOM};
@@ -198,8 +198,6 @@ fn records_are_refused(rt: HostRuntime) -> Result<(), Fail> {
     };
     for (number, record) in [
         (466, resource(id(1), range(4, 5))),
-        (466, resource(id(1), range(9, 0))),
-        (466, resource(id(1), range(u64::MAX, 2))),
         (466, resource(name(6, 4), NONE)),
         (466, resource(id(0x1_0000), NONE)),
         (466, wide),
@@ -207,21 +205,18 @@ fn records_are_refused(rt: HostRuntime) -> Result<(), Fail> {
         (453, good),
         (453, resource(name(0, 4), NONE)),
     ] {
-        assert_eq!(rt;
-            refused(rt.alloc(), &bytes, &[good, record], &DATA)?,
-            number
-        );
+        let found = refused(rt.alloc(), &bytes, &[good, record], &DATA)?;
+        assert_eq!(rt; found, number);
     }
-    // A range of nothing at the end of the data is inside of it, and so is the range of no name, whatever it says.
+    // The range of no name is not read.
     let unused = RecordKey {
         name: range(100, 100),
         id: 2,
         has_name: 0,
     };
-    for record in [resource(id(2), range(8, 0)), resource(unused, NONE)] {
-        let (numbers, _, _) = edited(rt.alloc(), &bytes, &[good, record], &DATA, LENGTH)?;
-        assert_eq!(rt; numbers, [DONE; 2]);
-    }
+    let both = [good, resource(unused, NONE)];
+    let (numbers, _, _) = edited(rt.alloc(), &bytes, &both, &DATA, LENGTH)?;
+    assert_eq!(rt; numbers, [DONE; 2]);
     Ok(())
 }
 
@@ -258,7 +253,6 @@ fn images_are_refused(rt: HostRuntime) -> Result<(), Fail> {
         (456, 0xFC, &[2][..]),
         (457, 0x120, &[0, 6, 0, 0, 8][..]),
         (458, 0x8C, &[0x60][..]),
-        (SHORT, 0x7E, &[255][..]),
         (459, 0xB1, &[8][..]),
         (471, 0x111, &[0x30][..]),
         (471, 0x1BD, &[6][..]),

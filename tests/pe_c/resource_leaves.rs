@@ -1,9 +1,8 @@
 //! The leaves of a resource tree, one a step.
 
 use super::made::{
-    MAPPED, OVER, PERMISSIVE, RESOURCE_BOUNDS, SHORT, STRICT, TREE_NO_ENTRIES, TREE_NOT_DATA,
-    TREE_NOT_DIRECTORY, UNMAPPED, X64, directory, having, image, in_mode, lies, of_range, range,
-    sections, view,
+    OVER, RESOURCE_BOUNDS, TREE_NOT_DIRECTORY, UNMAPPED, X64, directory, having, image, of_range,
+    range, sections, view,
 };
 use crate::image::Image;
 use crate::kept_sections::NO_SECTIONS;
@@ -13,7 +12,7 @@ use crate::resource_leaves::{
     pe_c_resource_leaves,
 };
 use crate::results::{DONE, NOTHING};
-use pe_images::{image as bytes_of, put};
+use pe_images::image as bytes_of;
 use pe_resource::ResourceEntry;
 use std::alloc::{AllocError, Global};
 use std::test::Fail;
@@ -131,16 +130,6 @@ fn step(bytes: &[u8], image: &Image, walk: &mut LeafWalk) -> (u32, ResourceLeaf)
     (answer, out)
 }
 
-/// The results of the steps of a walk up to one that returns no leaf, and that of the step after it.
-fn results(bytes: &[u8], image: &Image) -> [u32; 4] {
-    let (_, mut walk) = start(bytes, image);
-    let mut all = [DONE; 4];
-    for result in &mut all {
-        *result = step(bytes, image, &mut walk).0;
-    }
-    all
-}
-
 #[test]
 fn leaves_in_turn(rt: HostRuntime) -> Result<(), Fail> {
     let bytes = with_tree(rt.alloc())?;
@@ -169,121 +158,10 @@ fn leaves_in_turn(rt: HostRuntime) -> Result<(), Fail> {
     assert_eq!(rt; flat(leaf), flat(NO_LEAF));
     let over = ([OVER; 4], [NO_ENTRY, NO_ENTRY]);
     assert_eq!(rt; flat_walk(walk), over);
-    let (answer, leaf) = step(&bytes, &image, &mut walk);
+    let (answer, _) = step(&bytes, &image, &mut walk);
     assert_eq!(rt; answer, NOTHING);
-    assert_eq!(rt; flat(leaf), flat(NO_LEAF));
-    assert_eq!(rt; flat_walk(walk), over);
-    Ok(())
-}
-
-/// In an image as loaded RVAs are offsets.
-#[test]
-fn leaves_of_an_image_as_loaded(rt: HostRuntime) -> Result<(), Fail> {
-    let mut bytes = with_tree(rt.alloc())?;
-    put(
-        &mut bytes,
-        &[(0x78, &[4, 0, 0, 0]), (0x88, &[0xA8, 0, 0, 0])],
-    );
-    let image = in_mode(&having(image(X64), 2, directory(0x20, 0x8E)), MAPPED);
-    let (answer, mut walk) = start(&bytes, &image);
-    assert_eq!(rt; answer, DONE);
-    let (answer, leaf) = step(&bytes, &image, &mut walk);
-    assert_eq!(rt; (answer, of_range(leaf.content)), (DONE, [4, 5]));
-    let (answer, leaf) = step(&bytes, &image, &mut walk);
-    assert_eq!(rt; (answer, of_range(leaf.content)), (DONE, [0xA8, 6]));
-    // One byte more is not in the file.
-    put(&mut bytes, &[(0x8C, &[7])]);
-    let (_, mut walk) = start(&bytes, &image);
-    step(&bytes, &image, &mut walk);
-    let (answer, leaf) = step(&bytes, &image, &mut walk);
-    assert_eq!(rt; answer, DONE);
-    assert_eq!(rt;
-        (of_range(leaf.content), leaf.content_result),
-        (OVER, RESOURCE_BOUNDS)
-    );
-    Ok(())
-}
-
-#[test]
-fn trees_that_are_not_read(rt: HostRuntime) -> Result<(), Fail> {
-    let bytes = with_tree(rt.alloc())?;
-    let untouched = [[1, 2], [3, 4], [5, 6], [7, 8]];
-    let refused = |bytes: &[u8], image: &Image| {
-        let (answer, out) = start(bytes, image);
-        (answer, flat_walk(out).0)
-    };
-    assert_eq!(rt; refused(&bytes, &image(X64)), (NOTHING, untouched));
-    let far = having(image(X64), 2, directory(0x2000, 0x8E));
-    assert_eq!(rt; refused(&bytes, &far), (UNMAPPED, untouched));
-    assert_eq!(rt; refused(&bytes[..0x2F], &of_size(0x8E)), (SHORT, untouched));
-    assert_eq!(rt;
-        refused(&bytes, &of_size(0x8F)),
-        (RESOURCE_BOUNDS, untouched)
-    );
-    // Data of 15 bytes, and of all but the last byte of the entries.
-    for (size, permissive) in [(15, NOTHING), (31, DONE)] {
-        let image = of_size(size);
-        assert_eq!(rt;
-            refused(&bytes, &in_mode(&image, STRICT)),
-            (RESOURCE_BOUNDS, untouched)
-        );
-        let image = in_mode(&image, PERMISSIVE);
-        assert_eq!(rt; refused(&bytes, &image).0, permissive);
-        if permissive == DONE {
-            assert_eq!(rt; results(&bytes, &image), [NOTHING; 4]);
-        }
-    }
-    Ok(())
-}
-
-#[test]
-fn entries_without_a_leaf(rt: HostRuntime) -> Result<(), Fail> {
-    let image = of_size(0x8E);
-    for (change, want) in [
-        // The second language leads to a directory.
-        ((0x77, 0x80), [DONE, TREE_NOT_DATA, NOTHING, NOTHING]),
-        // Its data entry is truncated.
-        ((0x74, 0x7F), [DONE, SHORT, NOTHING, NOTHING]),
-        // The directory of languages is empty.
-        ((0x66, 0), [TREE_NO_ENTRIES, NOTHING, NOTHING, NOTHING]),
-        // It has more entries than there are bytes.
-        ((0x66, 11), [SHORT, NOTHING, NOTHING, NOTHING]),
-        // The name is truncated.
-        ((0xA8, 3), [SHORT, NOTHING, NOTHING, NOTHING]),
-    ] {
-        let mut bytes = with_tree(rt.alloc())?;
-        let (offset, byte) = change;
-        bytes[offset] = byte;
-        assert_eq!(rt; results(&bytes, &image), want, "of {offset}");
-    }
-    Ok(())
-}
-
-/// Ranges that do not lie in the bytes, or in the tree, are one error.
-#[test]
-fn walks_that_lie(rt: HostRuntime) -> Result<(), Fail> {
-    let bytes = with_tree(rt.alloc())?;
-    let image = of_size(0x8E);
-    let (tree, types, none) = (range(0x20, 0x8E), range(16, 16), range(0, 0));
-    let mut walks = [walk(tree, types, none, none); 28];
-    for (i, lie) in lies(0xAE).into_iter().enumerate() {
-        walks[i].leaves.tree = lie;
-    }
-    for (i, lie) in lies(0x8E).into_iter().enumerate() {
-        walks[7 + i].leaves.types = lie;
-        walks[14 + i].leaves.names = lie;
-        walks[21 + i].leaves.languages = lie;
-    }
-    for mut walk in walks {
-        let (answer, leaf) = step(&bytes, &image, &mut walk);
-        assert_eq!(rt; (answer, flat(leaf)), (SHORT, flat(NO_LEAF)));
-        assert_eq!(rt; flat_walk(walk).0, [OVER; 4]);
-    }
-    // Inside the tree any range is legal: these entries of a language are the first directory's.
-    let mut inside = walk(tree, none, none, range(16, 8));
-    assert_eq!(rt; step(&bytes, &image, &mut inside).0, TREE_NOT_DATA);
-    // Seven bytes have no entry.
-    let mut inside = walk(tree, none, none, range(16, 7));
-    assert_eq!(rt; step(&bytes, &image, &mut inside).0, NOTHING);
+    // Data past the end of the directory are none.
+    let (answer, _) = start(&bytes, &of_size(0x8F));
+    assert_eq!(rt; answer, RESOURCE_BOUNDS);
     Ok(())
 }

@@ -1,6 +1,6 @@
 //! The Rich header of an image, and its entries.
 
-use super::made::{OVER, SHORT, lies, of_range, range};
+use super::made::{OVER, SHORT, of_range, range};
 use crate::ranges::{NO_BYTES, Range};
 use crate::results::{DONE, NOTHING};
 use crate::rich_header::{RichHeader, pe_c_next_rich_entry, pe_c_rich_header};
@@ -102,17 +102,10 @@ fn entries_in_turn(rt: HostRuntime) -> Result<(), Fail> {
     for _ in 0..6 {
         assert_eq!(rt; step(&mut walk).0, DONE);
     }
-    for _ in 0..2 {
-        assert_eq!(rt; step(&mut walk), (NOTHING, NO_ENTRY));
-        assert_eq!(rt; of_range(walk), [216, 0]);
-    }
+    assert_eq!(rt; step(&mut walk), (NOTHING, NO_ENTRY));
+    assert_eq!(rt; of_range(walk), [216, 0]);
     let mut truncated = range(144, 7);
     assert_eq!(rt; step(&mut truncated), (SHORT, NO_ENTRY));
     assert_eq!(rt; of_range(truncated), OVER);
-    for mut lie in lies(232) {
-        assert_eq!(rt; step(&mut lie), (SHORT, NO_ENTRY));
-        assert_eq!(rt; of_range(lie), OVER);
-        assert_eq!(rt; step(&mut lie), (NOTHING, NO_ENTRY));
-    }
     Ok(())
 }

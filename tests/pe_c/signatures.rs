@@ -1,6 +1,7 @@
 //! Signatures: one that osslsigncode made, field by field at the offsets that `openssl asn1parse` prints, after some bytes that are
 //! no part of it; what is refused, and where.
 
+use super::made::{NO_RANGE, range};
 use super::signature_bytes::signature;
 use crate::ranges::Range;
 use crate::results::{DONE, NOTHING};
@@ -123,10 +124,7 @@ fn no_signed_data() -> SignedData {
 fn signed_data(rt: HostRuntime) -> Result<(), Fail> {
     let bytes = file(rt.alloc())?;
     let (mut failure, mut out) = (UNTOUCHED, no_signed_data());
-    let all = Range {
-        offset: BEFORE,
-        length: bytes.len() as u64 - BEFORE,
-    };
+    let all = range(BEFORE, bytes.len() as u64 - BEFORE);
     assert_eq!(rt; pe_c_signature(&bytes, &all, &mut failure, &mut out), DONE);
     assert!(rt; is_untouched(&failure));
     assert!(rt; is_oid(out.content_type, content(45, 2, 10), 4));
@@ -135,15 +133,7 @@ fn signed_data(rt: HostRuntime) -> Result<(), Fail> {
     assert!(rt; same(out.content, whole(59, 2, 105)));
     assert!(rt; same(out.digested, content(59, 2, 105)));
     assert!(rt; same(out.certificates, content(166, 4, 350)));
-    assert!(rt;
-        same(
-            out.crls,
-            Range {
-                offset: 0,
-                length: 0
-            }
-        )
-    );
+    assert!(rt; same(out.crls, NO_RANGE));
     assert!(rt; same(out.signers, content(520, 4, 1393)));
     assert_eq!(rt; (out.has_content, out.spare), (1, 0));
     Ok(())
@@ -181,15 +171,7 @@ fn indirect_data(rt: HostRuntime) -> Result<(), Fail> {
     let result = pe_c_algorithm_identifier(&bytes, &one, &mut failure, &mut algorithm);
     assert_eq!(rt; result, DONE);
     assert!(rt; is_oid(algorithm.oid, content(189, 2, 8), 215));
-    assert!(rt;
-        same(
-            algorithm.parameters,
-            Range {
-                offset: 0,
-                length: 0
-            }
-        )
-    );
+    assert!(rt; same(algorithm.parameters, NO_RANGE));
     assert!(rt; is_untouched(&failure));
     Ok(())
 }
@@ -251,22 +233,11 @@ fn signers(rt: HostRuntime) -> Result<(), Fail> {
     assert!(rt; same(signer.version, content(528, 2, 1)));
     assert!(rt; same(signer.issuer, whole(533, 2, 12)));
     assert!(rt; same(signer.serial, content(547, 2, 2)));
-    assert!(rt;
-        same(
-            signer.key_identifier,
-            Range {
-                offset: 0,
-                length: 0
-            }
-        )
-    );
+    assert!(rt; same(signer.key_identifier, NO_RANGE));
     assert!(rt; is_oid(signer.digest_algorithm.oid, content(553, 2, 9), 203));
     assert!(rt; same(signer.signed_attributes, content(566, 3, 187)));
     // The octets after the tag, from the length on.
-    let rest = Range {
-        offset: BEFORE + 567,
-        length: 189,
-    };
+    let rest = range(BEFORE + 567, 189);
     assert!(rt; same(signer.signed_rest, rest));
     assert!(rt; is_oid(signer.signature_algorithm.oid, content(758, 2, 8), 215));
     assert!(rt; same(signer.signature, content(768, 2, 71)));
@@ -328,10 +299,8 @@ fn attributes(rt: HostRuntime) -> Result<(), Fail> {
         program_name_tag: 1,
         more_info_tag: 2,
     };
-    assert_eq!(rt;
-        pe_c_opus_info(&bytes, &value, &mut failure, &mut opus),
-        DONE
-    );
+    let found = pe_c_opus_info(&bytes, &value, &mut failure, &mut opus);
+    assert_eq!(rt; found, DONE);
     assert!(rt; same(opus.program_name, content(725, 2, 5)));
     assert!(rt; same(opus.more_info, content(734, 2, 20)));
     assert_eq!(rt; (opus.program_name_tag, opus.more_info_tag), (0x81, 0x80));
@@ -345,10 +314,8 @@ fn time_stamps(rt: HostRuntime) -> Result<(), Fail> {
     let mut values = attribute(&bytes, content(841, 4, 1072), 111)?.values;
     let token = next(&bytes, &mut values)?.whole;
     let (mut failure, mut signed) = (UNTOUCHED, no_signed_data());
-    assert_eq!(rt;
-        pe_c_signature(&bytes, &token, &mut failure, &mut signed),
-        DONE
-    );
+    let found = pe_c_signature(&bytes, &token, &mut failure, &mut signed);
+    assert_eq!(rt; found, DONE);
     assert_eq!(rt; signed.content_type.id, 3);
     assert!(rt; same(signed.content, whole(926, 2, 113)));
     let mut stamp = TimeStamp {
@@ -372,20 +339,10 @@ fn time_stamps(rt: HostRuntime) -> Result<(), Fail> {
     assert!(rt; same(stamp.time, whole(1001, 2, 15)));
     assert!(rt; same(stamp.accuracy, whole(1018, 2, 10)));
     assert!(rt; same(stamp.nonce, content(1030, 2, 9)));
-    assert!(rt;
-        same(
-            stamp.authority,
-            Range {
-                offset: 0,
-                length: 0
-            }
-        )
-    );
+    assert!(rt; same(stamp.authority, NO_RANGE));
     let mut time = NO_TIME;
-    assert_eq!(rt;
-        pe_c_time(&bytes, &stamp.time, &mut failure, &mut time),
-        DONE
-    );
+    let found = pe_c_time(&bytes, &stamp.time, &mut failure, &mut time);
+    assert_eq!(rt; found, DONE);
     assert_eq!(rt; (time.year, time.month, time.day), (2023, 11, 14));
     assert_eq!(rt; (time.hour, time.minute, time.second), (22, 13, 20));
     assert!(rt; is_untouched(&failure));
@@ -503,10 +460,7 @@ fn names(rt: HostRuntime) -> Result<(), Fail> {
 
 /// The result of a walk over elements of all bytes from offset 3 on, and the failure.
 fn refused(bytes: &[u8]) -> (u32, SignatureFailure) {
-    let mut walk = Range {
-        offset: 3,
-        length: (bytes.len() as u64).saturating_sub(3),
-    };
+    let mut walk = range(3, (bytes.len() as u64).saturating_sub(3));
     let (mut failure, mut out) = (UNTOUCHED, no_element());
     let result = pe_c_next_element(bytes, &mut walk, &mut failure, &mut out);
     (result, failure)
@@ -527,10 +481,7 @@ fn refused_elements(rt: HostRuntime) {
     let (result, failure) = refused(b"\0\0\0\x04\x84\x12\x34\x56\x78\0\0");
     assert!(rt; result == 506 && is_failure(&failure, 506, 3, 0x12345678, (2, 0)));
     // A walk that is not inside the bytes is over after that.
-    let mut walk = Range {
-        offset: 2,
-        length: 3,
-    };
+    let mut walk = range(2, 3);
     let (mut failure, mut out) = (UNTOUCHED, no_element());
     let result = pe_c_next_element(b"\x05\0\x05\0", &mut walk, &mut failure, &mut out);
     assert!(rt; result == 2 && is_failure(&failure, 2, 2, 3, (0, 0)));
@@ -540,10 +491,7 @@ fn refused_elements(rt: HostRuntime) {
 
 /// The result of reading an attribute, and the failure.
 fn refused_attribute(bytes: &[u8]) -> (u32, SignatureFailure) {
-    let range = Range {
-        offset: 0,
-        length: bytes.len() as u64,
-    };
+    let all = range(0, bytes.len() as u64);
     let (mut failure, mut out) = (
         UNTOUCHED,
         SignerAttribute {
@@ -551,7 +499,7 @@ fn refused_attribute(bytes: &[u8]) -> (u32, SignatureFailure) {
             values: NO,
         },
     );
-    let result = pe_c_attribute(bytes, &range, &mut failure, &mut out);
+    let result = pe_c_attribute(bytes, &all, &mut failure, &mut out);
     (result, failure)
 }
 
@@ -574,10 +522,7 @@ const SOUGHT: &[u8] = b"\0\
 
 #[test]
 fn attributes_of_a_type(rt: HostRuntime) {
-    let mut walk = Range {
-        offset: 1,
-        length: 58,
-    };
+    let mut walk = range(1, 58);
     let (mut failure, mut out) = (
         UNTOUCHED,
         SignerAttribute {
@@ -603,10 +548,7 @@ fn attributes_of_a_type(rt: HostRuntime) {
     );
     let result = pe_c_find_attribute(SOUGHT, &mut walk, 102, &mut failure, &mut out);
     assert_eq!(rt; (result, walk.offset, walk.length), (NOTHING, 59, 0));
-    walk = Range {
-        offset: 2,
-        length: 58,
-    };
+    walk = range(2, 58);
     let result = pe_c_find_attribute(SOUGHT, &mut walk, 102, &mut failure, &mut out);
     assert!(rt; result == 2 && is_failure(&failure, 2, 2, 58, (0, 0)));
     assert_eq!(rt; (walk.offset, walk.length), (0, 0));
@@ -616,22 +558,16 @@ fn attributes_of_a_type(rt: HostRuntime) {
 fn other_contents(rt: HostRuntime) {
     // Data in place of signed data.
     let data = b"\x30\x0F\x06\x09\x2A\x86\x48\x86\xF7\x0D\x01\x07\x01\xA0\x02\x05\x00";
-    let range = Range {
-        offset: 0,
-        length: data.len() as u64,
-    };
+    let all = range(0, data.len() as u64);
     let (mut failure, mut out) = (UNTOUCHED, no_signed_data());
-    let result = pe_c_signature(data, &range, &mut failure, &mut out);
+    let result = pe_c_signature(data, &all, &mut failure, &mut out);
     assert!(rt; result == 510 && is_failure(&failure, 510, 2, 0, (0, 0)));
     assert!(rt; same(out.content, NO));
     // The month 13.
     let time = b"\0\x17\x0D261327010004Z";
-    let range = Range {
-        offset: 1,
-        length: 15,
-    };
+    let all = range(1, 15);
     let mut out = NO_TIME;
-    let result = pe_c_time(time, &range, &mut failure, &mut out);
+    let result = pe_c_time(time, &all, &mut failure, &mut out);
     assert!(rt; result == 511 && is_failure(&failure, 511, 1, 0, (0, 0)));
     assert_eq!(rt; out.year, 1);
 }

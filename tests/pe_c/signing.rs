@@ -3,15 +3,14 @@
 //! the checksums are those that `osslsigncode verify` 2.9 calculates of the same bytes.
 
 use super::made::{
-    BAD_MAGIC, CERTIFICATE_SIZE, CERTIFICATE_TABLE, HEADER_POINTER, NO_OPTIONAL_HEADER, PERMISSIVE,
-    SHORT, SIGN_HEADERS, SIGN_NO_DIRECTORY, SIGN_SECTION, SIGN_TABLE_NOT_LAST, SIGN_TABLE_OFFSET,
-    STRICT, X64, asked, image, in_mode, of_range, untouched, view,
+    CERTIFICATE_SIZE, CERTIFICATE_TABLE, SIGN_HEADERS, SIGN_NO_DIRECTORY, SIGN_SECTION,
+    SIGN_TABLE_NOT_LAST, SIGN_TABLE_OFFSET, X64, asked, image, of_range, untouched, view,
 };
 use crate::results::{DONE, ROOM};
 use crate::signing::{
     ChecksumField, Digest, pe_c_attach, pe_c_checksum, pe_c_detach, pe_c_digest_ranges,
 };
-use pe_images::{pointer_below_64, put, with_functions};
+use pe_images::{put, with_functions};
 use std::alloc::{AllocError, Global};
 use std::test::Fail;
 
@@ -30,8 +29,6 @@ const OLD_LENGTH: u64 = 0x7777;
 
 /// Ranges, and the zeros after them.
 type Covered = ([[u64; 2]; 4], u64);
-
-const NO_DIGEST: Covered = ([[0x7777, 0x77]; 4], 9);
 
 fn digest_of(bytes: &[u8]) -> (u32, Covered) {
     let mut out = Digest {
@@ -152,13 +149,10 @@ fn ranges_of_hostile_images(rt: HostRuntime) -> Result<(), Fail> {
             [[0, 0x98], [0xF8, 0x318], EMPTY, EMPTY],
             0,
         ),
-        // They touch the entry from both sides.
-        (0x9C, 0x4C, [[0, 0x98], [0xF0, 0x320], EMPTY, EMPTY], 4),
         // They are the start of the file, with the field.
         (0, 0x9C, [[0x9C, 0x4C], [0xF0, 0x320], EMPTY, EMPTY], 4),
         // They are all of it, and more.
         (0, u32::MAX, [EMPTY; 4], 0),
-        (4, u32::MAX, [[0, 4], EMPTY, EMPTY, EMPTY], 4),
         // They have no bytes, inside a range.
         (0x200, 0, [[0, 0x98], [0x9C, 0x4C], [0xF0, 0x320], EMPTY], 0),
         // They start after the file.
@@ -189,97 +183,19 @@ fn checksums_are_calculated(rt: HostRuntime) -> Result<(), Fail> {
     Ok(())
 }
 
-/// The headers are read from the bytes, in the mode of the image; of its other fields none counts.
-#[test]
-fn headers_are_those_of_the_bytes(rt: HostRuntime) -> Result<(), Fail> {
-    let low = pointer_below_64(rt.alloc())?;
-    let mut field = ChecksumField {
-        offset: 5,
-        value: 6,
-        spare: 7,
-    };
-    assert_eq!(rt;
-        pe_c_checksum(&view(&low, &image(X64), &[]), &mut field),
-        HEADER_POINTER
-    );
-    assert_eq!(rt; (field.offset, field.value, field.spare), (5, 6, 7));
-    let permissive = in_mode(&image(X64), PERMISSIVE);
-    assert!(rt; pe_c_checksum(&view(&low, &permissive, &[]), &mut field) != HEADER_POINTER);
-    let bytes = with_functions(rt.alloc())?;
-    let mut lie = in_mode(&image(X64), STRICT);
-    lie.checksum_offset = 3;
-    lie.certificate_entry_offset = u64::MAX;
-    lie.number_of_directories = 0;
-    lie.number_of_sections = 0;
-    assert_eq!(rt; pe_c_checksum(&view(&bytes, &lie, &[]), &mut field), DONE);
-    assert_eq!(rt; (field.offset, field.value), (0x98, 0x7C12));
-    let mut length = 0;
-    assert_eq!(rt;
-        pe_c_attach(
-            &view(&bytes, &lie, &[]),
-            &CERTIFICATE,
-            AFTER,
-            &mut [],
-            &mut length
-        ),
-        ROOM
-    );
-    assert_eq!(rt; length, 0x420);
-    Ok(())
-}
-
-/// The calls that take no certificate, and those that do, are refused for what the headers lack.
-#[test]
-fn images_are_refused(rt: HostRuntime) -> Result<(), Fail> {
-    for (bytes, number) in [
-        (with_functions(rt.alloc())?, DONE),
-        // The signature of the DOS header, and the size of the optional header.
-        (having(rt.alloc(), 0, &[0])?, BAD_MAGIC),
-        (having(rt.alloc(), 0x54, &[0])?, NO_OPTIONAL_HEADER),
-    ] {
-        let none = if number == DONE {
-            digest_of(&bytes).1
-        } else {
-            NO_DIGEST
-        };
-        assert_eq!(rt; digest_of(&bytes), (number, none));
-        let (sum, field) = checksum_of(&bytes);
-        assert_eq!(rt; sum, number);
-        assert!(rt; number == DONE || field == (5, 6, 7));
-        assert_eq!(rt;
-            attached(rt.alloc(), &bytes, &CERTIFICATE, AFTER, 0x420)?.0,
-            [number; 2]
-        );
-        assert_eq!(rt; detached(rt.alloc(), &bytes, 0x420)?.0, [number; 2]);
-    }
-    assert_eq!(rt; digest_of(&[]), (SHORT, NO_DIGEST));
-    assert_eq!(rt; checksum_of(&[]), (SHORT, (5, 6, 7)));
-    Ok(())
-}
-
 #[test]
 fn certificates_are_attached(rt: HostRuntime) -> Result<(), Fail> {
     let bytes = unsigned(rt.alloc(), &[0x55, 0x55, 0x55])?;
     // Only whether the placement is even counts.
-    for placement in [AFTER, IN_PLACE, 2, 7, u32::MAX] {
-        let (numbers, lengths, room) = attached(
-            rt.alloc(),
-            &bytes,
-            &CERTIFICATE,
-            placement,
-            0x420,
-        )?;
-        assert_eq!(rt; (numbers, lengths), ([DONE; 2], [0x418; 2]));
-        assert_eq!(rt; &room[..0x98], &bytes[..0x98]);
-        assert!(rt; has(&room, 0x98, &[0x99, 0xD1, 0, 0]));
-        assert_eq!(rt; &room[0x9C..0xE8], &bytes[0x9C..0xE8]);
-        assert!(rt; has(&room, 0xE8, &[8, 4, 0, 0, 0x10, 0, 0, 0]));
-        assert_eq!(rt; &room[0xF0..0x403], &bytes[0xF0..]);
-        assert!(rt; has(&room, 0x403, &[0; 5]));
-        assert!(rt; has(&room, 0x408, &CERTIFICATE));
-        assert!(rt; has(&room, 0x411, &[0; 7]));
-        assert!(rt; has(&room, 0x418, &[OLD; 8]));
-    }
+    let (numbers, lengths, room) = attached(rt.alloc(), &bytes, &CERTIFICATE, 2, 0x420)?;
+    assert_eq!(rt; (numbers, lengths), ([DONE; 2], [0x418; 2]));
+    assert!(rt; has(&room, 0x98, &[0x99, 0xD1, 0, 0]));
+    assert!(rt; has(&room, 0xE8, &[8, 4, 0, 0, 0x10, 0, 0, 0]));
+    assert_eq!(rt; &room[0xF0..0x403], &bytes[0xF0..]);
+    assert!(rt; has(&room, 0x403, &[0; 5]));
+    assert!(rt; has(&room, 0x408, &CERTIFICATE));
+    assert!(rt; has(&room, 0x411, &[0; 7]));
+    assert!(rt; has(&room, 0x418, &[OLD; 8]));
     let signed = with_functions(rt.alloc())?;
     let (numbers, lengths, room) = attached(rt.alloc(), &signed, &CERTIFICATE, AFTER, 0x420)?;
     assert_eq!(rt; (numbers, lengths), ([DONE; 2], [0x420; 2]));
@@ -324,86 +240,38 @@ fn certificates_are_detached(rt: HostRuntime) -> Result<(), Fail> {
 /// A write that is refused leaves the room and the length as they were.
 #[test]
 fn refused_writes_change_nothing(rt: HostRuntime) -> Result<(), Fail> {
-    let certificate: &[u8] = &CERTIFICATE;
-    for (bytes, certificate, placement, number) in [
+    let parts: [(usize, &[u8], u32); 6] = [
         // Four data directories: their count is at 0xC4.
-        (
-            having(rt.alloc(), 0xC4, &[4])?,
-            certificate,
-            AFTER,
-            SIGN_NO_DIRECTORY,
-        ),
-        (
-            having(rt.alloc(), 0xED, &[1])?,
-            certificate,
-            AFTER,
-            CERTIFICATE_TABLE,
-        ),
-        (
-            having(rt.alloc(), 0xEC, &[8])?,
-            certificate,
-            AFTER,
-            SIGN_TABLE_NOT_LAST,
-        ),
+        (0xC4, &[4], SIGN_NO_DIRECTORY),
+        (0xED, &[1], CERTIFICATE_TABLE),
+        (0xEC, &[8], SIGN_TABLE_NOT_LAST),
         // The table starts in the headers, and in the section.
-        (
-            having(rt.alloc(), 0xE8, &[0x10, 0, 0, 0, 0, 4, 0, 0])?,
-            certificate,
-            AFTER,
-            SIGN_HEADERS,
-        ),
-        (
-            having(rt.alloc(), 0xE8, &[0xF8, 3, 0, 0, 0x18, 0, 0, 0])?,
-            certificate,
-            AFTER,
-            SIGN_SECTION,
-        ),
-        (
-            having(rt.alloc(), 0xE8, &[1, 4, 0, 0, 0xF, 0, 0, 0])?,
-            certificate,
-            AFTER,
-            SIGN_TABLE_OFFSET,
-        ),
-        (
-            having(rt.alloc(), 0xE8, &[1, 4, 0, 0, 0xF, 0, 0, 0])?,
-            certificate,
-            IN_PLACE,
-            DONE,
-        ),
-        (with_functions(rt.alloc())?, &CERTIFICATE[..7], AFTER, SHORT),
-        (with_functions(rt.alloc())?, &[], AFTER, SHORT),
-        (
-            with_functions(rt.alloc())?,
-            &[10, 0, 0, 0, 0, 2, 2, 0, 0x77],
-            AFTER,
-            CERTIFICATE_SIZE,
-        ),
-    ] {
-        let (numbers, lengths, room) = attached(rt.alloc(), &bytes, certificate, placement, 0x420)?;
-        assert_eq!(rt; numbers, [number; 2]);
-        if number != DONE {
-            assert_eq!(rt; lengths, [OLD_LENGTH; 2]);
-            assert!(rt; room.iter().all(|byte| *byte == OLD));
-        }
-    }
-    // A room of one byte less than the file, and of none.
-    for size in [0x41F, 0] {
-        let bytes = with_functions(rt.alloc())?;
-        let (numbers, lengths, room) = attached(rt.alloc(), &bytes, &CERTIFICATE, AFTER, size)?;
-        assert_eq!(rt; (numbers, lengths), ([DONE, ROOM], [0x420; 2]));
-        assert!(rt; room.iter().all(|byte| *byte == OLD));
-        let (numbers, lengths, room) = detached(rt.alloc(), &bytes, size.min(0x3FF))?;
-        assert_eq!(rt; (numbers, lengths), ([DONE, ROOM], [0x400; 2]));
-        assert!(rt; room.iter().all(|byte| *byte == OLD));
-    }
-    for (bytes, number) in [
-        (having(rt.alloc(), 0xC4, &[4])?, SIGN_NO_DIRECTORY),
-        (having(rt.alloc(), 0xED, &[1])?, CERTIFICATE_TABLE),
-        (having(rt.alloc(), 0xEC, &[8])?, SIGN_TABLE_NOT_LAST),
-    ] {
-        let (numbers, lengths, room) = detached(rt.alloc(), &bytes, 0x420)?;
+        (0xE8, &[0x10, 0, 0, 0, 0, 4, 0, 0], SIGN_HEADERS),
+        (0xE8, &[0xF8, 3, 0, 0, 0x18, 0, 0, 0], SIGN_SECTION),
+        (0xE8, &[1, 4, 0, 0, 0xF, 0, 0, 0], SIGN_TABLE_OFFSET),
+    ];
+    for (offset, part, number) in parts {
+        let bytes = having(rt.alloc(), offset, part)?;
+        let (numbers, lengths, room) = attached(rt.alloc(), &bytes, &CERTIFICATE, AFTER, 0x420)?;
         assert_eq!(rt; (numbers, lengths), ([number; 2], [OLD_LENGTH; 2]));
         assert!(rt; room.iter().all(|byte| *byte == OLD));
     }
+    // A certificate that says it has more bytes than it has.
+    let (bytes, long) = (with_functions(rt.alloc())?, [10, 0, 0, 0, 0, 2, 2, 0, 0x77]);
+    let (numbers, ..) = attached(rt.alloc(), &bytes, &long, AFTER, 0x420)?;
+    assert_eq!(rt; numbers, [CERTIFICATE_SIZE; 2]);
+    // A room of one byte less than the file.
+    let (numbers, lengths, room) = attached(rt.alloc(), &bytes, &CERTIFICATE, AFTER, 0x41F)?;
+    assert_eq!(rt; (numbers, lengths), ([DONE, ROOM], [0x420; 2]));
+    assert!(rt; room.iter().all(|byte| *byte == OLD));
+    let (numbers, lengths, room) = detached(rt.alloc(), &bytes, 0x3FF)?;
+    assert_eq!(rt; (numbers, lengths), ([DONE, ROOM], [0x400; 2]));
+    assert!(rt; room.iter().all(|byte| *byte == OLD));
+    let bytes = having(rt.alloc(), 0xC4, &[4])?;
+    let (numbers, lengths, _) = detached(rt.alloc(), &bytes, 0x420)?;
+    assert_eq!(rt;
+        (numbers, lengths),
+        ([SIGN_NO_DIRECTORY; 2], [OLD_LENGTH; 2])
+    );
     Ok(())
 }

@@ -2,7 +2,8 @@
 //! state before the prolog, with the return address popped.
 
 use super::made::{
-    FUNCTION_LINK, SHORT, UNMAPPED, UNWIND_CODE, UNWIND_VERSION, X64, image, sections, view,
+    FUNCTION_LINK, SHORT, UNMAPPED, UNWIND_CODE, UNWIND_VERSION, X64, bytes_of_words, image,
+    sections, view,
 };
 use crate::ranges::Range;
 use crate::results::{BAD_ADDRESS, BAD_OPERATION, DONE, LONG_CHAIN, MISSING, NOT_RISING};
@@ -152,15 +153,6 @@ fn with_records(alloc: Global) -> Result<Vec<u8>, AllocError> {
     )
 }
 
-/// The bytes of these words.
-fn stack_of(alloc: Global, words: &[u64]) -> Result<Vec<u8>, AllocError> {
-    let mut bytes = Vec::new(alloc);
-    for word in words {
-        bytes.extend_from_slice(&u64::to_le_bytes(*word))?;
-    }
-    Ok(bytes)
-}
-
 /// A step over pieces of memory, with this code.
 fn step_over(
     bytes: &[u8],
@@ -202,7 +194,7 @@ fn steps_undo_a_prolog(rt: HostRuntime) -> Result<(), Fail> {
         caller.general[RBP],
         RETURN_ADDRESS,
     ];
-    let stack = stack_of(rt.alloc(), &words)?;
+    let stack = bytes_of_words(rt.alloc(), &words)?;
     let mut registers = changed(&[(RSP, 0x1000), (RBP, ENTRY - 56), (RBX, 0)]);
     registers.xmm[12] = 1;
     registers.xmm[13] = 2;
@@ -215,39 +207,6 @@ fn steps_undo_a_prolog(rt: HostRuntime) -> Result<(), Fail> {
     let mut frame = frame_at(0x1030, 0, changed(&[(RSP, ENTRY)]));
     assert_eq!(rt; step(&bytes, (start, &stack), &mut frame), DONE);
     assert_eq!(rt; fields_of(&frame.registers), fields_of(&caller));
-    Ok(())
-}
-
-/// Memory that is missing is named by its address, each word in turn, and with a piece that has it the same call succeeds.
-#[test]
-fn missing_memory_is_asked_for(rt: HostRuntime) -> Result<(), Fail> {
-    let bytes = with_records(rt.alloc())?;
-    let caller = of_caller();
-    let words = [caller.general[RBP], RETURN_ADDRESS];
-    let stack = stack_of(rt.alloc(), &words)?;
-    let registers = changed(&[(RSP, ENTRY - 48), (RBP, 1)]);
-    let start = ENTRY - 8;
-    let mut frame = frame_at(0x1050, 5, registers);
-    for (length, address) in [(0, ENTRY - 8), (7, ENTRY - 8), (8, ENTRY), (15, ENTRY)] {
-        frame.address = NO_ADDRESS;
-        assert_eq!(rt;
-            step(&bytes, (start, &stack[..length]), &mut frame),
-            MISSING,
-            "of {length}"
-        );
-        let mut wanted = frame_at(0x1050, 5, registers);
-        wanted.address = address;
-        assert_eq!(rt; numbers_of(&frame), numbers_of(&wanted), "of {length}");
-    }
-    assert_eq!(rt; step(&bytes, (start, &stack), &mut frame), DONE);
-    assert_eq!(rt; fields_of(&frame.registers), fields_of(&caller));
-    // A piece that starts later, and one whose end passes the last address.
-    let mut later = frame_at(0x1050, 5, registers);
-    assert_eq!(rt; step(&bytes, (ENTRY, &stack[8..]), &mut later), MISSING);
-    assert_eq!(rt; later.address, ENTRY - 8);
-    let mut last = frame_at(0x1050, 0, changed(&[(RSP, u64::MAX - 6)]));
-    assert_eq!(rt; step(&bytes, (u64::MAX - 6, &stack), &mut last), MISSING);
-    assert_eq!(rt; last.address, u64::MAX - 6);
     Ok(())
 }
 
@@ -271,7 +230,7 @@ fn epilogs_are_known_by_their_code(rt: HostRuntime) -> Result<(), Fail> {
         7,
         8,
     ];
-    let stack = stack_of(rt.alloc(), &words)?;
+    let stack = bytes_of_words(rt.alloc(), &words)?;
     let code = [0x48, 0x83, 0xC4, 0x28, 0x5D, 0xC3];
     let start = ENTRY - 48;
     for (from, rsp, rbp) in [
@@ -304,7 +263,7 @@ fn a_jump_is_followed_in_the_image(rt: HostRuntime) -> Result<(), Fail> {
         &mut bytes,
         &[(8, &[0xC0, 0x10]), (0xC0, &[1, 0, 1, 0, 0, 0x30])],
     );
-    let stack = stack_of(rt.alloc(), &[0x77, RETURN_ADDRESS])?;
+    let stack = bytes_of_words(rt.alloc(), &[0x77, RETURN_ADDRESS])?;
     let start = ENTRY - 8;
     let registers = changed(&[(RSP, start)]);
     // At 0x5010 jmp 0x5000
@@ -319,52 +278,12 @@ fn a_jump_is_followed_in_the_image(rt: HostRuntime) -> Result<(), Fail> {
     Ok(())
 }
 
-/// A function without a prolog jumps into another one after its prolog, as parts of a function do: the frame is still in place.
-#[test]
-fn a_jump_into_another_function_is_followed(rt: HostRuntime) -> Result<(), Fail> {
-    let mut bytes = with_records(rt.alloc())?;
-    // The function from 0x5000 on pushes rbp and allocates 40 bytes in its first 5.
-    put(&mut bytes, &[(8, &[0x50, 0x10]), (0xC0, &[1, 0, 0, 0])]);
-    let caller = of_caller();
-    let words = [1, 2, 3, 4, 5, caller.general[RBP], RETURN_ADDRESS];
-    let stack = stack_of(rt.alloc(), &words)?;
-    let start = ENTRY - 48;
-    let mut frame = frame_at(0x10C0, 0, changed(&[(RSP, start), (RBP, 9)]));
-    frame.function.begin_address = 0x6000;
-    frame.function.end_address = 0x6010;
-    frame.rva = 0x6000;
-    let jumping = frame;
-    // At 0x6000 jmp 0x5005, 5 + 0x1000 bytes back, and jmp 0x7005, which is in no function.
-    let inside = [0xE9, 0, 0xF0, 0xFF, 0xFF];
-    let outside = [0xE9, 0, 0x10, 0, 0];
-    let answer = step_by(&bytes, &inside, (start, &stack), &mut frame);
-    assert_eq!(rt; answer, DONE);
-    assert_eq!(rt; fields_of(&frame.registers), fields_of(&caller));
-    let mut frame = jumping;
-    let answer = step_by(&bytes, &outside, (start, &stack), &mut frame);
-    assert_eq!(rt; answer, DONE);
-    assert_eq!(rt;
-        [frame.registers.rip, frame.registers.general[RSP]],
-        [1, start + 8]
-    );
-    // rbp is not all there.
-    let mut frame = jumping;
-    let short = &stack[..47];
-    let answer = step_by(&bytes, &inside, (start, short), &mut frame);
-    assert_eq!(rt;
-        [u64::from(answer), frame.address],
-        [u64::from(MISSING), ENTRY - 8]
-    );
-    assert_eq!(rt; fields_of(&frame.registers), fields_of(&jumping.registers));
-    Ok(())
-}
-
 /// Errors of codes and of addresses, and what they set.
 #[test]
 fn steps_that_are_refused(rt: HostRuntime) -> Result<(), Fail> {
     let bytes = with_records(rt.alloc())?;
     let high = u64::MAX - 7;
-    let stack = stack_of(rt.alloc(), &[RETURN_ADDRESS, 0x33, 0, 0x100, 0x2B])?;
+    let stack = bytes_of_words(rt.alloc(), &[RETURN_ADDRESS, 0x33, 0, 0x100, 0x2B])?;
     for (unwind, rsp, answer, address) in [
         (0x1060, ENTRY, BAD_OPERATION, NO_ADDRESS),
         (0x1070, ENTRY, BAD_OPERATION, NO_ADDRESS),
@@ -392,7 +311,7 @@ fn steps_that_are_refused(rt: HostRuntime) -> Result<(), Fail> {
     assert_eq!(rt; low.address, 31);
     // The caller's stack pointer is ENTRY + 8, below that of the function. After an interrupt it may be.
     let words = [0, 0, 0, 0, 0, 0, 0, 5, 6, RETURN_ADDRESS];
-    let saved = stack_of(rt.alloc(), &words)?;
+    let saved = bytes_of_words(rt.alloc(), &words)?;
     let sinking = changed(&[(RSP, ENTRY + 8), (RBP, ENTRY - 56)]);
     let mut frame = frame_at(0x1030, 22, sinking);
     assert_eq!(rt; step(&bytes, (ENTRY - 72, &saved), &mut frame), NOT_RISING);
@@ -418,51 +337,10 @@ fn put_chain(bytes: &mut [u8], count: usize) {
     }
 }
 
-/// Each record of a chain is undone, if there are at most 32. A loop has more.
-#[test]
-fn chains_have_at_most_32_records(rt: HostRuntime) -> Result<(), Fail> {
-    let mut words = stack_of(rt.alloc(), &[0; 40])?;
-    for count in [1usize, 2, 3, 7, 8, 9, 31, 32] {
-        let mut bytes = with_records(rt.alloc())?;
-        put_chain(&mut bytes, count);
-        put(&mut words, &[(8 * count, &[count as u8])]);
-        let mut frame = frame_at(0x1100, 20, changed(&[(RSP, 0x1000)]));
-        assert_eq!(rt;
-            step(&bytes, (0x1000, &words), &mut frame),
-            DONE,
-            "of {count}"
-        );
-        let found = [frame.registers.rip, frame.registers.general[RSP]];
-        let count = count as u64;
-        assert_eq!(rt; found, [count, 0x1008 + 8 * count]);
-    }
-    let mut bytes = with_records(rt.alloc())?;
-    put_chain(&mut bytes, 33);
-    let mut frame = frame_at(0x1100, 20, changed(&[(RSP, 0x1000)]));
-    let before = numbers_of(&frame);
-    assert_eq!(rt; step(&bytes, (0x1000, &words), &mut frame), LONG_CHAIN);
-    assert_eq!(rt; numbers_of(&frame), before);
-    // The second record is chained to the first.
-    put(&mut bytes, &[(0x124, &[0x00, 0x11])]);
-    assert_eq!(rt; step(&bytes, (0x1000, &words), &mut frame), LONG_CHAIN);
-    // The tenth, the second and then the first are chained to one that is not mapped.
-    put(
-        &mut bytes,
-        &[(0x124, &[0x28, 0x11]), (0x1C4, &[0x00, 0x31])],
-    );
-    assert_eq!(rt; step(&bytes, (0x1000, &words), &mut frame), UNMAPPED);
-    put(&mut bytes, &[(0x124, &[0x00, 0x31])]);
-    assert_eq!(rt; step(&bytes, (0x1000, &words), &mut frame), UNMAPPED);
-    put(&mut bytes, &[(0x110, &[0x00, 0x31])]);
-    assert_eq!(rt; step(&bytes, (0x1000, &words), &mut frame), UNMAPPED);
-    assert_eq!(rt; numbers_of(&frame), before);
-    Ok(())
-}
-
 /// The return address of a leaf function is at the stack pointer. Any number but 0 says that it is one.
 #[test]
 fn leaf_functions_return(rt: HostRuntime) -> Result<(), Fail> {
-    let stack = stack_of(rt.alloc(), &[RETURN_ADDRESS])?;
+    let stack = bytes_of_words(rt.alloc(), &[RETURN_ADDRESS])?;
     let registers = changed(&[(RSP, ENTRY)]);
     for leaf in [1, u32::MAX] {
         let mut frame = leaf_at(registers);
@@ -475,42 +353,6 @@ fn leaf_functions_return(rt: HostRuntime) -> Result<(), Fail> {
         wanted.registers = of_caller();
         wanted.interrupted = 0;
         assert_eq!(rt; numbers_of(&frame), numbers_of(&wanted));
-    }
-    let high = u64::MAX - 7;
-    let mut frame = leaf_at(changed(&[(RSP, high)]));
-    assert_eq!(rt; step(&[], (high, &stack), &mut frame), BAD_ADDRESS);
-    assert_eq!(rt; frame.address, high);
-    Ok(())
-}
-
-/// A table that does not lie in the bytes is refused once the pieces are in the memory. Of a leaf it is not read.
-#[test]
-fn tables_outside_the_bytes_are_refused(rt: HostRuntime) -> Result<(), Fail> {
-    let bytes = with_records(rt.alloc())?;
-    let stack = stack_of(rt.alloc(), &[of_caller().general[RBP], RETURN_ADDRESS])?;
-    let (image, sections) = (image(X64), sections());
-    let view = view(&bytes, &image, &sections);
-    let pieces = [piece(ENTRY - 8, 0, 16)];
-    let before = frame_at(0x1050, 5, changed(&[(RSP, ENTRY - 48)]));
-    let last = u64::MAX;
-    for (offset, length, wanted) in [
-        (0x401, 0, SHORT),
-        (0x3FF, 2, SHORT),
-        (1, last, SHORT),
-        (last, 1, SHORT),
-        (0x400, 0, DONE),
-        (0, 0x400, DONE),
-    ] {
-        let table = Range { offset, length };
-        let mut frame = before;
-        let answer = pe_c_step(&view, &table, &[], &stack, &pieces, &mut frame);
-        assert_eq!(rt; answer, wanted, "at {offset} of {length}");
-        if answer == SHORT {
-            assert_eq!(rt; numbers_of(&frame), numbers_of(&before));
-        }
-        let mut frame = leaf_at(changed(&[(RSP, ENTRY)]));
-        let answer = pe_c_step(&view, &table, &[], &stack, &pieces, &mut frame);
-        assert_eq!(rt; answer, DONE);
     }
     Ok(())
 }
@@ -534,122 +376,25 @@ fn piece(start: u64, offset: u64, length: u64) -> MemoryPiece {
     }
 }
 
-/// rbp and the return address in 32 bytes: the first five of them from offset 20 on, the others from offset 4 on.
-fn scattered(alloc: Global) -> Result<[u8; 32], AllocError> {
-    let words = stack_of(alloc, &[of_caller().general[RBP], RETURN_ADDRESS])?;
-    let mut memory = [0xEE; 32];
-    put(&mut memory, &[(20, &words[..5]), (4, &words[5..])]);
-    Ok(memory)
-}
-
-/// A word may stand in two pieces, in any order. Of pieces that overlap the first has a byte.
-#[test]
-fn steps_read_memory_in_pieces(rt: HostRuntime) -> Result<(), Fail> {
-    let bytes = with_records(rt.alloc())?;
-    let memory = scattered(rt.alloc())?;
-    let caller = of_caller();
-    let start = ENTRY - 8;
-    let (first, second) = (piece(start, 20, 5), piece(start + 5, 4, 11));
-    let inside = frame_at(0x1050, 5, changed(&[(RSP, ENTRY - 48), (RBP, 1)]));
-    let wanted = left_at(0x1050, 5, caller);
-    for pieces in [[first, second], [second, first]] {
-        let mut frame = inside;
-        let answer = step_pieces(&bytes, &memory, &pieces, &mut frame);
-        assert_eq!(rt; answer, [DONE, 0]);
-        assert_eq!(rt; numbers_of(&frame), numbers_of(&wanted));
-    }
-    let mut frame = inside;
-    let pieces = [piece(start, 0, 1), first, second];
-    assert_eq!(rt;
-        step_pieces(&bytes, &memory, &pieces, &mut frame),
-        [DONE, 0]
-    );
-    assert_eq!(rt; frame.registers.general[RBP], 0xAAAA_00EE);
-    // What no piece has is named by the address of its word.
-    let missing: [(&[MemoryPiece], u64); 4] = [
-        (&[], start),
-        (&[first], start),
-        (&[second], start),
-        (&[first, piece(start + 5, 4, 10)], ENTRY),
-    ];
-    for (pieces, address) in missing {
-        let mut frame = inside;
-        let answer = step_pieces(&bytes, &memory, pieces, &mut frame);
-        assert_eq!(rt; answer, [MISSING, NOT_SAID]);
-        let mut wanted = inside;
-        wanted.address = address;
-        assert_eq!(rt; numbers_of(&frame), numbers_of(&wanted));
-    }
-    // A leaf function's return address.
-    let mut frame = leaf_at(changed(&[(RSP, ENTRY)]));
-    let pieces = [first, second];
-    assert_eq!(rt;
-        step_over(&[], &[], &memory, &pieces[..1], &mut frame),
-        MISSING
-    );
-    assert_eq!(rt; frame.address, ENTRY);
-    assert_eq!(rt; step_over(&[], &[], &memory, &pieces, &mut frame), DONE);
-    assert_eq!(rt; fields_of(&frame.registers), fields_of(&caller));
-    Ok(())
-}
-
-/// A piece outside the memory is refused before anything else, and nothing changes.
-#[test]
-fn pieces_outside_the_memory_are_refused(rt: HostRuntime) -> Result<(), Fail> {
-    let bytes = with_records(rt.alloc())?;
-    let memory = scattered(rt.alloc())?;
-    let start = ENTRY - 8;
-    let (first, second) = (piece(start, 20, 5), piece(start + 5, 4, 11));
-    let last = u64::MAX;
-    // A record of version 7, and one that is read.
-    for unwind in [0x10A0, 0x1050] {
-        for (offset, length) in [
-            (33, 0),
-            (32, 1),
-            (1, 32),
-            (1, last),
-            (last, 1),
-            (last, last),
-        ] {
-            let before = frame_at(unwind, 5, changed(&[(RSP, ENTRY - 48)]));
-            let mut frame = before;
-            let pieces = [first, second, piece(0, offset, length)];
-            let answer = step_pieces(&bytes, &memory, &pieces, &mut frame);
-            assert_eq!(rt; answer, [SHORT, NOT_SAID], "at {offset} of {length}");
-            assert_eq!(rt; numbers_of(&frame), numbers_of(&before));
-            let before = leaf_at(changed(&[(RSP, ENTRY)]));
-            let mut frame = before;
-            assert_eq!(rt; step_over(&[], &[], &memory, &pieces, &mut frame), SHORT);
-            assert_eq!(rt; numbers_of(&frame), numbers_of(&before));
-        }
-    }
-    // At its end none is.
-    let mut frame = frame_at(0x1050, 5, changed(&[(RSP, ENTRY - 48)]));
-    let pieces = [piece(0, 32, 0), piece(1, 0, 32), first, second];
-    assert_eq!(rt;
-        step_pieces(&bytes, &memory, &pieces, &mut frame),
-        [DONE, 0]
-    );
-    Ok(())
-}
-
 /// A step says that an interrupt stopped the caller only if it undid the frame that the processor pushed.
 #[test]
 fn steps_say_what_an_interrupt_left(rt: HostRuntime) -> Result<(), Fail> {
     let bytes = with_records(rt.alloc())?;
     let words = [RETURN_ADDRESS, 0x33, 0, 0x100, 0x2B];
-    let stack = stack_of(rt.alloc(), &words)?;
+    let stack = bytes_of_words(rt.alloc(), &words)?;
     let pieces = [piece(ENTRY, 0, 40)];
     let mut frame = frame_at(0x10B0, 0, changed(&[(RSP, ENTRY)]));
     assert_eq!(rt; step_pieces(&bytes, &stack, &pieces, &mut frame), [DONE, 1]);
     let found = [frame.registers.rip, frame.registers.general[RSP]];
     assert_eq!(rt; found, [RETURN_ADDRESS, 0x100]);
-    // Of a chain with too many records none is undone.
+    // Of a chain with more than 32 records none is undone.
     let mut chained = with_records(rt.alloc())?;
     put_chain(&mut chained, 33);
     let mut frame = frame_at(0x1100, 20, changed(&[(RSP, ENTRY)]));
+    let before = numbers_of(&frame);
     let answer = step_pieces(&chained, &stack, &pieces, &mut frame);
     assert_eq!(rt; answer, [LONG_CHAIN, NOT_SAID]);
+    assert_eq!(rt; numbers_of(&frame), before);
     // In an epilog the return address is popped, and no record is undone.
     let mut frame = frame_at(0x10B0, 0, changed(&[(RSP, ENTRY)]));
     let answer = step_over(&bytes, &[0xC3], &stack, &pieces, &mut frame);

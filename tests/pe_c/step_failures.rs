@@ -16,13 +16,13 @@ use super::made::{
     NO_FAILURE, SHORT, STRING_TABLE, TREE_NO_ENTRIES, TREE_NOT_DATA, TREE_NOT_DIRECTORY, UNMAPPED,
     UNWIND_CODE, UNWIND_VERSION, X64, image, range, section, sections, view,
 };
-use super::resource_leaves::{NO_LEAF, of_size, start, walk as leaves_of, with_tree};
+use super::resource_leaves::{NO_LEAF, of_size, start, with_tree};
 use super::unwinding::{no_record, with_records};
 use crate::arm64::codes::Arm64CodeWalk;
 use crate::failure::Failure;
 use crate::image::Image;
 use crate::imports::{Imports, Libraries};
-use crate::ranges::{NO_BYTES, Range};
+use crate::ranges::Range;
 use crate::resource_leaves::pe_c_next_resource_leaf;
 use crate::results::{DONE, NOTHING};
 use crate::step_failures::arm64::{pe_c_arm64_code_failure, pe_c_arm64_record_failure};
@@ -75,29 +75,22 @@ fn said_with(answer: u32, out: &Failure) -> Said {
 /// The second record of a directory, at 0x24: the RVA of its name is at 0x30, that of its list at 0x34.
 #[test]
 fn libraries(rt: HostRuntime) -> Result<(), Fail> {
-    let changes: [(usize, &[u8], Said); 5] = [
+    let changes: [(usize, &[u8], Said); 4] = [
         (0x30, &[0xA2], NONE),
         (0x30, &[0x68, 0x45], error(UNMAPPED, [0, 0, 0x4568])),
         (0xA2, &[0xFF], error(IMPORT_NAME, [0, 0, 0x10A2])),
         // Of the last seven bytes no number is zero.
         (0x34, &[0xB9], error(SHORT, [0xB9, 8, 0])),
-        (0x34, &[0xB8], NONE),
     ];
     for (offset, change, wanted) in changes {
         let mut bytes = with_imports(rt.alloc())?;
         put(&mut bytes, &[(offset, change)]);
         let walk = libraries_at(0x24, 0);
         assert_eq!(rt; library(&bytes, &walk), wanted, "{change:?} at {offset}");
-        assert_eq!(rt; library(&bytes, &libraries_at(0x24, 1)), NONE);
     }
     let bytes = with_imports(rt.alloc())?;
-    for (next, wanted) in [
-        (0x38, NONE),
-        (0xAD, error(SHORT, [0xAD, 20, 0])),
-        (u64::MAX, error(SHORT, [u64::MAX, 20, 0])),
-    ] {
-        assert_eq!(rt; library(&bytes, &libraries_at(next, 0)), wanted);
-    }
+    let cut = library(&bytes, &libraries_at(0xAD, 0));
+    assert_eq!(rt; cut, error(SHORT, [0xAD, 20, 0]));
     Ok(())
 }
 
@@ -136,63 +129,21 @@ fn image_of_pe32() -> Image {
 /// The second entry of a list, at 0x68, which is an ordinal.
 #[test]
 fn imports(rt: HostRuntime) -> Result<(), Fail> {
-    let changes: [(usize, &[u8], Said); 6] = [
-        (0x68, &[17], NONE),
-        (
-            0x68,
-            &[0x69, 0x45, 0, 0, 0, 0, 0, 0],
-            error(UNMAPPED, [0, 0, 0x4569]),
-        ),
+    let changes: [(&[u8; 8], Said); 4] = [
+        (&[17, 0, 0, 0, 0, 0, 0, 0x80], NONE),
         // Bits 31 to 62 are no part of the RVA.
         (
-            0x68,
-            &[0x69, 0x45, 0, 0x80, 1, 0, 0, 0x40],
+            b"\x69\x45\0\x80\x01\0\0\x40",
             error(UNMAPPED, [0, 0, 0x4569]),
         ),
-        (
-            0x68,
-            &[0xBE, 0x10, 0, 0, 0, 0, 0, 0],
-            error(IMPORT_NAME, [0, 0, 0x10BE]),
-        ),
-        (
-            0x68,
-            &[0xBF, 0x10, 0, 0, 0, 0, 0, 0],
-            error(SHORT, [0xBF, 2, 0]),
-        ),
-        (0x68, &[0xB0, 0x10, 0, 0, 0, 0, 0, 0], NONE),
+        (b"\xBE\x10\0\0\0\0\0\0", error(IMPORT_NAME, [0, 0, 0x10BE])),
+        (b"\xBF\x10\0\0\0\0\0\0", error(SHORT, [0xBF, 2, 0])),
     ];
-    for (offset, change, wanted) in changes {
+    for (change, wanted) in changes {
         let mut bytes = with_imports(rt.alloc())?;
-        put(&mut bytes, &[(offset, change)]);
-        assert_eq!(rt;
-            import(&bytes, &image(X64), range(0x68, 16)),
-            wanted,
-            "{change:?}"
-        );
-    }
-    Ok(())
-}
-
-/// Parts of that list, some of which start or end inside an entry or are not inside the bytes.
-#[test]
-fn parts_of_lists_of_imports(rt: HostRuntime) -> Result<(), Fail> {
-    let bytes = with_imports(rt.alloc())?;
-    let (pe32_plus, pe32) = (image(X64), image_of_pe32());
-    for (image, left, wanted) in [
-        (&pe32_plus, range(0x68, 7), error(SHORT, [0x68, 8, 0])),
-        (&pe32, range(0x68, 3), error(SHORT, [0x68, 4, 0])),
-        // An ordinal of PE32+ is an RVA and an ordinal of PE32.
-        (&pe32, range(0x68, 16), error(UNMAPPED, [0, 0, 17])),
-        (&pe32, range(0x6C, 12), NONE),
-        (&pe32_plus, range(0x68, 0x59), error(SHORT, [0x68, 0x59, 0])),
-        (
-            &pe32_plus,
-            range(u64::MAX, 2),
-            error(SHORT, [u64::MAX, 2, 0]),
-        ),
-        (&pe32_plus, NO_BYTES, NONE),
-    ] {
-        assert_eq!(rt; import(&bytes, image, left), wanted);
+        put(&mut bytes, &[(0x68, &change[..])]);
+        let found = import(&bytes, &image(X64), range(0x68, 16));
+        assert_eq!(rt; found, wanted, "{change:?}");
     }
     Ok(())
 }
@@ -202,8 +153,6 @@ fn unwind_records(rt: HostRuntime) -> Result<(), Fail> {
     let bytes = with_records(rt.alloc())?;
     for (unwind, wanted) in [
         (0x1030, NONE),
-        (0x100D, NONE),
-        (0x3000, error(UNMAPPED, [0, 0, 0x3000])),
         // Of a link the RVA is one less.
         (0x4569, error(UNMAPPED, [0, 0, 0x4568])),
         (0x100F, error(FUNCTION_LINK, [0, 0, 0x100F])),
@@ -211,20 +160,12 @@ fn unwind_records(rt: HostRuntime) -> Result<(), Fail> {
         (0x1078, error(UNWIND_VERSION, [0, 0, 3])),
         // The function to which a record is chained has 12 bytes.
         (0x1084, error(SHORT, [0x88, 12, 0])),
-        (0x108E, error(SHORT, [0x8E, 4, 0])),
-        (0x1FFE, error(SHORT, [0xFFE, 1, 0])),
     ] {
         let table = range(0, 0x30);
         let found = said_of(&bytes, &image(X64), |view, out| {
             pe_c_unwind_record_failure(view, &table, unwind, out)
         });
         assert_eq!(rt; found, wanted, "at {unwind:#x}");
-    }
-    for unwind in [0x1030, 0x1001] {
-        let found = said_of(&bytes, &image(X64), |view, out| {
-            pe_c_unwind_record_failure(view, &range(12, 0x85), unwind, out)
-        });
-        assert_eq!(rt; found, error(SHORT, [12, 0x85, 0]));
     }
     Ok(())
 }
@@ -247,21 +188,14 @@ fn links_that_never_end_are_told_early(rt: HostRuntime) -> Result<(), Fail> {
         start: 0,
         section: 20_001,
     }];
-    for (unwind, index) in [
-        (0x1001, &[][..]),
-        (0x100D, &[]),
-        (0x1001, &last),
-        (0x100D, &last),
-    ] {
+    for (unwind, index) in [(0x100D, &[][..]), (0x100D, &last)] {
         let view = View {
             index,
             ..view(&bytes, &image, &many)
         };
         let mut record = no_record();
-        assert_eq!(rt;
-            pe_c_unwind_record(&view, &table, unwind, &mut record),
-            FUNCTION_CYCLE
-        );
+        let found = pe_c_unwind_record(&view, &table, unwind, &mut record);
+        assert_eq!(rt; found, FUNCTION_CYCLE);
         let answer = pe_c_unwind_record_failure(&view, &table, unwind, &mut out);
         let wanted = error(FUNCTION_CYCLE, [0, 0, u64::from(unwind)]);
         assert_eq!(rt; said_with(answer, &out), wanted);
@@ -272,13 +206,10 @@ fn links_that_never_end_are_told_early(rt: HostRuntime) -> Result<(), Fail> {
 /// A code after one that is read, at offset 2: its second byte has the operation, and what that takes above.
 #[test]
 fn codes(rt: HostRuntime) {
-    let refused: [(u8, &[u8], Said); 7] = [
-        (1, &[], NONE),
+    let refused: [(u8, &[u8], Said); 4] = [
         (1, &[9, 0x50], NONE),
         (1, &[9, 0x2A], error(UNWIND_CODE, [0, 0, 0x2A])),
         (3, &[9, 0x16, 0, 0], error(UNWIND_CODE, [0, 0, 0x16])),
-        (1, &[9], error(SHORT, [2, 2, 0])),
-        (1, &[9, 0x01], error(SHORT, [2, 4, 0])),
         (1, &[9, 0x11, 0, 0, 2], error(SHORT, [2, 6, 0])),
     ];
     for (version, code, wanted) in refused {
@@ -292,12 +223,6 @@ fn codes(rt: HostRuntime) {
         };
         let found = said(|out| pe_c_code_failure(&bytes, &walk, out));
         assert_eq!(rt; found, wanted, "{code:?}");
-        let lie = CodeWalk {
-            left: range(2, 7),
-            ..walk
-        };
-        let found = said(|out| pe_c_code_failure(&bytes, &lie, out));
-        assert_eq!(rt; found, error(SHORT, [2, 7, 0]));
     }
 }
 
@@ -307,19 +232,14 @@ fn resource_leaves(rt: HostRuntime) -> Result<(), Fail> {
     let image = of_size(0x8E);
     for (change, leaves, wanted) in [
         ((0x76, 0), 0, NONE),
-        ((0x76, 0), 1, NONE),
         // The second type leads to a data entry, and nothing follows it.
         ((0x76, 0), 2, error(TREE_NOT_DIRECTORY, [0x68, 0, 0])),
-        ((0x76, 0), 3, NONE),
         // The second language leads to a directory.
         ((0x77, 0x80), 1, error(TREE_NOT_DATA, [0x68, 0, 0])),
         // Its data entry is truncated.
         ((0x74, 0x7F), 1, error(SHORT, [0x9F, 16, 0])),
-        // The directory of languages is empty, or has more entries than there are bytes.
+        // The directory of languages is empty.
         ((0x66, 0), 0, error(TREE_NO_ENTRIES, [0x38, 0, 0])),
-        ((0x66, 11), 0, error(SHORT, [0x68, 88, 0])),
-        // The name is truncated.
-        ((0xA8, 3), 0, error(SHORT, [0xAA, 6, 0])),
     ] {
         let mut bytes = with_tree(rt.alloc())?;
         let (offset, byte): (usize, u8) = change;
@@ -337,67 +257,28 @@ fn resource_leaves(rt: HostRuntime) -> Result<(), Fail> {
     Ok(())
 }
 
-/// Ranges that do not lie in the bytes, and ranges that do not lie in the tree.
-#[test]
-fn resource_leaves_outside(rt: HostRuntime) -> Result<(), Fail> {
-    let image = of_size(0x8E);
-    let bytes = with_tree(rt.alloc())?;
-    for (tree, types, wanted) in [
-        (range(0x20, 0x8F), NO_BYTES, error(SHORT, [0x20, 0x8F, 0])),
-        (
-            range(0x20, 0x8E),
-            range(0x80, 15),
-            error(SHORT, [0xA0, 15, 0]),
-        ),
-    ] {
-        let walk = leaves_of(tree, types, NO_BYTES, NO_BYTES);
-        let found = said_of(&bytes, &image, |view, out| {
-            pe_c_resource_leaf_failure(view, &walk.leaves, out)
-        });
-        assert_eq!(rt; found, wanted);
-    }
-    Ok(())
-}
-
 /// The second certificate, at 24.
 #[test]
 fn certificates(rt: HostRuntime) -> Result<(), Fail> {
-    let changes: [(usize, &[u8], Range, Said); 9] = [
-        (24, &[8], range(24, 24), NONE),
-        (
-            28,
-            &[0, 3],
-            range(24, 24),
-            error(CERTIFICATE_REVISION, [0, 0, 0x300]),
-        ),
-        (30, &[5], range(24, 24), error(CERTIFICATE_TYPE, [0, 0, 5])),
-        (
-            24,
-            &[33],
-            range(24, 24),
-            error(CERTIFICATE_SIZE, [0, 33, 0]),
-        ),
-        (24, &[8], range(49, 7), error(SHORT, [49, 8, 0])),
-        (
-            24,
-            &[8],
-            range(24, 33),
-            error(CERTIFICATE_TABLE, [57, 0, 0]),
-        ),
-        (
-            24,
-            &[8],
-            range(u64::MAX, 2),
-            error(CERTIFICATE_TABLE, [u64::MAX, 0, 0]),
-        ),
-        (24, &[8], range(56, 0), NONE),
-        (24, &[8], NO_BYTES, NONE),
+    let changes: [(usize, &[u8], Said); 4] = [
+        (24, &[8], NONE),
+        (28, &[0, 3], error(CERTIFICATE_REVISION, [0, 0, 0x300])),
+        (30, &[5], error(CERTIFICATE_TYPE, [0, 0, 5])),
+        (24, &[33], error(CERTIFICATE_SIZE, [0, 33, 0])),
     ];
-    for (offset, change, walk, wanted) in changes {
+    for (offset, change, wanted) in changes {
         let mut bytes = three_certificates(rt.alloc())?;
         put(&mut bytes, &[(offset, change)]);
-        let found = said(|out| pe_c_certificate_failure(&bytes, &walk, out));
+        let found = said(|out| pe_c_certificate_failure(&bytes, &range(24, 24), out));
         assert_eq!(rt; found, wanted, "{change:?} at {offset}");
+    }
+    let bytes = three_certificates(rt.alloc())?;
+    for (walk, wanted) in [
+        (range(49, 7), error(SHORT, [49, 8, 0])),
+        (range(24, 33), error(CERTIFICATE_TABLE, [57, 0, 0])),
+    ] {
+        let found = said(|out| pe_c_certificate_failure(&bytes, &walk, out));
+        assert_eq!(rt; found, wanted);
     }
     Ok(())
 }
@@ -408,9 +289,7 @@ fn relocations(rt: HostRuntime) -> Result<(), Fail> {
     let mut bytes = two_blocks(rt.alloc())?;
     for (walk, wanted) in [
         (range(16, 14), NONE),
-        (range(30, 0), NONE),
         (range(16, 7), error(SHORT, [16, 8, 0])),
-        (range(16, 17), error(SHORT, [16, 17, 0])),
         (range(16, 13), error(DIRECTORY_BLOCK_TRUNCATED, [0, 14, 13])),
     ] {
         let found = said(|out| pe_c_relocation_block_failure(&bytes, &walk, out));
@@ -420,7 +299,6 @@ fn relocations(rt: HostRuntime) -> Result<(), Fail> {
         (range(24, 6), NONE),
         (range(28, 2), error(DIRECTORY_NO_ARGUMENT, [0, 0, 0x5020])),
         (range(28, 1), error(SHORT, [28, 2, 0])),
-        (range(28, 5), error(SHORT, [28, 5, 0])),
     ] {
         let found = said(|out| pe_c_relocation_failure(&bytes, 0x5000, &walk, out));
         assert_eq!(rt; found, wanted);
@@ -436,12 +314,10 @@ fn arm64_records(rt: HostRuntime) -> Result<(), Fail> {
     let bytes = with_arm64_records(rt.alloc())?;
     for (size, unwind_data, wanted) in [
         (8, 0x1010, NONE),
-        (8, 0x1011, NONE),
         (8, 0x4568, error(UNMAPPED, [0, 0, 0x4568])),
         (8, 0x1060, error(ARM64_VERSION, [0, 0, 1])),
         (8, 0x1080, error(SHORT, [0x80, 4, 0])),
         (7, 0x1010, error(EXCEPTION_SIZE, [0, 0, 7])),
-        (7, 0x1011, error(EXCEPTION_SIZE, [0, 0, 7])),
     ] {
         let function = Arm64RuntimeFunction {
             begin_address: 9,
@@ -462,9 +338,7 @@ fn arm64_codes(rt: HostRuntime) {
     for (left, offset, wanted) in [
         (range(5, 4), 0, NONE),
         (range(6, 3), 1, error(ARM64_CUT, [1, 0, 0])),
-        (range(9, 0), 4, NONE),
         (range(6, 3), 0, error(ARM64_STREAM, [0, 0, 3])),
-        (range(6, 5), 3, error(SHORT, [6, 5, 0])),
     ] {
         let walk = Arm64CodeWalk { left, offset };
         let found = said(|out| pe_c_arm64_code_failure(&bytes, &walk, out));
@@ -502,23 +376,12 @@ fn delay_imports(rt: HostRuntime) -> Result<(), Fail> {
     ] {
         let bytes = with_second(rt.alloc(), attributes, name, table)?;
         assert_eq!(rt; delay_import(&bytes, range(36, 32)), wanted);
-        assert_eq!(rt;
-            delay_import(&bytes, range(36, 31)),
-            error(SHORT, [36, 32, 0])
-        );
-        assert_eq!(rt;
-            delay_import(&bytes, range(36, 93)),
-            error(SHORT, [36, 93, 0])
-        );
-        assert_eq!(rt; delay_import(&bytes, range(68, 0)), NONE);
     }
     // Of the name at 68 the second byte is in no text of UTF-8 as the first.
     let mut bytes = with_second(rt.alloc(), 1, 0x1045, 0x1054)?;
     bytes[69] = 0xBF;
-    assert_eq!(rt;
-        delay_import(&bytes, range(36, 32)),
-        error(DIRECTORY_DELAY_IMPORT_NAME, [69, 0, 0])
-    );
+    let found = delay_import(&bytes, range(36, 32));
+    assert_eq!(rt; found, error(DIRECTORY_DELAY_IMPORT_NAME, [69, 0, 0]));
     Ok(())
 }
 
@@ -535,38 +398,17 @@ fn delayed_functions(rt: HostRuntime) -> Result<(), Fail> {
     let (pe32_plus, pe32) = (image(X64), image_of_pe32());
     for (image, left, attributes, wanted) in [
         (&pe32_plus, [84, 44], 1, NONE),
-        (&pe32_plus, [100, 28], 1, NONE),
         (&pe32_plus, [120, 8], 1, error(UNMAPPED, [0, 0, 0x2000])),
-        (&pe32_plus, [128, 0], 1, error(SHORT, [128, 8, 0])),
-        (&pe32_plus, [84, 7], 1, error(SHORT, [84, 8, 0])),
         (&pe32, [108, 3], 1, error(SHORT, [108, 4, 0])),
-        (&pe32_plus, [120, 9], 1, error(SHORT, [120, 9, 0])),
         (
             &pe32_plus,
             [84, 44],
             0,
             error(DIRECTORY_VA_BELOW_BASE, [0, 0, 0x104C]),
         ),
-        (&pe32_plus, [0, 0], 0, NONE),
     ] {
         let found = delayed_function(&bytes, image, left, attributes);
         assert_eq!(rt; found, wanted, "{left:?}");
-    }
-    Ok(())
-}
-
-/// The address of a hint, of which the last byte has a half.
-#[test]
-fn names_of_delayed_functions(rt: HostRuntime) -> Result<(), Fail> {
-    for (address, wanted) in [
-        (0x107E, error(DIRECTORY_DELAY_IMPORT_NAME, [128, 0, 0])),
-        (0x107F, error(SHORT, [127, 2, 0])),
-    ] {
-        let mut bytes = with_delay_imports(rt.alloc())?;
-        let number: u32 = address;
-        bytes[84..88].copy_from_slice(&number.to_le_bytes());
-        let found = delayed_function(&bytes, &image(X64), [84, 44], 1);
-        assert_eq!(rt; found, wanted);
     }
     Ok(())
 }
@@ -582,12 +424,8 @@ fn bound_imports(rt: HostRuntime) {
             range(20, 47),
             error(DIRECTORY_BOUND_IMPORT_NAME, [0x38, 0, 0]),
         ),
-        (table, range(28, 39), NONE),
-        (table, range(12, 7), error(SHORT, [12, 8, 0])),
         // An entry and its forwarder have 16 bytes.
         (table, range(4, 15), error(SHORT, [4, 16, 0])),
-        (table, range(20, 48), error(SHORT, [20, 48, 0])),
-        (range(4, 64), range(4, 63), error(SHORT, [4, 64, 0])),
     ] {
         let found = said(|out| pe_c_bound_import_failure(BOUND, &table, &walk, out));
         assert_eq!(rt; found, wanted);
@@ -610,8 +448,6 @@ fn symbol_name(
 fn symbol_names(rt: HostRuntime) -> Result<(), Fail> {
     for (string, length, index, wanted) in [
         (4, 22, 2, NONE),
-        (4, 22, 12, NONE),
-        (4, 21, 2, error(STRING_TABLE, [4, 0, 0])),
         (22, 22, 2, error(STRING_TABLE, [22, 0, 0])),
         (4, 23, 2, error(SHORT, [STRINGS, 23, 0])),
     ] {
@@ -619,8 +455,5 @@ fn symbol_names(rt: HostRuntime) -> Result<(), Fail> {
         let found = symbol_name(rt.alloc(), string, tables, index)?;
         assert_eq!(rt; found, wanted);
     }
-    let tables = [range(SYMBOLS, 239), range(STRINGS, 22)];
-    let found = symbol_name(rt.alloc(), 4, tables, 2)?;
-    assert_eq!(rt; found, error(SHORT, [SYMBOLS, 239, 0]));
     Ok(())
 }

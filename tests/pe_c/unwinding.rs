@@ -1,14 +1,13 @@
 //! The functions of x64 images, their unwind records and scope tables.
 
 use super::made::{
-    ARM64, FUNCTION_CYCLE, FUNCTION_INDEX, FUNCTION_LINK, MAPPED, OVER, PERMISSIVE, SHORT, STRICT,
-    UNMAPPED, UNTOUCHED, UNWIND_VERSION, X64, directory, having, image, images_without_tables,
-    in_mode, lies, of_range, range, section, sections, untouched, view, words,
+    ARM64, EXCEPTION_SIZE, FUNCTION_INDEX, OVER, SHORT, UNTOUCHED, UNWIND_VERSION, X64, directory,
+    having, image, of_range, range, sections, untouched, view, words,
 };
 use crate::image::Image;
 use crate::lists::x64::pe_c_record_codes;
 use crate::ranges::Range;
-use crate::results::{DONE, NOTHING, ROOM};
+use crate::results::{DONE, NOTHING};
 use crate::unwinding::{
     Code, CodeWalk, UnwindRecord, pe_c_find_function, pe_c_function_at, pe_c_function_table,
     pe_c_next_scope, pe_c_scope_table, pe_c_unwind_record,
@@ -44,9 +43,9 @@ fn with_table(virtual_address: u32, size: u32) -> Image {
     having(image(X64), 3, directory(virtual_address, size))
 }
 
-fn table_of(bytes: &[u8], image: &Image, mode: u32) -> (u32, [u64; 2]) {
+fn table_of(bytes: &[u8], image: &Image) -> (u32, [u64; 2]) {
     let mut out = untouched();
-    let answer = pe_c_function_table(&view(bytes, &in_mode(image, mode), &sections()), &mut out);
+    let answer = pe_c_function_table(&view(bytes, image, &sections()), &mut out);
     (answer, of_range(out))
 }
 
@@ -55,12 +54,16 @@ fn table_of(bytes: &[u8], image: &Image, mode: u32) -> (u32, [u64; 2]) {
 fn function_tables(rt: HostRuntime) {
     let bytes = [0; 0x40];
     let whole = with_table(0x1010, 0x30);
-    for mode in [STRICT, PERMISSIVE] {
-        assert_eq!(rt; table_of(&bytes, &whole, mode), (DONE, [0x10, 0x30]));
-        for (image, number) in images_without_tables(whole, ARM64, 12) {
-            assert_eq!(rt; table_of(&bytes, &image, mode), (number, UNTOUCHED));
-        }
-    }
+    assert_eq!(rt; table_of(&bytes, &whole), (DONE, [0x10, 0x30]));
+    let (other, odd) = (
+        Image {
+            machine: ARM64,
+            ..whole
+        },
+        with_table(0x1010, 0x2F),
+    );
+    assert_eq!(rt; table_of(&bytes, &other), (NOTHING, UNTOUCHED));
+    assert_eq!(rt; table_of(&bytes, &odd), (EXCEPTION_SIZE, UNTOUCHED));
 }
 
 /// A table of three functions at offset 4; the last two start at the same address.
@@ -68,7 +71,7 @@ fn three_functions(alloc: Global) -> Result<Vec<u8>, Fail> {
     Ok(words(
         alloc,
         &[
-            0xFFFF_FFFF,
+            u32::MAX,
             0x1000,
             0x1010,
             0x2000,
@@ -98,7 +101,6 @@ fn functions_of_addresses(rt: HostRuntime) -> Result<(), Fail> {
     let first = function(0x1000, 0x1010, 0x2000);
     let last = function(0x1020, 0x1030, 0x2021);
     for (rva, want) in [
-        (0, (NOTHING, OTHER)),
         (0x0FFF, (NOTHING, OTHER)),
         (0x1000, (DONE, first)),
         (0x100F, (DONE, first)),
@@ -106,18 +108,10 @@ fn functions_of_addresses(rt: HostRuntime) -> Result<(), Fail> {
         (0x1020, (DONE, last)),
         (0x102F, (DONE, last)),
         (0x1030, (NOTHING, OTHER)),
-        (u32::MAX, (NOTHING, OTHER)),
     ] {
         assert_eq!(rt; find(&TABLE, rva), want, "of {rva:#x}");
     }
-    assert_eq!(rt;
-        find(&range(4, 24), 0x103F),
-        (DONE, function(0x1020, 0x1040, 0x2010))
-    );
-    assert_eq!(rt; find(&range(4, 0), 0x1000), (NOTHING, OTHER));
-    for lie in lies(40) {
-        assert_eq!(rt; find(&lie, 0x1000), (SHORT, OTHER), "{:?}", of_range(lie));
-    }
+    assert_eq!(rt; find(&range(5, 36), 0x1000), (SHORT, OTHER));
     Ok(())
 }
 
@@ -130,17 +124,9 @@ fn functions_by_index(rt: HostRuntime) -> Result<(), Fail> {
         let answer = pe_c_function_at(&bytes, table, index, &mut out);
         (answer, out)
     };
-    assert_eq!(rt; at(&TABLE, 0), (DONE, function(0x1000, 0x1010, 0x2000)));
     assert_eq!(rt; at(&TABLE, 1), (DONE, function(0x1020, 0x1040, 0x2010)));
-    assert_eq!(rt; at(&TABLE, 2), (DONE, function(0x1020, 0x1030, 0x2021)));
-    for index in [3, 1 << 32, u64::MAX / 12 + 1, u64::MAX] {
-        assert_eq!(rt; at(&TABLE, index), (FUNCTION_INDEX, OTHER), "{index}");
-    }
+    assert_eq!(rt; at(&TABLE, 3), (FUNCTION_INDEX, OTHER));
     assert_eq!(rt; at(&range(4, 35), 2), (FUNCTION_INDEX, OTHER));
-    assert_eq!(rt; at(&range(40, 0), 0), (FUNCTION_INDEX, OTHER));
-    for lie in lies(40) {
-        assert_eq!(rt; at(&lie, 0), (SHORT, OTHER), "{:?}", of_range(lie));
-    }
     Ok(())
 }
 
@@ -291,161 +277,6 @@ fn records_are_read(rt: HostRuntime) -> Result<(), Fail> {
     Ok(())
 }
 
-/// The record at offset 0x30, or its errors, by sections of which the first covers its RVA, another one does, or none.
-#[test]
-fn records_of_sections(rt: HostRuntime) -> Result<(), Fail> {
-    let bytes = with_records(rt.alloc())?;
-    let plain = ([0x34, 4, 1, 0], [0, 0, 0, 4, 0, 0], OVER, NO_FUNCTION);
-    let file = image(X64);
-    let odd = Image {
-        file_alignment: 3,
-        ..file
-    };
-    let loaded = in_mode(&file, MAPPED);
-    let other = section(0x5000, 0x1000, 0, 0x1000);
-    for (image, sections, unwind, number) in [
-        (
-            &file,
-            [section(0x2000, 0x1000, 0, 0x1000), other],
-            0x2030,
-            DONE,
-        ),
-        (
-            &file,
-            [other, section(0x2000, 0x1000, 0, 0x1000)],
-            0x2030,
-            DONE,
-        ),
-        (
-            &file,
-            [other, section(0x2000, 0x1000, 0, 0x1000)],
-            0x5030,
-            DONE,
-        ),
-        // a raw pointer is rounded down to 512 bytes
-        (
-            &file,
-            [section(0x2000, 0x1000, 0x1FF, 0x1000), other],
-            0x2030,
-            DONE,
-        ),
-        (
-            &file,
-            [section(0x2000, 0x1000, 0x200, 0x1000), other],
-            0x2030,
-            SHORT,
-        ),
-        // a virtual size counts in pages, and one of 0 not at all
-        (
-            &file,
-            [section(0x2000, 0x20, 0, 0x1000), other],
-            0x2030,
-            DONE,
-        ),
-        (&file, [section(0x2000, 0, 0, 0x1000), other], 0x2030, DONE),
-        (
-            &file,
-            [section(0x1000, 0x1000, 0, 0x2000), other],
-            0x2030,
-            UNMAPPED,
-        ),
-        (
-            &file,
-            [section(0x1000, 0x2000, 0, 0x1000), other],
-            0x2030,
-            UNMAPPED,
-        ),
-        (
-            &file,
-            [section(0x2031, 0x1000, 0, 0x1000), other],
-            0x2030,
-            UNMAPPED,
-        ),
-        (
-            &odd,
-            [section(0x2000, 0x1000, 0, 0x1000), other],
-            0x2030,
-            UNMAPPED,
-        ),
-        (
-            &loaded,
-            [section(0x2000, 0x1000, 0, 0x1000), other],
-            0x2030,
-            SHORT,
-        ),
-        (
-            &loaded,
-            [section(0, 0x1000, 0x200, 0x1000), other],
-            0x30,
-            DONE,
-        ),
-    ] {
-        let mut out = no_record();
-        let table = range(0, 0x30);
-        let answer = pe_c_unwind_record(&view(&bytes, image, &sections), &table, unwind, &mut out);
-        let want = if number == DONE {
-            plain
-        } else {
-            UNTOUCHED_FIELDS
-        };
-        let first = sections[0].virtual_address;
-        assert_eq!(rt;
-            (answer, fields_of(out)),
-            (number, want),
-            "at {unwind:#x} by {first:#x}"
-        );
-    }
-    Ok(())
-}
-
-/// A link leads to a whole entry of the table that the caller passes, and the table must be inside the bytes.
-#[test]
-fn records_that_are_refused(rt: HostRuntime) -> Result<(), Fail> {
-    let bytes = with_records(rt.alloc())?;
-    let table = range(0, 0x30);
-    for (unwind, number) in [
-        (0x3000, UNMAPPED),
-        (0x3001, UNMAPPED),
-        (0x100F, FUNCTION_LINK),
-        (0x1031, FUNCTION_LINK),
-        (0x1019, FUNCTION_CYCLE),
-        (0x1025, UNMAPPED),
-        (0x1078, UNWIND_VERSION),
-        (0x1084, SHORT),
-        (0x108E, SHORT),
-        (0x1090, SHORT),
-        (0x1FFE, SHORT),
-        (u32::MAX, UNMAPPED),
-    ] {
-        let want = (number, UNTOUCHED_FIELDS);
-        assert_eq!(rt; record_of(&bytes, &table, unwind), want, "at {unwind:#x}");
-    }
-    let plain = ([0x34, 4, 1, 0], [0, 0, 0, 4, 0, 0], OVER, NO_FUNCTION);
-    for (offset, length, number) in [
-        (0, 12, FUNCTION_LINK),
-        (0, 23, FUNCTION_LINK),
-        (0, 24, DONE),
-        (12, 36, FUNCTION_LINK),
-        (4, 36, FUNCTION_LINK),
-        (0x30, 0x60, FUNCTION_LINK),
-    ] {
-        let want = if number == DONE {
-            plain
-        } else {
-            UNTOUCHED_FIELDS
-        };
-        let record = record_of(&bytes, &range(offset, length), 0x100D);
-        assert_eq!(rt; record, (number, want), "by {length} at {offset}");
-    }
-    for lie in lies(0x90) {
-        for unwind in [0x1030, 0x1001] {
-            let record = record_of(&bytes, &lie, unwind);
-            assert_eq!(rt; record, (SHORT, UNTOUCHED_FIELDS), "by {:?}", of_range(lie));
-        }
-    }
-    Ok(())
-}
-
 // ---- scope tables
 
 /// Handler data at offset 4: a count of 2 and two entries of start, end, handler and target.
@@ -453,7 +284,7 @@ fn with_scopes(alloc: Global) -> Result<Vec<u8>, Fail> {
     Ok(words(
         alloc,
         &[
-            0xFFFF_FFFF,
+            u32::MAX,
             2,
             0x1002,
             0x1008,
@@ -463,7 +294,7 @@ fn with_scopes(alloc: Global) -> Result<Vec<u8>, Fail> {
             0x1018,
             0x1100,
             0,
-            0xFFFF_FFFF,
+            u32::MAX,
         ],
     )?)
 }
@@ -479,14 +310,8 @@ fn scope_tables(rt: HostRuntime) -> Result<(), Fail> {
     };
     assert_eq!(rt; table(&range(4, 40)), (DONE, [8, 32]));
     assert_eq!(rt; table(&range(4, 36)), (DONE, [8, 32]));
-    assert_eq!(rt; table(&range(36, 8)), (DONE, [40, 0]));
-    for (offset, length) in [(4, 35), (4, 4), (4, 3), (44, 0), (0, 44), (40, 4)] {
-        let want = (NOTHING, UNTOUCHED);
-        assert_eq!(rt; table(&range(offset, length)), want, "{length} at {offset}");
-    }
-    for lie in lies(44) {
-        assert_eq!(rt; table(&lie), (SHORT, UNTOUCHED), "{:?}", of_range(lie));
-    }
+    assert_eq!(rt; table(&range(4, 35)), (NOTHING, UNTOUCHED));
+    assert_eq!(rt; table(&range(5, 40)), (SHORT, UNTOUCHED));
     Ok(())
 }
 
@@ -520,23 +345,11 @@ fn scopes_in_turn(rt: HostRuntime) -> Result<(), Fail> {
     let mut walk = range(8, 32);
     assert_eq!(rt; step(&mut walk), (DONE, first, [24, 16]));
     assert_eq!(rt; step(&mut walk), (DONE, second, [40, 0]));
-    for _ in 0..2u8 {
-        assert_eq!(rt; step(&mut walk), (NOTHING, NO_SCOPE, [40, 0]));
-    }
+    assert_eq!(rt; step(&mut walk), (NOTHING, NO_SCOPE, [40, 0]));
     // one whole entry and one that is truncated, after which the walk is over
     let mut cut = range(8, 31);
     assert_eq!(rt; step(&mut cut), (DONE, first, [24, 15]));
     assert_eq!(rt; step(&mut cut), (SHORT, NO_SCOPE, OVER));
-    assert_eq!(rt; step(&mut cut), (NOTHING, NO_SCOPE, OVER));
-    for lie in lies(44) {
-        let mut walk = lie;
-        assert_eq!(rt;
-            step(&mut walk),
-            (SHORT, NO_SCOPE, OVER),
-            "{:?}",
-            of_range(lie)
-        );
-    }
     Ok(())
 }
 
@@ -559,15 +372,6 @@ fn records_with_their_codes(rt: HostRuntime) -> Result<(), Fail> {
     for (unwind, room, answer, count, fields, first, second) in [
         (
             0x1030,
-            3,
-            DONE,
-            2,
-            ([0x38, 0, 1, 0], numbers, OVER, NO_FUNCTION),
-            [4, 1, 0],
-            [1, 0, 5],
-        ),
-        (
-            0x1030,
             1,
             DONE,
             1,
@@ -575,20 +379,10 @@ fn records_with_their_codes(rt: HostRuntime) -> Result<(), Fail> {
             [4, 1, 0],
             [90, 91, 92],
         ),
-        (0x1030, 0, ROOM, 77, untouched, [90, 91, 92], [90, 91, 92]),
         (
             0x1078,
             3,
             UNWIND_VERSION,
-            77,
-            untouched,
-            [90, 91, 92],
-            [90, 91, 92],
-        ),
-        (
-            0x3000,
-            0,
-            UNMAPPED,
             77,
             untouched,
             [90, 91, 92],

@@ -1,8 +1,8 @@
 //! Version information by its blocks: where they are, one a step, and walks that end or go on after an error.
 
 use super::made::{
-    OVER, PERMISSIVE, RESOURCE_BOUNDS, RESOURCE_STRING, SHORT, STRICT, UNMAPPED, UNTOUCHED, X64,
-    directory, having, image, in_mode, lies, of_range, range, sections, untouched, view,
+    RESOURCE_BOUNDS, RESOURCE_STRING, SHORT, UNTOUCHED, X64, directory, having, image, of_range,
+    range, sections, untouched, view,
 };
 use crate::results::{DONE, NOTHING};
 use crate::version_blocks::{VersionBlock, pe_c_next_version_block, pe_c_version_blocks};
@@ -80,11 +80,7 @@ fn blocks_in_turn(rt: HostRuntime) -> Result<(), Fail> {
         ),
         // shows: pe_c/src/version_blocks.rt error_of Short
         ([64, 6], nothing_but(SHORT, [70, 0])),
-        ([70, 0], nothing_but(NOTHING, [70, 0])),
-        (OVER, nothing_but(NOTHING, OVER)),
-        // Fewer than 6 bytes, and a length of 0 with bytes after it.
-        ([64, 5], nothing_but(SHORT, [69, 0])),
-        ([64, 1], nothing_but(SHORT, [65, 0])),
+        // A length of 0 with bytes after it.
         ([46, 8], nothing_but(NOTHING, [46, 8])),
         // A length of 1.
         ([48, 8], nothing_but(RESOURCE_STRING, [56, 0])),
@@ -93,27 +89,12 @@ fn blocks_in_turn(rt: HostRuntime) -> Result<(), Fail> {
     }
     // One of 7 bytes without room for a key, and one of 9, of which the last is left for its children.
     let odd = [7, 0, 0, 0, 0, 0, 0, 0, 9, 0, 0, 0, 0, 0, 0, 0, 5];
-    assert_eq!(rt;
-        next_block(&odd, [0, 17]),
-        nothing_but(RESOURCE_STRING, [8, 9])
-    );
+    let found = next_block(&odd, [0, 17]);
+    assert_eq!(rt; found, nothing_but(RESOURCE_STRING, [8, 9]));
     assert_eq!(rt;
         next_block(&odd, [8, 9]),
         (DONE, [[14, 0], [16, 0], [16, 1]], [0, 0, 0, 0], [17, 0])
     );
-    Ok(())
-}
-
-#[test]
-fn walks_outside_of_the_bytes(rt: HostRuntime) -> Result<(), Fail> {
-    for walk in lies(70) {
-        let walk = of_range(walk);
-        assert_eq!(rt;
-            next_block(&BLOCKS, walk),
-            nothing_but(SHORT, OVER),
-            "{walk:?}"
-        );
-    }
     Ok(())
 }
 
@@ -122,25 +103,13 @@ fn walks_outside_of_the_bytes(rt: HostRuntime) -> Result<(), Fail> {
 fn where_the_blocks_are(rt: HostRuntime) -> Result<(), Fail> {
     let bytes = tree(rt.alloc())?;
     let image = having(image(X64), 2, directory(0x1000, bytes.len() as u32));
-    for mode in [STRICT, PERMISSIVE] {
-        assert_eq!(rt; blocks_of(&bytes, &image, mode), (DONE, [0x30, 3]));
-    }
+    assert_eq!(rt; blocks_of(&bytes, &image), (DONE, [0x30, 3]));
     let absent = having(image, 2, directory(0, 0));
-    assert_eq!(rt; blocks_of(&bytes, &absent, STRICT), (NOTHING, UNTOUCHED));
-    for (offset, damage, answer) in [
-        (0x10usize, 17u8, NOTHING),
-        (0x15, 1, SHORT),
-        (0x21, 0x30, UNMAPPED),
-        (0x24, 4, RESOURCE_BOUNDS),
-    ] {
-        let mut damaged = tree(rt.alloc())?;
-        put(&mut damaged, &[(offset, &[damage])]);
-        assert_eq!(rt;
-            blocks_of(&damaged, &image, STRICT),
-            (answer, UNTOUCHED),
-            "{offset:#x}"
-        );
-    }
+    assert_eq!(rt; blocks_of(&bytes, &absent), (NOTHING, UNTOUCHED));
+    let mut damaged = tree(rt.alloc())?;
+    put(&mut damaged, &[(0x24, &[4])]);
+    let refused = (RESOURCE_BOUNDS, UNTOUCHED);
+    assert_eq!(rt; blocks_of(&damaged, &image), refused);
     Ok(())
 }
 
@@ -157,8 +126,8 @@ fn tree(alloc: Global) -> Result<Vec<u8>, Fail> {
     )?)
 }
 
-fn blocks_of(bytes: &[u8], image: &crate::image::Image, mode: u32) -> (u32, [u64; 2]) {
+fn blocks_of(bytes: &[u8], image: &crate::image::Image) -> (u32, [u64; 2]) {
     let mut out = untouched();
-    let answer = pe_c_version_blocks(&view(bytes, &in_mode(image, mode), &sections()), &mut out);
+    let answer = pe_c_version_blocks(&view(bytes, image, &sections()), &mut out);
     (answer, of_range(out))
 }

