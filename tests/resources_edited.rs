@@ -111,6 +111,44 @@ fn bytes_of_an_edit(rt: HostRuntime) -> Result<(), Fail> {
     Ok(())
 }
 
+/// Without leaves the section goes, with its header and its data, and what follows these moves back.
+#[test]
+fn the_last_section_goes_with_its_resources(rt: HostRuntime) -> Result<(), Fail> {
+    let bytes = old_image(rt.alloc())?;
+    let header = header_of(&bytes)?;
+    let mut out = vec![in rt.alloc(); OLD; LENGTH]?;
+    let less = LENGTH - 0x200;
+    assert_eq!(rt; edited_len(&bytes, &header, &list(&[]))?, less);
+    assert_eq!(rt; write_edited(&bytes, &header, &list(&[]), &mut out)?, less);
+    assert_eq!(rt; &out[0x7E..0x80], [1, 0].as_slice());
+    assert_eq!(rt; &out[0xC8..0xCC], [0, 0x20, 0, 0].as_slice());
+    assert_eq!(rt; &out[0x110..0x118], [0; 8].as_slice());
+    assert_eq!(rt; &out[0x118..0x1A8], &bytes[0x118..0x1A8]);
+    assert_eq!(rt; &out[0x1A8..0x1D0], [0; 40].as_slice());
+    assert_eq!(rt; &out[0x1D0..0x400], &bytes[0x1D0..0x400]);
+    assert_eq!(rt; &out[0x400..less], b"after".as_slice());
+    assert!(rt; out[less..].iter().all(|byte| *byte == OLD));
+    Ok(())
+}
+
+/// It stays, as zeros, where the image has more pages; and as it is where the entry point leads into it.
+#[test]
+fn another_section_stays_without_resources(rt: HostRuntime) -> Result<(), Fail> {
+    for (offset, part, is_kept) in [(0xC9, &[0x40][..], false), (0xA1, &[0x20][..], true)] {
+        let bytes = with_part(old_image(rt.alloc())?, offset, part);
+        let mut out = vec![in rt.alloc(); OLD; LENGTH]?;
+        let length = write_edited(&bytes, &header_of(&bytes)?, &list(&[]), &mut out)?;
+        assert_eq!(rt; length, LENGTH);
+        assert_eq!(rt; &out[..0x110], &bytes[..0x110]);
+        assert_eq!(rt; &out[0x110..0x118], [0; 8].as_slice());
+        assert_eq!(rt; &out[0x118..0x400], &bytes[0x118..0x400]);
+        let data = if is_kept { 0x33 } else { 0 };
+        assert!(rt; out[0x400..0x600].iter().all(|byte| *byte == data));
+        assert_eq!(rt; &out[0x600..], b"after".as_slice());
+    }
+    Ok(())
+}
+
 /// What is written is parsed, and has the leaf that was given.
 #[test]
 fn the_leaf_is_read(rt: HostRuntime) -> Result<(), Fail> {
