@@ -225,32 +225,6 @@ fn steps_tell_interrupts(rt: HostRuntime) -> Result<(), Fail> {
     Ok(())
 }
 
-/// str x19,[sp,#-16]!, in a function of 64 instructions, and a fragment of it.
-#[test]
-fn steps_undo_packed_data(rt: HostRuntime) -> Result<(), Fail> {
-    let bytes = with_records(rt.alloc())?;
-    let caller = of_caller();
-    let stack = bytes_of_words(rt.alloc(), &[caller.general[19], 0])?;
-    let inside = changed(ENTRY - 16, &[(19, 1)]);
-    for (data, place, registers) in [
-        (0x0081_0101, 0, changed(ENTRY, &[])),
-        (0x0081_0101, 1, inside),
-        (0x0081_0101, 62, inside),
-        (0x0081_0101, 63, changed(ENTRY, &[])),
-        (0x0081_0102, 0, inside),
-    ] {
-        let mut frame = frame_at(data, place, registers);
-        assert_eq!(rt;
-            step(&bytes, (ENTRY - 16, &stack), &mut frame),
-            DONE,
-            "at {place}"
-        );
-        let wanted = left_at(data, place, caller);
-        assert_eq!(rt; numbers_of(&frame), numbers_of(&wanted), "at {place}");
-    }
-    Ok(())
-}
-
 /// Each error leaves the registers as they were.
 #[test]
 fn steps_are_refused(rt: HostRuntime) -> Result<(), Fail> {

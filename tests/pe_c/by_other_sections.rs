@@ -456,8 +456,8 @@ fn clr_headers(rt: HostRuntime) -> Result<(), Fail> {
     Ok(())
 }
 
-/// A block of page 0 with one entry, which names the number at 0x100, in the second half that at 0x108. The field that has the image
-/// base is at 0x70.
+/// A block of page 0 with one entry, which names the number at 0x100, in the second half that at 0x108. The field of the image base is
+/// at 0x70.
 #[test]
 fn relocations(rt: HostRuntime) -> Result<(), Fail> {
     let mut bytes = in_both(rt.alloc(), &[(0x14, &[12, 0, 0, 0, 0x00, 0xA1, 0, 0])])?;
@@ -490,8 +490,8 @@ fn failures(rt: HostRuntime) -> Result<(), Fail> {
 // ---- walks
 
 /// In the first half tables that are read by their offsets: of exports at 10h, a record of a library at 20h, an import at 40h, an
-/// entry of a DLL at 50h, a resource tree at 200h. Their RVAs lead to the second half: to the name `first` at 480h, a list at 4A0h, a
-/// hint 7 and the name `f` at 4C0h, a record with a prolog of 9 bytes at 4E0h.
+/// entry of a DLL at 50h, a resource tree at 200h. Their RVAs lead to the second half: to the name `first` at 480h, a list at 4A0h,
+/// a hint 7 and the name `f` at 4C0h, a record with a prolog of 9 bytes at 4E0h.
 fn with_walks(alloc: Global) -> Result<Vec<u8>, Fail> {
     let mut bytes = bytes_of(
         alloc,
@@ -518,8 +518,8 @@ fn with_walks(alloc: Global) -> Result<Vec<u8>, Fail> {
 /// The result of a step, the range of a name or of a content, and another number of what goes out.
 type Step = (u32, [u64; 2], u64);
 
-/// A step and what the walk keeps after it, where it leads to the second half: by an index; by the number that the walk kept before;
-/// and by the second of 33 sections, which alone has the RVAs, and which the walk keeps then.
+/// A step and what the walk keeps after it, where it leads to the second half: by an index; by the number that the walk kept
+/// before; and by the second of 33 sections, which alone has the RVAs, and which the walk keeps then.
 fn ways<F: Fn(&View<'_>, KeptSections) -> (Step, KeptSections)>(
     bytes: &[u8],
     step: F,
@@ -668,8 +668,7 @@ fn lists(rt: HostRuntime) -> Result<(), Fail> {
 
 // ---- records of x64 and ARM64
 
-/// A function of x64 and a link to it at 10h, whose record is at RVA 0x10E0; a step in it after its prolog, of a stack whose first word
-/// is 1.
+/// A function of x64 at 10h, whose record is at RVA 0x10E0; a step in it after its prolog, of a stack whose first word is 1.
 #[test]
 fn x64_records(rt: HostRuntime) -> Result<(), Fail> {
     let mut bytes = with_walks(rt.alloc())?;
@@ -730,8 +729,8 @@ fn x64_records(rt: HostRuntime) -> Result<(), Fail> {
     Ok(())
 }
 
-/// A function of ARM64 at 10h, whose record is at RVA 0x1080 of the second half: 128 bytes, and codes that are an end alone. A step in
-/// it goes on at the link register.
+/// A function of ARM64 at 10h, whose record is at RVA 0x1080 of the second half: 128 bytes, and codes that are an end alone. A step
+/// in it goes on at the link register.
 #[test]
 fn arm64_records(rt: HostRuntime) -> Result<(), Fail> {
     let bytes = bytes_of(

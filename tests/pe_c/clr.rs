@@ -190,16 +190,3 @@ fn refusals_of_streams(rt: HostRuntime) -> Result<(), Fail> {
     }
     Ok(())
 }
-
-/// A name has at most 32 bytes with its zero.
-#[test]
-fn long_names_of_streams(rt: HostRuntime) -> Result<(), Fail> {
-    let mut bytes = words(rt.alloc(), &[0x6E6E_6E6E; 12])?;
-    bytes[40] = 0;
-    let found = step(&bytes, walk([0, 48], [0, 48], 1)).0;
-    assert_eq!(rt; found, DIRECTORY_STREAM_NAME);
-    bytes[39] = 0;
-    let (answer, [name, _], _, [_, headers], _) = step(&bytes, walk([0, 48], [0, 48], 1));
-    assert_eq!(rt; (answer, name, headers), (DONE, [8, 31], [40, 8]));
-    Ok(())
-}

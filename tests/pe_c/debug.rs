@@ -282,8 +282,8 @@ fn records_of_debug_data(rt: HostRuntime) -> Result<(), Fail> {
     Ok(())
 }
 
-/// The name of PDB 2.0 stands after 16 bytes. A time stamp of Repro has no range. In strict mode a CodeView record of 23 bytes is too
-/// small to be one of PDB 7.0, and with 15 it is too small for both.
+/// The name of PDB 2.0 stands after 16 bytes. A time stamp of Repro has no range. In strict mode a CodeView record of 23 bytes is
+/// too small to be one of PDB 7.0, and with 15 it is too small for both.
 #[test]
 fn older_records_in_strict_mode(rt: HostRuntime) -> Result<(), Fail> {
     let mut bytes = with_old_records(rt.alloc())?;

@@ -162,18 +162,3 @@ fn records_that_are_read(rt: HostRuntime) -> Result<(), Fail> {
     assert_eq!(rt; said(&bytes, &in_mode(&short, PERMISSIVE), 2), NONE);
     Ok(())
 }
-
-/// A directory that is absent, and those that no call reads.
-#[test]
-fn nothing_is_wrong(rt: HostRuntime) -> Result<(), Fail> {
-    let bytes = bytes_of(rt.alloc(), 160, &[])?;
-    for index in 0..16 {
-        assert_eq!(rt; said(&bytes, &image(X64), index), NONE);
-    }
-    for index in [7, 8, 12, 15] {
-        let image = with(index, 0x4568, 24);
-        assert_eq!(rt; said(&bytes, &image, index as u32), NONE);
-    }
-    assert_eq!(rt; said(&bytes, &with(0, 0x4568, 24), 16), NONE);
-    Ok(())
-}

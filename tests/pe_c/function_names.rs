@@ -144,26 +144,6 @@ fn names_in_functions(rt: HostRuntime) -> Result<(), Fail> {
 }
 
 #[test]
-fn names_without_a_function_table(rt: HostRuntime) -> Result<(), Fail> {
-    let tables = NameSources {
-        functions: range(0, 0),
-        functions_result: NOTHING,
-        ..tables()
-    };
-    for (rva, wanted) in [
-        (0x203F, ([0x168, 13], 0x2010, 0x2F, 1, 1)),
-        (0x2070, ([0x80, 5], 0x2040, 0x30, 2, 1)),
-        (0x2083, ([0x91, 5], 0x2082, 1, 2, 1)),
-        (0xFFFF_FFFF, ([0, 0], 0x2084, 0xFFFF_DF7B, 1, 1)),
-        (0x1FFF, NONE),
-    ] {
-        let found = names_of(rt.alloc(), X64, &tables, rva, 0)?;
-        assert_eq!(rt; found, (DONE, wanted, LEFT));
-    }
-    Ok(())
-}
-
-#[test]
 fn names_by_a_table_of_arm64(rt: HostRuntime) -> Result<(), Fail> {
     let tables = NameSources {
         functions: range(0x28, 8),

@@ -90,32 +90,6 @@ fn tables_start_where_the_structure_says(rt: HostRuntime) -> Result<(), Fail> {
     Ok(())
 }
 
-/// PE32 has other offsets, those of `IMAGE_LOAD_CONFIG_DIRECTORY32`, and addresses of 4 bytes.
-#[test]
-fn tables_of_pe32(rt: HostRuntime) -> Result<(), Fail> {
-    let image = Image {
-        width: 32,
-        base: 0x40_0000,
-        ..of_config(image(X64))
-    };
-    let mut numbers = [0; 75];
-    numbers[0] = 172;
-    let mut i = 0;
-    for offset in [64, 80, 104, 112, 164] {
-        numbers[offset / 4] = 0x40_1100 + i;
-        numbers[offset / 4 + 1] = i + 1;
-        i += 1;
-    }
-    let bytes = words(rt.alloc(), &numbers)?;
-    for table in 0..5 {
-        let (answer, walk) = start(&bytes, &image, table);
-        let offset = 256 + u64::from(table);
-        let want = ([offset, 300 - offset], u64::from(table) + 1, 0, 0);
-        assert_eq!(rt; (answer, fields(&walk)), (DONE, want));
-    }
-    Ok(())
-}
-
 /// No table without its address, its number of entries, or a structure that has both.
 #[test]
 fn absent_tables_and_refusals(rt: HostRuntime) -> Result<(), Fail> {

@@ -270,27 +270,6 @@ fn imports_of_a_library(rt: HostRuntime) -> Result<(), Fail> {
     Ok(())
 }
 
-/// In an image of 32 bits entries have four bytes, and the highest bit of these says that they are an ordinal.
-#[test]
-fn pe32_imports(rt: HostRuntime) -> Result<(), Fail> {
-    let mut bytes = with_imports(rt.alloc())?;
-    put(&mut bytes, &[(0x64, &[9, 0, 0, 0x80, 0, 0, 0, 0])]);
-    let pe32 = Image {
-        width: 32,
-        ..with_directory(0x1010, 60)
-    };
-    let mut out = NO_LIBRARY;
-    let mut walk = from_library(libraries(0x10, 0));
-    let answer = pe_c_next_library(&view(&bytes, &pe32, &sections()), &mut walk, &mut out);
-    let mut walk = from_import(out.imports);
-    assert_eq!(rt; (answer, of_range(walk.imports.left)), (DONE, [0x60, 8]));
-    let found = next_import(&bytes, &pe32, &mut walk);
-    assert_eq!(rt; found, (DONE, ([0xB2, 1], 0x2000, 7, 1), [0x64, 4], 0x2004));
-    let found = next_import(&bytes, &pe32, &mut walk);
-    assert_eq!(rt; found, (DONE, (OVER, 0x2004, 9, 0), [0x68, 0], 0x2008));
-    Ok(())
-}
-
 #[test]
 fn refused_imports(rt: HostRuntime) -> Result<(), Fail> {
     let image = with_directory(0x1010, 60);

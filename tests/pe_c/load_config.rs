@@ -163,54 +163,6 @@ fn fields_of_pe32_plus(rt: HostRuntime) -> Result<(), Fail> {
     Ok(())
 }
 
-/// PE32 has other offsets, those of `IMAGE_LOAD_CONFIG_DIRECTORY32`, and addresses of 4 bytes.
-#[test]
-fn fields_of_pe32(rt: HostRuntime) -> Result<(), Fail> {
-    let image = Image {
-        width: 32,
-        ..of_config(image(X64))
-    };
-    for (size, count) in [
-        (12, 4),
-        (55, 4),
-        (56, 5),
-        (63, 5),
-        (64, 6),
-        (68, 7),
-        (72, 8),
-        (76, 9),
-        (80, 10),
-        (84, 11),
-        (88, 12),
-        (91, 12),
-        (92, 13),
-        (152, 13),
-    ] {
-        let bytes = structure(rt.alloc(), size)?;
-        let (answer, config) = read(&bytes, &image);
-        let all = [
-            (u64::from(size), 1),
-            (word(4), 1),
-            (8, 1),
-            (0x0808, 1),
-            (0x3434, 1),
-            (word(60), 1),
-            (word(64), 1),
-            (word(68), 1),
-            (word(72), 1),
-            (word(76), 1),
-            (word(80), 1),
-            (word(84), 1),
-            (word(88), 1),
-        ];
-        assert_eq!(rt;
-            (answer, fields(&config), config.spare),
-            (DONE, up_to(all, count), 0)
-        );
-    }
-    Ok(())
-}
-
 /// The fields with a number, in order: the offset and the size of each in `IMAGE_LOAD_CONFIG_DIRECTORY32`, then those in
 /// `IMAGE_LOAD_CONFIG_DIRECTORY64`.
 const NUMBERED: [(usize, usize, usize, usize); 37] = [

@@ -121,27 +121,6 @@ fn numbers_of_each_type(rt: HostRuntime) -> Result<(), Fail> {
     Ok(())
 }
 
-/// PE32 has its base in 4 bytes, after those of PE32+; without an optional header there is none.
-#[test]
-fn bases_of_each_width(rt: HostRuntime) -> Result<(), Fail> {
-    let table = words(rt.alloc(), &[0, 8])?;
-    for (width, want) in [
-        (32, [0, 0, 0, 0, 1, 0, 0, 0, 0]),
-        (64, [1, 0, 0, 0, 0, 0, 0, 0, 0]),
-        (0, [0; 9]),
-    ] {
-        let image = Image {
-            width,
-            ..relocatable(8)
-        };
-        let mut room = [0; 0x39];
-        let found = pe_c_relocate(&view(&table, &image, &[]), 1, &mut room);
-        assert_eq!(rt; found, DONE);
-        assert_eq!(rt; &room[0x30..], &want[..], "{width}");
-    }
-    Ok(())
-}
-
 /// The first relocation of each table is good, and is not applied.
 #[test]
 fn refused_relocations(rt: HostRuntime) -> Result<(), Fail> {

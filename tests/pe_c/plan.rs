@@ -170,21 +170,6 @@ fn plans_come_to_the_root(rt: HostRuntime) -> Result<(), Fail> {
     Ok(())
 }
 
-/// Links are followed, and only the records after them are given. The record at 0xB0 goes on with the third function, whose
-/// address is a link to the first.
-#[test]
-fn plans_follow_links(rt: HostRuntime) -> Result<(), Fail> {
-    let bytes = with_chains(rt.alloc())?;
-    let table = table_of_chains();
-    let mut plan = plan_from(0x10B0);
-    let first = (DONE, [0xB4, 0x1019, 1, 0x19], [0x1019, 0, 0x1019, 0, 0, 2]);
-    assert_eq!(rt; step(&bytes, &table, &mut plan), first);
-    let root = (DONE, [0x34, 0, 0, 0x11], [0x1019, 1, 0x1019, 0, 0, 2]);
-    assert_eq!(rt; step(&bytes, &table, &mut plan), root);
-    assert_eq!(rt; step(&bytes, &table, &mut plan).0, NOTHING);
-    Ok(())
-}
-
 /// A chain that never ends is refused as one at once where it leads back to the saved address; a chain that comes to such a
 /// ring a few records later.
 #[test]

@@ -210,51 +210,6 @@ fn steps_undo_a_prolog(rt: HostRuntime) -> Result<(), Fail> {
     Ok(())
 }
 
-/// add rsp,40; pop rbp; ret: what is left of the epilog is run if its code is passed, and only then.
-#[test]
-fn epilogs_are_known_by_their_code(rt: HostRuntime) -> Result<(), Fail> {
-    let bytes = with_records(rt.alloc())?;
-    let caller = of_caller();
-    let words = [
-        0,
-        0,
-        0,
-        0,
-        0,
-        caller.general[RBP],
-        RETURN_ADDRESS,
-        3,
-        4,
-        5,
-        6,
-        7,
-        8,
-    ];
-    let stack = bytes_of_words(rt.alloc(), &words)?;
-    let code = [0x48, 0x83, 0xC4, 0x28, 0x5D, 0xC3];
-    let start = ENTRY - 48;
-    for (from, rsp, rbp) in [
-        (0, ENTRY - 48, 1),
-        (4, ENTRY - 8, 1),
-        (5, ENTRY, caller.general[RBP]),
-    ] {
-        let registers = changed(&[(RSP, rsp), (RBP, rbp)]);
-        let mut frame = frame_at(0x1050, 0x3A + from as u32, registers);
-        let answer = step_by(&bytes, &code[from..], (start, &stack), &mut frame);
-        assert_eq!(rt; answer, DONE);
-        assert_eq!(rt;
-            fields_of(&frame.registers),
-            fields_of(&caller),
-            "from {from}"
-        );
-    }
-    // Without code the codes are undone: the return address is taken 48 bytes above the stack pointer.
-    let mut frame = frame_at(0x1050, 0x3E, changed(&[(RSP, ENTRY - 8)]));
-    assert_eq!(rt; step(&bytes, (start, &stack), &mut frame), DONE);
-    assert_eq!(rt; [frame.registers.rip, frame.registers.general[RBP]], [7, 6]);
-    Ok(())
-}
-
 /// A part of a function that starts in its frame, with rbx pushed, jumps to its own start. Its records are looked up there.
 #[test]
 fn a_jump_is_followed_in_the_image(rt: HostRuntime) -> Result<(), Fail> {
