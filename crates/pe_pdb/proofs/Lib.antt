@@ -7,3 +7,4 @@ pub mod Walked
 pub mod RecordWalks
 pub mod SymbolEntries
 pub mod NearestEntries
+pub mod EntriesOfRecords
