@@ -19,11 +19,7 @@ const GUID: [u8; 16] = [
 ];
 
 /// The name of the public function at or before an RVA, with the function's RVA.
-fn public_at(
-    alloc: Global,
-    msf: &Msf<'_>,
-    rva: u32,
-) -> Result<Option<(String, u32)>, Fail> {
+fn public_at(alloc: Global, msf: &Msf<'_>, rva: u32) -> Result<Option<(String, u32)>, Fail> {
     let bytes = all_of(alloc, msf, DBI_STREAM)?;
     let dbi = Dbi::parse(&bytes)?;
     let headers = dbi.debug_stream(DEBUG_SECTION_HEADERS).unwrap_or(NO_STREAM);
@@ -63,14 +59,30 @@ fn heads_are_those_that_pdbutil_prints(rt: HostRuntime) -> Result<(), Fail> {
     let msf = Msf::parse(&bytes)?;
     let stream = all_of(rt.alloc(), &msf, INFO_STREAM)?;
     let info = PdbInfo::parse(&stream)?;
-    assert_eq!(rt; (info.version, info.time_stamp, info.age), (20000404, 2497271012, 1));
+    assert_eq!(rt;
+        (info.version, info.time_stamp, info.age),
+        (20000404, 2497271012, 1)
+    );
     assert_eq!(rt; info.guid, GUID);
     let stream = all_of(rt.alloc(), &msf, DBI_STREAM)?;
     let dbi = Dbi::parse(&stream)?;
     let header = dbi.header;
-    assert_eq!(rt; (header.version, header.age, header.machine, header.flags), (19990903, 1, 0x8664, 0));
-    assert_eq!(rt; (header.build, header.dll_version, header.dll_build), (36363, 0, 0));
-    assert_eq!(rt; (header.global_stream, header.public_stream, header.symbol_stream), (6, 7, 8));
+    assert_eq!(rt;
+        (header.version, header.age, header.machine, header.flags),
+        (19990903, 1, 0x8664, 0)
+    );
+    assert_eq!(rt;
+        (header.build, header.dll_version, header.dll_build),
+        (36363, 0, 0)
+    );
+    assert_eq!(rt;
+        (
+            header.global_stream,
+            header.public_stream,
+            header.symbol_stream
+        ),
+        (6, 7, 8)
+    );
     assert_eq!(rt; dbi.debug_stream(DEBUG_SECTION_HEADERS), Some(10));
     assert_eq!(rt; dbi.debug_stream(DEBUG_OMAP_FROM_SOURCE), None);
     assert_eq!(rt; dbi.debug_stream(11), None);
@@ -79,7 +91,12 @@ fn heads_are_those_that_pdbutil_prints(rt: HostRuntime) -> Result<(), Fail> {
     assert!(rt; !key.matches(&PdbKey { guid: GUID, age: 2 }));
     let mut other = GUID;
     other[15] = 0x2F;
-    assert!(rt; !key.matches(&PdbKey { guid: other, age: 1 }));
+    assert!(rt;
+        !key.matches(&PdbKey {
+            guid: other,
+            age: 1
+        })
+    );
     Ok(())
 }
 
@@ -97,7 +114,12 @@ fn sections_say_where_symbols_are(rt: HostRuntime) -> Result<(), Fail> {
     assert_eq!(rt; sections.rva_of(3, 0xFFFF_CFFF), Some(0xFFFF_FFFF));
     assert_eq!(rt; sections.rva_of(3, 0xFFFF_D000), None);
     // shows: pe_pdb/src/sections.rt parse SectionHeaders
-    assert!(rt; refused(SectionHeaders::parse(&stream[..119]), PdbError::SectionHeaders(119)));
+    assert!(rt;
+        refused(
+            SectionHeaders::parse(&stream[..119]),
+            PdbError::SectionHeaders(119)
+        )
+    );
     Ok(())
 }
 
@@ -140,7 +162,10 @@ fn records_are_those_that_pdbutil_lists(rt: HostRuntime) -> Result<(), Fail> {
         let (offset, place, name) = publics[count.min(1)];
         count += 1;
         let public = PublicSymbol::parse(record.content)?;
-        assert_eq!(rt; (record.offset, public.offset, public.name), (offset, place, name));
+        assert_eq!(rt;
+            (record.offset, public.offset, public.name),
+            (offset, place, name)
+        );
         assert_eq!(rt; (public.flags, public.section), (2, 1));
     }
     assert_eq!(rt; count, 2);
@@ -148,8 +173,14 @@ fn records_are_those_that_pdbutil_lists(rt: HostRuntime) -> Result<(), Fail> {
     let record = SymbolRecord::parse(&module, 212)?;
     assert_eq!(rt; (record.kind, record.content.len()), (S_LPROC32, 44));
     let local = ProcedureSymbol::parse(record.content)?;
-    assert_eq!(rt; (local.parent, local.end, local.size, local.type_index), (0, 320, 12, 0x1003));
-    assert_eq!(rt; (local.section, local.offset, local.name), (1, 128, "local"));
+    assert_eq!(rt;
+        (local.parent, local.end, local.size, local.type_index),
+        (0, 320, 12, 0x1003)
+    );
+    assert_eq!(rt;
+        (local.section, local.offset, local.name),
+        (1, 128, "local")
+    );
     let record = SymbolRecord::parse(&module, 72)?;
     assert_eq!(rt; record.kind, S_GPROC32);
     assert_eq!(rt; ProcedureSymbol::parse(record.content)?.name, "helper");
@@ -172,7 +203,10 @@ fn modules_are_those_that_pdbutil_lists(rt: HostRuntime) -> Result<(), Fail> {
         let module = module?;
         let (name, file, stream, files) = listed[count.min(2)];
         assert!(rt; module.name == name && module.file == file);
-        assert_eq!(rt; (module.header.stream, module.header.files), (stream, files));
+        assert_eq!(rt;
+            (module.header.stream, module.header.files),
+            (stream, files)
+        );
         count += 1;
     }
     assert_eq!(rt; count, 3);
@@ -194,7 +228,12 @@ fn procedures_cover_their_code_alone(rt: HostRuntime) -> Result<(), Fail> {
         needed: 3,
         length: 2,
     };
-    assert!(rt; refused(SymbolIndex::new(class, &symbols, 0, &sections, &mut few), small));
+    assert!(rt;
+        refused(
+            SymbolIndex::new(class, &symbols, 0, &sections, &mut few),
+            small
+        )
+    );
     let mut room = [0u64; 4];
     let index = SymbolIndex::new(class, &symbols, 0, &sections, &mut room)?;
     for (rva, name) in [
