@@ -8,3 +8,4 @@ pub mod RecordWalks
 pub mod SymbolEntries
 pub mod NearestEntries
 pub mod EntriesOfRecords
+pub mod LineWalks

@@ -24,6 +24,7 @@ mod file;
 mod info;
 mod key;
 pub mod laws;
+mod line;
 mod module;
 mod msf;
 mod procedure;
@@ -45,6 +46,10 @@ pub use error::{PdbError, Result};
 pub use file::Msf;
 pub use info::{INFO_STREAM, PdbInfo};
 pub use key::PdbKey;
+pub use line::{
+    DEBUG_S_FILECHKSMS, DEBUG_S_LINES, FIRST_BLOCK, LineBlock, LineBlocks, LineHeader, LineRow,
+    Subsection, Subsections,
+};
 pub use module::{FIRST_SYMBOL, Module, ModuleRecord, Modules};
 pub use msf::SuperBlock;
 pub use procedure::{ProcedureSymbol, S_GPROC32, S_GPROC32_ID, S_LPROC32, S_LPROC32_ID};
