@@ -7,6 +7,7 @@ ghost use Rattle.pe_core.specs.Offsets.{bytes_in};
 ghost use Rattle.pe_core.specs.declared.byte_range.ByteRange.{ByteRange};
 ghost use Rattle.pe_pdb.specs.Streams.{CopiesStream, HasBlocks, StreamView, block_bytes, contiguous_of, joined, stream_bytes};
 ghost use Rattle.pe_pdb.specs.Keys.{key_of};
+ghost use Rattle.pe_pdb.specs.Lines.{block_at, block_end, blocks, subsection_at, subsection_end, subsections};
 ghost use Rattle.pe_pdb.specs.Modules.{module_at, module_end, modules};
 ghost use Rattle.pe_pdb.specs.SectionHeaders.{rva_of, start_of};
 ghost use Rattle.pe_pdb.specs.SymbolEntries.{HasEntry, addresses, rva_by};
@@ -57,6 +58,10 @@ pub fn walks_end()
         (if nat_le (length b) p then [] else with_more (symbols b) (with_end symbol_end (symbol_at b) p)) }
     ensures modules { (b : List ℕ) (p : ℕ) → modules b p ≡
         (if nat_le (length b) p then [] else with_more (modules b) (with_end module_end (module_at b) p)) }
+    ensures subsections { (b : List ℕ) (p : ℕ) → subsections b p ≡
+        (if nat_le (length b) p then [] else with_more (subsections b) (with_end subsection_end (subsection_at b) p)) }
+    ensures blocks { (b : List ℕ) (p : ℕ) → blocks b p ≡
+        (if nat_le (length b) p then [] else with_more (blocks b) (with_end block_end (block_at b) p)) }
     ensures few_symbols { (b : List ℕ) (p : ℕ) → 4 * length (symbols b p) ≤ (length b - p) + 3 }
     ensures few_modules { (b : List ℕ) (p : ℕ) → 64 * length (modules b p) ≤ (length b - p) + 63 }
 {}

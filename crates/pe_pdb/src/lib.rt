@@ -13,7 +13,7 @@
 //! 3. `SymbolIndex` sorts these by their RVAs in a room; `nearest` finds the last one at or before an RVA, and `PublicSymbol` reads
 //!    its name;
 //! 4. `Modules` and `ProcedureSymbol` have the functions that no other object sees, with their sizes: `covering` finds the one that
-//!    has an RVA.
+//!    has an RVA. `Subsections` has the rows of their lines.
 //!
 //! Every call is proved to return what its definition in `specs/` says, for every byte string.
 #![tactic(auto)]
