@@ -1,11 +1,9 @@
 -- Walks over subsections, and over blocks of lines.
-use Rattle.std.proofs.Common.{◌≡◌, ℕ, ◌+◌, ◌*◌, ◌<◌, ◌≤◌, Bool, true, false, List, [], ◌∷◌, length, Result, Ok, Err, ap, refl, sym, subst, arith}
+use Rattle.std.proofs.Common.{◌≡◌, ℕ, ◌+◌, ◌*◌, ◌<◌, ◌≤◌, Bool, true, List, [], ◌∷◌, length, Ok, Err, ap, sym, arith}
 use Rattle.std.proofs.lemmas.Bool.Decides.{nat_tests}
 use Rattle.std.proofs.lemmas.Grind.{div_ceil_times}
-use Rattle.std.specs.Int.{div_ceil}
 use Rattle.std.specs.Prelude.{nat_le}
 use Rattle.pe_core.specs.Bytes.{le, range, holds}
-use Rattle.pe_core.specs.Refusals.{outcome}
 use Rattle.pe_pdb.specs.Lines.{BlockView, SubsectionView, block_at, block_end, blocks, subsection_at, subsection_end, subsections}
 use Rattle.pe_pdb.specs.Refusals.{PdbRefusal, Short, RecordTruncated}
 use Rattle.pe_pdb.proofs.RecordWalks.{passed, second_passed}

@@ -1,5 +1,5 @@
 -- Lines of a module: subsections, and in those with lines blocks of rows.
-use Rattle.std.specs.Prelude.{ℕ, ◌+◌, ◌*◌, ◌/◌, ◌%◌, ◌^◌, List, [], ◌∷◌, length, nat_le, nat_lt, Option, Some, None, Result, if◌then◌else◌}
+use Rattle.std.specs.Prelude.{◌≡◌, ℕ, ◌+◌, ◌*◌, ◌/◌, ◌%◌, ◌^◌, ◌<◌, ◌≤◌, List, [], ◌∷◌, length, nat_le, nat_lt, Option, Some, None, Result, if◌then◌else◌}
 use Rattle.std.specs.Int.{div_ceil}
 use Rattle.pe_core.specs.Bytes.{le, range, holds}
 use Rattle.pe_core.specs.Refusals.{outcome}
@@ -92,3 +92,22 @@ line_row b p = record { offset = le b p 4; line = le b (p + 4) 4 % 2 ^ 24 }
 -- the row with an index
 abbrev pub row_of : List ℕ → ℕ → Option LineRow
 row_of b i = if nat_lt i (length b / 8) then Some (line_row b (8 * i)) else None
+
+-- ---- the row of an offset
+
+-- the later one of a row that was found and the next one, if that is at or before an offset
+abbrev pub later_row : Option LineRow → LineRow → ℕ → Option LineRow
+later_row None row x = if nat_lt x row.offset then None else Some row
+later_row (Some last) row x = if nat_lt x row.offset then Some last else (if nat_lt row.offset last.offset then Some last else Some row)
+
+-- of n rows this one is the last by offset at or before an offset, and of those at one offset the last by index
+pub record IsRowAt (b : List ℕ) (n x i : ℕ) : Type 0 where
+  pub listed : i < n
+  pub before : (line_row b (8 * i)).offset ≤ x
+  pub last : (k : ℕ) → k < n → (line_row b (8 * k)).offset ≤ x → (line_row b (8 * k)).offset ≤ (line_row b (8 * i)).offset
+  pub latest : (k : ℕ) → k < n → (line_row b (8 * k)).offset ≡ (line_row b (8 * i)).offset → k ≤ i
+
+-- that row; there is none where all are after the offset
+abbrev pub RowAt : List ℕ → ℕ → ℕ → Option LineRow → Type 0
+RowAt b n x None = (k : ℕ) → k < n → x < (line_row b (8 * k)).offset
+RowAt b n x (Some row) = (i : ℕ) × IsRowAt b n x i × (row ≡ line_row b (8 * i))

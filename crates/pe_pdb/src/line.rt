@@ -5,10 +5,10 @@
 //!
 //! A block names its file by an offset in the subsection `DEBUG_S_FILECHKSMS` of the same module.
 
-ghost use Rattle.std.specs.Prelude.{◌≡◌, ◌+◌, ◌-◌, ◌*◌, ◌≤◌, ◌<◌, ◌^◌, length, IfOk};
+ghost use Rattle.std.specs.Prelude.{◌≡◌, ◌+◌, ◌-◌, ◌*◌, ◌/◌, ◌≤◌, ◌<◌, ◌^◌, length, IfOk};
 ghost use Rattle.std.specs.Iterator.{at_most};
 ghost use Rattle.std.specs.Option.{option_map};
-ghost use Rattle.pe_pdb.specs.Lines.{block_at, block_end, block_view, blocks, blocks_left, line_bytes_of, line_header, line_header_of, line_row, row_of, subsection_at, subsection_end, subsection_view, subsections, subsections_left};
+ghost use Rattle.pe_pdb.specs.Lines.{RowAt, block_at, block_end, block_view, blocks, blocks_left, later_row, line_bytes_of, line_header, line_header_of, line_row, row_of, subsection_at, subsection_end, subsection_view, subsections, subsections_left};
 ghost use Rattle.pe_pdb.specs.Refusals.{PdbReturns};
 ghost use Rattle.pe_pdb.specs.Walks.{Takes};
 
@@ -185,6 +185,33 @@ pub struct LineRow {
     pub line: u32,
 }
 
+/// The row with an index, which the caller knows to be there.
+#[tactic(auto, unfolding(crate::specs::Lines::line_row))]
+fn row_in(rows: &[u8], index: usize) -> LineRow
+    requires { index < length rows.now / 8 }
+    ensures { result ≡ line_row rows.now (8 * index) }
+{
+    let offset = SIZE_OF_ROW * index;
+    LineRow {
+        offset: read_u32(rows, offset),
+        // Above the line stand how many lines the row is of, and whether it starts a statement.
+        line: read_u32(rows, offset + 4) % (1 << 24),
+    }
+}
+
+/// The later one of the row that was found and the next one, if that is at or before an offset.
+fn later_row(found: Option<LineRow>, row: LineRow, offset: u32) -> Option<LineRow>
+    ensures { result ≡ later_row found row offset }
+{
+    if row.offset > offset {
+        return found;
+    }
+    match found {
+        Some(last) if row.offset < last.offset => Some(last),
+        _ => Some(row),
+    }
+}
+
 /// The rows of one source file.
 #[derive(Clone, Copy, Debug, PartialEq)]
 pub struct LineBlock<'a> {
@@ -238,19 +265,25 @@ impl<'a> LineBlock<'a> {
     }
 
     /// The row with an index. `None` past the last.
-    #[tactic(auto, unfolding(crate::specs::Lines::line_row))]
     pub fn row(&self, index: usize) -> Option<LineRow>
         ensures { result ≡ row_of self.now.rows.now index }
     {
         if index >= self.rows.len() / SIZE_OF_ROW {
             return None;
         }
-        let offset = SIZE_OF_ROW * index;
-        Some(LineRow {
-            offset: read_u32(self.rows, offset),
-            // Above the line stand how many lines the row is of, and whether it starts a statement.
-            line: read_u32(self.rows, offset + 4) % (1 << 24),
-        })
+        Some(row_in(self.rows, index))
+    }
+
+    /// The row that an offset from the start of the subsection's code has in this block: the last by offset at or before it, of several at
+    /// one offset that of the greatest index. `None` where all are after it. Of several blocks the row with the greatest offset counts.
+    pub fn row_at(&self, offset: u32) -> Option<LineRow>
+        ensures { RowAt self.now.rows.now (length self.now.rows.now / 8) offset result }
+    {
+        let mut found = None;
+        for index in 0..self.rows.len() / SIZE_OF_ROW {
+            found = later_row(found, row_in(self.rows, index), offset);
+        }
+        found
     }
 
     /// Where the next one starts.
