@@ -1,13 +1,14 @@
 //! What the streams of a PDB say, of the file of lld-link in `pdb_bytes`: by what llvm-pdbutil 14.0.6 prints of it
-//! (`dump -summary -section-headers -modules -publics -symbols`, `pdb2yaml -pdb-stream -dbi-stream`), and the same of the file with
+//! (`dump -summary -section-headers -modules -publics -symbols -l`, `pdb2yaml -pdb-stream -dbi-stream`), and the same of the file with
 //! scattered streams. Records that are damaged are made by hand from LLVM's pages.
 
 use crate::images::{put, with_byte};
 use crate::pdbs::{all_of, pdb, refused, scattered};
 use pe_pdb::{
-    DBI_STREAM, DEBUG_OMAP_FROM_SOURCE, DEBUG_SECTION_HEADERS, Dbi, FIRST_SYMBOL, INFO_STREAM,
-    Module, Modules, Msf, NO_STREAM, PdbError, PdbInfo, PdbKey, ProcedureSymbol, PublicSymbol,
-    S_GPROC32, S_LPROC32, S_PUB32, SectionHeaders, SymbolAddress, SymbolClass, SymbolIndex,
+    DBI_STREAM, DEBUG_OMAP_FROM_SOURCE, DEBUG_S_FILECHKSMS, DEBUG_S_LINES, DEBUG_SECTION_HEADERS,
+    Dbi, FIRST_SYMBOL, INFO_STREAM, LineBlock, LineBlocks, LineHeader, LineRow, Module, Modules,
+    Msf, NO_STREAM, PdbError, PdbInfo, PdbKey, ProcedureSymbol, PublicSymbol, S_GPROC32, S_LPROC32,
+    S_PUB32, SectionHeaders, Subsection, Subsections, SymbolAddress, SymbolClass, SymbolIndex,
     SymbolRecord, SymbolRecords,
 };
 use std::alloc::Global;
@@ -395,5 +396,124 @@ fn damaged_modules_are_refused(rt: HostRuntime) -> Result<(), Fail> {
     // shows: pe_pdb/src/module.rt symbol_bytes ModuleSignature
     let older = with_byte(own, 0, 2);
     assert!(rt; refused(header.symbol_bytes(&older), PdbError::ModuleSignature(2)));
+    Ok(())
+}
+
+/// The lines of a module by its index in the DBI stream.
+fn lines_of(alloc: Global, msf: &Msf<'_>, index: usize) -> Result<Vec<u8>, Fail> {
+    let bytes = all_of(alloc, msf, DBI_STREAM)?;
+    let dbi = Dbi::parse(&bytes)?;
+    let Some(module) = Modules::new(dbi.modules).nth(index) else {
+        return Err(Fail::new("no module"));
+    };
+    let header = module?.header;
+    let stream = all_of(alloc, msf, u32::from(header.stream))?;
+    let mut lines = Vec::new(alloc);
+    for byte in header.line_bytes(&stream)? {
+        lines.push(*byte)?;
+    }
+    Ok(lines)
+}
+
+#[test]
+fn lines_are_those_that_pdbutil_lists(rt: HostRuntime) -> Result<(), Fail> {
+    let bytes = pdb(rt.alloc())?;
+    let msf = Msf::parse(&bytes)?;
+    // The section's offset, the file by its order in the module, the RVA in the section, the line.
+    let listed = [
+        (80, 0, 0x50, 4),
+        (80, 0, 0x58, 5),
+        (80, 24, 0x65, 900),
+        (80, 0, 0x71, 9),
+        (128, 0, 0x80, 1),
+        (128, 0, 0x85, 2),
+    ];
+    let lines = lines_of(rt.alloc(), &msf, 1)?;
+    let (mut rows, mut files) = (0, 0);
+    for subsection in Subsections::new(&lines) {
+        let subsection = subsection?;
+        files += usize::from(subsection.kind == DEBUG_S_FILECHKSMS);
+        if subsection.kind != DEBUG_S_LINES {
+            continue;
+        }
+        let header = LineHeader::parse(subsection.content)?;
+        assert_eq!(rt; (header.section, header.flags), (1, 0));
+        for block in LineBlocks::new(subsection.content) {
+            let block = block?;
+            for index in 0..block.rows.len() / 8 {
+                let (start, file, place, line) = listed[rows.min(5)];
+                let row = LineRow {
+                    offset: place - start,
+                    line,
+                };
+                assert_eq!(rt;
+                    (header.offset, block.file, block.row(index)),
+                    (start, file, Some(row))
+                );
+                rows += 1;
+            }
+            assert_eq!(rt; block.row(block.rows.len() / 8), None);
+            let lines = [(80, 0, 7, Some(4)), (80, 0, 8, Some(5)), (80, 24, 20, None), (128, 0, 5, Some(2))];
+            for (start, file, offset, line) in lines {
+                let own = (header.offset, block.file, block.rows.len()) == (start, file, if file == 0 { 16 } else { 8 });
+                let found = block.row_at(offset).map(|row| row.line);
+                assert!(rt; !own || found == line);
+            }
+        }
+    }
+    assert_eq!(rt; (rows, files), (6, 1));
+    Ok(())
+}
+
+#[test]
+fn damaged_lines_are_refused(rt: HostRuntime) -> Result<(), Fail> {
+    let bytes = pdb(rt.alloc())?;
+    let msf = Msf::parse(&bytes)?;
+    let lines = lines_of(rt.alloc(), &msf, 1)?;
+    let dbi = all_of(rt.alloc(), &msf, DBI_STREAM)?;
+    let header = Module::parse(Dbi::parse(&dbi)?.modules, 0)?.header;
+    let stream = all_of(rt.alloc(), &msf, 11)?;
+    // shows: pe_pdb/src/line.rt line_bytes RecordTruncated
+    let truncated = PdbError::RecordTruncated {
+        offset: 248,
+        needed: 112,
+        length: 300,
+    };
+    assert!(rt; refused(header.line_bytes(&stream[..300]), truncated));
+    // shows: pe_pdb/src/line.rt parse Short
+    let short = PdbError::Short {
+        needed: 8,
+        length: 7,
+    };
+    assert!(rt; refused(Subsection::parse(&lines[..95], 88), short));
+    // shows: pe_pdb/src/line.rt parse RecordTruncated
+    let truncated = PdbError::RecordTruncated {
+        offset: 88,
+        needed: 48,
+        length: 135,
+    };
+    assert!(rt; refused(Subsection::parse(&lines[..135], 88), truncated));
+    let content = Subsection::parse(&lines, 88)?.content;
+    let short = PdbError::Short {
+        needed: 12,
+        length: 11,
+    };
+    assert!(rt; refused(LineHeader::parse(&content[..11]), short));
+    assert!(rt; refused(LineBlock::parse(&content[..23], 12), short));
+    let truncated = PdbError::RecordTruncated {
+        offset: 12,
+        needed: 28,
+        length: 39,
+    };
+    assert!(rt; refused(LineBlock::parse(&content[..39], 12), truncated));
+    let mut many = lines.clone()?;
+    put(&mut many, &[(88 + 8 + 16, &u32::to_le_bytes(3))]);
+    let content = Subsection::parse(&many, 88)?.content;
+    let truncated = PdbError::RecordTruncated {
+        offset: 12,
+        needed: 36,
+        length: 28,
+    };
+    assert!(rt; refused(LineBlock::parse(content, 12), truncated));
     Ok(())
 }

@@ -7,3 +7,5 @@ pub mod Walked
 pub mod RecordWalks
 pub mod SymbolEntries
 pub mod NearestEntries
+pub mod EntriesOfRecords
+pub mod LineWalks

@@ -11,7 +11,7 @@ use Rattle.pe_pdb.specs.Symbols.{Symbol, symbol_at, symbol_end, symbols}
 use Rattle.pe_pdb.proofs.Walked.{EndsLater, HasWidth, walk_more, walk_none, walk_refused}
 
 -- the value of tests that pass
-passed : {Y : Type 0} (tests : List (Bool × PdbRefusal)) (v y : Y) → outcome tests v ≡ Ok y → v ≡ y
+pub passed : {Y : Type 0} (tests : List (Bool × PdbRefusal)) (v y : Y) → outcome tests v ≡ Ok y → v ≡ y
 passed [] v y is = cc is
 passed ((true, r) ∷ tests) v y is = passed tests v y is
 passed ((false, r) ∷ tests) v y is = absurd (cc is)
@@ -25,6 +25,11 @@ both (Err r) f y is = absurd (cc is)
 first_passed : {Y : Type 0} (test : Bool) (r : PdbRefusal) (tests : List (Bool × PdbRefusal)) (v y : Y) → outcome ((test, r) ∷ tests) v ≡ Ok y → test ≡ true
 first_passed true r tests v y is = refl
 first_passed false r tests v y is = absurd (cc is)
+
+-- and the second
+pub second_passed : {Y : Type 0} (first test : Bool) (q r : PdbRefusal) (tests : List (Bool × PdbRefusal)) (v y : Y) → outcome ((first, q) ∷ (test, r) ∷ tests) v ≡ Ok y → test ≡ true
+second_passed true test q r tests v y is = first_passed test r tests v y is
+second_passed false test q r tests v y is = absurd (cc is)
 
 held : (b : List ℕ) (p n : ℕ) → holds b p n ≡ true → p + n ≤ length b
 held b p n is = grind (arith, nat_tests)

@@ -13,3 +13,4 @@ pub mod Publics
 pub mod Procedures
 pub mod SymbolEntries
 pub mod SymbolIndexes
+pub mod Lines

@@ -1,5 +1,6 @@
 -- The entries of an index of symbols: the RVA of each symbol of a class, with the offset of its record.
 use Rattle.std.specs.Prelude.{◌≡◌, ℕ, ◌+◌, ◌*◌, ◌/◌, ◌^◌, List, [], ◌∷◌, length, take, nat_lt, slice_set, Option, Some, None, Result, Ok, Err, if◌then◌else◌}
+use Rattle.std.specs.List.{Contains}
 use Rattle.std.specs.Option.{option_map, option_to_list}
 use Rattle.pe_core.specs.Gathered.{with_rest}
 use Rattle.pe_pdb.specs.Procedures.{procedure_rva}
@@ -10,8 +11,8 @@ use Rattle.pe_pdb.specs.declared.error.PdbError.{PdbError}
 use Rattle.pe_pdb.specs.declared.symbol_entries.SymbolClass.{SymbolClass}
 use Rattle.pe_pdb.specs.declared.symbol_entries.SymbolClass.TheVariants.{PublicFunctions, Procedures}
 
--- An entry as one number: an RVA, and below that the offset of the record that has it. So the order of the numbers is that of the RVAs,
--- and at one RVA that of the records.
+-- An entry as one number: an RVA, and below that the offset of the record that has it. So the order of the numbers is that of the
+-- RVAs, and at one RVA that of the records.
 abbrev pub address : ℕ → ℕ → ℕ
 address rva record_offset = rva * 2 ^ 32 + record_offset
 
@@ -50,3 +51,9 @@ address_put room n (Some a) = slice_set room n a
 abbrev pub PutsAddresses : Result (List ℕ) PdbRefusal → List ℕ → Result ℕ PdbError → Type 0
 PutsAddresses defined room (Ok n) = (xs : List ℕ) × (defined ≡ Ok xs) × (n ≡ length xs) × (take n room ≡ take (length room) xs)
 PutsAddresses defined room (Err e) = defined ≡ Err (pdb_kind_of e)
+
+-- ---- what a law says of them
+
+-- a record of a walk has this entry
+abbrev pub HasEntry : (Symbol → Option ℕ) → List (Result Symbol PdbRefusal) → ℕ → Type 0
+HasEntry rva items a = (s : Symbol) × (x : ℕ) × Contains items (Ok s) × (rva s ≡ Some x) × (a ≡ address x s.offset)

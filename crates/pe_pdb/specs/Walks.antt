@@ -1,5 +1,5 @@
--- Walks: items that follow one another in some bytes. What a walk is over is defined by `item`: what stands at an offset, which is an
--- item and where the next one starts, or a refusal.
+-- Walks: items that follow one another in some bytes. What a walk is over is defined by `item`: what stands at an offset, which
+-- is an item and where the next one starts, or a refusal.
 use Rattle.std.specs.Prelude.{◌≡◌, ℕ, zero, suc, ◌-◌, ◌<◌, List, [], ◌∷◌, nat_le, Option, Some, None, Result, Ok, Err, if◌then◌else◌}
 use Rattle.pe_core.specs.Refusals.{◌>>=◌}
 use Rattle.pe_pdb.specs.Refusals.{PdbRefusal, pdb_kind_of}

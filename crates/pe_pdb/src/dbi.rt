@@ -1,6 +1,6 @@
-//! The [DBI stream](https://llvm.org/docs/PDB/DbiStream.html), stream 3: what the linker knows of the image. A header of 64 bytes says
-//! which streams have the symbols, and how many bytes each of the parts has that follow it: the modules that were linked, which
-//! module has which code, the sections, the source files, and the streams that have tables of the image (`debug_stream`).
+//! The [DBI stream](https://llvm.org/docs/PDB/DbiStream.html), stream 3: what the linker knows of the image. A header of 64 bytes
+//! says which streams have the symbols, and how many bytes each of the parts has that follow it: the modules that were linked,
+//! which module has which code, the sections, the source files, and the streams that have tables of the image (`debug_stream`).
 //!
 //! The part that stands last in the header, names for edit and continue, comes before the part that stands before it.
 
@@ -181,7 +181,8 @@ impl<'a> Dbi<'a> {
         }
     }
 
-    /// The stream that has these bytes. Errors, in order: `Short` if there are fewer than 64; `DbiSignature`; `DbiVersion`; `DbiParts`.
+    /// The stream that has these bytes. Errors, in order: `Short` if there are fewer than 64; `DbiSignature`; `DbiVersion`;
+    /// `DbiParts`.
     pub fn parse(bytes: &'a [u8]) -> Result<Dbi<'a>>
         ensures { PdbReturns dbi_view result (dbi_of bytes.entry.now) }
     {

@@ -34,8 +34,8 @@ pub enum PdbError {
     /// A block of the directory, of its list, or of a stream is not in the file: how many blocks the file has.
     #[error("a block lies outside of the file, which has {0} blocks")]
     Block(u32),
-    /// The directory is shorter than what it lists: the number of streams, or the index of the stream whose blocks pass its end, and
-    /// how many numbers of 4 bytes it has.
+    /// The directory is shorter than what it lists: the number of streams, or the index of the stream whose blocks pass its end,
+    /// and how many numbers of 4 bytes it has.
     #[error("directory of {words} numbers is too short for stream {stream}")]
     Directory {
         stream: u32,
@@ -88,8 +88,8 @@ pub enum PdbError {
         needed: usize,
         length: usize,
     },
-    /// A name is not NUL-terminated, or that of a symbol is not UTF-8: its offset in the content of the symbol's record, or that of a
-    /// module's name in the modules.
+    /// A name is not NUL-terminated, or that of a symbol is not UTF-8: its offset in the content of the symbol's record, or that
+    /// of a module's name in the modules.
     #[error("name at offset {0} is not NUL-terminated, or not UTF-8")]
     Name(usize),
     /// The symbols of a module pass the end of its stream: how many bytes they have, and how many the stream has.
@@ -98,7 +98,8 @@ pub enum PdbError {
         size: u32,
         length: usize,
     },
-    /// The stream of a module does not start with 4, as those of compilers before Visual C++ 7 do not: the number with which it starts.
+    /// The stream of a module does not start with 4, as those of compilers before Visual C++ 7 do not: the number with which it
+    /// starts.
     #[error("stream of a module starts with {0:#x}")]
     ModuleSignature(u32),
     /// Symbol records that are indexed have 4 GiB or more, as no stream has.

@@ -1,5 +1,6 @@
-//! The head of the [info stream](https://llvm.org/docs/PDB/PdbStream.html), stream 1: which PDB this is. An image names its PDB by the
-//! GUID, and by the age of the DBI stream: that of the info stream may be greater, since tools raise it that change the PDB alone.
+//! The head of the [info stream](https://llvm.org/docs/PDB/PdbStream.html), stream 1: which PDB this is. An image names its PDB
+//! by the GUID, and by the age of the DBI stream: that of the info stream may be greater, since tools raise it that change the
+//! PDB alone.
 
 ghost use Rattle.std.specs.Prelude.{◌≡◌};
 ghost use Rattle.pe_pdb.specs.Info.{info_at, info_of, is_info_version};

@@ -1,13 +1,16 @@
 //! What the definitions that contracts cite say together.
 
-ghost use Rattle.std.specs.Prelude.{◌≡◌, ◌↔◌, ℕ, ◌+◌, ◌-◌, ◌*◌, ◌/◌, ◌^◌, ◌<◌, ◌≤◌, [], length, nat_le, take, List, Option, Result, Some, if◌then◌else◌};
+ghost use Rattle.std.specs.Prelude.{◌≡◌, ◌↔◌, ℕ, ◌+◌, ◌-◌, ◌*◌, ◌/◌, ◌^◌, ◌<◌, ◌≤◌, [], length, nat_le, take, List, Ok, Option, Result, Some, if◌then◌else◌};
 ghost use Rattle.std.specs.Int.{div_ceil};
+ghost use Rattle.std.specs.List.{Contains};
 ghost use Rattle.pe_core.specs.Offsets.{bytes_in};
 ghost use Rattle.pe_core.specs.declared.byte_range.ByteRange.{ByteRange};
 ghost use Rattle.pe_pdb.specs.Streams.{CopiesStream, HasBlocks, StreamView, block_bytes, contiguous_of, joined, stream_bytes};
 ghost use Rattle.pe_pdb.specs.Keys.{key_of};
+ghost use Rattle.pe_pdb.specs.Lines.{block_at, block_end, blocks, subsection_at, subsection_end, subsections};
 ghost use Rattle.pe_pdb.specs.Modules.{module_at, module_end, modules};
 ghost use Rattle.pe_pdb.specs.SectionHeaders.{rva_of, start_of};
+ghost use Rattle.pe_pdb.specs.SymbolEntries.{HasEntry, addresses, rva_by};
 ghost use Rattle.pe_pdb.specs.SymbolIndexes.{Nearest};
 ghost use Rattle.pe_pdb.specs.Symbols.{symbol_at, symbol_end, symbols};
 ghost use Rattle.pe_pdb.specs.Walks.{with_end, with_more};
@@ -15,6 +18,7 @@ ghost use Rattle.pe_pdb.specs.declared.dbi.DbiHeader.{DbiHeader};
 ghost use Rattle.pe_pdb.specs.declared.error.PdbError.{PdbError};
 ghost use Rattle.pe_pdb.specs.declared.info.PdbInfo.{PdbInfo};
 ghost use Rattle.pe_pdb.specs.declared.key.PdbKey.{PdbKey};
+ghost use Rattle.pe_pdb.specs.declared.symbol_entries.SymbolClass.{SymbolClass};
 ghost use Rattle.pe_pdb.specs.declared.symbol_lookup.SymbolAddress.{SymbolAddress};
 
 /// The bytes of a stream are those of its blocks, one block after the other, up to its size.
@@ -40,22 +44,32 @@ pub fn matches_is_key()
     ensures { (i : PdbInfo) (d : DbiHeader) (k : PdbKey) → (key_of i d ≡ k) ↔ ((i.guid ≡ k.guid) × (d.age ≡ k.age)) }
 {}
 
-/// The RVA at an offset in a section is the sum of the section's RVA and the offset, where there is such a section and the sum has 32
-/// bits.
+/// The RVA at an offset in a section is the sum of the section's RVA and the offset, where there is such a section and the sum
+/// has 32 bits.
 pub fn rva_is_section_offset()
     ensures { (b : List ℕ) (section offset rva : ℕ) → (rva_of b section offset ≡ Some rva)
         ↔ ((0 < section) × (section ≤ length b / 40) × (rva ≡ start_of b section + offset) × (rva < 2 ^ 32)) }
 {}
 
-/// A walk is over where its bytes end. Before that it has what stands where it is, and then the walk from there on; so it has no more
-/// records than its bytes have place for, and one error.
+/// A walk is over where its bytes end. Before that it has what stands where it is, and then the walk from there on; so it has no
+/// more records than its bytes have place for, and one error.
 pub fn walks_end()
     ensures symbols { (b : List ℕ) (p : ℕ) → symbols b p ≡
         (if nat_le (length b) p then [] else with_more (symbols b) (with_end symbol_end (symbol_at b) p)) }
     ensures modules { (b : List ℕ) (p : ℕ) → modules b p ≡
         (if nat_le (length b) p then [] else with_more (modules b) (with_end module_end (module_at b) p)) }
+    ensures subsections { (b : List ℕ) (p : ℕ) → subsections b p ≡
+        (if nat_le (length b) p then [] else with_more (subsections b) (with_end subsection_end (subsection_at b) p)) }
+    ensures blocks { (b : List ℕ) (p : ℕ) → blocks b p ≡
+        (if nat_le (length b) p then [] else with_more (blocks b) (with_end block_end (block_at b) p)) }
     ensures few_symbols { (b : List ℕ) (p : ℕ) → 4 * length (symbols b p) ≤ (length b - p) + 3 }
     ensures few_modules { (b : List ℕ) (p : ℕ) → 64 * length (modules b p) ≤ (length b - p) + 63 }
+{}
+
+/// An index has the entries of the symbols that its records say, and no others.
+pub fn entries_are_symbols()
+    ensures { (class : SymbolClass) (b : List ℕ) (start : ℕ) (sections xs : List ℕ) → addresses class b start sections ≡ Ok xs →
+        (a : ℕ) → Contains xs a ↔ HasEntry (rva_by class sections) (symbols b start) a }
 {}
 
 /// Entries have one nearest symbol.

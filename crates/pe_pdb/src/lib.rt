@@ -1,6 +1,6 @@
 //! Program databases (PDB 7.0), which have what a debugger reads of an image that was linked with debug information
-//! ([layout](https://llvm.org/docs/PDB/)): the file, blocks over which streams are scattered, and the names of functions that streams
-//! have.
+//! ([layout](https://llvm.org/docs/PDB/)): the file, blocks over which streams are scattered, and the names of functions that
+//! streams have.
 //!
 //! A caller opens streams (`Msf`, `Stream`), and copies each into a room of its own, or takes its range of the file where it is
 //! contiguous. No call allocates. Each stream is opened alone: one that is damaged is refused, and leaves all others as they are.
@@ -8,12 +8,12 @@
 //! What reads streams takes their bytes, wherever they stand. The name of the function at an RVA, step by step:
 //!
 //! 1. the info stream and the DBI stream say whether the PDB is that of the image (`PdbInfo`, `Dbi`, `PdbKey`);
-//! 2. `Dbi::debug_stream` says which stream has the section headers (`SectionHeaders`), and the header of the DBI stream which one has
-//!    the public symbols;
+//! 2. `Dbi::debug_stream` says which stream has the section headers (`SectionHeaders`), and the header of the DBI stream which
+//!    one has the public symbols;
 //! 3. `SymbolIndex` sorts these by their RVAs in a room; `nearest` finds the last one at or before an RVA, and `PublicSymbol` reads
 //!    its name;
-//! 4. `Modules` and `ProcedureSymbol` have the functions that no other object sees, with their sizes: `covering` finds the one that has
-//!    an RVA.
+//! 4. `Modules` and `ProcedureSymbol` have the functions that no other object sees, with their sizes: `covering` finds the one that
+//!    has an RVA. `Subsections` has the rows of their lines.
 //!
 //! Every call is proved to return what its definition in `specs/` says, for every byte string.
 #![tactic(auto)]
@@ -24,6 +24,7 @@ mod file;
 mod info;
 mod key;
 pub mod laws;
+mod line;
 mod module;
 mod msf;
 mod procedure;
@@ -45,6 +46,10 @@ pub use error::{PdbError, Result};
 pub use file::Msf;
 pub use info::{INFO_STREAM, PdbInfo};
 pub use key::PdbKey;
+pub use line::{
+    DEBUG_S_FILECHKSMS, DEBUG_S_LINES, FIRST_BLOCK, LineBlock, LineBlocks, LineHeader, LineRow,
+    Subsection, Subsections,
+};
 pub use module::{FIRST_SYMBOL, Module, ModuleRecord, Modules};
 pub use msf::SuperBlock;
 pub use procedure::{ProcedureSymbol, S_GPROC32, S_GPROC32_ID, S_LPROC32, S_LPROC32_ID};

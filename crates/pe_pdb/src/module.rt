@@ -1,6 +1,6 @@
-//! The modules of a PDB ([layout](https://llvm.org/docs/PDB/DbiStream.html#module-info-substream)), the objects that were linked. Each
-//! has a record of 64 bytes in the DBI stream, and two names after it; the next one starts at a multiple of four. A module that has debug
-//! information has a stream of its own: a number of 4 bytes, its symbols, and its lines.
+//! The modules of a PDB ([layout](https://llvm.org/docs/PDB/DbiStream.html#module-info-substream)), the objects that were linked.
+//! Each has a record of 64 bytes in the DBI stream, and two names after it; the next one starts at a multiple of four. A module
+//! that has debug information has a stream of its own: a number of 4 bytes, its symbols, and its lines.
 
 ghost use Rattle.std.specs.Prelude.{◌≡◌, ◌==◌, ◌+◌, ◌-◌, ◌≤◌, ◌<◌, ◌^◌, length, position, IfOk, IfSome};
 ghost use Rattle.std.specs.Iterator.{at_most};
@@ -76,8 +76,9 @@ impl ModuleRecord {
         }
     }
 
-    /// The symbols of the module, of the bytes of its stream; the first record is at `FIRST_SYMBOL`. No bytes where it has none. Errors, in
-    /// order: `ModuleSymbols` if they pass the end of the stream; `Short` if they are fewer than four; `ModuleSignature`.
+    /// The symbols of the module, of the bytes of its stream; the first record is at `FIRST_SYMBOL`. No bytes where it has none.
+    /// Errors, in order: `ModuleSymbols` if they pass the end of the stream; `Short` if they are fewer than four;
+    /// `ModuleSignature`.
     #[tactic(auto, unfolding(crate::specs::Modules::symbol_bytes_of))]
     pub fn symbol_bytes<'s>(&self, stream: &'s [u8]) -> Result<&'s [u8]>
         ensures { PdbReturns (λ b. b.now) result (symbol_bytes_of self.now stream.entry.now) }
@@ -128,8 +129,8 @@ fn name_at(bytes: &[u8], offset: usize) -> Result<&[u8]>
 }
 
 impl<'a> Module<'a> {
-    /// The module whose record is at an offset. Errors, in order: `Short` if fewer than 64 bytes follow; `Name` if one of its names is not
-    /// NUL-terminated.
+    /// The module whose record is at an offset. Errors, in order: `Short` if fewer than 64 bytes follow; `Name` if one of its
+    /// names is not NUL-terminated.
     #[tactic(auto, unfolding(crate::specs::Modules::module_at))]
     pub fn parse(bytes: &'a [u8], offset: usize) -> Result<Module<'a>>
         ensures value { PdbReturns module_view result (module_at bytes.entry.now offset) }

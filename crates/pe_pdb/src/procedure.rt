@@ -1,5 +1,5 @@
-//! Procedures ([layout](https://llvm.org/docs/PDB/CodeViewSymbols.html)), which the stream of a module has: functions that have code in
-//! it, with how many bytes that is, also those that no other object sees. Names are as in the source.
+//! Procedures ([layout](https://llvm.org/docs/PDB/CodeViewSymbols.html)), which the stream of a module has: functions that have
+//! code in it, with how many bytes that is, also those that no other object sees. Names are as in the source.
 
 ghost use Rattle.std.specs.Prelude.{◌≡◌};
 ghost use Rattle.pe_pdb.specs.Procedures.{code_size_of, is_procedure, procedure_of, procedure_rva, procedure_view};

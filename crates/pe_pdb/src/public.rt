@@ -1,5 +1,6 @@
-//! [Public symbols](https://llvm.org/docs/PDB/PublicStream.html) (`S_PUB32`): names that objects see of one another, as linkers have
-//! them. The linker writes them even where an object has no debug information; it has no functions that only one object sees.
+//! [Public symbols](https://llvm.org/docs/PDB/PublicStream.html) (`S_PUB32`): names that objects see of one another, as linkers
+//! have them. The linker writes them even where an object has no debug information; it has no functions that only one object
+//! sees.
 
 ghost use Rattle.std.specs.Prelude.{◌≡◌};
 ghost use Rattle.pe_pdb.specs.Publics.{public_function_rva, public_of, public_view};

@@ -1,6 +1,6 @@
 //! Records of symbols ([layout](https://llvm.org/docs/PDB/CodeViewSymbols.html)), one after the other: how many bytes follow that
-//! number, 2 bytes; what the record says (`S_PUB32` and others), 2 bytes; and its content. The stream of symbols has those of the whole
-//! image; the stream of a module has its own after 4 bytes.
+//! number, 2 bytes; what the record says (`S_PUB32` and others), 2 bytes; and its content. The stream of symbols has those of the
+//! whole image; the stream of a module has its own after 4 bytes.
 
 ghost use Rattle.std.specs.Prelude.{◌≡◌, ◌+◌, ◌-◌, ◌≤◌, ◌<◌, ◌^◌, length, IfOk};
 ghost use Rattle.std.specs.Iterator.{at_most};

@@ -1,5 +1,5 @@
-//! An index of symbols by their RVAs, in a room that the caller has: the RVAs are sorted once, and each address is looked up by binary
-//! search. What is found is the offset of a record, of which `SymbolRecord` reads the symbol.
+//! An index of symbols by their RVAs, in a room that the caller has: the RVAs are sorted once, and each address is looked up by
+//! binary search. What is found is the offset of a record, of which `SymbolRecord` reads the symbol.
 //!
 //! Procedures of several modules have one index where their symbols stand in one room, one module after the other.
 
@@ -38,8 +38,8 @@ fn code_size(bytes: &[u8], offset: usize) -> u32
 }
 
 impl<'r> SymbolIndex<'r> {
-    /// How many entries an index has: as many as a room for it has to have. The records are those from an offset on. Errors, in order:
-    /// `SymbolsSize`; those of `SymbolRecord::parse`, of the first record that is refused.
+    /// How many entries an index has: as many as a room for it has to have. The records are those from an offset on. Errors, in
+    /// order: `SymbolsSize`; those of `SymbolRecord::parse`, of the first record that is refused.
     pub fn count(
         class: SymbolClass,
         bytes: &[u8],
@@ -60,8 +60,8 @@ impl<'r> SymbolIndex<'r> {
         SymbolIndex { addresses: room }
     }
 
-    /// The index of the symbols of a class, of the records from an offset on. What is in the room after the call is left open. Errors, in
-    /// order: those of `count`; `Room` if the room has fewer entries than the index.
+    /// The index of the symbols of a class, of the records from an offset on. What is in the room after the call is left open.
+    /// Errors, in order: those of `count`; `Room` if the room has fewer entries than the index.
     pub fn new(
         class: SymbolClass,
         bytes: &[u8],
@@ -81,7 +81,8 @@ impl<'r> SymbolIndex<'r> {
         Ok(SymbolIndex::sorted(&mut room[..count]))
     }
 
-    /// The last symbol that starts at or before an RVA; of several at one RVA that of the last record. `None` if all start after it.
+    /// The last symbol that starts at or before an RVA; of several at one RVA that of the last record. `None` if all start after
+    /// it.
     pub fn nearest(&self, rva: u32) -> Option<SymbolAddress>
         ensures { (xs : List ℕ) → IsPermutation xs self.now.addresses.now → Nearest xs rva result }
     {
@@ -98,8 +99,8 @@ impl<'r> SymbolIndex<'r> {
             record_offset: (address % UNIT) as u32,
         })
     }
-    /// The procedure whose code has an RVA: the nearest one, if it reaches there. The bytes are those of which the index was made. `None`
-    /// where no code of a procedure is, as in functions without debug information.
+    /// The procedure whose code has an RVA: the nearest one, if it reaches there. The bytes are those of which the index was
+    /// made. `None` where no code of a procedure is, as in functions without debug information.
     pub fn covering(&self, bytes: &[u8], rva: u32) -> Option<SymbolAddress>
         ensures { (xs : List ℕ) → IsPermutation xs self.now.addresses.now → Covering xs bytes.now rva result }
     {
