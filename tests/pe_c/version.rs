@@ -177,6 +177,9 @@ fn versions_and_manifests(rt: HostRuntime) -> Result<(), Fail> {
     assert_eq!(rt; manifest_of(&others, &image), (NOTHING, UNTOUCHED));
     let far = having(image, 2, directory(0x3000, 64));
     assert_eq!(rt; text_of(&others, &far, 0), (UNMAPPED, UNTOUCHED));
+    // The first directory is read before it is asked whether all of the data are there.
+    let cut = having(image, 2, directory(0x1FF0, 64));
+    assert_eq!(rt; text_of(&others, &cut, 0), (SHORT, UNTOUCHED));
     Ok(())
 }
 
