@@ -3009,8 +3009,8 @@ PE_C_SIZE(pe_c_resource, 72);
 
 /* Writes the image with these resources in place of those that it has to the start of the array, and its length, which is
  * that of the file or more, or less without resources, to `written`. The rest of the array is unchanged, and all of it after
- * an error. `data` has the names and the contents, and may be `bytes`. The array overlaps none of the others; it may be NULL if room_length is 0, the
- * resources if resource_count is, and the data if data_length is.
+ * an error. `data` has the names and the contents, and may be `bytes`. The array overlaps none of the others; it may be
+ * NULL if room_length is 0, the resources if resource_count is, and the data if data_length is.
  * The resources are sorted by type, name and language: names before ids, names by their code units, ids and languages by
  * their numbers. No two have the same type, name and language.
  * They go over the data of their section if they fit there, no other section follows it in memory before their end, and no

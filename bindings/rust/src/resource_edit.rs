@@ -263,9 +263,9 @@ impl<'a> ResourceEditor<'a> {
     }
 
     /// The file of the image with these resources in the place of those that it has: in their section, or at the end of the image
-    /// if they do not fit there. Its checksum is made good, or stays 0 where it was 0. Without resources the image has no resource
-    /// directory, and where the section that they were in is the last one it goes too; otherwise it stays, as zeros if nothing else is
-    /// in it.
+    /// if they do not fit there. Its checksum is made good, or stays 0 where it was 0. Without resources the image has
+    /// no resource directory, and where the section that they were in is the last one it goes too; otherwise it stays,
+    /// as zeros if nothing else is in it.
     ///
     /// # Errors
     ///

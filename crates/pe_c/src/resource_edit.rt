@@ -107,10 +107,10 @@ fn edit_to(
 }
 
 /// Writes the image with these resources in place of those that it has to the start of `room`, and its length to `written`, which is that
-/// of the image or more, or less without resources, where the section goes that they are in if it is the last one; otherwise it stays,
-/// as zeros if nothing else is in it. The rest of the room is unchanged. Where the room is smaller all of it is, and `written` has the length that it
-/// needs. The resources are sorted by type, name and language: names before ids, names by their code units,
-/// ids and languages by their numbers. Their names and contents are ranges of `data`.
+/// of the image or more, or less without resources, where the section goes that they are in if it is the last one; otherwise it
+/// stays, as zeros if nothing else is in it. The rest of the room is unchanged. Where the room is smaller all of it is, and
+/// `written` has the length that it needs. The resources are sorted by type, name and language: names before ids, names by their
+/// code units, ids and languages by their numbers. Their names and contents are ranges of `data`.
 ///
 /// Errors: those of `pe_c_image`; `EDIT_RECORD`, `EDIT_NAMES`, `EDIT_CONTENTS`; `NO_OPTIONAL_HEADER`, `EDIT_NO_DIRECTORY`; `EDIT_SIGNED`;
 /// `EDIT_TOO_MANY`, `EDIT_NAME`, `EDIT_ORDER`, `EDIT_TABLES_TOO_LARGE`, `EDIT_TOO_LARGE`; `EDIT_HEADERS`, `SHORT` of the section

@@ -230,19 +230,19 @@ fn write_leaves(
 /// Writes the image with these resources to the start of `out`, and returns its length; the bytes of `out` after it stay as they
 /// were. `bytes` is the whole file, `header` is the image's; the leaves are sorted, as `pe_edit::write_section` asks.
 ///
-/// Without leaves the entry of the resource directory becomes one of zeros. The section that the resources are in goes, with its data
-/// and its section header, if it is the last one in the section table, in the file and in memory, though not the only one, the image
-/// ends with its pages, nothing else is in it, and no debug data are after it: what follows its data in the file moves back, and with
-/// it the pointer to COFF symbols; `NumberOfSections`, `SizeOfInitializedData` and `SizeOfImage` become less. Otherwise the section
-/// stays, with zeros in the place of its data if nothing else is in them.
+/// Without leaves the entry of the resource directory becomes one of zeros. The section that the resources are in goes, with its
+/// data and its section header, if it is the last one in the section table, in the file and in memory, though not the only one, the
+/// image ends with its pages, nothing else is in it, and no debug data are after it: what follows its data in the file moves back,
+/// and with it the pointer to COFF symbols; `NumberOfSections`, `SizeOfInitializedData` and `SizeOfImage` become less. Otherwise
+/// the section stays, with zeros in the place of its data if nothing else is in them.
 ///
-/// With leaves the resources go over the data of the section that they are in, with zeros up to its end, if they fit there: it has nothing
-/// else, no debug data and no base relocation either, its data and the image have room, and no section follows in memory before
-/// their end. Its size in memory grows where it has to. Otherwise they go to the end of the
-/// image: if their section is the last, has no debug data and no base relocation, its data grow, else a new section `.rsrc` follows
-/// the last one, and the old section stays as it was. What follows the data of the sections in the file, such as an installer's
-/// data or COFF symbols, moves by the bytes that are added, a multiple of the file alignment, and with it the pointer to the symbols
-/// and those of debug entries whose data move. `NumberOfSections`, `SizeOfInitializedData` and `SizeOfImage` change as they have to.
+/// With leaves the resources go over the data of the section that they are in, with zeros up to its end, if they fit there: it has
+/// nothing else, no debug data and no base relocation either, its data and the image have room, and no section follows in memory
+/// before their end. Its size in memory grows where it has to. Otherwise they go to the end of the image: if their section is the
+/// last, has no debug data and no base relocation, its data grow, else a new section `.rsrc` follows the last one, and the old
+/// section stays as it was. What follows the data of the sections in the file, such as an installer's data or COFF symbols, moves
+/// by the bytes that are added, a multiple of the file alignment, and with it the pointer to the symbols and those of debug entries
+/// whose data move. `NumberOfSections`, `SizeOfInitializedData` and `SizeOfImage` change as they have to.
 ///
 /// The entry of the resource directory gets RVA and size of the resources, and the checksum is made good, or stays 0 where it
 /// was 0. All other bytes of the file stay.

@@ -80,8 +80,8 @@ pub fn edited_leaves_are_read()
         ≡ Ok (map (λ x. Ok x) xs) }
 {}
 
-/// A file that an edit with some leaves writes has the resources in place, or at the end of the image: in place wherever they have a
-/// place. Without leaves it is the image without resources.
+/// A file that an edit with some leaves writes has the resources in place, or at the end of the image: in place wherever they have
+/// a place. Without leaves it is the image without resources.
 #[tactic(auto, using(crate::proofs::RoomImages::one_of_two, crate::proofs::RoomImages::first_is_place))]
 pub fn edits_are_in_place_or_at_the_end()
     ensures some { (b : List ℕ) (h : HeaderView) (x : Leaf) (xs : List Leaf) (f : List ℕ) →
@@ -182,8 +182,8 @@ pub fn leaves_at_the_end_are_read()
 {}
 
 /// The headers of an image without resources are parsed: they are those of the image, but for the entry of the resource directory,
-/// which is one of zeros, and the checksum, which is that of the file, or 0 where it was 0. Where the resource section goes there is one
-/// section less, and the pointer to the COFF symbols and the sizes of initialized data and of the image are others.
+/// which is one of zeros, and the checksum, which is that of the file, or 0 where it was 0. Where the resource section goes there
+/// is one section less, and the pointer to the COFF symbols and the sizes of initialized data and of the image are others.
 pub fn headers_without_resources_are_parsed()
     ensures gone { (mode : ParseMode) (b : List ℕ) (h : HeaderView) (t : Target) (m : Room) (f : List ℕ) →
         header_at b mode ≡ Ok h → IsEditedAway b h t m f →
@@ -196,9 +196,9 @@ pub fn headers_without_resources_are_parsed()
         × (m.size_of_image ≡ (last_header b h m).virtual_address) }
 {}
 
-/// Where the resource section of an image goes, its data are taken out of the file: the bytes after them, an installer's data or COFF
-/// symbols, move back and are the same. Of the bytes before, those of some fields of the headers change, of the section header, and of
-/// the entry of the resource directory. The section headers are those of the image without the last one.
+/// Where the resource section of an image goes, its data are taken out of the file: the bytes after them, an installer's data or
+/// COFF symbols, move back and are the same. Of the bytes before, those of some fields of the headers change, of the section
+/// header, and of the entry of the resource directory. The section headers are those of the image without the last one.
 pub fn last_section_goes()
     ensures length { (b : List ℕ) (h : HeaderView) (t : Target) (m : Room) (f : List ℕ) →
         IsEditedAway b h t m f → length f ≡ length b - m.more }
@@ -230,8 +230,8 @@ pub fn other_addresses_stay_without_the_section()
         slice_index f q ≡ slice_index b q }
 {}
 
-/// Where the resource section stays, no byte is added or lost, and no section header changes. Its data become zeros if nothing else is
-/// in them. All other bytes stay, but for those of the entry of the resource directory and of the checksum.
+/// Where the resource section stays, no byte is added or lost, and no section header changes. Its data become zeros if nothing else
+/// is in them. All other bytes stay, but for those of the entry of the resource directory and of the checksum.
 pub fn emptied_section_stays()
     ensures length { (b : List ℕ) (h : HeaderView) (t : Target) (f : List ℕ) →
         IsEditedEmpty b h t f → length f ≡ length b }
