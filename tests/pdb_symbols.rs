@@ -453,9 +453,15 @@ fn lines_are_those_that_pdbutil_lists(rt: HostRuntime) -> Result<(), Fail> {
                 rows += 1;
             }
             assert_eq!(rt; block.row(block.rows.len() / 8), None);
-            let lines = [(80, 0, 7, Some(4)), (80, 0, 8, Some(5)), (80, 24, 20, None), (128, 0, 5, Some(2))];
+            let lines = [
+                (80, 0, 7, Some(4)),
+                (80, 0, 8, Some(5)),
+                (80, 24, 20, None),
+                (128, 0, 5, Some(2)),
+            ];
             for (start, file, offset, line) in lines {
-                let own = (header.offset, block.file, block.rows.len()) == (start, file, if file == 0 { 16 } else { 8 });
+                let own = (header.offset, block.file, block.rows.len())
+                    == (start, file, if file == 0 { 16 } else { 8 });
                 let found = block.row_at(offset).map(|row| row.line);
                 assert!(rt; !own || found == line);
             }
