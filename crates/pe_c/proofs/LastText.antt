@@ -8,7 +8,7 @@ pub text_past : (n : ℕ) → 39 ≤ n → codes "unknown result" ≡ refusal_te
 unfolding refusal_text
 text_past n h = sym (get_or_past texts n (codes "unknown result") (omega arith))
 
-pub other_text_past : (n : ℕ) → 107 ≤ n → codes "unknown result" ≡ other_text n
+pub other_text_past : (n : ℕ) → 108 ≤ n → codes "unknown result" ≡ other_text n
 unfolding other_text
 other_text_past n h = sym (get_or_past other_texts (n - 100) (codes "unknown result") (omega arith))
 

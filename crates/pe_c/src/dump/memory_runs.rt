@@ -78,7 +78,6 @@ fn ascend(pieces: &[MemoryPiece]) -> bool
 }
 
 /// Where the bytes of a range of addresses are.
-#[tactic(auto, using(pe_frame::proofs::Lookups::test_ascends))]
 fn range_in(memory: &[u8], pieces: &[MemoryPiece], asked: &Range) -> Range
     requires ascending { IsTrue (ascend pieces.now) }
     requires inside { IsTrue (are_inside memory.now pieces.now) }
