@@ -6,7 +6,9 @@ ghost use Rattle.pe_c.specs.declared.results.TheConstants.{NOTHING};
 ghost use Rattle.pe_c.specs.Texts.{refusal_text, other_text, result_text, sign_text, directory_text, tree_text, edit_text, signature_text, dump_text};
 
 use crate::ended_texts::put_truncated;
-use crate::results::{BAD_ADDRESS, BAD_OPERATION, LONG_CHAIN, MISSING, NOT_RISING, NOTHING, OUT_OF_ORDER, ROOM};
+use crate::results::{
+    BAD_ADDRESS, BAD_OPERATION, LONG_CHAIN, MISSING, NOT_RISING, NOTHING, OUT_OF_ORDER, ROOM,
+};
 
 /// The number of the first error of signing.
 const SIGNING: u32 = 201;
