@@ -8,7 +8,7 @@ use crate::icon::{self, Group, IconError, Icons};
 use crate::new_file::Target;
 use crate::streams::{complain, complaint};
 use crate::Status;
-use pe_c::{Error, Image, ResourceEditor, ResourceKey, VersionInfo};
+use pe_c::{Error, Image, Mode, ResourceEditor, ResourceKey, VersionInfo};
 use std::path::{Path, PathBuf};
 
 /// `RT_VERSION` and `RT_MANIFEST`.
@@ -57,6 +57,12 @@ pub fn has_strong_name(image: &Image<'_>) -> bool {
     image.clr().ok().flatten().is_some_and(|it| it.header().flags & STRONG_NAME_SIGNED != 0)
 }
 
+/// Whether an image that has lost its last resource still has the section that they stood in.
+fn keeps_section(image: &Image<'_>, editor: &ResourceEditor<'_>, file: &[u8]) -> bool {
+    let is_emptied = editor.resources().next().is_none();
+    is_emptied && Image::parse(file, Mode::Permissive).is_ok_and(|it| it.sections().len() == image.sections().len())
+}
+
 /// The image after a change of its resources, delivered.
 fn deliver(
     paths: Paths<'_>,
@@ -67,10 +73,19 @@ fn deliver(
         let image = image?;
         let mut editor = ResourceEditor::of(&image)?;
         change(&image, &mut editor)?;
-        Ok(editor.write()?)
+        let file = editor.write()?;
+        let is_kept = keeps_section(&image, &editor, &file);
+        Ok((file, is_kept))
     };
     match made() {
-        Ok(file) => files::deliver_like(Some(paths.0), &file, paths.1, Status::Done),
+        Ok((file, is_kept)) => {
+            let mut report = files::deliver_like(Some(paths.0), &file, paths.1, Status::Done);
+            if is_kept && report.status == Status::Done {
+                report.complaints +=
+                    &complaint(paths.0, "no resource is left; the section that had them stays, without a directory");
+            }
+            report
+        }
         Err(Failure::Refused(Error::EDIT_SIGNED)) => {
             let refusal = Refusal::from(Error::EDIT_SIGNED);
             Report::refused(paths.0, format_args!("{refusal}; pe detach writes it without them"))

@@ -308,6 +308,12 @@ fn manifests_and_resources_are_changed() {
     assert_eq!(run(&["remove-resource", &more, &less, "10", "DATA", "--language", "0x407"]).2, 1);
     assert_eq!(run(&["remove-resource", &more, &less, "10", "DATA"]).2, 0);
     assert_eq!(fs::read(&less).unwrap(), fs::read(&out).unwrap());
+    // The last resource: the only section stays, and it is said.
+    let (_, said, status) = run(&["remove-resource", &file, &path("g.exe"), "24", "1"]);
+    assert_eq!(
+        (said, status),
+        (format!("pe: {file}: no resource is left; the section that had them stays, without a directory\n"), 0)
+    );
     // What does not fit goes to the end; what is signed is refused.
     let long = folder.file("long", &[b'x'; 0x400]);
     assert_eq!(run(&["set-manifest", &file, &path("e.exe"), &long]).2, 0);

@@ -174,7 +174,7 @@ fn memory_of_lies(bytes: &[u8], random: &mut Random, number: u64) {
             &mut written,
         )
     };
-    for (it, asked) in found.iter().zip(&asked).filter(|_| number == sys::DONE) {
+    for (it, asked) in found.iter().zip(&asked).filter(|_| made == sys::DONE && number == sys::DONE) {
         let at = place(&pieces, asked.offset).filter(|_| asked.length > 0);
         assert!(it.length <= asked.length && (at.is_none() || at == Some(it.offset)), "{pieces:?}");
         assert!(it.offset + it.length <= bytes.len() as u64);
