@@ -103,7 +103,8 @@ def windows_tree(folder, build, tree):
     header = Header()
     for name in files_of("windows-x64"):
         copy(os.path.join(folder, name), tree, "bin" if name.endswith(".dll") else "lib", name)
-    copy(os.path.join(BINDINGS, "pe.h"), tree, "include", "pe.h")
+    for name in ("pe.h", "pe.hpp"):
+        copy(os.path.join(BINDINGS, name), tree, "include", name)
     copy(os.path.join(BINDINGS, "pe_list.c"), tree, "pe_list.c")
     with open(os.path.join(SOURCES, "windows", "README.txt.in"), encoding="utf-8") as file:
         write(file.read().replace("@VERSION@", header.version).replace("@ABI@", str(header.abi)), tree, "README.txt")
