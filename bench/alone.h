@@ -10,19 +10,19 @@
 enum { ENTRIES = 64, LEVELS = 4, CODES = 255 };
 
 /* A function that counts what a walk lists up to its end, an error, or as many entries as the image has bytes. */
-#define COUNTS(name, walk_type, entry_type, list) \
+#define COUNTS(name, walk_type, entry_type, list, ...) \
     static uint64_t name(const pe_c_view *view, walk_type *walk) \
     { \
         static entry_type entries[ENTRIES]; \
         uint64_t count = 0, written = 1; \
-        while (count < view->length && list(view, walk, entries, ENTRIES, &written) == PE_C_DONE && written > 0) \
+        while (count < view->length && list(__VA_ARGS__, walk, entries, ENTRIES, &written) == PE_C_DONE && written > 0) \
             count += written; \
         return count; \
     }
 
-COUNTS(count_leaves, pe_c_resource_walk, pe_c_resource_leaf, pe_c_list_resource_leaves)
-COUNTS(count_pogo_entries, pe_c_range, pe_c_pogo_entry, pe_c_list_pogo_entries)
-COUNTS(count_arm64_codes, pe_c_arm64_walk, pe_c_arm64_code, pe_c_list_arm64_codes)
+COUNTS(count_leaves, pe_c_resource_walk, pe_c_resource_leaf, pe_c_list_resource_leaves, view)
+COUNTS(count_pogo_entries, pe_c_range, pe_c_pogo_entry, pe_c_list_pogo_entries, view->bytes, view->length)
+COUNTS(count_arm64_codes, pe_c_arm64_walk, pe_c_arm64_code, pe_c_list_arm64_codes, view->bytes, view->length)
 
 /* Counts the blocks of so many levels, and those that are refused, after which a walk may go on. */
 static uint64_t count_blocks(const pe_c_view *view, pe_c_range walk, int levels)
@@ -32,7 +32,7 @@ static uint64_t count_blocks(const pe_c_view *view, pe_c_range walk, int levels)
     uint64_t count = 0;
     for (;;) {
         uint64_t written = 0;
-        const uint32_t result = pe_c_list_version_blocks(view, &walk, blocks, ENTRIES, &written);
+        const uint32_t result = pe_c_list_version_blocks(view->bytes, view->length, &walk, blocks, ENTRIES, &written);
         if (result == PE_C_DONE && written == 0)
             return count;
         count += result == PE_C_DONE ? written : 1;
@@ -47,11 +47,12 @@ static uint64_t count_relocations(const pe_c_view *view, pe_c_range walk)
     static pe_c_relocation_block blocks[ENTRIES];
     static pe_c_relocation entries[ENTRIES];
     uint64_t count = 0, written = 1;
-    while (pe_c_list_relocation_blocks(view, &walk, blocks, ENTRIES, &written) == PE_C_DONE && written > 0) {
+    while (pe_c_list_relocation_blocks(view->bytes, view->length, &walk, blocks, ENTRIES, &written) == PE_C_DONE && written > 0) {
         count += written;
         for (size_t i = 0; i < written; i++) {
             uint64_t some = 1;
-            while (pe_c_list_relocations(view, blocks[i].page_rva, &blocks[i].entries, entries, ENTRIES, &some) == PE_C_DONE &&
+            while (pe_c_list_relocations(view->bytes, view->length, blocks[i].page_rva, &blocks[i].entries, entries, ENTRIES,
+                                         &some) == PE_C_DONE &&
                    some > 0)
                 count += some;
         }
@@ -66,7 +67,7 @@ static uint64_t count_functions(const pe_c_view *view, const pe_c_range *table)
     static pe_c_code codes[CODES];
     pe_c_record record = PE_C_EMPTY;
     uint64_t count = 0, next = 0, written = 1;
-    while (pe_c_list_functions(view, table, &next, functions, ENTRIES, &written) == PE_C_DONE && written > 0) {
+    while (pe_c_list_functions(view->bytes, view->length, table, &next, functions, ENTRIES, &written) == PE_C_DONE && written > 0) {
         for (size_t i = 0; i < written; i++) {
             uint64_t some = 0;
             count++;
@@ -85,7 +86,7 @@ static uint64_t count_arm64_functions(const pe_c_view *view, const pe_c_range *t
     pe_c_arm64_record record = PE_C_EMPTY;
     pe_c_arm64_walk walk = PE_C_EMPTY;
     uint64_t count = 0, next = 0, written = 1;
-    while (pe_c_list_arm64_functions(view, table, &next, functions, ENTRIES, &written) == PE_C_DONE && written > 0) {
+    while (pe_c_list_arm64_functions(view->bytes, view->length, table, &next, functions, ENTRIES, &written) == PE_C_DONE && written > 0) {
         for (size_t i = 0; i < written; i++) {
             count++;
             if (count < view->length && pe_c_arm64_unwind_record(view, &functions[i], &record) == PE_C_DONE &&

@@ -73,8 +73,8 @@ static uint64_t read_functions(void)
     }
     while (written > 0) {
         size_t room = (size_t)(table.length / 12 - next) + 1;
-        if (pe_c_list_functions(&view, &table, &next, functions + next, way == LISTS && room > ROOM ? ROOM : room,
-                                &written) != PE_C_DONE)
+        if (pe_c_list_functions(view.bytes, view.length, &table, &next, functions + next,
+                                way == LISTS && room > ROOM ? ROOM : room, &written) != PE_C_DONE)
             break;
     }
     return next;
@@ -119,12 +119,12 @@ static uint64_t read_lookups(void)
     return count;
 }
 
-/* A function that reads all of a walk from where it stands: `place` of the walk by steps. */
-#define READS(name, walk_type, steps_type, place, item_type, step, list) \
+/* A function that reads all of a walk from where it stands. */
+#define READS(name, walk_type, item_type, step, list) \
     static uint64_t name(walk_type *walk, item_type *items, size_t room) \
     { \
         uint64_t count = 0, written = 1; \
-        steps_type steps = {.place = *walk}; \
+        walk_type steps = *walk; \
         while (way == STEPS && step(&view, &steps, &items[count]) == PE_C_DONE) \
             count++; \
         while (way != STEPS && written > 0 && \
@@ -134,9 +134,9 @@ static uint64_t read_lookups(void)
         return count; \
     }
 
-READS(exports_of, pe_c_exports, pe_c_export_walk, exports, pe_c_export, pe_c_next_export, pe_c_list_exports)
-READS(libraries_of, pe_c_libraries, pe_c_library_walk, libraries, pe_c_library, pe_c_next_library, pe_c_list_libraries)
-READS(imports_of, pe_c_imports, pe_c_import_walk, imports, pe_c_import, pe_c_next_import, pe_c_list_imports)
+READS(exports_of, pe_c_exports, pe_c_export, pe_c_next_export, pe_c_list_exports)
+READS(libraries_of, pe_c_libraries, pe_c_library, pe_c_next_library, pe_c_list_libraries)
+READS(imports_of, pe_c_imports, pe_c_import, pe_c_next_import, pe_c_list_imports)
 
 static uint64_t read_exports(void)
 {

@@ -108,12 +108,12 @@ static uint64_t list_section_names(const pe_c_view *view, pe_c_run *runs, size_t
 
 static uint64_t list_delay_imports(const pe_c_view *view, const char *what, pe_c_run *runs, size_t number_of_runs)
 {
-    pe_c_delay_import_walk walk = PE_C_EMPTY;
+    pe_c_range walk = PE_C_EMPTY;
     pe_c_delay_import first = PE_C_EMPTY;
-    if (pe_c_delay_imports(view, &walk.entries) != PE_C_DONE)
+    if (pe_c_delay_imports(view, &walk) != PE_C_DONE)
         return 0;
     if (strcmp(what, "dlls") == 0)
-        return list_dlls(view, &walk.entries, (size_t)walk.entries.length / 32, runs, number_of_runs);
+        return list_dlls(view, &walk, (size_t)walk.length / 32, runs, number_of_runs);
     return pe_c_next_delay_import(view, &walk, &first) != PE_C_DONE
                ? 0 : list_delayed(view, &first.functions, view->length / 8, runs, number_of_runs);
 }
@@ -149,7 +149,7 @@ static uint64_t list_symbols(const uint8_t *bytes, size_t length, pe_c_run *runs
 
 static uint64_t list_all_imports(const pe_c_view *view, pe_c_libraries libraries, pe_c_run *runs, size_t number_of_runs)
 {
-    pe_c_library_walk steps = {.libraries = libraries};
+    pe_c_libraries steps = libraries;
     pe_c_library library = PE_C_EMPTY;
     pe_c_library_imports walk = PE_C_EMPTY;
     uint64_t count = 0, written = 1;
@@ -175,11 +175,11 @@ static uint64_t list_all_imports(const pe_c_view *view, pe_c_libraries libraries
 
 static uint64_t list_all_delayed(const pe_c_view *view, pe_c_run *runs, size_t number_of_runs)
 {
-    pe_c_delay_import_walk dlls = PE_C_EMPTY;
+    pe_c_range dlls = PE_C_EMPTY;
     pe_c_delay_import dll = PE_C_EMPTY;
     pe_c_library_functions walk = PE_C_EMPTY;
     uint64_t count = 0, written = 1;
-    if (pe_c_delay_imports(view, &dlls.entries) != PE_C_DONE)
+    if (pe_c_delay_imports(view, &dlls) != PE_C_DONE)
         return 0;
     if (runs == NULL) {
         while (pe_c_next_delay_import(view, &dlls, &dll) == PE_C_DONE)

@@ -86,7 +86,6 @@
  *   pe_c_coff_sections              Writes the section headers of an object to the start of the array ..
  *   pe_c_coff_symbols               Returns a walk over the symbols of an object or of an image, with the range of their table
  *   pe_c_coff_strings               Returns the string table of an object or of an image, from its size field on
- *   pe_c_symbol                     Reads the symbol in an entry of a symbol table
  *   pe_c_next_symbol                Reads the next symbol of a walk
  *   pe_c_symbol_name                Returns the name of the symbol in an entry of a symbol table
  * the Rich header
@@ -107,7 +106,6 @@
  *   pe_c_pogo_of                    Returns a POGO record
  *   pe_c_embedded_pdb_of            Returns the portable PDB in an image
  *   pe_c_pdb_checksum_of            Returns the checksum of the PDB file
- *   pe_c_next_pogo_entry            Returns the next entry of a POGO record
  * TE images
  *   pe_c_te                         Reads the header of a TE image, the 40 bytes at its start
  *   pe_c_te_sections                Writes the section headers of a TE image to the start of the array ..
@@ -154,9 +152,7 @@
  * x64 functions and unwind records
  *   pe_c_function_table             Returns the range of the function table, entries of 12 bytes
  *   pe_c_find_function              Returns the function that covers an RVA, by binary search, or PE_C_NOTHING. In a table ..
- *   pe_c_function_at                Returns the function with an index, from 0
  *   pe_c_unwind_record              Returns the unwind record of an unwind RVA, the field `unwind` of a function of this ..
- *   pe_c_next_code                  Returns the next code of a record, in the order in which they are undone
  *   pe_c_scope_table                Returns the scope table in a record's handler_data as a walk for pe_c_next_scope
  *   pe_c_next_scope                 Returns the next entry of a scope table
  *   pe_c_plan_from                  Starts the plan of a function, by its unwind RVA, the field `unwind` of the function
@@ -167,47 +163,35 @@
  * ARM64 functions and unwind records
  *   pe_c_arm64_table                Returns the range of the function table, entries of 8 bytes
  *   pe_c_find_arm64_function        Returns the function that covers an RVA, by binary search, or PE_C_NOTHING. In a table ..
- *   pe_c_arm64_function_at          Returns the function with an index, from 0
  *   pe_c_arm64_packed_fields        Returns the fields of packed unwind data
  *   pe_c_arm64_unwind_record        Returns the unwind record of a function
  *   pe_c_next_arm64_scope           Returns the next epilog scope of a record
  *   pe_c_arm64_codes                Returns a walk over a record's codes
- *   pe_c_next_arm64_code            Returns the next code
  *   pe_c_step_arm64                 Finds the registers of a function's caller, from those inside the function, and writes ..
  *   pe_c_next_arm64_frame           As pe_c_next_frame, on ARM64
  *   pe_c_next_arm64_frames          The same for several frames in one call, as pe_c_next_frames
  * exports
  *   pe_c_export_directory           Returns the fields of the export directory, whatever its tables are
  *   pe_c_export_tables              Returns the tables of the export directory, where a walk starts
- *   pe_c_next_export                Returns the next export
  *   pe_c_export_addresses           Returns the table of RVAs of the export directory, the ordinal base and the DLL's name
- *   pe_c_export_at                  Returns the export with an index, from 0
  * names of functions without a PDB
  *   pe_c_name_tables                Reads the tables of which pe_c_function_names reads names
  *   pe_c_function_names             Writes to `names` what names each of these addresses, in their order; the rest of ..
  * imports
  *   pe_c_import_libraries           Returns where a walk over libraries starts
- *   pe_c_next_library               Returns the next library
- *   pe_c_next_import                Returns the next import of a library
  *   pe_c_all_imports                Returns the import directory as a walk for pe_c_list_all_imports
  * delay imports
  *   pe_c_delay_imports              Returns the entries of the delay import directory, where a walk starts
- *   pe_c_next_delay_import          Returns the next DLL. The directory ends with its bytes, or at an entry without the ..
- *   pe_c_next_delayed_function      Returns the next function of a DLL. Errors
  *   pe_c_all_delayed_functions      Returns the delay import directory as a walk for pe_c_list_all_delayed_functions
  * bound imports
  *   pe_c_bound_imports              Returns the bytes of the directory
- *   pe_c_next_bound_import          Returns the next DLL. The walk starts as a copy of the table
- *   pe_c_next_bound_forwarder       Returns the next DLL that a DLL forwards to
  * version information and manifest
  *   pe_c_fixed_version              Returns the fixed file information
  *   pe_c_version_text               Returns the value of a name, PE_C_COMMENTS .. PE_C_SPECIAL_BUILD: UTF-16 code units ..
  *   pe_c_version_blocks             Returns version information as a walk over its blocks, of which the first is all of it
- *   pe_c_next_version_block         Returns the next block
  *   pe_c_manifest                   Returns the range of the manifest, an XML text
  * resources
  *   pe_c_resource_leaves            Returns where a walk over leaves starts; they come in the order of the entries of ..
- *   pe_c_next_resource_leaf         Returns the next leaf
  *   pe_c_resource_root              Returns the root of the resource tree, the directory whose entries are types ..
  *   pe_c_resource_directory_at      Returns the directory at an offset of a tree, which is that of a walk over leaves
  *   pe_c_next_resource_item         Returns the next entry of a directory of a tree
@@ -226,11 +210,8 @@
  *   pe_c_load_config_field          Returns the field with a number, PE_C_CONFIG_
  * tables of a load configuration
  *   pe_c_guard_table                Returns a walk over the table with a number, PE_C_GUARD_
- *   pe_c_next_guard_entry           Returns the next entry of a table
  * base relocations
  *   pe_c_relocation_blocks          Returns the blocks of the base relocations as a walk
- *   pe_c_next_relocation_block      Returns the next block
- *   pe_c_next_relocation            Returns the next relocation of a block
  * CLR header and metadata
  *   pe_c_clr_header                 Returns the CLR header
  *   pe_c_clr_metadata               Returns the root of the metadata of a CLR header
@@ -264,6 +245,26 @@
  *   pe_c_list_bound_forwarders      Lists the same of the DLLs that a DLL forwards to, as pe_c_next_bound_forwarder ..
  *   pe_c_list_pogo_entries          Lists the entries of a POGO record
  *   pe_c_list_guard_entries         Lists the entries of a table of a load configuration
+ * the next item
+ *   pe_c_next_code                  Returns the next code of a record, in the order in which they are undone
+ *   pe_c_next_arm64_code            Returns the next code
+ *   pe_c_next_export                Returns the next export
+ *   pe_c_next_library               Returns the next library
+ *   pe_c_next_import                Returns the next import of a library
+ *   pe_c_next_delay_import          Returns the next DLL. The directory ends with its bytes, or at an entry without the ..
+ *   pe_c_next_delayed_function      Returns the next function of a DLL. Errors
+ *   pe_c_next_bound_import          Returns the next DLL. The walk starts as a copy of the table
+ *   pe_c_next_bound_forwarder       Returns the next DLL that a DLL forwards to
+ *   pe_c_next_version_block         Returns the next block
+ *   pe_c_next_resource_leaf         Returns the next leaf
+ *   pe_c_next_relocation_block      Returns the next block
+ *   pe_c_next_relocation            Returns the next relocation of a block
+ *   pe_c_next_guard_entry           Returns the next entry of a table
+ *   pe_c_next_pogo_entry            Returns the next entry of a POGO record
+ *   pe_c_function_at                Returns the function with an index, from 0
+ *   pe_c_arm64_function_at          Returns the function with an index, from 0
+ *   pe_c_export_at                  Returns the export with an index, from 0
+ *   pe_c_symbol                     Reads the symbol in an entry of a symbol table
  * why a step is refused
  *   pe_c_library_failure            Of pe_c_next_library
  *   pe_c_import_failure             Of pe_c_next_import
@@ -706,10 +707,10 @@ typedef struct {
     size_t entries;                 /* of the index; 0 for no index, and then calls test the sections in turn */
 } pe_c_view;
 
-/* The sections of the last RVAs of a walk, which the steps over exports, imports, delay imports, resources and the records
- * of a plan test before the others: the RVAs of a table mostly lie in one section or two. `kept` of such a walk is all 0
- * at the start, and only the step calls read and write it. Where a caller changes it and sections overlap, a step may
- * return an offset by another section, and no other harm is done; a number past the last section maps nothing. */
+/* The sections of the last RVAs of a plan, which its steps test before the others: the RVAs of records mostly lie in one
+ * section or two. `kept` of such a walk is all 0 at the start, and only the step calls read and write it. Where a caller
+ * changes it and sections overlap, a step may return an offset by another section, and no other harm is done; a number past
+ * the last section maps nothing. */
 typedef struct {
     uint32_t first;                 /* index of a section plus 1; 0 for none, as at the start of a walk; 0xFFFFFFFF for none,
                                        and the walk keeps no more, where that of an RVA may share some with an earlier one */
@@ -845,9 +846,9 @@ uint32_t pe_c_headers(const uint8_t *bytes, size_t length, uint32_t mode, pe_c_h
  * lists of their names. Few calls, and images with few sections, as most, gain nothing by it. No entries, and PE_C_DONE,
  * where no section is searched: in an image as loaded, and where the file alignment is not a power of two. An index in
  * the view that is passed makes no difference. An index of other sections gives wrong offsets, and no other harm.
- * With an index a walk keeps no sections, and needs none; nor does it under 32 sections or fewer, which are searched for
- * less. Else a step over exports, imports, delay imports, resources or the records of a plan tests the section or two that
- * its walk keeps, and searches all of them only for an RVA elsewhere; all other steps search all for each RVA. A section
+ * With an index a plan and a list keep no sections, and need none; nor do they under 32 sections or fewer, which are searched
+ * for less. Else a step over the records of a plan tests the section or two that its walk keeps, and a list the RVAs near
+ * its last ones, and they search all of them only for an RVA elsewhere; all other steps search all for each RVA. A section
  * that may share an RVA with an earlier one, whose size is rounded up to a page, is not kept.
  * Errors: PE_C_ROOM where the array has too few entries; then `written` is how many it has to have. */
 uint32_t pe_c_index(const pe_c_view *view, pe_c_index_entry *room, size_t entries, uint64_t *written) PE_C_RESULT(1, 4);
@@ -974,12 +975,6 @@ uint32_t pe_c_coff_symbols(const uint8_t *bytes, size_t length, const pe_c_coff_
  * Errors: PE_C_SHORT where the symbols are truncated; PE_C_STRING_TABLE where the string table is. */
 uint32_t pe_c_coff_strings(const uint8_t *bytes, size_t length, const pe_c_coff_header *coff, pe_c_range *out)
     PE_C_RESULT(3, 4);
-
-/* Reads the symbol in an entry of a symbol table. PE_C_NOTHING past the last entry. Auxiliary records have entries of their
- * own, and nothing in these says that they are no symbols.
- * Error: PE_C_SHORT where the table is not inside the bytes. */
-uint32_t pe_c_symbol(const uint8_t *bytes, size_t length, const pe_c_range *table, uint64_t index, pe_c_symbol_entry *out)
-    PE_C_RESULT(3, 5);
 
 /* Reads the next symbol of a walk.
  * Error: PE_C_SHORT where the table is not inside the bytes. */
@@ -1203,12 +1198,6 @@ uint32_t pe_c_embedded_pdb_of(const uint8_t *bytes, size_t length, uint32_t mode
  * Errors: PE_C_DEBUG_DATA; PE_C_DEBUG_SIZE where no zero ends the name of the algorithm. */
 uint32_t pe_c_pdb_checksum_of(const uint8_t *bytes, size_t length, uint32_t mode, const pe_c_debug_entry *entry,
                               pe_c_pdb_checksum *out) PE_C_RESULT(4, 5);
-
-/* Returns the next entry of a POGO record.
- * Errors: PE_C_SHORT where the walk is not inside the bytes, or fewer than 8 bytes are left; PE_C_POGO_NAME where the name
- * is not NUL-terminated, or its padding to a multiple of 4 bytes is truncated. */
-uint32_t pe_c_next_pogo_entry(const uint8_t *bytes, size_t length, pe_c_range *walk, pe_c_pogo_entry *out)
-    PE_C_RESULT(3, 4);
 
 /* ---- TE images
  *
@@ -2034,22 +2023,12 @@ uint32_t pe_c_function_table(const pe_c_view *view, pe_c_range *out) PE_C_RESULT
 uint32_t pe_c_find_function(const uint8_t *bytes, size_t length, const pe_c_range *table, uint32_t rva,
                             pe_c_function *out) PE_C_RESULT(3, 5);
 
-/* Returns the function with an index, from 0.
- * Errors: PE_C_SHORT where the table is not inside the bytes; PE_C_FUNCTION_INDEX where it has no such entry. */
-uint32_t pe_c_function_at(const uint8_t *bytes, size_t length, const pe_c_range *table, uint64_t index,
-                          pe_c_function *out) PE_C_RESULT(3, 5);
-
 /* Returns the unwind record of an unwind RVA, the field `unwind` of a function of this table, which pe_c_function_table
  * returned. An odd one is a link to another entry of the table; links are followed to their end.
  * Errors: PE_C_SHORT where the table is not inside the bytes; PE_C_UNMAPPED, PE_C_FUNCTION_LINK, PE_C_FUNCTION_CYCLE of the
  * links; PE_C_UNMAPPED, PE_C_SHORT, PE_C_UNWIND_VERSION of the record. */
 uint32_t pe_c_unwind_record(const pe_c_view *view, const pe_c_range *table, uint32_t unwind, pe_c_record *out)
     PE_C_RESULT(1, 2, 4);
-
-/* Returns the next code of a record, in the order in which they are undone: the last instruction of the prolog first.
- * Errors: PE_C_SHORT where the walk is not inside the bytes, or a code is truncated; PE_C_UNWIND_CODE for an invalid
- * code. */
-uint32_t pe_c_next_code(const uint8_t *bytes, size_t length, pe_c_walk *walk, pe_c_code *out) PE_C_RESULT(3, 4);
 
 /* Returns the scope table in a record's handler_data as a walk for pe_c_next_scope. PE_C_NOTHING where it is truncated.
  * Only a handler such as __C_specific_handler has one: the caller knows it by the handler's RVA.
@@ -2283,11 +2262,6 @@ uint32_t pe_c_arm64_table(const pe_c_view *view, pe_c_range *out) PE_C_RESULT(1,
 uint32_t pe_c_find_arm64_function(const pe_c_view *view, const pe_c_range *table, uint32_t rva, pe_c_arm64_function *out)
     PE_C_RESULT(1, 2, 4);
 
-/* Returns the function with an index, from 0.
- * Errors: PE_C_SHORT where the table is not inside the bytes; PE_C_FUNCTION_INDEX where it has no such entry. */
-uint32_t pe_c_arm64_function_at(const uint8_t *bytes, size_t length, const pe_c_range *table, uint64_t index,
-                                pe_c_arm64_function *out) PE_C_RESULT(3, 5);
-
 /* Returns the fields of packed unwind data. It always returns PE_C_DONE. */
 uint32_t pe_c_arm64_packed_fields(const pe_c_arm64_function *function, pe_c_arm64_packed *out) PE_C_NOT_NULL(1, 2);
 
@@ -2309,13 +2283,6 @@ uint32_t pe_c_next_arm64_scope(const uint8_t *bytes, size_t length, pe_c_range *
  * is above 4,294,967,292, or is below the start. */
 uint32_t pe_c_arm64_codes(const uint8_t *bytes, size_t length, const pe_c_range *codes, uint64_t start,
                           pe_c_arm64_walk *out) PE_C_RESULT(3, 5);
-
-/* Returns the next code. The walk does not stop at PE_C_ARM64_END and PE_C_ARM64_END_C, since the codes of epilogs
- * follow; the caller stops there.
- * Errors: PE_C_SHORT where the walk is not inside the bytes; PE_C_ARM64_STREAM where its offset plus the bytes left is not a
- * multiple of 4 or is above 4,294,967,292, as in no walk of pe_c_arm64_codes; PE_C_ARM64_CUT for a truncated code. */
-uint32_t pe_c_next_arm64_code(const uint8_t *bytes, size_t length, pe_c_arm64_walk *walk, pe_c_arm64_code *out)
-    PE_C_RESULT(3, 4);
 
 /* Finds the registers of a function's caller, from those inside the function, and writes them over those of the frame. It
  * undoes the codes of frame->function, which are those of its unwind record or what its packed unwind data stand for: after
@@ -2389,12 +2356,6 @@ typedef struct {
     pe_c_directory directory;       /* the export directory: an RVA inside it is that of a forwarder's text */
 } pe_c_exports;
 
-/* A walk over exports, step by step. It starts as PE_C_EMPTY with what pe_c_export_tables returns. */
-typedef struct {
-    pe_c_exports exports;           /* where it stands */
-    pe_c_kept_sections kept;        /* the sections of its last RVAs */
-} pe_c_export_walk;
-
 /* An export. */
 typedef struct {
     pe_c_range name;                /* UTF-8, without its final zero */
@@ -2441,7 +2402,6 @@ typedef struct {
 } pe_c_export_fields;
 
 PE_C_SIZE(pe_c_exports, 64);
-PE_C_SIZE(pe_c_export_walk, 72);
 PE_C_SIZE(pe_c_export, 56);
 PE_C_SIZE(pe_c_address_table, 48);
 PE_C_SIZE(pe_c_exported, 32);
@@ -2455,19 +2415,9 @@ uint32_t pe_c_export_directory(const pe_c_view *view, pe_c_export_fields *out) P
  * Errors: PE_C_UNMAPPED, PE_C_SHORT of the directory, then of the table of RVAs, of names and of indices. */
 uint32_t pe_c_export_tables(const pe_c_view *view, pe_c_exports *out) PE_C_RESULT(1, 2);
 
-/* Returns the next export. Entries are skipped whose name is unmapped, not NUL-terminated or not UTF-8, or whose index is
- * past the table of RVAs. Each name and each forwarder's text is read to its end, so texts that overlap are read once each.
- * Errors: PE_C_SHORT where the tables are not inside the bytes. */
-uint32_t pe_c_next_export(const pe_c_view *view, pe_c_export_walk *walk, pe_c_export *out) PE_C_RESULT(1, 2, 3);
-
 /* Returns the table of RVAs of the export directory, the ordinal base and the DLL's name. PE_C_NOTHING without a directory.
  * Errors: those of pe_c_export_tables. */
 uint32_t pe_c_export_addresses(const pe_c_view *view, pe_c_address_table *out) PE_C_RESULT(1, 2);
-
-/* Returns the export with an index, from 0. PE_C_NOTHING where the table has no such entry.
- * Errors: PE_C_SHORT where the table is not inside the bytes. */
-uint32_t pe_c_export_at(const pe_c_view *view, const pe_c_address_table *table, uint64_t index, pe_c_exported *out)
-    PE_C_RESULT(1, 2, 4);
 
 /* ---- names of functions without a PDB
  *
@@ -2544,14 +2494,11 @@ uint32_t pe_c_function_names(const pe_c_view *view, const pe_c_name_sources *sou
  * library.imports. A program that reads all libraries before the first import meets errors in the order of
  * `peinfo list`. A third walk goes through both, for pe_c_list_all_imports.
  *
- *     pe_c_library_walk libraries = PE_C_EMPTY;
- *     pe_c_import_libraries(&view, &libraries.libraries);
- *     while (pe_c_next_library(&view, &libraries, &library) == PE_C_DONE) {
- *         pe_c_import_walk imports = PE_C_EMPTY;
- *         imports.imports = library.imports;
- *         while (pe_c_next_import(&view, &imports, &entry) == PE_C_DONE)
- *             use(&entry);
- *     } */
+ *     pe_c_libraries libraries = PE_C_EMPTY;
+ *     pe_c_import_libraries(&view, &libraries);
+ *     while (pe_c_next_library(&view, &libraries, &library) == PE_C_DONE)
+ *         while (pe_c_next_import(&view, &library.imports, &entry) == PE_C_DONE)
+ *             use(&entry); */
 
 /* Where a walk over libraries stands. */
 typedef struct {
@@ -2565,18 +2512,6 @@ typedef struct {
     pe_c_range left;                /* the entries of the list that are left: 8 bytes each in PE32+, else 4 */
     uint64_t rva;                   /* RVA of the next import's slot in the address table */
 } pe_c_imports;
-
-/* A walk over libraries, step by step. */
-typedef struct {
-    pe_c_libraries libraries;       /* where it stands */
-    pe_c_kept_sections kept;        /* the sections of its last RVAs */
-} pe_c_library_walk;
-
-/* A walk over the imports of a library, step by step. */
-typedef struct {
-    pe_c_imports imports;           /* where it stands */
-    pe_c_kept_sections kept;        /* the sections of its last RVAs */
-} pe_c_import_walk;
 
 /* A DLL that an image imports from, IMAGE_IMPORT_DESCRIPTOR. */
 typedef struct {
@@ -2618,8 +2553,6 @@ typedef struct {
 
 PE_C_SIZE(pe_c_libraries, 16);
 PE_C_SIZE(pe_c_imports, 24);
-PE_C_SIZE(pe_c_library_walk, 24);
-PE_C_SIZE(pe_c_import_walk, 32);
 PE_C_SIZE(pe_c_library, 64);
 PE_C_SIZE(pe_c_import, 32);
 PE_C_SIZE(pe_c_library_imports, 64);
@@ -2628,17 +2561,6 @@ PE_C_SIZE(pe_c_library_import, 64);
 /* Returns where a walk over libraries starts. PE_C_NOTHING without a directory.
  * Errors: PE_C_UNMAPPED. */
 uint32_t pe_c_import_libraries(const pe_c_view *view, pe_c_libraries *out) PE_C_RESULT(1, 2);
-
-/* Returns the next library. The directory ends at a record whose name or address table has the RVA 0. A list whose RVA is
- * unmapped is empty. Names and lists that overlap are read once each.
- * Errors: PE_C_SHORT where the record is truncated; PE_C_UNMAPPED, PE_C_IMPORT_NAME of the name; PE_C_SHORT where no zero
- * entry ends the list. */
-uint32_t pe_c_next_library(const pe_c_view *view, pe_c_library_walk *walk, pe_c_library *out) PE_C_RESULT(1, 2, 3);
-
-/* Returns the next import of a library.
- * Errors: PE_C_SHORT where the walk is not inside the bytes, or its last entry is truncated; PE_C_UNMAPPED of the RVA in
- * the entry; PE_C_SHORT of the hint there; PE_C_IMPORT_NAME of the name. */
-uint32_t pe_c_next_import(const pe_c_view *view, pe_c_import_walk *walk, pe_c_import *out) PE_C_RESULT(1, 2, 3);
 
 /* Returns the import directory as a walk for pe_c_list_all_imports. PE_C_NOTHING without a directory.
  * Errors: PE_C_UNMAPPED. */
@@ -2673,18 +2595,6 @@ typedef struct {
     uint32_t spare;                 /* 0 */
 } pe_c_delayed_functions;
 
-/* A walk over the DLLs, step by step. */
-typedef struct {
-    pe_c_range entries;             /* those of the directory that are left */
-    pe_c_kept_sections kept;        /* the sections of its last RVAs */
-} pe_c_delay_import_walk;
-
-/* A walk over what is imported of a DLL, step by step. */
-typedef struct {
-    pe_c_delayed_functions functions;  /* where it stands */
-    pe_c_kept_sections kept;        /* the sections of its last RVAs */
-} pe_c_delayed_function_walk;
-
 /* A DLL that is loaded later. */
 typedef struct {
     pe_c_range name;                /* of the DLL: UTF-8, without its final zero */
@@ -2716,8 +2626,6 @@ typedef struct {
 
 PE_C_SIZE(pe_c_delay_descriptor, 32);
 PE_C_SIZE(pe_c_delayed_functions, 24);
-PE_C_SIZE(pe_c_delay_import_walk, 24);
-PE_C_SIZE(pe_c_delayed_function_walk, 32);
 PE_C_SIZE(pe_c_delay_import, 72);
 PE_C_SIZE(pe_c_delayed_function, 24);
 PE_C_SIZE(pe_c_library_functions, 64);
@@ -2726,18 +2634,6 @@ PE_C_SIZE(pe_c_library_function, 48);
 /* Returns the entries of the delay import directory, where a walk starts. PE_C_NOTHING where the directory is absent.
  * Errors: PE_C_UNMAPPED, PE_C_SHORT. */
 uint32_t pe_c_delay_imports(const pe_c_view *view, pe_c_range *out) PE_C_RESULT(1, 2);
-
-/* Returns the next DLL. The directory ends with its bytes, or at an entry without the address of a name.
- * Errors: PE_C_SHORT of the entry; PE_C_DIRECTORY_VA_BELOW_BASE, PE_C_UNMAPPED, PE_C_DIRECTORY_DELAY_IMPORT_NAME of the
- * name; PE_C_DIRECTORY_VA_BELOW_BASE, PE_C_UNMAPPED of the table of functions. */
-uint32_t pe_c_next_delay_import(const pe_c_view *view, pe_c_delay_import_walk *walk, pe_c_delay_import *out)
-    PE_C_RESULT(1, 2, 3);
-
-/* Returns the next function of a DLL.
- * Errors: PE_C_SHORT where the bytes end before the table does; of an import by name PE_C_DIRECTORY_VA_BELOW_BASE,
- * PE_C_UNMAPPED of its address, PE_C_SHORT of the hint there, PE_C_DIRECTORY_DELAY_IMPORT_NAME. */
-uint32_t pe_c_next_delayed_function(const pe_c_view *view, pe_c_delayed_function_walk *walk,
-                                    pe_c_delayed_function *out) PE_C_RESULT(1, 2, 3);
 
 /* Returns the delay import directory as a walk for pe_c_list_all_delayed_functions. PE_C_NOTHING where the
  * directory is absent. Errors: PE_C_UNMAPPED, PE_C_SHORT. */
@@ -2770,17 +2666,6 @@ PE_C_SIZE(pe_c_bound_forwarder, 24);
 /* Returns the bytes of the directory: the table that the next two calls take. PE_C_NOTHING where it is absent.
  * Error: PE_C_SHORT. */
 uint32_t pe_c_bound_imports(const pe_c_view *view, pe_c_range *out) PE_C_RESULT(1, 2);
-
-/* Returns the next DLL. The walk starts as a copy of the table. The list ends with the table, or at an entry without a name.
- * Errors: PE_C_SHORT of the entry and its forwarders; PE_C_SHORT where the table is not inside the bytes;
- * PE_C_DIRECTORY_BOUND_IMPORT_NAME. */
-uint32_t pe_c_next_bound_import(const uint8_t *bytes, size_t length, const pe_c_range *table, pe_c_range *walk,
-                                pe_c_bound_import *out) PE_C_RESULT(3, 4, 5);
-
-/* Returns the next DLL that a DLL forwards to. The walk starts as the `forwarders` of that.
- * Errors: PE_C_SHORT of the entry; PE_C_SHORT where the table is not inside the bytes; PE_C_DIRECTORY_BOUND_IMPORT_NAME. */
-uint32_t pe_c_next_bound_forwarder(const uint8_t *bytes, size_t length, const pe_c_range *table, pe_c_range *walk,
-                                   pe_c_bound_forwarder *out) PE_C_RESULT(3, 4, 5);
 
 /* ---- version information and manifest
  *
@@ -2857,13 +2742,6 @@ uint32_t pe_c_version_text(const pe_c_view *view, uint32_t name, pe_c_range *out
  * the errors of version strings and of fixed file information are not among its errors. */
 uint32_t pe_c_version_blocks(const pe_c_view *view, pe_c_range *out) PE_C_RESULT(1, 2);
 
-/* Returns the next block. A walk ends with its bytes, or at a block of length 0. Unlike other walks this one may go on after
- * an error, with the block after that which has the error; it is over where a call returns PE_C_NOTHING.
- * Errors: PE_C_SHORT where the block is truncated, which ends the walk; PE_C_RESOURCE_STRING where its length is below 6,
- * which ends the walk, or its key has no zero code unit in it, after which the walk goes on. */
-uint32_t pe_c_next_version_block(const uint8_t *bytes, size_t length, pe_c_range *walk, pe_c_version_block *out)
-    PE_C_RESULT(3, 4);
-
 /* Returns the range of the manifest, an XML text. */
 uint32_t pe_c_manifest(const pe_c_view *view, pe_c_range *out) PE_C_RESULT(1, 2);
 
@@ -2910,12 +2788,6 @@ typedef struct {
     pe_c_resource_entry name;       /* the entry of this name */
 } pe_c_resource_walk;
 
-/* A walk over leaves, step by step. */
-typedef struct {
-    pe_c_resource_walk leaves;      /* where it stands */
-    pe_c_kept_sections kept;        /* the sections of its last RVAs */
-} pe_c_leaf_walk;
-
 /* A directory of the tree, IMAGE_RESOURCE_DIRECTORY. */
 typedef struct {
     uint32_t characteristics;       /* reserved */
@@ -2939,7 +2811,6 @@ PE_C_SIZE(pe_c_resource_name, 24);
 PE_C_SIZE(pe_c_resource_leaf, 104);
 PE_C_SIZE(pe_c_resource_entry, 8);
 PE_C_SIZE(pe_c_resource_walk, 80);
-PE_C_SIZE(pe_c_leaf_walk, 88);
 PE_C_SIZE(pe_c_resource_directory, 32);
 PE_C_SIZE(pe_c_resource_item, 32);
 
@@ -2948,12 +2819,6 @@ PE_C_SIZE(pe_c_resource_item, 32);
  * Errors: PE_C_UNMAPPED, PE_C_SHORT of the root directory; PE_C_RESOURCE_BOUNDS where the data that the data directory names
  * ends past the end of the file, and in strict mode where the root or its entries are not all inside the data. */
 uint32_t pe_c_resource_leaves(const pe_c_view *view, pe_c_resource_walk *out) PE_C_RESULT(1, 2);
-
-/* Returns the next leaf. A content that is not in the file is no error of its leaf.
- * Errors: PE_C_SHORT where the walk is not inside the bytes, or its entries are not inside its tree; of the entry of a type
- * or a name PE_C_TREE_NOT_DIRECTORY, PE_C_SHORT of its directory and of the entries there, PE_C_TREE_NO_ENTRIES; of the
- * entry of a language PE_C_TREE_NOT_DATA, PE_C_SHORT of its data entry; PE_C_SHORT of a name. */
-uint32_t pe_c_next_resource_leaf(const pe_c_view *view, pe_c_leaf_walk *walk, pe_c_resource_leaf *out) PE_C_RESULT(1, 2, 3);
 
 /* Returns the root of the resource tree, the directory whose entries are types; pe_c_resource_directory_at returns the
  * others. PE_C_NOTHING where pe_c_resource_leaves returns it. In permissive mode the `entries` of a root are empty where they
@@ -3256,11 +3121,6 @@ PE_C_SIZE(pe_c_guard_entry, 24);
  * Errors: those of pe_c_load_config; PE_C_DIRECTORY_VA_BELOW_BASE, PE_C_UNMAPPED. */
 uint32_t pe_c_guard_table(const pe_c_view *view, uint32_t table, pe_c_guard_entries *out) PE_C_RESULT(1, 3);
 
-/* Returns the next entry of a table. Error: PE_C_SHORT where the bytes end before the table does, or the walk is not inside
- * them. */
-uint32_t pe_c_next_guard_entry(const uint8_t *bytes, size_t length, pe_c_guard_entries *walk, pe_c_guard_entry *out)
-    PE_C_RESULT(3, 4);
-
 /* ---- base relocations
  *
  * What to change in an image that is not at its preferred base, in blocks of one page each.
@@ -3287,17 +3147,6 @@ PE_C_SIZE(pe_c_relocation, 16);
 /* Returns the blocks of the base relocations as a walk. PE_C_NOTHING where the directory is absent.
  * Errors: PE_C_UNMAPPED, PE_C_SHORT. */
 uint32_t pe_c_relocation_blocks(const pe_c_view *view, pe_c_range *out) PE_C_RESULT(1, 2);
-
-/* Returns the next block. PE_C_NOTHING also where a block of zeros, page and size, ends the list.
- * Errors: PE_C_SHORT of the header; PE_C_DIRECTORY_BLOCK_SIZE; PE_C_DIRECTORY_BLOCK_TRUNCATED. */
-uint32_t pe_c_next_relocation_block(const uint8_t *bytes, size_t length, pe_c_range *walk, pe_c_relocation_block *out)
-    PE_C_RESULT(3, 4);
-
-/* Returns the next relocation of a block. `page_rva` is that of the block, and the walk starts as its entries. Those of kind
- * IMAGE_REL_BASED_ABSOLUTE (0), which fill up a block, are returned too.
- * Errors: PE_C_SHORT of the entry; PE_C_DIRECTORY_NO_ARGUMENT. */
-uint32_t pe_c_next_relocation(const uint8_t *bytes, size_t length, uint32_t page_rva, pe_c_range *walk, pe_c_relocation *out)
-    PE_C_RESULT(4, 5);
 
 /* ---- CLR header and metadata
  *
@@ -3413,7 +3262,7 @@ uint32_t pe_c_text_in(const uint8_t *bytes, size_t length, const pe_c_range *ran
  *
  * Each of these calls fills an array with what the calls of one walk return, one after the other, and leaves the walk after
  * them: the next call goes on there. `written` gets the number of entries; it is 0 at the end of the walk alone. The rest of
- * the array is unchanged. Of a walk with `kept` a list takes where it stands, as &walk.exports, and goes on from there.
+ * the array is unchanged.
  *
  *     uint64_t written;
  *     uint32_t result;
@@ -3426,12 +3275,12 @@ uint32_t pe_c_text_in(const uint8_t *bytes, size_t length, const pe_c_range *ran
 
 /* Lists the functions of a table as pe_c_function_at reads them, from the index `next` on, which moves past them.
  * Errors: PE_C_ROOM; PE_C_SHORT where the table is not inside the bytes. */
-uint32_t pe_c_list_functions(const pe_c_view *view, const pe_c_range *table, uint64_t *next, pe_c_function *entries,
-                             size_t number_of_entries, uint64_t *written) PE_C_RESULT(1, 2, 3, 6);
+uint32_t pe_c_list_functions(const uint8_t *bytes, size_t length, const pe_c_range *table, uint64_t *next,
+                             pe_c_function *entries, size_t number_of_entries, uint64_t *written) PE_C_RESULT(3, 4, 7);
 
 /* Lists the unwind codes of a walk. Errors: PE_C_ROOM; those of pe_c_next_code. */
-uint32_t pe_c_list_codes(const pe_c_view *view, pe_c_walk *walk, pe_c_code *entries, size_t number_of_entries,
-                         uint64_t *written) PE_C_RESULT(1, 2, 5);
+uint32_t pe_c_list_codes(const uint8_t *bytes, size_t length, pe_c_walk *walk, pe_c_code *entries, size_t number_of_entries,
+                         uint64_t *written) PE_C_RESULT(3, 6);
 
 /* Returns the unwind record of an unwind RVA as pe_c_unwind_record does, and lists its codes: out->codes is the walk after
  * them. A record has at most 255 codes.
@@ -3450,13 +3299,13 @@ uint32_t pe_c_all_codes(const uint8_t *bytes, size_t length, const pe_c_code_for
 /* Lists the functions of an ARM64 table as pe_c_arm64_function_at reads them, from the index `next` on, which moves past
  * them.
  * Errors: PE_C_ROOM; PE_C_SHORT where the table is not inside the bytes. */
-uint32_t pe_c_list_arm64_functions(const pe_c_view *view, const pe_c_range *table, uint64_t *next,
-                                   pe_c_arm64_function *entries, size_t number_of_entries,
-                                   uint64_t *written) PE_C_RESULT(1, 2, 3, 6);
+uint32_t pe_c_list_arm64_functions(const uint8_t *bytes, size_t length, const pe_c_range *table, uint64_t *next,
+                                   pe_c_arm64_function *entries, size_t number_of_entries, uint64_t *written)
+    PE_C_RESULT(3, 4, 7);
 
 /* Lists the ARM64 unwind codes of a walk. Errors: PE_C_ROOM; those of pe_c_next_arm64_code. */
-uint32_t pe_c_list_arm64_codes(const pe_c_view *view, pe_c_arm64_walk *walk, pe_c_arm64_code *entries,
-                               size_t number_of_entries, uint64_t *written) PE_C_RESULT(1, 2, 5);
+uint32_t pe_c_list_arm64_codes(const uint8_t *bytes, size_t length, pe_c_arm64_walk *walk, pe_c_arm64_code *entries,
+                               size_t number_of_entries, uint64_t *written) PE_C_RESULT(3, 6);
 
 /* Room for what the calls that take runs find out of names and lists; what is in it has no meaning to callers, and what is in
  * it after a call is left open. Names that share a text are read together as far as there are runs: a hostile file may let all
@@ -3545,16 +3394,16 @@ uint32_t pe_c_list_resource_leaves(const pe_c_view *view, pe_c_resource_walk *wa
                                    size_t number_of_entries, uint64_t *written) PE_C_RESULT(1, 2, 5);
 
 /* Lists blocks of version information. Errors: PE_C_ROOM; those of pe_c_next_version_block. */
-uint32_t pe_c_list_version_blocks(const pe_c_view *view, pe_c_range *walk, pe_c_version_block *entries,
-                                  size_t number_of_entries, uint64_t *written) PE_C_RESULT(1, 2, 5);
+uint32_t pe_c_list_version_blocks(const uint8_t *bytes, size_t length, pe_c_range *walk, pe_c_version_block *entries,
+                                  size_t number_of_entries, uint64_t *written) PE_C_RESULT(3, 6);
 
 /* Lists the blocks of base relocations. Errors: PE_C_ROOM; those of pe_c_next_relocation_block. */
-uint32_t pe_c_list_relocation_blocks(const pe_c_view *view, pe_c_range *walk, pe_c_relocation_block *entries,
-                                     size_t number_of_entries, uint64_t *written) PE_C_RESULT(1, 2, 5);
+uint32_t pe_c_list_relocation_blocks(const uint8_t *bytes, size_t length, pe_c_range *walk, pe_c_relocation_block *entries,
+                                     size_t number_of_entries, uint64_t *written) PE_C_RESULT(3, 6);
 
 /* Lists the relocations of a block, whose page RVA is page_rva. Errors: PE_C_ROOM; those of pe_c_next_relocation. */
-uint32_t pe_c_list_relocations(const pe_c_view *view, uint32_t page_rva, pe_c_range *walk, pe_c_relocation *entries,
-                               size_t number_of_entries, uint64_t *written) PE_C_RESULT(1, 3, 6);
+uint32_t pe_c_list_relocations(const uint8_t *bytes, size_t length, uint32_t page_rva, pe_c_range *walk,
+                               pe_c_relocation *entries, size_t number_of_entries, uint64_t *written) PE_C_RESULT(4, 7);
 
 /* Lists the DLLs of a delay import directory, and reads the names together, with a run for each of the entries, or more.
  * Errors: PE_C_ROOM; those of pe_c_next_delay_import. */
@@ -3594,12 +3443,234 @@ uint32_t pe_c_list_bound_forwarders(const uint8_t *bytes, size_t length, const p
                                     size_t number_of_entries, uint64_t *written) PE_C_RESULT(3, 4, 9);
 
 /* Lists the entries of a POGO record. Errors: PE_C_ROOM; those of pe_c_next_pogo_entry. */
-uint32_t pe_c_list_pogo_entries(const pe_c_view *view, pe_c_range *walk, pe_c_pogo_entry *entries,
-                                size_t number_of_entries, uint64_t *written) PE_C_RESULT(1, 2, 5);
+uint32_t pe_c_list_pogo_entries(const uint8_t *bytes, size_t length, pe_c_range *walk, pe_c_pogo_entry *entries,
+                                size_t number_of_entries, uint64_t *written) PE_C_RESULT(3, 6);
 
 /* Lists the entries of a table of a load configuration. Errors: PE_C_ROOM; those of pe_c_next_guard_entry. */
-uint32_t pe_c_list_guard_entries(const pe_c_view *view, pe_c_guard_entries *walk, pe_c_guard_entry *entries,
-                                 size_t number_of_entries, uint64_t *written) PE_C_RESULT(1, 2, 5);
+uint32_t pe_c_list_guard_entries(const uint8_t *bytes, size_t length, pe_c_guard_entries *walk, pe_c_guard_entry *entries,
+                                 size_t number_of_entries, uint64_t *written) PE_C_RESULT(3, 6);
+
+/* ---- the next item
+ *
+ * These functions are defined here, and are no calls of the library. Each is a list with room for one entry, and returns
+ * PE_C_NOTHING where the list writes none: the items of a walk come one by one, and texts that overlap are read once each. A list
+ * of many entries takes less for each of them. */
+
+/* Returns the next code of a record, in the order in which they are undone: the last instruction of the prolog first.
+ * Errors: PE_C_SHORT where the walk is not inside the bytes, or a code is truncated; PE_C_UNWIND_CODE for an invalid
+ * code. */
+PE_C_RESULT(3, 4)
+static inline uint32_t pe_c_next_code(const uint8_t *bytes, size_t length, pe_c_walk *walk, pe_c_code *out)
+{
+    uint64_t written = 0;
+    uint32_t result = pe_c_list_codes(bytes, length, walk, out, 1, &written);
+    return result == PE_C_DONE && written == 0 ? (uint32_t)PE_C_NOTHING : result;
+}
+
+/* Returns the next code. The walk does not stop at PE_C_ARM64_END and PE_C_ARM64_END_C, since the codes of epilogs
+ * follow; the caller stops there.
+ * Errors: PE_C_SHORT where the walk is not inside the bytes; PE_C_ARM64_STREAM where its offset plus the bytes left is not a
+ * multiple of 4 or is above 4,294,967,292, as in no walk of pe_c_arm64_codes; PE_C_ARM64_CUT for a truncated code. */
+PE_C_RESULT(3, 4)
+static inline uint32_t pe_c_next_arm64_code(const uint8_t *bytes, size_t length, pe_c_arm64_walk *walk, pe_c_arm64_code *out)
+{
+    uint64_t written = 0;
+    uint32_t result = pe_c_list_arm64_codes(bytes, length, walk, out, 1, &written);
+    return result == PE_C_DONE && written == 0 ? (uint32_t)PE_C_NOTHING : result;
+}
+
+/* Returns the next export. Entries are skipped whose name is unmapped, not NUL-terminated or not UTF-8, or whose index is
+ * past the table of RVAs. Each name and each forwarder's text is read to its end, so texts that overlap are read once each.
+ * Errors: PE_C_SHORT where the tables are not inside the bytes. */
+PE_C_RESULT(1, 2, 3)
+static inline uint32_t pe_c_next_export(const pe_c_view *view, pe_c_exports *walk, pe_c_export *out)
+{
+    uint64_t written = 0;
+    uint32_t result = pe_c_list_exports(view, walk, NULL, 0, out, 1, &written);
+    return result == PE_C_DONE && written == 0 ? (uint32_t)PE_C_NOTHING : result;
+}
+
+/* Returns the next library. The directory ends at a record whose name or address table has the RVA 0. A list whose RVA is
+ * unmapped is empty. Names and lists that overlap are read once each.
+ * Errors: PE_C_SHORT where the record is truncated; PE_C_UNMAPPED, PE_C_IMPORT_NAME of the name; PE_C_SHORT where no zero
+ * entry ends the list. */
+PE_C_RESULT(1, 2, 3)
+static inline uint32_t pe_c_next_library(const pe_c_view *view, pe_c_libraries *walk, pe_c_library *out)
+{
+    uint64_t written = 0;
+    uint32_t result = pe_c_list_libraries(view, walk, NULL, 0, out, 1, &written);
+    return result == PE_C_DONE && written == 0 ? (uint32_t)PE_C_NOTHING : result;
+}
+
+/* Returns the next import of a library.
+ * Errors: PE_C_SHORT where the walk is not inside the bytes, or its last entry is truncated; PE_C_UNMAPPED of the RVA in
+ * the entry; PE_C_SHORT of the hint there; PE_C_IMPORT_NAME of the name. */
+PE_C_RESULT(1, 2, 3)
+static inline uint32_t pe_c_next_import(const pe_c_view *view, pe_c_imports *walk, pe_c_import *out)
+{
+    uint64_t written = 0;
+    uint32_t result = pe_c_list_imports(view, walk, NULL, 0, out, 1, &written);
+    return result == PE_C_DONE && written == 0 ? (uint32_t)PE_C_NOTHING : result;
+}
+
+/* Returns the next DLL. The directory ends with its bytes, or at an entry without the address of a name.
+ * Errors: PE_C_SHORT of the entry; PE_C_DIRECTORY_VA_BELOW_BASE, PE_C_UNMAPPED, PE_C_DIRECTORY_DELAY_IMPORT_NAME of the
+ * name; PE_C_DIRECTORY_VA_BELOW_BASE, PE_C_UNMAPPED of the table of functions. */
+PE_C_RESULT(1, 2, 3)
+static inline uint32_t pe_c_next_delay_import(const pe_c_view *view, pe_c_range *walk, pe_c_delay_import *out)
+{
+    uint64_t written = 0;
+    uint32_t result = pe_c_list_delay_imports(view, walk, NULL, 0, out, 1, &written);
+    return result == PE_C_DONE && written == 0 ? (uint32_t)PE_C_NOTHING : result;
+}
+
+/* Returns the next function of a DLL.
+ * Errors: PE_C_SHORT where the bytes end before the table does; of an import by name PE_C_DIRECTORY_VA_BELOW_BASE,
+ * PE_C_UNMAPPED of its address, PE_C_SHORT of the hint there, PE_C_DIRECTORY_DELAY_IMPORT_NAME. */
+PE_C_RESULT(1, 2, 3)
+static inline uint32_t pe_c_next_delayed_function(const pe_c_view *view, pe_c_delayed_functions *walk,
+                                                  pe_c_delayed_function *out)
+{
+    uint64_t written = 0;
+    uint32_t result = pe_c_list_delayed_functions(view, walk, NULL, 0, out, 1, &written);
+    return result == PE_C_DONE && written == 0 ? (uint32_t)PE_C_NOTHING : result;
+}
+
+/* Returns the next DLL. The walk starts as a copy of the table. The list ends with the table, or at an entry without a name.
+ * Errors: PE_C_SHORT of the entry and its forwarders; PE_C_SHORT where the table is not inside the bytes;
+ * PE_C_DIRECTORY_BOUND_IMPORT_NAME. */
+PE_C_RESULT(3, 4, 5)
+static inline uint32_t pe_c_next_bound_import(const uint8_t *bytes, size_t length, const pe_c_range *table, pe_c_range *walk,
+                                              pe_c_bound_import *out)
+{
+    uint64_t written = 0;
+    uint32_t result = pe_c_list_bound_imports(bytes, length, table, walk, NULL, 0, out, 1, &written);
+    return result == PE_C_DONE && written == 0 ? (uint32_t)PE_C_NOTHING : result;
+}
+
+/* Returns the next DLL that a DLL forwards to. The walk starts as the `forwarders` of that.
+ * Errors: PE_C_SHORT of the entry; PE_C_SHORT where the table is not inside the bytes; PE_C_DIRECTORY_BOUND_IMPORT_NAME. */
+PE_C_RESULT(3, 4, 5)
+static inline uint32_t pe_c_next_bound_forwarder(const uint8_t *bytes, size_t length, const pe_c_range *table,
+                                                 pe_c_range *walk, pe_c_bound_forwarder *out)
+{
+    uint64_t written = 0;
+    uint32_t result = pe_c_list_bound_forwarders(bytes, length, table, walk, NULL, 0, out, 1, &written);
+    return result == PE_C_DONE && written == 0 ? (uint32_t)PE_C_NOTHING : result;
+}
+
+/* Returns the next block. A walk ends with its bytes, or at a block of length 0. Unlike other walks this one may go on after
+ * an error, with the block after that which has the error; it is over where a call returns PE_C_NOTHING.
+ * Errors: PE_C_SHORT where the block is truncated, which ends the walk; PE_C_RESOURCE_STRING where its length is below 6,
+ * which ends the walk, or its key has no zero code unit in it, after which the walk goes on. */
+PE_C_RESULT(3, 4)
+static inline uint32_t pe_c_next_version_block(const uint8_t *bytes, size_t length, pe_c_range *walk, pe_c_version_block *out)
+{
+    uint64_t written = 0;
+    uint32_t result = pe_c_list_version_blocks(bytes, length, walk, out, 1, &written);
+    return result == PE_C_DONE && written == 0 ? (uint32_t)PE_C_NOTHING : result;
+}
+
+/* Returns the next leaf. A content that is not in the file is no error of its leaf.
+ * Errors: PE_C_SHORT where the walk is not inside the bytes, or its entries are not inside its tree; of the entry of a type
+ * or a name PE_C_TREE_NOT_DIRECTORY, PE_C_SHORT of its directory and of the entries there, PE_C_TREE_NO_ENTRIES; of the
+ * entry of a language PE_C_TREE_NOT_DATA, PE_C_SHORT of its data entry; PE_C_SHORT of a name. */
+PE_C_RESULT(1, 2, 3)
+static inline uint32_t pe_c_next_resource_leaf(const pe_c_view *view, pe_c_resource_walk *walk, pe_c_resource_leaf *out)
+{
+    uint64_t written = 0;
+    uint32_t result = pe_c_list_resource_leaves(view, walk, out, 1, &written);
+    return result == PE_C_DONE && written == 0 ? (uint32_t)PE_C_NOTHING : result;
+}
+
+/* Returns the next block. PE_C_NOTHING also where a block of zeros, page and size, ends the list.
+ * Errors: PE_C_SHORT of the header; PE_C_DIRECTORY_BLOCK_SIZE; PE_C_DIRECTORY_BLOCK_TRUNCATED. */
+PE_C_RESULT(3, 4)
+static inline uint32_t pe_c_next_relocation_block(const uint8_t *bytes, size_t length, pe_c_range *walk,
+                                                  pe_c_relocation_block *out)
+{
+    uint64_t written = 0;
+    uint32_t result = pe_c_list_relocation_blocks(bytes, length, walk, out, 1, &written);
+    return result == PE_C_DONE && written == 0 ? (uint32_t)PE_C_NOTHING : result;
+}
+
+/* Returns the next relocation of a block. `page_rva` is that of the block, and the walk starts as its entries. Those of kind
+ * IMAGE_REL_BASED_ABSOLUTE (0), which fill up a block, are returned too.
+ * Errors: PE_C_SHORT of the entry; PE_C_DIRECTORY_NO_ARGUMENT. */
+PE_C_RESULT(4, 5)
+static inline uint32_t pe_c_next_relocation(const uint8_t *bytes, size_t length, uint32_t page_rva, pe_c_range *walk,
+                                            pe_c_relocation *out)
+{
+    uint64_t written = 0;
+    uint32_t result = pe_c_list_relocations(bytes, length, page_rva, walk, out, 1, &written);
+    return result == PE_C_DONE && written == 0 ? (uint32_t)PE_C_NOTHING : result;
+}
+
+/* Returns the next entry of a table. Error: PE_C_SHORT where the bytes end before the table does, or the walk is not inside
+ * them. */
+PE_C_RESULT(3, 4)
+static inline uint32_t pe_c_next_guard_entry(const uint8_t *bytes, size_t length, pe_c_guard_entries *walk,
+                                             pe_c_guard_entry *out)
+{
+    uint64_t written = 0;
+    uint32_t result = pe_c_list_guard_entries(bytes, length, walk, out, 1, &written);
+    return result == PE_C_DONE && written == 0 ? (uint32_t)PE_C_NOTHING : result;
+}
+
+/* Returns the next entry of a POGO record.
+ * Errors: PE_C_SHORT where the walk is not inside the bytes, or fewer than 8 bytes are left; PE_C_POGO_NAME where the name
+ * is not NUL-terminated, or its padding to a multiple of 4 bytes is truncated. */
+PE_C_RESULT(3, 4)
+static inline uint32_t pe_c_next_pogo_entry(const uint8_t *bytes, size_t length, pe_c_range *walk, pe_c_pogo_entry *out)
+{
+    uint64_t written = 0;
+    uint32_t result = pe_c_list_pogo_entries(bytes, length, walk, out, 1, &written);
+    return result == PE_C_DONE && written == 0 ? (uint32_t)PE_C_NOTHING : result;
+}
+
+/* Returns the function with an index, from 0.
+ * Errors: PE_C_SHORT where the table is not inside the bytes; PE_C_FUNCTION_INDEX where it has no such entry. */
+PE_C_RESULT(3, 5)
+static inline uint32_t pe_c_function_at(const uint8_t *bytes, size_t length, const pe_c_range *table, uint64_t index,
+                                        pe_c_function *out)
+{
+    uint64_t written = 0;
+    uint32_t result = pe_c_list_functions(bytes, length, table, &index, out, 1, &written);
+    return result == PE_C_DONE && written == 0 ? (uint32_t)PE_C_FUNCTION_INDEX : result;
+}
+
+/* Returns the function with an index, from 0.
+ * Errors: PE_C_SHORT where the table is not inside the bytes; PE_C_FUNCTION_INDEX where it has no such entry. */
+PE_C_RESULT(3, 5)
+static inline uint32_t pe_c_arm64_function_at(const uint8_t *bytes, size_t length, const pe_c_range *table, uint64_t index,
+                                              pe_c_arm64_function *out)
+{
+    uint64_t written = 0;
+    uint32_t result = pe_c_list_arm64_functions(bytes, length, table, &index, out, 1, &written);
+    return result == PE_C_DONE && written == 0 ? (uint32_t)PE_C_FUNCTION_INDEX : result;
+}
+
+/* Returns the export with an index, from 0. PE_C_NOTHING where the table has no such entry.
+ * Errors: PE_C_SHORT where the table is not inside the bytes. */
+PE_C_RESULT(1, 2, 4)
+static inline uint32_t pe_c_export_at(const pe_c_view *view, const pe_c_address_table *table, uint64_t index,
+                                      pe_c_exported *out)
+{
+    uint64_t written = 0;
+    uint32_t result = pe_c_list_export_addresses(view, table, &index, NULL, 0, out, 1, &written);
+    return result == PE_C_DONE && written == 0 ? (uint32_t)PE_C_NOTHING : result;
+}
+
+/* Reads the symbol in an entry of a symbol table. PE_C_NOTHING past the last entry. Auxiliary records have entries of their
+ * own, and nothing in these says that they are no symbols.
+ * Error: PE_C_SHORT where the table is not inside the bytes. */
+PE_C_RESULT(3, 5)
+static inline uint32_t pe_c_symbol(const uint8_t *bytes, size_t length, const pe_c_range *table, uint64_t index,
+                                   pe_c_symbol_entry *out)
+{
+    pe_c_symbol_walk walk = {*table, index};
+    return pe_c_next_symbol(bytes, length, &walk, out);
+}
 
 /* ---- why a step is refused
  *
@@ -3607,7 +3678,7 @@ uint32_t pe_c_list_guard_entries(const pe_c_view *view, pe_c_guard_entries *walk
  * item again, by the copy, which does not move, and return the result of the step and the numbers of its error. PE_C_NOTHING
  * where the step returns no error. They never return an error.
  *
- *     pe_c_libraries before = walk.libraries;
+ *     pe_c_libraries before = walk;
  *     if (pe_c_next_library(&view, &walk, &library) == PE_C_UNMAPPED
  *         && pe_c_library_failure(&view, &before, &failure) == PE_C_DONE)
  *         printf("no section maps the RVA %#llx\n", (unsigned long long)failure.value);

@@ -1,5 +1,6 @@
 """What bindings/pe.h declares: its calls, its records with their layouts, its constants, each with its comment, its version and
-the number of its ABI; and its own functions, which are defined there and are no calls of the library.
+the number of its ABI; and its own functions, which are defined there and are no calls of the library: those that make one call
+have its parameters but for what they pass themselves.
 
 The header is C11 of a few plain forms, and a form that is not known is an error. All targets of the library are little-endian, with
 pointers of 64 bits, and a number is aligned to its width on each, so a record has one layout on all of them."""
@@ -74,6 +75,17 @@ class Call:
         return f"{kind}{self.result} {name or self.name}({words})"
 
 
+@dataclasses.dataclass(frozen=True)
+class Function(Call):
+    """A function that the header defines, by a call: `made` is its name, `passed` its arguments as they stand there, `none` what the
+    function returns where the call is done and writes no entry, and "" where it returns what the call does. `walk` has the fields of a
+    walk that it makes for the call, as they stand there."""
+    made: str
+    passed: tuple
+    none: str
+    walk: tuple
+
+
 class Unknown(Exception):
     """What of the header is in no form that is known."""
 
@@ -93,7 +105,9 @@ def on_one_line(comment):
 
 # The list of all calls near the top, and a title of a section or something that is called, with the comment above it.
 CALL_LIST = re.compile(r"^/\* All calls, .*?\*/$", re.M | re.S)
-LISTED = re.compile(rf"^/\* ---- (?P<title>.*?)(?: \*/)?$|^{ABOUT}^(?:static inline )?(?:const )?\w+ \*?(?P<name>pe_c_\w+)\(", re.M | re.S)
+NOT_NULL = r"(?:PE_C_RESULT\([\d, ]+\)\n)?"
+LISTED = re.compile(rf"^/\* ---- (?P<title>.*?)(?: \*/)?$|^{ABOUT}^{NOT_NULL}(?:static inline )?(?:const )?\w+ \*?(?P<name>pe_c_\w+)\(",
+                    re.M | re.S)
 WIDTH = 127
 
 
@@ -131,10 +145,13 @@ class Header:
         with open(path, encoding="utf-8") as file:
             whole = file.read()
         text = without_comments(whole)
-        self.functions, text = self.without_functions(text)
+        texts, text = self.without_functions(text)
         self.version = re.search(r'^#define PE_C_VERSION "(.*)"$', text, re.M)[1]
         self.records = self.read_records(text, whole)
-        self.calls = self.read_calls(text, self.comments_of_calls(whole), {*WIDTHS, *self.records})
+        kinds, comments = {*WIDTHS, *self.records}, self.comments_of_calls(whole)
+        self.steps, text = self.read_steps(text, comments, kinds)
+        self.functions = (*texts, *self.steps)
+        self.calls = self.read_calls(text, comments, kinds)
         self.constants = self.read_constants(text)
         self.results = self.read_constants(re.search(r"\benum pe_c_result \{.*?\}", text, re.S)[0])
         # Of each constant that has one the comment after it, on one line.
@@ -174,9 +191,33 @@ class Header:
         return records
 
     @staticmethod
+    def read_steps(text, comments, kinds):
+        """The functions that make one call, by their names, and the text without them."""
+        form = re.compile(r"^(?:PE_C_RESULT\([\d, ]+\)\n)?static inline (uint32_t) (pe_c_\w+)\(([^)]*)\)\n\{\n"
+                          r"(?:    pe_c_\w+ walk = \{(.*)\};\n    return (\w+)\((.*)\);\n"
+                          r"|    uint64_t written = 0;\n    uint32_t result = (\w+)\((.*)\);\n"
+                          r"    return result == PE_C_DONE && written == 0 \? \(uint32_t\)(PE_C_\w+) : result;\n)\}\n", re.M)
+        steps = {}
+        for result, name, body, walk, one, its, listed, passed, none in form.findall(text):
+            steps[name] = Function(name, result, Header.parameters(name, body, kinds), comments.get(name, ""), one or listed,
+                                   tuple((its or passed).split(", ")), none, tuple(filter(None, walk.split(", "))))
+        return steps, form.sub("", text)
+
+    @staticmethod
+    def parameters(name, body, kinds):
+        parameters = []
+        for it in re.split(r"\s*,\s*", body.strip()) if body.strip() != "void" else []:
+            form = re.fullmatch(r"(const )?(\w+) (\*?)(\w+)", re.sub(r"\s+", " ", it))
+            if not form or form[2] not in kinds:
+                raise Unknown(f"{name}: the parameter {it}")
+            is_const, kind, star, own = form.groups()
+            parameters.append(Parameter(own, kind, bool(star), bool(is_const)))
+        return tuple(parameters)
+
+    @staticmethod
     def comments_of_calls(whole):
         comments, end, about = {}, None, ""
-        for it in re.finditer(rf"^{ABOUT}^\w+ (pe_c_\w+)\([^)]*\)[^;{{]*;", whole, re.M | re.S):
+        for it in re.finditer(rf"^{ABOUT}^{NOT_NULL}(?:static inline )?\w+ (pe_c_\w+)\([^)]*\)[^;{{]*[;{{]", whole, re.M | re.S):
             about = plain(it[1]) or (about if end is not None and whole[end:it.start()] == "\n" else "")
             comments[it[2]], end = about, it.end()
         return comments
@@ -185,16 +226,9 @@ class Header:
     def read_calls(text, comments, kinds):
         calls = {}
         for result, name, body in re.findall(r"^(\w+) (pe_c_\w+)\(([^)]*)\)(?:\s+PE_C_\w+\([\d, ]+\))?;", text, re.M):
-            parameters = []
-            for it in re.split(r"\s*,\s*", body.strip()) if body.strip() != "void" else []:
-                form = re.fullmatch(r"(const )?(\w+) (\*?)(\w+)", re.sub(r"\s+", " ", it))
-                if not form or form[2] not in kinds:
-                    raise Unknown(f"{name}: the parameter {it}")
-                is_const, kind, star, own = form.groups()
-                parameters.append(Parameter(own, kind, bool(star), bool(is_const)))
             if result not in WIDTHS:
                 raise Unknown(f"{name}: the result {result}")
-            calls[name] = Call(name, result, tuple(parameters), comments.get(name, ""))
+            calls[name] = Call(name, result, Header.parameters(name, body, kinds), comments.get(name, ""))
         declared = set(re.findall(r"\b(pe_c_\w+)\(", text))
         if declared != set(calls):
             raise Unknown(f"the declarations of {sorted(declared ^ set(calls))}")

@@ -33,6 +33,8 @@ def fields_of(record):
 def calls_h(header):
     numbers = "".join(f"    number_of_{name},\n" for name in header.calls)
     abi = f"#define PE_C_ABI pe_c_abi_{header.abi}\n#define NUMBER_OF_ABI number_of_pe_c_abi_{header.abi}\n"
+    # A function of pe.h counts as the call that it makes.
+    abi += "".join(f"#define number_of_{name} number_of_{it.made}\n" for name, it in header.steps.items())
     return (f"{MADE}#ifndef PE_C_CALLS_H\n#define PE_C_CALLS_H\n{abi}enum {{\n{numbers}    CALLS,\n    ABI = {header.abi}\n}};\n"
             "#endif\n")
 
@@ -72,6 +74,7 @@ def thunks_c(header):
 def checked_h(header):
     lines = "".join(f"{call.declaration(f'checked_{name}')};\n" for name, call in header.calls.items())
     macros = "#define CHECKED_(call) checked_##call\n#define TARGET_CALL(call) CHECKED_(call)\n"
+    macros += "".join(f"#define checked_{name} {name}\n" for name in header.steps)
     return f'{MADE}#include "pe.h"\n{macros}{lines}'
 
 
@@ -194,11 +197,12 @@ def reader(record, header):
 
 def layouts_mjs(header):
     records = {name: [it.size, fields_of(it)] for name, it in header.records.items()}
-    calls = {name: js_parameters(it) for name, it in header.calls.items() if is_in_js(name)}
+    calls = {name: js_parameters(it) for name, it in (header.calls | header.steps).items() if is_in_js(name)}
+    steps = {name: [it.made, it.none] for name, it in header.steps.items()}
     results = {str(number): name for name, number in header.results.items()}
     lines = [f"// tools/make_targets makes this file of bindings/pe.h.\nexport const version = {json.dumps(header.version)};",
              f"export const abi = {header.abi};"]
-    for name, value in (("records", records), ("constants", header.constants), ("results", results), ("calls", calls)):
+    for name, value in (("records", records), ("constants", header.constants), ("results", results), ("calls", calls), ("steps", steps)):
         rows = "".join(f"  {json.dumps(key)}: {json.dumps(it)},\n" for key, it in value.items())
         lines.append(f"export const {name} = {{\n{rows}}};")
     readers = "".join(reader(it, header) for it in header.records.values())
@@ -272,10 +276,11 @@ def kind_of_call(call):
 
 
 def calls_d_ts(header):
-    """The types of all calls."""
+    """The types of all calls, and of the functions of pe.h that make one."""
     parts = []
     for kind, (above, about) in KINDS.items():
-        lines = [call_type(it, header) for name, it in header.calls.items() if is_in_js(name) and kind_of_call(it) == kind]
+        lines = [call_type(it, header) for name, it in (header.calls | header.steps).items()
+                 if is_in_js(name) and kind_of_call(it) == kind]
         parts.append(f"/** The calls of pe.h {about}: what each is given, and what it returns. */\nexport interface {kind}"
                      f"{f' extends {above}' if above else ''} {{\n{''.join(lines)}}}")
     return parts

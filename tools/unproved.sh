@@ -164,7 +164,8 @@ archive_of_calls() {
   local flags=(--target=x86_64-unknown-linux-gnu -march=x86-64 -x ir)
   "$clang" "${flags[@]}" -S -emit-llvm -O0 "$room/kept.bc" -o "$room/calls.ll" 2>/dev/null
   # The calls are inside the program of the tests, under their names of Rattle.
-  sed -i -E -e 's/@"pe_c::[a-z0-9_:]+::(pe_c_[a-z0-9_]+)"/@\1/g' -e 's/^define internal (.*@pe_c_[a-z0-9_]+\()/define \1/' \
+  sed -i -E -e 's/@"pe_c::tests::/@"tests::/g' -e 's/@"pe_c::[a-z0-9_:]+::(pe_c_[a-z0-9_]+)"/@\1/g' \
+    -e 's/^define internal (.*@pe_c_[a-z0-9_]+\()/define \1/' \
     -e 's/^define i32 @main\(/define internal i32 @main(/' "$room/calls.ll"
   "$clang" "${flags[@]}" -c -O2 -fPIC -ffunction-sections -fdata-sections "$room/calls.ll" -o "$room/calls.o"
   rm -f -- "$file"

@@ -1,5 +1,5 @@
 // How a call of pe.h is made: what is given goes into the memory of the instance, and what the call writes comes back.
-import { calls, constants } from './layouts.mjs';
+import { calls, constants, steps } from './layouts.mjs';
 import { PeError, whole, width } from './memory.mjs';
 
 const utf8 = new TextDecoder('utf-8', { ignoreBOM: true }), utf16 = new TextDecoder('utf-16le', { ignoreBOM: true });
@@ -56,7 +56,7 @@ export class Caller {
   call(name, given = {}) {
     const kept = this.#memory.free;
     try {
-      return this.#called(name, given);
+      return Object.hasOwn(steps, name) ? this.#stepped(name, given) : this.#called(name, given);
     } finally {
       this.#memory.free = kept;
     }
@@ -66,6 +66,22 @@ export class Caller {
   refused(name, constant) {
     const number = constants[constant];
     return new PeError(name, number, this.#memory.text(number));
+  }
+
+  /** Makes the call of a function of pe.h: a list with room for one entry, or a step of a walk that starts at an index. */
+  #stepped(name, { index, ...given }) {
+    const [made, none] = steps[name], entries = [{}];
+    expected(name, index === undefined ? given : { ...given, index }, this.#own);
+    try {
+      if (!none) return this.call(made, { walk: { ...given, next: index } });
+      const said = this.call(made, { ...given, ...(index !== undefined && { next: index }), entries });
+      if ((said.written ?? said) > 0n) return entries[0];
+    } catch (error) {
+      if (!(error instanceof PeError)) throw error;
+      throw this.#memory.error(name, error.number);
+    }
+    if (none !== 'PE_C_NOTHING') throw this.refused(name, none);
+    return null;
   }
 
   #called(name, given) {

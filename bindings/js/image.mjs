@@ -146,9 +146,9 @@ export class Image extends File {
   *addressTable({ address_table_rva: rva }) {
     const offset = this.call('pe_c_offset', { rva }), size = this.info.width === 64 ? 8n : 4n, call = 'pe_c_next_import';
     if (offset === null) throw this.refused(call, 'PE_C_UNMAPPED');
-    const walk = { imports: { left: { offset, length: BigInt(this.length) - offset }, rva: BigInt(rva) } };
+    const walk = { left: { offset, length: BigInt(this.length) - offset }, rva: BigInt(rva) };
     for (;;) {
-      const { left } = walk.imports;
+      const { left } = walk;
       if (left.length < size) throw this.refused(call, 'PE_C_SHORT');
       if (this.slice({ offset: left.offset, length: size }).every((it) => it === 0)) return;
       yield this.call(call, { walk });

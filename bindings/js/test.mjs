@@ -112,7 +112,7 @@ test('a damaged version string costs neither the fixed information nor the other
 });
 
 test('a walk that is given is moved, and is over in the end', () => {
-  const image = opened('imports'), walk = { libraries: image.call('pe_c_import_libraries') };
+  const image = opened('imports'), walk = image.call('pe_c_import_libraries');
   assert.notEqual(image.call('pe_c_next_library', { walk }), null);
   assert.notEqual(image.call('pe_c_next_library', { walk }), null);
   assert.equal(image.call('pe_c_next_library', { walk }), null);
@@ -688,7 +688,7 @@ test('directories have fields of their own', () => {
   const tables = exported.call('pe_c_export_tables'), [named] = exported.list('exports');
   assert.deepEqual([tables.directory, named.is_forwarder], [table.directory, 0]);
   const exports = { ...tables, directory: { ...tables.directory, virtual_address: named.rva, size: 1 } };
-  const [forwarder] = exported.items('pe_c_next_export', { exports });
+  const [forwarder] = exported.items('pe_c_next_export', exports);
   assert.deepEqual([forwarder.is_forwarder, forwarder.forwarder], [1, { offset: 0n, length: 0n }]);
   assert.deepEqual([fields.base, BigInt(fields.number_of_functions)], [table.ordinal_base, table.addresses.length / 4n]);
   assert.equal(exported.call('pe_c_offset', { rva: fields.name }), table.name.offset);
@@ -1185,14 +1185,14 @@ test('the assembly of .NET metadata', () => {
 
 test('lists return what steps do', () => {
   const steps = {
-    exports: ['exports', 'pe_c_export_tables', 'pe_c_next_export', 'exports'],
-    libraries: ['imports', 'pe_c_import_libraries', 'pe_c_next_library', 'libraries'],
-    delayImports: ['delay_imports', 'pe_c_delay_imports', 'pe_c_next_delay_import', 'entries'],
-    resourceLeaves: ['resources', 'pe_c_resource_leaves', 'pe_c_next_resource_leaf', 'leaves'],
+    exports: ['exports', 'pe_c_export_tables', 'pe_c_next_export'],
+    libraries: ['imports', 'pe_c_import_libraries', 'pe_c_next_library'],
+    delayImports: ['delay_imports', 'pe_c_delay_imports', 'pe_c_next_delay_import'],
+    resourceLeaves: ['resources', 'pe_c_resource_leaves', 'pe_c_next_resource_leaf'],
     relocationBlocks: ['relocations', 'pe_c_relocation_blocks', 'pe_c_next_relocation_block'],
   };
-  for (const [list, [name, start, next, place]] of Object.entries(steps)) {
-    const image = opened(name), walk = image.call(start), found = [...image.items(next, place ? { [place]: walk } : walk)];
+  for (const [list, [name, start, next]] of Object.entries(steps)) {
+    const image = opened(name), found = [...image.items(next, image.call(start))];
     assert.ok(found.length, list);
     assert.deepEqual([...image.list(list)], found);
   }
@@ -1200,10 +1200,10 @@ test('lists return what steps do', () => {
   const imports = opened('imports'), delayed = opened('delay_imports');
   const relocated = opened('relocations'), bound = opened('bound_imports');
   for (const it of imports.list('libraries')) {
-    assert.deepEqual([...imports.imports(it)], of(imports, 'pe_c_next_import', { imports: it.imports }));
+    assert.deepEqual([...imports.imports(it)], of(imports, 'pe_c_next_import', it.imports));
   }
   for (const it of delayed.list('delayImports')) {
-    assert.deepEqual([...delayed.delayedFunctions(it)], of(delayed, 'pe_c_next_delayed_function', { functions: it.functions }));
+    assert.deepEqual([...delayed.delayedFunctions(it)], of(delayed, 'pe_c_next_delayed_function', it.functions));
   }
   for (const it of relocated.list('relocationBlocks')) {
     const found = of(relocated, 'pe_c_next_relocation', it.entries, { page_rva: it.page_rva });

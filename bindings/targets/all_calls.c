@@ -51,12 +51,6 @@ struct file {
          of_##call < (most) && (CALL(why, failure, arguments, &(walk), &failure), IS_DONE(call, out, arguments, &(walk), &(out))); \
          of_##call++)
 
-/* The same of a walk that keeps sections; `place` is where it stands. */
-#define WALK_KEPT(most, call, why, out, walk, place) \
-    for (int of_##call = 0; \
-         of_##call < (most) && (CALL(why, failure, VIEW, &(walk).place, &failure), IS_DONE(call, out, VIEW, &(walk), &(out))); \
-         of_##call++)
-
 /* Makes a call that fills an array, until it writes no entry, LISTS times at most. */
 #define LIST(call, type, ...) \
     do { \
@@ -335,7 +329,7 @@ static void debug_data(const struct file *file)
     CALL(pe_c_debug_data, all, VIEW, &all);
     if (all.pogo_result == PE_C_DONE) {
         pe_c_range entries_walk = all.pogo.entries;
-        LIST(pe_c_list_pogo_entries, pe_c_pogo_entry, VIEW, &entries_walk);
+        LIST(pe_c_list_pogo_entries, pe_c_pogo_entry, BYTES, &entries_walk);
         WALK(ITEMS, pe_c_next_pogo_entry, pogo_entry, BYTES, &all.pogo.entries, &pogo_entry) {}
     }
 }
@@ -482,12 +476,12 @@ static void certificates(const struct file *file)
 
 static void exports(const struct file *file)
 {
-    pe_c_export_walk walk = PE_C_EMPTY;
+    pe_c_exports walk = PE_C_EMPTY;
     pe_c_export entry = PE_C_EMPTY;
     pe_c_address_table table = PE_C_EMPTY;
     pe_c_exported exported = PE_C_EMPTY;
     uint64_t index = 0;
-    if (IS_DONE(pe_c_export_tables, walk.exports, VIEW, &walk.exports))
+    if (IS_DONE(pe_c_export_tables, walk, VIEW, &walk))
         WALK(ITEMS, pe_c_next_export, entry, VIEW, &walk, &entry) {}
     pe_c_export_fields fields = PE_C_EMPTY;
     CALL(pe_c_export_directory, fields, VIEW, &fields);
@@ -513,10 +507,7 @@ static void function_names(const struct file *file)
 
 static void imports(const struct file *file)
 {
-    pe_c_library_walk libraries = PE_C_EMPTY;
-    pe_c_import_walk imports_of = PE_C_EMPTY;
-    pe_c_delay_import_walk delay_imports = PE_C_EMPTY;
-    pe_c_delayed_function_walk functions_of = PE_C_EMPTY;
+    pe_c_libraries libraries = PE_C_EMPTY;
     pe_c_library library = PE_C_EMPTY;
     pe_c_import import = PE_C_EMPTY;
     pe_c_range walk = PE_C_EMPTY, table = PE_C_EMPTY;
@@ -527,24 +518,21 @@ static void imports(const struct file *file)
     pe_c_bound_forwarder forwarder = PE_C_EMPTY;
     pe_c_run runs[ROWS] = PE_C_EMPTY;
     pe_c_failure failure = PE_C_EMPTY;
-    if (IS_DONE(pe_c_import_libraries, libraries.libraries, VIEW, &libraries.libraries))
-        WALK_KEPT(LISTS, pe_c_next_library, pe_c_library_failure, library, libraries, libraries) {
-            imports_of.imports = library.imports;
-            WALK_KEPT(ITEMS, pe_c_next_import, pe_c_import_failure, import, imports_of, imports) {}
+    if (IS_DONE(pe_c_import_libraries, libraries, VIEW, &libraries))
+        WALK_WHY(LISTS, pe_c_next_library, pe_c_library_failure, library, VIEW, libraries) {
+            WALK_WHY(ITEMS, pe_c_next_import, pe_c_import_failure, import, VIEW, library.imports) {}
         }
     if (IS_DONE(pe_c_delay_imports, walk, VIEW, &walk)) {
         pe_c_range dlls = walk;
         LIST(pe_c_list_delay_imports, pe_c_delay_import, VIEW, &dlls, NULL, 0);
         dlls = walk;
         LIST(pe_c_list_delay_imports, pe_c_delay_import, VIEW, &dlls, runs, ROWS);
-        delay_imports.entries = walk;
-        WALK_KEPT(LISTS, pe_c_next_delay_import, pe_c_delay_import_failure, delayed, delay_imports, entries) {
+        WALK_WHY(LISTS, pe_c_next_delay_import, pe_c_delay_import_failure, delayed, VIEW, walk) {
             pe_c_delayed_functions functions = delayed.functions;
             LIST(pe_c_list_delayed_functions, pe_c_delayed_function, VIEW, &functions, NULL, 0);
             functions = delayed.functions;
             LIST(pe_c_list_delayed_functions, pe_c_delayed_function, VIEW, &functions, runs, ROWS);
-            functions_of.functions = delayed.functions;
-            WALK_KEPT(ITEMS, pe_c_next_delayed_function, pe_c_delayed_function_failure, function, functions_of, functions) {}
+            WALK_WHY(ITEMS, pe_c_next_delayed_function, pe_c_delayed_function_failure, function, VIEW, delayed.functions) {}
         }
     }
     if (IS_DONE(pe_c_all_delayed_functions, all, VIEW, &all))
@@ -629,7 +617,7 @@ static void resources(const struct file *file)
 {
     pe_c_range range = PE_C_EMPTY;
     pe_c_version version = PE_C_EMPTY;
-    pe_c_leaf_walk walk = PE_C_EMPTY;
+    pe_c_resource_walk walk = PE_C_EMPTY;
     pe_c_resource_leaf leaf = PE_C_EMPTY;
     pe_c_resource_directory root = PE_C_EMPTY;
     pe_c_failure failure = PE_C_EMPTY;
@@ -640,10 +628,10 @@ static void resources(const struct file *file)
     version_blocks(file);
     edits(file);
     CALL(pe_c_resource_root, root, VIEW, &root);
-    if (!IS_DONE(pe_c_resource_leaves, walk.leaves, VIEW, &walk.leaves))
+    if (!IS_DONE(pe_c_resource_leaves, walk, VIEW, &walk))
         return;
-    resource_directories(file, &walk.leaves.tree);
-    WALK_KEPT(ITEMS, pe_c_next_resource_leaf, pe_c_resource_leaf_failure, leaf, walk, leaves)
+    resource_directories(file, &walk.tree);
+    WALK_WHY(ITEMS, pe_c_next_resource_leaf, pe_c_resource_leaf_failure, leaf, VIEW, walk)
         if (leaf.resource_type.id == 16) {
             CALL(pe_c_fixed_version_in, version, BYTES, &leaf.content, &version);
             for (uint32_t name = 0; name <= PE_C_SPECIAL_BUILD + 1; name++)
@@ -676,7 +664,7 @@ static void guard_tables(const struct file *file)
         if (IS_DONE(pe_c_guard_table, start, VIEW, table, &start)) {
             pe_c_guard_entries walk = start;
             WALK(ITEMS, pe_c_next_guard_entry, entry, BYTES, &walk, &entry) {}
-            LIST(pe_c_list_guard_entries, pe_c_guard_entry, VIEW, &start);
+            LIST(pe_c_list_guard_entries, pe_c_guard_entry, BYTES, &start);
         }
 }
 
@@ -734,7 +722,7 @@ static void lists_of_names(const struct file *file)
     if (pe_c_import_libraries(VIEW, &libraries) != PE_C_DONE)
         return;
     pe_c_libraries walk = libraries;
-    pe_c_library_walk steps = {.libraries = libraries};
+    pe_c_libraries steps = libraries;
     LIST(pe_c_list_libraries, pe_c_library, VIEW, &walk, NULL, 0);
     walk = libraries;
     LIST(pe_c_list_libraries, pe_c_library, VIEW, &walk, runs, ROWS);
@@ -758,20 +746,20 @@ static void lists_of_functions(const struct file *file)
     pe_c_arm64_walk codes = PE_C_EMPTY;
     uint64_t next = 0;
     if (pe_c_function_table(VIEW, &table) == PE_C_DONE) {
-        LIST(pe_c_list_functions, pe_c_function, VIEW, &table, &next);
+        LIST(pe_c_list_functions, pe_c_function, BYTES, &table, &next);
         if (pe_c_function_at(BYTES, &table, 0, &function) == PE_C_DONE
             && pe_c_unwind_record(VIEW, &table, function.unwind, &record) == PE_C_DONE)
-            LIST(pe_c_list_codes, pe_c_code, VIEW, &record.codes);
+            LIST(pe_c_list_codes, pe_c_code, BYTES, &record.codes);
     }
     if (pe_c_arm64_table(VIEW, &table) != PE_C_DONE)
         return;
-    LIST(pe_c_list_arm64_functions, pe_c_arm64_function, VIEW, &table, &next);
+    LIST(pe_c_list_arm64_functions, pe_c_arm64_function, BYTES, &table, &next);
     /* The first functions may have packed data and no record. */
     for (uint64_t i = 0; i < INNER; i++)
         if (pe_c_arm64_function_at(BYTES, &table, i, &arm64) == PE_C_DONE
             && pe_c_arm64_unwind_record(VIEW, &arm64, &info) == PE_C_DONE
             && pe_c_arm64_codes(BYTES, &info.codes, 0, &codes) == PE_C_DONE) {
-            LIST(pe_c_list_arm64_codes, pe_c_arm64_code, VIEW, &codes);
+            LIST(pe_c_list_arm64_codes, pe_c_arm64_code, BYTES, &codes);
             return;
         }
 }
@@ -786,13 +774,13 @@ static void lists(const struct file *file)
     if (pe_c_resource_leaves(VIEW, &leaves) == PE_C_DONE)
         LIST(pe_c_list_resource_leaves, pe_c_resource_leaf, VIEW, &leaves);
     if (pe_c_version_blocks(VIEW, &walk) == PE_C_DONE)
-        LIST(pe_c_list_version_blocks, pe_c_version_block, VIEW, &walk);
+        LIST(pe_c_list_version_blocks, pe_c_version_block, BYTES, &walk);
     if (pe_c_relocation_blocks(VIEW, &walk) != PE_C_DONE)
         return;
     pe_c_range blocks = walk;
-    LIST(pe_c_list_relocation_blocks, pe_c_relocation_block, VIEW, &blocks);
+    LIST(pe_c_list_relocation_blocks, pe_c_relocation_block, BYTES, &blocks);
     if (pe_c_next_relocation_block(BYTES, &walk, &block) == PE_C_DONE)
-        LIST(pe_c_list_relocations, pe_c_relocation, VIEW, block.page_rva, &block.entries);
+        LIST(pe_c_list_relocations, pe_c_relocation, BYTES, block.page_rva, &block.entries);
 }
 
 static void headers(const struct file *file)

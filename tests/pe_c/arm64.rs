@@ -4,9 +4,9 @@ use super::made::{
     ARM64, ARM64_VERSION, EXCEPTION_SIZE, FUNCTION_INDEX, NO_RANGE, OVER, SHORT, UNTOUCHED, X64,
     directory, having, image, of_range, range, sections, untouched, view, words,
 };
+use super::steps::pe_c_arm64_function_at;
 use crate::arm64::functions::{
-    Arm64Packed, pe_c_arm64_function_at, pe_c_arm64_packed_fields, pe_c_arm64_table,
-    pe_c_find_arm64_function,
+    Arm64Packed, pe_c_arm64_packed_fields, pe_c_arm64_table, pe_c_find_arm64_function,
 };
 use crate::arm64::records::{
     Arm64Record, Arm64Scope, pe_c_arm64_unwind_record, pe_c_next_arm64_scope,

@@ -1,7 +1,8 @@
 //! The unwind codes of ARM64 records, one a step.
 
 use super::made::{ARM64_CUT, ARM64_STREAM, SHORT, range};
-use crate::arm64::codes::{Arm64Code, Arm64CodeWalk, pe_c_arm64_codes, pe_c_next_arm64_code};
+use super::steps::pe_c_next_arm64_code;
+use crate::arm64::codes::{Arm64Code, Arm64CodeWalk, pe_c_arm64_codes};
 use crate::ranges::Range;
 use crate::results::{DONE, NOTHING};
 

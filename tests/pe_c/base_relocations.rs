@@ -4,10 +4,8 @@ use super::made::{
     DIRECTORY_BLOCK_SIZE, DIRECTORY_BLOCK_TRUNCATED, DIRECTORY_NO_ARGUMENT, OVER, SHORT, UNTOUCHED,
     X64, directory, having, image, of_range, range, sections, untouched, view, words,
 };
-use crate::base_relocations::{
-    Relocation, RelocationBlock, pe_c_next_relocation, pe_c_next_relocation_block,
-    pe_c_relocation_blocks,
-};
+use super::steps::{pe_c_next_relocation, pe_c_next_relocation_block};
+use crate::base_relocations::{Relocation, RelocationBlock, pe_c_relocation_blocks};
 use crate::results::{DONE, NOTHING};
 use std::alloc::{AllocError, Global};
 use std::test::Fail;

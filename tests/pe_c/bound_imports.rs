@@ -4,10 +4,8 @@ use super::made::{
     DIRECTORY_BOUND_IMPORT_NAME, OVER, SHORT, UNTOUCHED, X64, directory, having, image, of_range,
     range, untouched, view,
 };
-use crate::bound_imports::{
-    BoundForwarder, BoundImport, pe_c_bound_imports, pe_c_next_bound_forwarder,
-    pe_c_next_bound_import,
-};
+use super::steps::{pe_c_next_bound_forwarder, pe_c_next_bound_import};
+use crate::bound_imports::{BoundForwarder, BoundImport, pe_c_bound_imports};
 use crate::image::Image;
 use crate::ranges::{NO_BYTES, Range};
 use crate::results::{DONE, NOTHING};

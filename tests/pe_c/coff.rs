@@ -13,9 +13,10 @@
 //! and what is wanted of it is what `llvm-readobj --file-headers --sections --symbols` (14.0.6) prints.
 
 use super::made::{SHORT, STRING_TABLE, UNTOUCHED, of_range, range, sections, untouched};
+use super::steps::pe_c_symbol;
 use crate::coff::{
     Symbol, SymbolWalk, pe_c_coff, pe_c_coff_sections, pe_c_coff_strings, pe_c_coff_symbols,
-    pe_c_next_symbol, pe_c_symbol, pe_c_symbol_name,
+    pe_c_next_symbol, pe_c_symbol_name,
 };
 use crate::headers::CoffFields;
 use crate::ranges::Range;

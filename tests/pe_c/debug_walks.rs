@@ -3,7 +3,8 @@
 use super::made::{
     OVER, POGO_NAME, SHORT, UNTOUCHED, X64, image, of_range, range, sections, untouched, view,
 };
-use crate::debug_walks::{PogoEntry, pe_c_next_debug_entry, pe_c_next_pogo_entry};
+use super::steps::pe_c_next_pogo_entry;
+use crate::debug_walks::{PogoEntry, pe_c_next_debug_entry};
 use crate::lists::debug::pe_c_list_pogo_entries;
 use crate::ranges::Range;
 use crate::results::{DONE, NOTHING};
@@ -111,8 +112,6 @@ fn pogo_entries_that_are_refused(rt: HostRuntime) {
 /// The three entries by two calls, then none.
 #[test]
 fn lists_of_pogo_entries(rt: HostRuntime) {
-    let (image, sections) = (image(X64), sections());
-    let view = view(POGO, &image, &sections);
     let none = PogoEntry {
         name: untouched(),
         rva: 5,
@@ -124,7 +123,7 @@ fn lists_of_pogo_entries(rt: HostRuntime) {
         (1, [37, 0], (0x0403_0201, 0x0807_0605)),
         (0, [37, 0], (0x0403_0201, 0x0807_0605)),
     ] {
-        let answer = pe_c_list_pogo_entries(&view, &mut walk, &mut entries, &mut written);
+        let answer = pe_c_list_pogo_entries(POGO, &mut walk, &mut entries, &mut written);
         assert_eq!(rt; (answer, written, of_range(walk)), (DONE, count, left));
         assert_eq!(rt; (entries[0].rva, entries[0].size), first);
         assert_eq!(rt; (entries[1].rva, entries[1].size), (0x2000, 5));

@@ -4,7 +4,8 @@ use super::made::{
     DIRECTORY_VA_BELOW_BASE, SHORT, UNMAPPED, X64, directory, having, image, of_range, range,
     sections, view, words,
 };
-use crate::guard_tables::{GuardEntries, GuardEntry, pe_c_guard_table, pe_c_next_guard_entry};
+use super::steps::pe_c_next_guard_entry;
+use crate::guard_tables::{GuardEntries, GuardEntry, pe_c_guard_table};
 use crate::image::Image;
 use crate::lists::guard_tables::pe_c_list_guard_entries;
 use crate::ranges::Range;
@@ -139,9 +140,6 @@ fn entries_one_a_step(rt: HostRuntime) -> Result<(), Fail> {
 #[test]
 fn entries_in_lists(rt: HostRuntime) -> Result<(), Fail> {
     let bytes = with_tables(rt.alloc(), 0)?;
-    let image = image(X64);
-    let sections = sections();
-    let view = view(&bytes, &image, &sections);
     let mut walk = GuardEntries {
         entries: range(280, 20),
         count: 6,
@@ -150,19 +148,19 @@ fn entries_in_lists(rt: HostRuntime) -> Result<(), Fail> {
     };
     let mut entries = [NO_ENTRY; 3];
     let mut written = 9;
-    let found = pe_c_list_guard_entries(&view, &mut walk, &mut entries, &mut written);
+    let found = pe_c_list_guard_entries(&bytes, &mut walk, &mut entries, &mut written);
     assert_eq!(rt; found, DONE);
     assert_eq!(rt;
         (written, entries[0].rva, entries[1].rva, entries[2].rva),
         (3, 0x0403_0201, 0x0807_0605, 0x0C0B_0A09)
     );
-    let found = pe_c_list_guard_entries(&view, &mut walk, &mut entries, &mut written);
+    let found = pe_c_list_guard_entries(&bytes, &mut walk, &mut entries, &mut written);
     assert_eq!(rt; found, DONE);
     assert_eq!(rt;
         (written, entries[0].rva, entries[1].rva, entries[2].rva),
         (2, 0x100F_0E0D, 0x1413_1211, 0x0C0B_0A09)
     );
-    let found = pe_c_list_guard_entries(&view, &mut walk, &mut entries, &mut written);
+    let found = pe_c_list_guard_entries(&bytes, &mut walk, &mut entries, &mut written);
     assert_eq!(rt; found, SHORT);
     assert_eq!(rt; (written, fields(&walk)), (2, ([0, 0], 0, 0, 0)));
     Ok(())

@@ -4,12 +4,9 @@ use super::made::{
     IMPORT_NAME, OVER, SHORT, UNMAPPED, X64, directory, having, image, of_range, range, sections,
     view,
 };
+use super::steps::{pe_c_next_import, pe_c_next_library};
 use crate::image::Image;
-use crate::imports::{
-    Import, ImportWalk, Imports, Libraries, Library, LibraryWalk, pe_c_import_libraries,
-    pe_c_next_import, pe_c_next_library,
-};
-use crate::kept_sections::NO_SECTIONS;
+use crate::imports::{Import, Imports, Libraries, Library, pe_c_import_libraries};
 use crate::ranges::Range;
 use crate::results::{DONE, NOTHING};
 use pe_images::{image as bytes_of, put};
@@ -49,22 +46,6 @@ fn libraries(next: u64, is_over: u32) -> Libraries {
         next,
         is_over,
         spare: 0,
-    }
-}
-
-/// A walk by steps, which starts here.
-pub(crate) fn from_library(libraries: Libraries) -> LibraryWalk {
-    LibraryWalk {
-        libraries,
-        kept: NO_SECTIONS,
-    }
-}
-
-/// The same over the imports of a library.
-pub(crate) fn from_import(imports: Imports) -> ImportWalk {
-    ImportWalk {
-        imports,
-        kept: NO_SECTIONS,
     }
 }
 
@@ -156,25 +137,20 @@ fn of_import(import: Import) -> ([u64; 2], u64, u32, u32) {
 fn next_library(
     bytes: &[u8],
     image: &Image,
-    walk: &mut LibraryWalk,
+    walk: &mut Libraries,
 ) -> (u32, Fields, (u64, u32, u32)) {
     let mut out = NO_LIBRARY;
     let answer = pe_c_next_library(&view(bytes, image, &sections()), walk, &mut out);
-    (answer, of_library(out), of_libraries(walk.libraries))
+    (answer, of_library(out), of_libraries(*walk))
 }
 
 /// The answer, what went out, and the entries that are left and the next slot after it.
 type Step = (u32, ([u64; 2], u64, u32, u32), [u64; 2], u64);
 
-fn next_import(bytes: &[u8], image: &Image, walk: &mut ImportWalk) -> Step {
+fn next_import(bytes: &[u8], image: &Image, walk: &mut Imports) -> Step {
     let mut out = NO_IMPORT;
     let answer = pe_c_next_import(&view(bytes, image, &sections()), walk, &mut out);
-    (
-        answer,
-        of_import(out),
-        of_range(walk.imports.left),
-        walk.imports.rva,
-    )
+    (answer, of_import(out), of_range(walk.left), walk.rva)
 }
 
 #[test]
@@ -198,7 +174,7 @@ fn libraries_in_their_order(rt: HostRuntime) -> Result<(), Fail> {
     let image = with_directory(0x1010, 60);
     let first = [0x1060, 0x0403_0201, 0x0807_0605, 0x10A0, 0x2000, 0];
     let second = [0, 0, 0, 0x10A2, 0x1088, 0];
-    let mut walk = from_library(libraries(0x10, 0));
+    let mut walk = libraries(0x10, 0);
     assert_eq!(rt;
         next_library(&bytes, &image, &mut walk),
         (DONE, ([0xA0, 1], [0x60, 16], 0x2000, first), (0x24, 0, 0))
@@ -210,7 +186,7 @@ fn libraries_in_their_order(rt: HostRuntime) -> Result<(), Fail> {
     let found = next_library(&bytes, &image, &mut walk);
     assert_eq!(rt; found, (NOTHING, UNTOUCHED_LIBRARY, (0, 1, 0)));
     // A walk that a caller says is over stays as it is.
-    let mut walk = from_library(libraries(0x10, 7));
+    let mut walk = libraries(0x10, 7);
     let found = next_library(&bytes, &image, &mut walk);
     assert_eq!(rt; found, (NOTHING, UNTOUCHED_LIBRARY, (0x10, 7, 0)));
     Ok(())
@@ -232,7 +208,7 @@ fn refused_libraries(rt: HostRuntime) -> Result<(), Fail> {
     for (offset, part, next, number) in damages {
         let mut bytes = with_imports(rt.alloc())?;
         put(&mut bytes, &[(0xB8, &[b'x'; 8]), (offset, part)]);
-        let mut walk = from_library(libraries(next, 0));
+        let mut walk = libraries(next, 0);
         assert_eq!(rt;
             next_library(&bytes, &image, &mut walk),
             (number, UNTOUCHED_LIBRARY, (0, 1, 0)),
@@ -244,11 +220,7 @@ fn refused_libraries(rt: HostRuntime) -> Result<(), Fail> {
     // A list whose address is unmapped is empty, and the walk goes on.
     let mut bytes = with_imports(rt.alloc())?;
     put(&mut bytes, &[(0x11, &[0x90])]);
-    let (answer, (_, list, ..), walk) = next_library(
-        &bytes,
-        &image,
-        &mut from_library(libraries(0x10, 0)),
-    );
+    let (answer, (_, list, ..), walk) = next_library(&bytes, &image, &mut libraries(0x10, 0));
     assert_eq!(rt; (answer, list, walk), (DONE, OVER, (0x24, 0, 0)));
     Ok(())
 }
@@ -257,10 +229,10 @@ fn refused_libraries(rt: HostRuntime) -> Result<(), Fail> {
 fn imports_of_a_library(rt: HostRuntime) -> Result<(), Fail> {
     let bytes = with_imports(rt.alloc())?;
     let pe32_plus = with_directory(0x1010, 60);
-    let mut walk = from_import(Imports {
+    let mut walk = Imports {
         left: range(0x60, 16),
         rva: 0x2000,
-    });
+    };
     let found = next_import(&bytes, &pe32_plus, &mut walk);
     assert_eq!(rt; found, (DONE, ([0xB2, 1], 0x2000, 7, 1), [0x68, 8], 0x2008));
     let found = next_import(&bytes, &pe32_plus, &mut walk);
@@ -283,10 +255,10 @@ fn refused_imports(rt: HostRuntime) -> Result<(), Fail> {
     for (offset, part, number) in damages {
         let mut bytes = with_imports(rt.alloc())?;
         put(&mut bytes, &[(0xB8, &[b'x'; 8]), (offset, part)]);
-        let mut walk = from_import(Imports {
+        let mut walk = Imports {
             left: range(0x60, 16),
             rva: 0x2000,
-        });
+        };
         for number in [number, NOTHING] {
             assert_eq!(rt;
                 next_import(&bytes, &image, &mut walk),
@@ -296,10 +268,10 @@ fn refused_imports(rt: HostRuntime) -> Result<(), Fail> {
         }
     }
     let bytes = with_imports(rt.alloc())?;
-    let mut walk = from_import(Imports {
+    let mut walk = Imports {
         left: range(0x60, 7),
         rva: 5,
-    });
+    };
     let found = next_import(&bytes, &image, &mut walk);
     assert_eq!(rt; found, (SHORT, ([1, 1], 1, 1, 1), OVER, 5));
     Ok(())

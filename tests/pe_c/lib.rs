@@ -51,6 +51,7 @@ mod signing;
 mod stack_frames;
 mod stack_walks;
 mod step_failures;
+mod steps;
 mod te;
 mod tls;
 mod unwinding;

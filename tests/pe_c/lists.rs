@@ -44,13 +44,11 @@ const NO_FUNCTION: RuntimeFunction = RuntimeFunction {
 
 /// The result, how many are written, the next index, and the begins of the entries.
 fn functions(bytes: &[u8], table: [u64; 2], next: u64, room: usize) -> (u32, u64, u64, [u32; 4]) {
-    let (image, sections) = (image(X64), sections());
     let mut entries = [NO_FUNCTION; 4];
     let (mut next, mut written) = (next, UNWRITTEN);
     let table = range(table[0], table[1]);
     let lent = &mut entries[..room.min(4)];
-    let view = view(bytes, &image, &sections);
-    let answer = pe_c_list_functions(&view, &table, &mut next, lent, &mut written);
+    let answer = pe_c_list_functions(bytes, &table, &mut next, lent, &mut written);
     (
         answer,
         written,
@@ -94,8 +92,6 @@ fn walk_of_codes(left: Range, version: u8) -> CodeWalk {
 #[test]
 fn codes_in_lists(rt: HostRuntime) {
     let bytes = [0xFF, 4, 0x42, 1, 0x50, 0, 0x0F];
-    let (image, sections) = (image(X64), sections());
-    let view = view(&bytes, &image, &sections);
     let mut walk = walk_of_codes(range(1, 6), 1);
     for (room, answer, count, first, left) in [
         (0, ROOM, UNWRITTEN, [7; 4], [1, 6]),
@@ -105,7 +101,7 @@ fn codes_in_lists(rt: HostRuntime) {
     ] {
         let mut entries = [NO_CODE; 3];
         let mut written = UNWRITTEN;
-        let number = pe_c_list_codes(&view, &mut walk, &mut entries[..room], &mut written);
+        let number = pe_c_list_codes(&bytes, &mut walk, &mut entries[..room], &mut written);
         assert_eq!(rt;
             (number, written, of_range(walk.left)),
             (answer, count, left)
@@ -158,8 +154,6 @@ fn arm64_in_lists(rt: HostRuntime) {
     let bytes = [
         0x10, 0, 0, 0, 0x20, 0, 0, 0, 0x30, 0, 0, 0, 0x41, 0, 0, 0, 0xE3, 0xE1, 0xE3, 0xC8,
     ];
-    let (image, sections) = (image(X64), sections());
-    let view = view(&bytes, &image, &sections);
     let none = Arm64RuntimeFunction {
         begin_address: 7,
         unwind_data: 8,
@@ -169,7 +163,7 @@ fn arm64_in_lists(rt: HostRuntime) {
         let mut entries = [none; 2];
         let mut written = UNWRITTEN;
         let answer = pe_c_list_arm64_functions(
-            &view,
+            &bytes,
             &range(0, 16),
             &mut next,
             &mut entries[..1],
@@ -193,7 +187,7 @@ fn arm64_in_lists(rt: HostRuntime) {
         };
         let mut entries = [none; 5];
         let mut written = UNWRITTEN;
-        let number = pe_c_list_arm64_codes(&view, &mut walk, &mut entries, &mut written);
+        let number = pe_c_list_arm64_codes(&bytes, &mut walk, &mut entries, &mut written);
         assert_eq!(rt;
             (number, written, of_range(walk.left)),
             (answer, count, left)
@@ -282,8 +276,6 @@ fn leaves_in_lists(rt: HostRuntime) -> Result<(), Fail> {
 /// The block without an end of its key is an error of its own, and the walk goes on after it.
 #[test]
 fn version_blocks_in_lists(rt: HostRuntime) {
-    let (image, sections) = (image(X64), sections());
-    let view = view(&BLOCKS, &image, &sections);
     let none = VersionBlock {
         key: untouched(),
         value: untouched(),
@@ -303,7 +295,7 @@ fn version_blocks_in_lists(rt: HostRuntime) {
     ] {
         let mut entries = [none; 2];
         let mut written = UNWRITTEN;
-        let number = pe_c_list_version_blocks(&view, &mut walk, &mut entries, &mut written);
+        let number = pe_c_list_version_blocks(&BLOCKS, &mut walk, &mut entries, &mut written);
         assert_eq!(rt; (number, written, of_range(walk)), (answer, count, left));
         assert_eq!(rt; of_range(entries[0].key), key);
     }
@@ -312,8 +304,6 @@ fn version_blocks_in_lists(rt: HostRuntime) {
 #[test]
 fn relocations_in_lists(rt: HostRuntime) -> Result<(), Fail> {
     let bytes = two_blocks(rt.alloc())?;
-    let (image, sections) = (image(X64), sections());
-    let view = view(&bytes, &image, &sections);
     let none = RelocationBlock {
         entries: untouched(),
         page_rva: 7,
@@ -323,7 +313,7 @@ fn relocations_in_lists(rt: HostRuntime) -> Result<(), Fail> {
     for (count, pages, left) in [(2, [0x1000, 0x5000, 7], [30, 0]), (0, [7; 3], [30, 0])] {
         let mut entries = [none; 3];
         let mut written = UNWRITTEN;
-        let answer = pe_c_list_relocation_blocks(&view, &mut walk, &mut entries, &mut written);
+        let answer = pe_c_list_relocation_blocks(&bytes, &mut walk, &mut entries, &mut written);
         assert_eq!(rt; (answer, written, of_range(walk)), (DONE, count, left));
         assert_eq!(rt; entries.map(|entry| entry.page_rva), pages);
     }
@@ -341,7 +331,7 @@ fn relocations_in_lists(rt: HostRuntime) -> Result<(), Fail> {
     ] {
         let mut entries = [none; 2];
         let mut written = UNWRITTEN;
-        let number = pe_c_list_relocations(&view, 0x5000, &mut walk, &mut entries, &mut written);
+        let number = pe_c_list_relocations(&bytes, 0x5000, &mut walk, &mut entries, &mut written);
         assert_eq!(rt; (number, written, of_range(walk)), (answer, count, left));
         assert_eq!(rt; (entries[0].rva, entries[1].rva), (rva, 7));
     }

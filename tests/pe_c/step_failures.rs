@@ -17,13 +17,13 @@ use super::made::{
     UNWIND_CODE, UNWIND_VERSION, X64, image, range, section, sections, view,
 };
 use super::resource_leaves::{NO_LEAF, of_size, start, with_tree};
+use super::steps::pe_c_next_resource_leaf;
 use super::unwinding::{no_record, with_records};
 use crate::arm64::codes::Arm64CodeWalk;
 use crate::failure::Failure;
 use crate::image::Image;
 use crate::imports::{Imports, Libraries};
 use crate::ranges::Range;
-use crate::resource_leaves::pe_c_next_resource_leaf;
 use crate::results::{DONE, NOTHING};
 use crate::step_failures::arm64::{pe_c_arm64_code_failure, pe_c_arm64_record_failure};
 use crate::step_failures::bound_imports::pe_c_bound_import_failure;
@@ -250,7 +250,7 @@ fn resource_leaves(rt: HostRuntime) -> Result<(), Fail> {
             pe_c_next_resource_leaf(&view(&bytes, &image, &sections()), &mut walk, &mut leaf);
         }
         let found = said_of(&bytes, &image, |view, out| {
-            pe_c_resource_leaf_failure(view, &walk.leaves, out)
+            pe_c_resource_leaf_failure(view, &walk, out)
         });
         assert_eq!(rt; found, wanted, "of {offset} after {leaves}");
     }

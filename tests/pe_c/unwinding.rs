@@ -4,13 +4,14 @@ use super::made::{
     ARM64, EXCEPTION_SIZE, FUNCTION_INDEX, OVER, SHORT, UNTOUCHED, UNWIND_VERSION, X64, directory,
     having, image, of_range, range, sections, untouched, view, words,
 };
+use super::steps::pe_c_function_at;
 use crate::image::Image;
 use crate::lists::x64::pe_c_record_codes;
 use crate::ranges::Range;
 use crate::results::{DONE, NOTHING};
 use crate::unwinding::{
-    Code, CodeWalk, UnwindRecord, pe_c_find_function, pe_c_function_at, pe_c_function_table,
-    pe_c_next_scope, pe_c_scope_table, pe_c_unwind_record,
+    Code, CodeWalk, UnwindRecord, pe_c_find_function, pe_c_function_table, pe_c_next_scope,
+    pe_c_scope_table, pe_c_unwind_record,
 };
 use pe_images::put;
 use pe_unwind::{RuntimeFunction, ScopeTableEntry};

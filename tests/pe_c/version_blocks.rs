@@ -4,8 +4,9 @@ use super::made::{
     RESOURCE_BOUNDS, RESOURCE_STRING, SHORT, UNTOUCHED, X64, directory, having, image, of_range,
     range, sections, untouched, view,
 };
+use super::steps::pe_c_next_version_block;
 use crate::results::{DONE, NOTHING};
-use crate::version_blocks::{VersionBlock, pe_c_next_version_block, pe_c_version_blocks};
+use crate::version_blocks::{VersionBlock, pe_c_version_blocks};
 use pe_images::{image as bytes_of, put};
 use std::alloc::Global;
 use std::test::Fail;

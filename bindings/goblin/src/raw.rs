@@ -691,21 +691,21 @@ fn listed_none<'r, T>(number: u32) -> Result<&'r [T], Refusal> {
     returned(number, &[][..]).map(Option::unwrap_or_default)
 }
 
-/// Makes methods of calls that write the next items of a walk to a room. They return these, none at the end.
-macro_rules! lists_of_an_image {
-    ($($name:ident: $call:ident($($more:ident: $kind:ty),*) over $walk:ty => $item:ty;)*) => { impl View<'_, '_> { $(
+/// Makes functions of calls that write the next items of a walk over bytes to a room. They return these, none at the end.
+macro_rules! lists_of_bytes {
+    ($($name:ident: $call:ident($($more:ident: $kind:ty),*) over $walk:ty => $item:ty;)*) => { $(
         #[inline(always)]
-        pub fn $name<'r>(
-            &self,
+        pub(crate) fn $name<'r>(
+            bytes: &[u8],
             $($more: $kind,)*
             walk: &mut $walk,
             room: &'r mut Room<$item>,
         ) -> Result<&'r [$item], Refusal> {
-            let mut count = 0;
-            // SAFETY: the view is of what is borrowed for the call; the pointer and the length are those of one array; the walk and
-            // the other arguments are lent for it, and the library requires nothing else.
+            let (to, length, mut count) = (room.as_mut_ptr().cast(), room.len(), 0);
+            // SAFETY: each pointer and the length after it are those of one slice or array; the walk and the other arguments are lent
+            // for the call, and the library requires nothing else.
             let number = unsafe {
-                sys::$call(&self.lent(), $($more,)* walk, room.as_mut_ptr().cast(), room.len(), &mut count)
+                sys::$call(bytes.as_ptr(), bytes.len(), $($more,)* walk, to, length, &mut count)
             };
             if number != sys::DONE {
                 return listed_none(number);
@@ -713,10 +713,10 @@ macro_rules! lists_of_an_image {
             // SAFETY: a call that is done has written so many.
             Ok(unsafe { written(room, count as usize) })
         }
-    )* } };
+    )* };
 }
 
-lists_of_an_image! {
+lists_of_bytes! {
     list_functions: pe_c_list_functions(table: &Range) over u64 => sys::Function;
     list_codes: pe_c_list_codes() over sys::Walk => sys::Code;
     list_relocations: pe_c_list_relocations(page_rva: u32) over Range => sys::Relocation;

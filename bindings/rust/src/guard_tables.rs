@@ -70,7 +70,10 @@ impl<'a> Iterator for GuardEntries<'_, 'a> {
 
     fn next(&mut self) -> Option<Self::Item> {
         let bytes = self.entries.source.bytes();
-        let found = self.entries.step(sys::pe_c_list_guard_entries)?;
+        // SAFETY: the bytes and the walk are lent for the call, the array has so many items, and none overlaps another.
+        let found = self.entries.step_of_few(|_, walk, items, written| unsafe {
+            sys::pe_c_list_guard_entries(bytes.as_ptr(), bytes.len(), walk, items.as_mut_ptr(), items.len(), written)
+        })?;
         Some(found.and_then(|found| Ok(GuardEntry { rva: found.rva, flags: bytes_of(found.flag_bytes, bytes)? })))
     }
 }

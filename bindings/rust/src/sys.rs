@@ -190,8 +190,8 @@ pub struct View {
 }
 const _: () = assert!(core::mem::size_of::<View>() == 56);
 
-/// The sections of the last RVAs of a walk, which the steps over exports, imports, delay imports, resources and the
-/// records of a plan test before the others: the RVAs of a table mostly lie in one section or two.
+/// The sections of the last RVAs of a plan, which its steps test before the others: the RVAs of records mostly lie in
+/// one section or two.
 ///
 /// `kept` of such a walk is all 0 at the start, and only the step calls read and write it. Where a caller changes it
 /// and sections overlap, a step may return an offset by another section, and no other harm is done; a number past the
@@ -1445,19 +1445,6 @@ pub struct Exports {
 }
 const _: () = assert!(core::mem::size_of::<Exports>() == 64);
 
-/// A walk over exports, step by step.
-///
-/// It starts as `PE_C_EMPTY` with what [`pe_c_export_tables`] returns.
-#[repr(C)]
-#[derive(Clone, Copy, Debug, Default, PartialEq, Eq)]
-pub struct ExportWalk {
-    /// Where it stands.
-    pub exports: Exports,
-    /// The sections of its last RVAs.
-    pub kept: KeptSections,
-}
-const _: () = assert!(core::mem::size_of::<ExportWalk>() == 72);
-
 /// An export.
 #[repr(C)]
 #[derive(Clone, Copy, Debug, Default, PartialEq, Eq)]
@@ -1628,28 +1615,6 @@ pub struct Imports {
 }
 const _: () = assert!(core::mem::size_of::<Imports>() == 24);
 
-/// A walk over libraries, step by step.
-#[repr(C)]
-#[derive(Clone, Copy, Debug, Default, PartialEq, Eq)]
-pub struct LibraryWalk {
-    /// Where it stands.
-    pub libraries: Libraries,
-    /// The sections of its last RVAs.
-    pub kept: KeptSections,
-}
-const _: () = assert!(core::mem::size_of::<LibraryWalk>() == 24);
-
-/// A walk over the imports of a library, step by step.
-#[repr(C)]
-#[derive(Clone, Copy, Debug, Default, PartialEq, Eq)]
-pub struct ImportWalk {
-    /// Where it stands.
-    pub imports: Imports,
-    /// The sections of its last RVAs.
-    pub kept: KeptSections,
-}
-const _: () = assert!(core::mem::size_of::<ImportWalk>() == 32);
-
 /// A DLL that an image imports from, `IMAGE_IMPORT_DESCRIPTOR`.
 #[repr(C)]
 #[derive(Clone, Copy, Debug, Default, PartialEq, Eq)]
@@ -1759,28 +1724,6 @@ pub struct DelayedFunctions {
     pub spare: u32,
 }
 const _: () = assert!(core::mem::size_of::<DelayedFunctions>() == 24);
-
-/// A walk over the DLLs, step by step.
-#[repr(C)]
-#[derive(Clone, Copy, Debug, Default, PartialEq, Eq)]
-pub struct DelayImportWalk {
-    /// Those of the directory that are left.
-    pub entries: Range,
-    /// The sections of its last RVAs.
-    pub kept: KeptSections,
-}
-const _: () = assert!(core::mem::size_of::<DelayImportWalk>() == 24);
-
-/// A walk over what is imported of a DLL, step by step.
-#[repr(C)]
-#[derive(Clone, Copy, Debug, Default, PartialEq, Eq)]
-pub struct DelayedFunctionWalk {
-    /// Where it stands.
-    pub functions: DelayedFunctions,
-    /// The sections of its last RVAs.
-    pub kept: KeptSections,
-}
-const _: () = assert!(core::mem::size_of::<DelayedFunctionWalk>() == 32);
 
 /// A DLL that is loaded later.
 #[repr(C)]
@@ -1990,17 +1933,6 @@ pub struct ResourceWalk {
     pub name: ResourceEntry,
 }
 const _: () = assert!(core::mem::size_of::<ResourceWalk>() == 80);
-
-/// A walk over leaves, step by step.
-#[repr(C)]
-#[derive(Clone, Copy, Debug, Default, PartialEq, Eq)]
-pub struct LeafWalk {
-    /// Where it stands.
-    pub leaves: ResourceWalk,
-    /// The sections of its last RVAs.
-    pub kept: KeptSections,
-}
-const _: () = assert!(core::mem::size_of::<LeafWalk>() == 88);
 
 /// A directory of the tree, `IMAGE_RESOURCE_DIRECTORY`.
 #[repr(C)]
@@ -2870,11 +2802,11 @@ extern "C" {
     /// offset, [`pe_c_overlay`] and the lists of their names. Few calls, and images with few sections, as most, gain
     /// nothing by it. No entries, and [`DONE`], where no section is searched: in an image as loaded, and where the file
     /// alignment is not a power of two. An index in the view that is passed makes no difference. An index of other
-    /// sections gives wrong offsets, and no other harm. With an index a walk keeps no sections, and needs none; nor
-    /// does it under 32 sections or fewer, which are searched for less. Else a step over exports, imports, delay
-    /// imports, resources or the records of a plan tests the section or two that its walk keeps, and searches all of
-    /// them only for an RVA elsewhere; all other steps search all for each RVA. A section that may share an RVA with an
-    /// earlier one, whose size is rounded up to a page, is not kept.
+    /// sections gives wrong offsets, and no other harm. With an index a plan and a list keep no sections, and need
+    /// none; nor do they under 32 sections or fewer, which are searched for less. Else a step over the records of a
+    /// plan tests the section or two that its walk keeps, and a list the RVAs near its last ones, and they search all
+    /// of them only for an RVA elsewhere; all other steps search all for each RVA. A section that may share an RVA with
+    /// an earlier one, whose size is rounded up to a page, is not kept.
     ///
     /// Errors: [`ROOM`] where the array has too few entries; then `written` is how many it has to have.
     pub fn pe_c_index(view: *const View, room: *mut IndexEntry, entries: usize, written: *mut u64) -> u32;
@@ -2984,13 +2916,6 @@ extern "C" {
     ///
     /// Errors: [`Error::SHORT`] where the symbols are truncated; [`Error::STRING_TABLE`] where the string table is.
     pub fn pe_c_coff_strings(bytes: *const u8, length: usize, coff: *const CoffHeader, out: *mut Range) -> u32;
-    /// Reads the symbol in an entry of a symbol table.
-    ///
-    /// [`NOTHING`] past the last entry. Auxiliary records have entries of their own, and nothing in these says that
-    /// they are no symbols.
-    ///
-    /// Error: [`Error::SHORT`] where the table is not inside the bytes.
-    pub fn pe_c_symbol(bytes: *const u8, length: usize, table: *const Range, index: u64, out: *mut SymbolEntry) -> u32;
     /// Reads the next symbol of a walk.
     ///
     /// Error: [`Error::SHORT`] where the table is not inside the bytes.
@@ -3135,11 +3060,6 @@ extern "C" {
         entry: *const DebugEntry,
         out: *mut PdbChecksum,
     ) -> u32;
-    /// Returns the next entry of a POGO record.
-    ///
-    /// Errors: [`Error::SHORT`] where the walk is not inside the bytes, or fewer than 8 bytes are left;
-    /// [`Error::POGO_NAME`] where the name is not NUL-terminated, or its padding to a multiple of 4 bytes is truncated.
-    pub fn pe_c_next_pogo_entry(bytes: *const u8, length: usize, walk: *mut Range, out: *mut PogoEntry) -> u32;
     /// Reads the header of a TE image, the 40 bytes at its start.
     ///
     /// Errors: [`Error::SHORT`]; [`Error::BAD_MAGIC`]; [`Error::TE_SIZE`] where fewer than 40 bytes were stripped.
@@ -3500,17 +3420,6 @@ extern "C" {
         rva: u32,
         out: *mut Function,
     ) -> u32;
-    /// Returns the function with an index, from 0.
-    ///
-    /// Errors: [`Error::SHORT`] where the table is not inside the bytes; [`Error::FUNCTION_INDEX`] where it has no such
-    /// entry.
-    pub fn pe_c_function_at(
-        bytes: *const u8,
-        length: usize,
-        table: *const Range,
-        index: u64,
-        out: *mut Function,
-    ) -> u32;
     /// Returns the unwind record of an unwind RVA, the field `unwind` of a function of this table, which
     /// [`pe_c_function_table`] returned.
     ///
@@ -3520,12 +3429,6 @@ extern "C" {
     /// [`Error::FUNCTION_CYCLE`] of the links; [`Error::UNMAPPED`], [`Error::SHORT`], [`Error::UNWIND_VERSION`] of the
     /// record.
     pub fn pe_c_unwind_record(view: *const View, table: *const Range, unwind: u32, out: *mut Record) -> u32;
-    /// Returns the next code of a record, in the order in which they are undone: the last instruction of the prolog
-    /// first.
-    ///
-    /// Errors: [`Error::SHORT`] where the walk is not inside the bytes, or a code is truncated; [`Error::UNWIND_CODE`]
-    /// for an invalid code.
-    pub fn pe_c_next_code(bytes: *const u8, length: usize, walk: *mut Walk, out: *mut Code) -> u32;
     /// Returns the scope table in a record's `handler_data` as a walk for [`pe_c_next_scope`].
     ///
     /// [`NOTHING`] where it is truncated. Only a handler such as `__C_specific_handler` has one: the caller knows it by
@@ -3666,17 +3569,6 @@ extern "C" {
     /// Errors: [`Error::SHORT`] where the table is not inside the bytes; of that record [`Error::UNMAPPED`], and
     /// [`Error::SHORT`] where its first word is truncated.
     pub fn pe_c_find_arm64_function(view: *const View, table: *const Range, rva: u32, out: *mut Arm64Function) -> u32;
-    /// Returns the function with an index, from 0.
-    ///
-    /// Errors: [`Error::SHORT`] where the table is not inside the bytes; [`Error::FUNCTION_INDEX`] where it has no such
-    /// entry.
-    pub fn pe_c_arm64_function_at(
-        bytes: *const u8,
-        length: usize,
-        table: *const Range,
-        index: u64,
-        out: *mut Arm64Function,
-    ) -> u32;
     /// Returns the fields of packed unwind data.
     ///
     /// It always returns [`DONE`].
@@ -3709,15 +3601,6 @@ extern "C" {
         start: u64,
         out: *mut Arm64Walk,
     ) -> u32;
-    /// Returns the next code.
-    ///
-    /// The walk does not stop at `PE_C_ARM64_END` and `PE_C_ARM64_END_C`, since the codes of epilogs follow; the caller
-    /// stops there.
-    ///
-    /// Errors: [`Error::SHORT`] where the walk is not inside the bytes; [`Error::ARM64_STREAM`] where its offset plus
-    /// the bytes left is not a multiple of 4 or is above 4,294,967,292, as in no walk of [`pe_c_arm64_codes`];
-    /// [`Error::ARM64_CUT`] for a truncated code.
-    pub fn pe_c_next_arm64_code(bytes: *const u8, length: usize, walk: *mut Arm64Walk, out: *mut Arm64Code) -> u32;
     /// Finds the registers of a function's caller, from those inside the function, and writes them over those of the
     /// frame.
     ///
@@ -3796,25 +3679,12 @@ extern "C" {
     /// Errors: [`Error::UNMAPPED`], [`Error::SHORT`] of the directory, then of the table of RVAs, of names and of
     /// indices.
     pub fn pe_c_export_tables(view: *const View, out: *mut Exports) -> u32;
-    /// Returns the next export.
-    ///
-    /// Entries are skipped whose name is unmapped, not NUL-terminated or not UTF-8, or whose index is past the table of
-    /// RVAs. Each name and each forwarder's text is read to its end, so texts that overlap are read once each.
-    ///
-    /// Errors: [`Error::SHORT`] where the tables are not inside the bytes.
-    pub fn pe_c_next_export(view: *const View, walk: *mut ExportWalk, out: *mut Export) -> u32;
     /// Returns the table of RVAs of the export directory, the ordinal base and the DLL's name.
     ///
     /// [`NOTHING`] without a directory.
     ///
     /// Errors: those of [`pe_c_export_tables`].
     pub fn pe_c_export_addresses(view: *const View, out: *mut AddressTable) -> u32;
-    /// Returns the export with an index, from 0.
-    ///
-    /// [`NOTHING`] where the table has no such entry.
-    ///
-    /// Errors: [`Error::SHORT`] where the table is not inside the bytes.
-    pub fn pe_c_export_at(view: *const View, table: *const AddressTable, index: u64, out: *mut Exported) -> u32;
     /// Reads the tables of which [`pe_c_function_names`] reads names.
     ///
     /// One that is damaged does not cost the others. Always returns [`DONE`].
@@ -3853,20 +3723,6 @@ extern "C" {
     ///
     /// Errors: [`Error::UNMAPPED`].
     pub fn pe_c_import_libraries(view: *const View, out: *mut Libraries) -> u32;
-    /// Returns the next library.
-    ///
-    /// The directory ends at a record whose name or address table has the RVA 0. A list whose RVA is unmapped is empty.
-    /// Names and lists that overlap are read once each.
-    ///
-    /// Errors: [`Error::SHORT`] where the record is truncated; [`Error::UNMAPPED`], [`Error::IMPORT_NAME`] of the name;
-    /// [`Error::SHORT`] where no zero entry ends the list.
-    pub fn pe_c_next_library(view: *const View, walk: *mut LibraryWalk, out: *mut Library) -> u32;
-    /// Returns the next import of a library.
-    ///
-    /// Errors: [`Error::SHORT`] where the walk is not inside the bytes, or its last entry is truncated;
-    /// [`Error::UNMAPPED`] of the RVA in the entry; [`Error::SHORT`] of the hint there; [`Error::IMPORT_NAME`] of the
-    /// name.
-    pub fn pe_c_next_import(view: *const View, walk: *mut ImportWalk, out: *mut Import) -> u32;
     /// Returns the import directory as a walk for [`pe_c_list_all_imports`].
     ///
     /// [`NOTHING`] without a directory.
@@ -3879,24 +3735,6 @@ extern "C" {
     ///
     /// Errors: [`Error::UNMAPPED`], [`Error::SHORT`].
     pub fn pe_c_delay_imports(view: *const View, out: *mut Range) -> u32;
-    /// Returns the next DLL.
-    ///
-    /// The directory ends with its bytes, or at an entry without the address of a name.
-    ///
-    /// Errors: [`Error::SHORT`] of the entry; [`Error::DIRECTORY_VA_BELOW_BASE`], [`Error::UNMAPPED`],
-    /// [`Error::DIRECTORY_DELAY_IMPORT_NAME`] of the name; [`Error::DIRECTORY_VA_BELOW_BASE`], [`Error::UNMAPPED`] of
-    /// the table of functions.
-    pub fn pe_c_next_delay_import(view: *const View, walk: *mut DelayImportWalk, out: *mut DelayImport) -> u32;
-    /// Returns the next function of a DLL.
-    ///
-    /// Errors: [`Error::SHORT`] where the bytes end before the table does; of an import by name
-    /// [`Error::DIRECTORY_VA_BELOW_BASE`], [`Error::UNMAPPED`] of its address, [`Error::SHORT`] of the hint there,
-    /// [`Error::DIRECTORY_DELAY_IMPORT_NAME`].
-    pub fn pe_c_next_delayed_function(
-        view: *const View,
-        walk: *mut DelayedFunctionWalk,
-        out: *mut DelayedFunction,
-    ) -> u32;
     /// Returns the delay import directory as a walk for [`pe_c_list_all_delayed_functions`].
     ///
     /// [`NOTHING`] where the directory is absent. Errors: [`Error::UNMAPPED`], [`Error::SHORT`].
@@ -3907,32 +3745,6 @@ extern "C" {
     ///
     /// Error: [`Error::SHORT`].
     pub fn pe_c_bound_imports(view: *const View, out: *mut Range) -> u32;
-    /// Returns the next DLL.
-    ///
-    /// The walk starts as a copy of the table. The list ends with the table, or at an entry without a name.
-    ///
-    /// Errors: [`Error::SHORT`] of the entry and its forwarders; [`Error::SHORT`] where the table is not inside the
-    /// bytes; [`Error::DIRECTORY_BOUND_IMPORT_NAME`].
-    pub fn pe_c_next_bound_import(
-        bytes: *const u8,
-        length: usize,
-        table: *const Range,
-        walk: *mut Range,
-        out: *mut BoundImport,
-    ) -> u32;
-    /// Returns the next DLL that a DLL forwards to.
-    ///
-    /// The walk starts as the `forwarders` of that.
-    ///
-    /// Errors: [`Error::SHORT`] of the entry; [`Error::SHORT`] where the table is not inside the bytes;
-    /// [`Error::DIRECTORY_BOUND_IMPORT_NAME`].
-    pub fn pe_c_next_bound_forwarder(
-        bytes: *const u8,
-        length: usize,
-        table: *const Range,
-        walk: *mut Range,
-        out: *mut BoundForwarder,
-    ) -> u32;
     /// Returns the fixed file information.
     ///
     /// [`NOTHING`] also where version information has none. A damaged string is an error too: without the strings the
@@ -3948,14 +3760,6 @@ extern "C" {
     /// Its content is not read yet, so the errors of version strings and of fixed file information are not among its
     /// errors.
     pub fn pe_c_version_blocks(view: *const View, out: *mut Range) -> u32;
-    /// Returns the next block.
-    ///
-    /// A walk ends with its bytes, or at a block of length 0. Unlike other walks this one may go on after an error,
-    /// with the block after that which has the error; it is over where a call returns [`NOTHING`].
-    ///
-    /// Errors: [`Error::SHORT`] where the block is truncated, which ends the walk; [`Error::RESOURCE_STRING`] where its
-    /// length is below 6, which ends the walk, or its key has no zero code unit in it, after which the walk goes on.
-    pub fn pe_c_next_version_block(bytes: *const u8, length: usize, walk: *mut Range, out: *mut VersionBlock) -> u32;
     /// Returns the range of the manifest, an XML text.
     pub fn pe_c_manifest(view: *const View, out: *mut Range) -> u32;
     /// Returns where a walk over leaves starts; they come in the order of the entries of directories.
@@ -3966,15 +3770,6 @@ extern "C" {
     /// that the data directory names ends past the end of the file, and in strict mode where the root or its entries
     /// are not all inside the data.
     pub fn pe_c_resource_leaves(view: *const View, out: *mut ResourceWalk) -> u32;
-    /// Returns the next leaf.
-    ///
-    /// A content that is not in the file is no error of its leaf.
-    ///
-    /// Errors: [`Error::SHORT`] where the walk is not inside the bytes, or its entries are not inside its tree; of the
-    /// entry of a type or a name [`Error::TREE_NOT_DIRECTORY`], [`Error::SHORT`] of its directory and of the entries
-    /// there, [`Error::TREE_NO_ENTRIES`]; of the entry of a language [`Error::TREE_NOT_DATA`], [`Error::SHORT`] of its
-    /// data entry; [`Error::SHORT`] of a name.
-    pub fn pe_c_next_resource_leaf(view: *const View, walk: *mut LeafWalk, out: *mut ResourceLeaf) -> u32;
     /// Returns the root of the resource tree, the directory whose entries are types; [`pe_c_resource_directory_at`]
     /// returns the others.
     ///
@@ -4159,40 +3954,12 @@ extern "C" {
     ///
     /// Errors: those of [`pe_c_load_config`]; [`Error::DIRECTORY_VA_BELOW_BASE`], [`Error::UNMAPPED`].
     pub fn pe_c_guard_table(view: *const View, table: u32, out: *mut GuardEntries) -> u32;
-    /// Returns the next entry of a table.
-    ///
-    /// Error: [`Error::SHORT`] where the bytes end before the table does, or the walk is not inside them.
-    pub fn pe_c_next_guard_entry(bytes: *const u8, length: usize, walk: *mut GuardEntries, out: *mut GuardEntry) -> u32;
     /// Returns the blocks of the base relocations as a walk.
     ///
     /// [`NOTHING`] where the directory is absent.
     ///
     /// Errors: [`Error::UNMAPPED`], [`Error::SHORT`].
     pub fn pe_c_relocation_blocks(view: *const View, out: *mut Range) -> u32;
-    /// Returns the next block.
-    ///
-    /// [`NOTHING`] also where a block of zeros, page and size, ends the list.
-    ///
-    /// Errors: [`Error::SHORT`] of the header; [`Error::DIRECTORY_BLOCK_SIZE`]; [`Error::DIRECTORY_BLOCK_TRUNCATED`].
-    pub fn pe_c_next_relocation_block(
-        bytes: *const u8,
-        length: usize,
-        walk: *mut Range,
-        out: *mut RelocationBlock,
-    ) -> u32;
-    /// Returns the next relocation of a block.
-    ///
-    /// `page_rva` is that of the block, and the walk starts as its entries. Those of kind `IMAGE_REL_BASED_ABSOLUTE`
-    /// (0), which fill up a block, are returned too.
-    ///
-    /// Errors: [`Error::SHORT`] of the entry; [`Error::DIRECTORY_NO_ARGUMENT`].
-    pub fn pe_c_next_relocation(
-        bytes: *const u8,
-        length: usize,
-        page_rva: u32,
-        walk: *mut Range,
-        out: *mut Relocation,
-    ) -> u32;
     /// Returns the CLR header.
     ///
     /// [`NOTHING`] where the directory is absent. The size in the data directory is not used.
@@ -4248,7 +4015,8 @@ extern "C" {
     ///
     /// Errors: [`ROOM`]; [`Error::SHORT`] where the table is not inside the bytes.
     pub fn pe_c_list_functions(
-        view: *const View,
+        bytes: *const u8,
+        length: usize,
         table: *const Range,
         next: *mut u64,
         entries: *mut Function,
@@ -4259,7 +4027,8 @@ extern "C" {
     ///
     /// Errors: [`ROOM`]; those of [`pe_c_next_code`].
     pub fn pe_c_list_codes(
-        view: *const View,
+        bytes: *const u8,
+        length: usize,
         walk: *mut Walk,
         entries: *mut Code,
         number_of_entries: usize,
@@ -4301,7 +4070,8 @@ extern "C" {
     ///
     /// Errors: [`ROOM`]; [`Error::SHORT`] where the table is not inside the bytes.
     pub fn pe_c_list_arm64_functions(
-        view: *const View,
+        bytes: *const u8,
+        length: usize,
         table: *const Range,
         next: *mut u64,
         entries: *mut Arm64Function,
@@ -4312,7 +4082,8 @@ extern "C" {
     ///
     /// Errors: [`ROOM`]; those of [`pe_c_next_arm64_code`].
     pub fn pe_c_list_arm64_codes(
-        view: *const View,
+        bytes: *const u8,
+        length: usize,
         walk: *mut Arm64Walk,
         entries: *mut Arm64Code,
         number_of_entries: usize,
@@ -4442,7 +4213,8 @@ extern "C" {
     ///
     /// Errors: [`ROOM`]; those of [`pe_c_next_version_block`].
     pub fn pe_c_list_version_blocks(
-        view: *const View,
+        bytes: *const u8,
+        length: usize,
         walk: *mut Range,
         entries: *mut VersionBlock,
         number_of_entries: usize,
@@ -4452,7 +4224,8 @@ extern "C" {
     ///
     /// Errors: [`ROOM`]; those of [`pe_c_next_relocation_block`].
     pub fn pe_c_list_relocation_blocks(
-        view: *const View,
+        bytes: *const u8,
+        length: usize,
         walk: *mut Range,
         entries: *mut RelocationBlock,
         number_of_entries: usize,
@@ -4462,7 +4235,8 @@ extern "C" {
     ///
     /// Errors: [`ROOM`]; those of [`pe_c_next_relocation`].
     pub fn pe_c_list_relocations(
-        view: *const View,
+        bytes: *const u8,
+        length: usize,
         page_rva: u32,
         walk: *mut Range,
         entries: *mut Relocation,
@@ -4551,7 +4325,8 @@ extern "C" {
     ///
     /// Errors: [`ROOM`]; those of [`pe_c_next_pogo_entry`].
     pub fn pe_c_list_pogo_entries(
-        view: *const View,
+        bytes: *const u8,
+        length: usize,
         walk: *mut Range,
         entries: *mut PogoEntry,
         number_of_entries: usize,
@@ -4561,7 +4336,8 @@ extern "C" {
     ///
     /// Errors: [`ROOM`]; those of [`pe_c_next_guard_entry`].
     pub fn pe_c_list_guard_entries(
-        view: *const View,
+        bytes: *const u8,
+        length: usize,
         walk: *mut GuardEntries,
         entries: *mut GuardEntry,
         number_of_entries: usize,
@@ -4877,4 +4653,412 @@ extern "C" {
         found_count: usize,
         written: *mut u64,
     ) -> u32;
+}
+
+/// Returns the next code of a record, in the order in which they are undone: the last instruction of the prolog first.
+///
+/// Errors: [`Error::SHORT`] where the walk is not inside the bytes, or a code is truncated; [`Error::UNWIND_CODE`] for
+/// an invalid code.
+///
+/// # Safety
+///
+/// As of [`pe_c_list_codes`], which it calls.
+#[rustfmt::skip]
+pub unsafe extern "C" fn pe_c_next_code(
+    bytes: *const u8,
+    length: usize,
+    walk: *mut Walk,
+    out: *mut Code,
+) -> u32 {
+    let mut written = 0;
+    let result = unsafe { pe_c_list_codes(bytes, length, walk, out, 1, &mut written) };
+    if result == DONE && written == 0 { NOTHING } else { result }
+}
+
+/// Returns the next code.
+///
+/// The walk does not stop at `PE_C_ARM64_END` and `PE_C_ARM64_END_C`, since the codes of epilogs follow; the caller
+/// stops there.
+///
+/// Errors: [`Error::SHORT`] where the walk is not inside the bytes; [`Error::ARM64_STREAM`] where its offset plus the
+/// bytes left is not a multiple of 4 or is above 4,294,967,292, as in no walk of [`pe_c_arm64_codes`];
+/// [`Error::ARM64_CUT`] for a truncated code.
+///
+/// # Safety
+///
+/// As of [`pe_c_list_arm64_codes`], which it calls.
+#[rustfmt::skip]
+pub unsafe extern "C" fn pe_c_next_arm64_code(
+    bytes: *const u8,
+    length: usize,
+    walk: *mut Arm64Walk,
+    out: *mut Arm64Code,
+) -> u32 {
+    let mut written = 0;
+    let result = unsafe { pe_c_list_arm64_codes(bytes, length, walk, out, 1, &mut written) };
+    if result == DONE && written == 0 { NOTHING } else { result }
+}
+
+/// Returns the next export.
+///
+/// Entries are skipped whose name is unmapped, not NUL-terminated or not UTF-8, or whose index is past the table of
+/// RVAs. Each name and each forwarder's text is read to its end, so texts that overlap are read once each.
+///
+/// Errors: [`Error::SHORT`] where the tables are not inside the bytes.
+///
+/// # Safety
+///
+/// As of [`pe_c_list_exports`], which it calls.
+#[rustfmt::skip]
+pub unsafe extern "C" fn pe_c_next_export(
+    view: *const View,
+    walk: *mut Exports,
+    out: *mut Export,
+) -> u32 {
+    let mut written = 0;
+    let result = unsafe { pe_c_list_exports(view, walk, core::ptr::null_mut(), 0, out, 1, &mut written) };
+    if result == DONE && written == 0 { NOTHING } else { result }
+}
+
+/// Returns the next library.
+///
+/// The directory ends at a record whose name or address table has the RVA 0. A list whose RVA is unmapped is empty.
+/// Names and lists that overlap are read once each.
+///
+/// Errors: [`Error::SHORT`] where the record is truncated; [`Error::UNMAPPED`], [`Error::IMPORT_NAME`] of the name;
+/// [`Error::SHORT`] where no zero entry ends the list.
+///
+/// # Safety
+///
+/// As of [`pe_c_list_libraries`], which it calls.
+#[rustfmt::skip]
+pub unsafe extern "C" fn pe_c_next_library(
+    view: *const View,
+    walk: *mut Libraries,
+    out: *mut Library,
+) -> u32 {
+    let mut written = 0;
+    let result = unsafe { pe_c_list_libraries(view, walk, core::ptr::null_mut(), 0, out, 1, &mut written) };
+    if result == DONE && written == 0 { NOTHING } else { result }
+}
+
+/// Returns the next import of a library.
+///
+/// Errors: [`Error::SHORT`] where the walk is not inside the bytes, or its last entry is truncated; [`Error::UNMAPPED`]
+/// of the RVA in the entry; [`Error::SHORT`] of the hint there; [`Error::IMPORT_NAME`] of the name.
+///
+/// # Safety
+///
+/// As of [`pe_c_list_imports`], which it calls.
+#[rustfmt::skip]
+pub unsafe extern "C" fn pe_c_next_import(
+    view: *const View,
+    walk: *mut Imports,
+    out: *mut Import,
+) -> u32 {
+    let mut written = 0;
+    let result = unsafe { pe_c_list_imports(view, walk, core::ptr::null_mut(), 0, out, 1, &mut written) };
+    if result == DONE && written == 0 { NOTHING } else { result }
+}
+
+/// Returns the next DLL.
+///
+/// The directory ends with its bytes, or at an entry without the address of a name.
+///
+/// Errors: [`Error::SHORT`] of the entry; [`Error::DIRECTORY_VA_BELOW_BASE`], [`Error::UNMAPPED`],
+/// [`Error::DIRECTORY_DELAY_IMPORT_NAME`] of the name; [`Error::DIRECTORY_VA_BELOW_BASE`], [`Error::UNMAPPED`] of the
+/// table of functions.
+///
+/// # Safety
+///
+/// As of [`pe_c_list_delay_imports`], which it calls.
+#[rustfmt::skip]
+pub unsafe extern "C" fn pe_c_next_delay_import(
+    view: *const View,
+    walk: *mut Range,
+    out: *mut DelayImport,
+) -> u32 {
+    let mut written = 0;
+    let result = unsafe { pe_c_list_delay_imports(view, walk, core::ptr::null_mut(), 0, out, 1, &mut written) };
+    if result == DONE && written == 0 { NOTHING } else { result }
+}
+
+/// Returns the next function of a DLL.
+///
+/// Errors: [`Error::SHORT`] where the bytes end before the table does; of an import by name
+/// [`Error::DIRECTORY_VA_BELOW_BASE`], [`Error::UNMAPPED`] of its address, [`Error::SHORT`] of the hint there,
+/// [`Error::DIRECTORY_DELAY_IMPORT_NAME`].
+///
+/// # Safety
+///
+/// As of [`pe_c_list_delayed_functions`], which it calls.
+#[rustfmt::skip]
+pub unsafe extern "C" fn pe_c_next_delayed_function(
+    view: *const View,
+    walk: *mut DelayedFunctions,
+    out: *mut DelayedFunction,
+) -> u32 {
+    let mut written = 0;
+    let result = unsafe { pe_c_list_delayed_functions(view, walk, core::ptr::null_mut(), 0, out, 1, &mut written) };
+    if result == DONE && written == 0 { NOTHING } else { result }
+}
+
+/// Returns the next DLL.
+///
+/// The walk starts as a copy of the table. The list ends with the table, or at an entry without a name.
+///
+/// Errors: [`Error::SHORT`] of the entry and its forwarders; [`Error::SHORT`] where the table is not inside the bytes;
+/// [`Error::DIRECTORY_BOUND_IMPORT_NAME`].
+///
+/// # Safety
+///
+/// As of [`pe_c_list_bound_imports`], which it calls.
+#[rustfmt::skip]
+pub unsafe extern "C" fn pe_c_next_bound_import(
+    bytes: *const u8,
+    length: usize,
+    table: *const Range,
+    walk: *mut Range,
+    out: *mut BoundImport,
+) -> u32 {
+    let mut written = 0;
+    let result = unsafe { pe_c_list_bound_imports(bytes, length, table, walk, core::ptr::null_mut(), 0, out, 1, &mut written) };
+    if result == DONE && written == 0 { NOTHING } else { result }
+}
+
+/// Returns the next DLL that a DLL forwards to.
+///
+/// The walk starts as the `forwarders` of that.
+///
+/// Errors: [`Error::SHORT`] of the entry; [`Error::SHORT`] where the table is not inside the bytes;
+/// [`Error::DIRECTORY_BOUND_IMPORT_NAME`].
+///
+/// # Safety
+///
+/// As of [`pe_c_list_bound_forwarders`], which it calls.
+#[rustfmt::skip]
+pub unsafe extern "C" fn pe_c_next_bound_forwarder(
+    bytes: *const u8,
+    length: usize,
+    table: *const Range,
+    walk: *mut Range,
+    out: *mut BoundForwarder,
+) -> u32 {
+    let mut written = 0;
+    let result = unsafe { pe_c_list_bound_forwarders(bytes, length, table, walk, core::ptr::null_mut(), 0, out, 1, &mut written) };
+    if result == DONE && written == 0 { NOTHING } else { result }
+}
+
+/// Returns the next block.
+///
+/// A walk ends with its bytes, or at a block of length 0. Unlike other walks this one may go on after an error, with
+/// the block after that which has the error; it is over where a call returns [`NOTHING`].
+///
+/// Errors: [`Error::SHORT`] where the block is truncated, which ends the walk; [`Error::RESOURCE_STRING`] where its
+/// length is below 6, which ends the walk, or its key has no zero code unit in it, after which the walk goes on.
+///
+/// # Safety
+///
+/// As of [`pe_c_list_version_blocks`], which it calls.
+#[rustfmt::skip]
+pub unsafe extern "C" fn pe_c_next_version_block(
+    bytes: *const u8,
+    length: usize,
+    walk: *mut Range,
+    out: *mut VersionBlock,
+) -> u32 {
+    let mut written = 0;
+    let result = unsafe { pe_c_list_version_blocks(bytes, length, walk, out, 1, &mut written) };
+    if result == DONE && written == 0 { NOTHING } else { result }
+}
+
+/// Returns the next leaf.
+///
+/// A content that is not in the file is no error of its leaf.
+///
+/// Errors: [`Error::SHORT`] where the walk is not inside the bytes, or its entries are not inside its tree; of the
+/// entry of a type or a name [`Error::TREE_NOT_DIRECTORY`], [`Error::SHORT`] of its directory and of the entries there,
+/// [`Error::TREE_NO_ENTRIES`]; of the entry of a language [`Error::TREE_NOT_DATA`], [`Error::SHORT`] of its data entry;
+/// [`Error::SHORT`] of a name.
+///
+/// # Safety
+///
+/// As of [`pe_c_list_resource_leaves`], which it calls.
+#[rustfmt::skip]
+pub unsafe extern "C" fn pe_c_next_resource_leaf(
+    view: *const View,
+    walk: *mut ResourceWalk,
+    out: *mut ResourceLeaf,
+) -> u32 {
+    let mut written = 0;
+    let result = unsafe { pe_c_list_resource_leaves(view, walk, out, 1, &mut written) };
+    if result == DONE && written == 0 { NOTHING } else { result }
+}
+
+/// Returns the next block.
+///
+/// [`NOTHING`] also where a block of zeros, page and size, ends the list.
+///
+/// Errors: [`Error::SHORT`] of the header; [`Error::DIRECTORY_BLOCK_SIZE`]; [`Error::DIRECTORY_BLOCK_TRUNCATED`].
+///
+/// # Safety
+///
+/// As of [`pe_c_list_relocation_blocks`], which it calls.
+#[rustfmt::skip]
+pub unsafe extern "C" fn pe_c_next_relocation_block(
+    bytes: *const u8,
+    length: usize,
+    walk: *mut Range,
+    out: *mut RelocationBlock,
+) -> u32 {
+    let mut written = 0;
+    let result = unsafe { pe_c_list_relocation_blocks(bytes, length, walk, out, 1, &mut written) };
+    if result == DONE && written == 0 { NOTHING } else { result }
+}
+
+/// Returns the next relocation of a block.
+///
+/// `page_rva` is that of the block, and the walk starts as its entries. Those of kind `IMAGE_REL_BASED_ABSOLUTE` (0),
+/// which fill up a block, are returned too.
+///
+/// Errors: [`Error::SHORT`] of the entry; [`Error::DIRECTORY_NO_ARGUMENT`].
+///
+/// # Safety
+///
+/// As of [`pe_c_list_relocations`], which it calls.
+#[rustfmt::skip]
+pub unsafe extern "C" fn pe_c_next_relocation(
+    bytes: *const u8,
+    length: usize,
+    page_rva: u32,
+    walk: *mut Range,
+    out: *mut Relocation,
+) -> u32 {
+    let mut written = 0;
+    let result = unsafe { pe_c_list_relocations(bytes, length, page_rva, walk, out, 1, &mut written) };
+    if result == DONE && written == 0 { NOTHING } else { result }
+}
+
+/// Returns the next entry of a table.
+///
+/// Error: [`Error::SHORT`] where the bytes end before the table does, or the walk is not inside them.
+///
+/// # Safety
+///
+/// As of [`pe_c_list_guard_entries`], which it calls.
+#[rustfmt::skip]
+pub unsafe extern "C" fn pe_c_next_guard_entry(
+    bytes: *const u8,
+    length: usize,
+    walk: *mut GuardEntries,
+    out: *mut GuardEntry,
+) -> u32 {
+    let mut written = 0;
+    let result = unsafe { pe_c_list_guard_entries(bytes, length, walk, out, 1, &mut written) };
+    if result == DONE && written == 0 { NOTHING } else { result }
+}
+
+/// Returns the next entry of a POGO record.
+///
+/// Errors: [`Error::SHORT`] where the walk is not inside the bytes, or fewer than 8 bytes are left;
+/// [`Error::POGO_NAME`] where the name is not NUL-terminated, or its padding to a multiple of 4 bytes is truncated.
+///
+/// # Safety
+///
+/// As of [`pe_c_list_pogo_entries`], which it calls.
+#[rustfmt::skip]
+pub unsafe extern "C" fn pe_c_next_pogo_entry(
+    bytes: *const u8,
+    length: usize,
+    walk: *mut Range,
+    out: *mut PogoEntry,
+) -> u32 {
+    let mut written = 0;
+    let result = unsafe { pe_c_list_pogo_entries(bytes, length, walk, out, 1, &mut written) };
+    if result == DONE && written == 0 { NOTHING } else { result }
+}
+
+/// Returns the function with an index, from 0.
+///
+/// Errors: [`Error::SHORT`] where the table is not inside the bytes; [`Error::FUNCTION_INDEX`] where it has no such
+/// entry.
+///
+/// # Safety
+///
+/// As of [`pe_c_list_functions`], which it calls.
+#[rustfmt::skip]
+pub unsafe extern "C" fn pe_c_function_at(
+    bytes: *const u8,
+    length: usize,
+    table: *const Range,
+    mut index: u64,
+    out: *mut Function,
+) -> u32 {
+    let mut written = 0;
+    let result = unsafe { pe_c_list_functions(bytes, length, table, &mut index, out, 1, &mut written) };
+    if result == DONE && written == 0 { crate::Error::FUNCTION_INDEX.number() } else { result }
+}
+
+/// Returns the function with an index, from 0.
+///
+/// Errors: [`Error::SHORT`] where the table is not inside the bytes; [`Error::FUNCTION_INDEX`] where it has no such
+/// entry.
+///
+/// # Safety
+///
+/// As of [`pe_c_list_arm64_functions`], which it calls.
+#[rustfmt::skip]
+pub unsafe extern "C" fn pe_c_arm64_function_at(
+    bytes: *const u8,
+    length: usize,
+    table: *const Range,
+    mut index: u64,
+    out: *mut Arm64Function,
+) -> u32 {
+    let mut written = 0;
+    let result = unsafe { pe_c_list_arm64_functions(bytes, length, table, &mut index, out, 1, &mut written) };
+    if result == DONE && written == 0 { crate::Error::FUNCTION_INDEX.number() } else { result }
+}
+
+/// Returns the export with an index, from 0.
+///
+/// [`NOTHING`] where the table has no such entry.
+///
+/// Errors: [`Error::SHORT`] where the table is not inside the bytes.
+///
+/// # Safety
+///
+/// As of [`pe_c_list_export_addresses`], which it calls.
+#[rustfmt::skip]
+pub unsafe extern "C" fn pe_c_export_at(
+    view: *const View,
+    table: *const AddressTable,
+    mut index: u64,
+    out: *mut Exported,
+) -> u32 {
+    let mut written = 0;
+    let result = unsafe { pe_c_list_export_addresses(view, table, &mut index, core::ptr::null_mut(), 0, out, 1, &mut written) };
+    if result == DONE && written == 0 { NOTHING } else { result }
+}
+
+/// Reads the symbol in an entry of a symbol table.
+///
+/// [`NOTHING`] past the last entry. Auxiliary records have entries of their own, and nothing in these says that they
+/// are no symbols.
+///
+/// Error: [`Error::SHORT`] where the table is not inside the bytes.
+///
+/// # Safety
+///
+/// As of [`pe_c_next_symbol`], which it calls.
+#[rustfmt::skip]
+pub unsafe extern "C" fn pe_c_symbol(
+    bytes: *const u8,
+    length: usize,
+    table: *const Range,
+    index: u64,
+    out: *mut SymbolEntry,
+) -> u32 {
+    let mut walk = SymbolWalk { table: unsafe { *table }, next: index };
+    unsafe { pe_c_next_symbol(bytes, length, &mut walk, out) }
 }

@@ -169,29 +169,12 @@ pub(crate) fn most_names(bytes: &[u8]) -> usize {
 /// A call that writes items to an array, and moves a walk past them.
 pub(crate) type Listing<W, T> = unsafe extern "C" fn(*const View, *mut W, *mut T, usize, *mut u64) -> u32;
 
+/// The same over bytes.
+type ListingOfBytes<W, T> = unsafe extern "C" fn(*const u8, usize, *mut W, *mut T, usize, *mut u64) -> u32;
+
 /// The same of items whose names are read together, with runs for these.
 pub(crate) type Together<W, T> =
     unsafe extern "C" fn(*const View, *mut W, *mut Run, usize, *mut T, usize, *mut u64) -> u32;
-
-/// What a walk is over, which calls take as a view.
-pub(crate) trait Source {
-    /// Makes a call that takes it.
-    fn with_view(&self, call: impl FnOnce(&View) -> u32) -> u32;
-}
-
-impl Source for &Image<'_> {
-    fn with_view(&self, call: impl FnOnce(&View) -> u32) -> u32 {
-        call(&self.view())
-    }
-}
-
-/// Bytes by themselves, for calls that read nothing else of a view.
-impl Source for &[u8] {
-    fn with_view(&self, call: impl FnOnce(&View) -> u32) -> u32 {
-        let image = sys::ImageInfo::default();
-        call(&View::of(self, &image, &[], &[]))
-    }
-}
 
 /// A walk over an image that takes several items a call.
 pub(crate) type ImageList<'i, 'a, W, T> = List<&'i Image<'a>, W, T>;
@@ -225,7 +208,7 @@ impl<S, W: fmt::Debug, T> fmt::Debug for List<S, W, T> {
     }
 }
 
-impl<S: Source + Copy, W: Copy, T: Copy + Default> List<S, W, T> {
+impl<S: Copy, W: Copy, T: Copy + Default> List<S, W, T> {
     pub fn new(source: S, walk: W) -> Self {
         List {
             source,
@@ -259,9 +242,9 @@ impl<S: Source + Copy, W: Copy, T: Copy + Default> List<S, W, T> {
     }
 
     /// Makes a call, and keeps how many items it wrote. Returns the error of the walk, if it is one.
-    fn fill(&mut self, call: impl FnOnce(&View, &mut Self, &mut u64) -> u32) -> Option<Error> {
+    fn fill(&mut self, call: impl FnOnce(S, &mut Self, &mut u64) -> u32) -> Option<Error> {
         let (before, source, mut written) = (self.walk, self.source, 0);
-        let number = source.with_view(|view| call(view, self, &mut written));
+        let number = call(source, self, &mut written);
         let count = returned(number, written).map(|count| count.unwrap_or(0) as usize);
         // An error is that of the first step of its call.
         self.refused = count.is_err().then_some(before);
@@ -277,21 +260,14 @@ impl<S: Source + Copy, W: Copy, T: Copy + Default> List<S, W, T> {
         Some(Ok(if self.many.is_empty() { self.items[i] } else { self.many[i] }))
     }
 
-    /// The next item.
-    pub fn step(&mut self, call: Listing<W, T>) -> Option<Result<T, Error>> {
-        // SAFETY: as in `look`; the view, the walk and `written` are lent for the call, the array has so many items, and none overlaps
-        // another.
-        self.step_of_few(|view, walk, items, written| unsafe { call(view, walk, items.as_mut_ptr(), ROOM, written) })
-    }
-
     /// The next item, by a call that writes a few.
     pub fn step_of_few(
         &mut self,
-        call: impl FnOnce(&View, &mut W, &mut [T; ROOM], &mut u64) -> u32,
+        call: impl FnOnce(S, &mut W, &mut [T; ROOM], &mut u64) -> u32,
     ) -> Option<Result<T, Error>> {
         if self.left.is_empty() && !self.is_over {
             self.many.clear();
-            let refused = self.fill(|view, list, written| call(view, &mut list.walk, &mut list.items, written));
+            let refused = self.fill(|source, list, written| call(source, &mut list.walk, &mut list.items, written));
             if let Some(error) = refused {
                 return Some(Err(error));
             }
@@ -300,7 +276,15 @@ impl<S: Source + Copy, W: Copy, T: Copy + Default> List<S, W, T> {
     }
 }
 
-impl<W: Copy, T> BytesList<'_, W, T> {
+impl<W: Copy, T: Copy + Default> BytesList<'_, W, T> {
+    /// The next item.
+    pub fn step(&mut self, call: ListingOfBytes<W, T>) -> Option<Result<T, Error>> {
+        // SAFETY: as in `look`; the walk and `written` are lent for the call, the array has so many items, and none overlaps another.
+        self.step_of_few(|bytes, walk, items, written| unsafe {
+            call(bytes.as_ptr(), bytes.len(), walk, items.as_mut_ptr(), ROOM, written)
+        })
+    }
+
     /// Why the step that returned an error did, by the call that says so of such a step.
     pub fn failure(&self, call: Ask<W, sys::Failure>) -> Option<Failure> {
         found(ask_of_bytes(self.source, call, self.refused.as_ref()?))
@@ -308,6 +292,12 @@ impl<W: Copy, T> BytesList<'_, W, T> {
 }
 
 impl<W: Copy, T: Copy + Default> ImageList<'_, '_, W, T> {
+    /// The next item.
+    pub fn step(&mut self, call: Listing<W, T>) -> Option<Result<T, Error>> {
+        // SAFETY: as of bytes, and of the view.
+        self.step_of_few(|image, walk, items, written| unsafe { call(&image.view(), walk, items.as_mut_ptr(), ROOM, written) })
+    }
+
     /// Why the step that returned an error did, by the call that says so of such a step.
     pub fn failure(&self, call: CallWith<*const W, sys::Failure>) -> Option<Failure> {
         found(self.source.ask_of(call, self.refused.as_ref()?))
@@ -342,8 +332,8 @@ impl<W: Copy, T: Copy + Default> ImageList<'_, '_, W, T> {
     /// The next item, by a call that reads each name by itself.
     fn step_alone(&mut self, call: Together<W, T>) -> Option<Result<T, Error>> {
         // SAFETY: as in `step`; there need be no room for no runs.
-        self.step_of_few(|view, walk, items, written| unsafe {
-            call(view, walk, core::ptr::null_mut(), 0, items.as_mut_ptr(), ROOM, written)
+        self.step_of_few(|image, walk, items, written| unsafe {
+            call(&image.view(), walk, core::ptr::null_mut(), 0, items.as_mut_ptr(), ROOM, written)
         })
     }
 
@@ -352,8 +342,8 @@ impl<W: Copy, T: Copy + Default> ImageList<'_, '_, W, T> {
         let (mut room, many) = (room_for(runs, Run::default()).ok()?, room_for(most, T::default()).ok()?);
         self.many = many;
         // SAFETY: as above, and of the runs.
-        let refused = self.fill(|view, list, written| unsafe {
-            call(view, &mut list.walk, room.as_mut_ptr(), room.len(), list.many.as_mut_ptr(), most, written)
+        let refused = self.fill(|image, list, written| unsafe {
+            call(&image.view(), &mut list.walk, room.as_mut_ptr(), room.len(), list.many.as_mut_ptr(), most, written)
         });
         Some(refused.map(Err).or_else(|| self.first_left()))
     }

@@ -365,9 +365,10 @@ impl Iterator for FunctionEntries<'_, '_> {
 
     fn next(&mut self) -> Option<Function> {
         let table = &self.table;
-        // SAFETY: the view, the table and the numbers are lent for the call, the array has so many items, and none overlaps another.
-        let found = self.list.step_of_few(|view, next, items, written| unsafe {
-            sys::pe_c_list_functions(view, table, next, items.as_mut_ptr(), items.len(), written)
+        // SAFETY: the bytes, the table and the numbers are lent for the call, the array has so many items, and none overlaps another.
+        let found = self.list.step_of_few(|image, next, items, written| unsafe {
+            let (bytes, length) = (image.bytes().as_ptr(), image.bytes().len());
+            sys::pe_c_list_functions(bytes, length, table, next, items.as_mut_ptr(), items.len(), written)
         })?;
         self.left = self.left.saturating_sub(1);
         found.ok()

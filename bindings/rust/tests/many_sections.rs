@@ -101,6 +101,18 @@ fn items<W, T: Default>(mut walk: W, step: impl Fn(&mut W, &mut T) -> u32) -> Ve
     }
 }
 
+/// What the lists of a walk write.
+fn listed<W, T: Default + Clone>(mut walk: W, list: impl Fn(&mut W, &mut [T], &mut u64) -> u32) -> Vec<T> {
+    let (mut found, mut part) = (Vec::new(), vec![T::default(); 4096]);
+    loop {
+        let mut written = 0;
+        if list(&mut walk, &mut part, &mut written) != sys::DONE || written == 0 {
+            return found;
+        }
+        found.extend_from_slice(&part[..written as usize]);
+    }
+}
+
 /// Where a walk starts.
 fn started<T: Default>(start: unsafe extern "C" fn(*const sys::View, *mut T) -> u32, view: &sys::View) -> Option<T> {
     let mut out = T::default();
@@ -108,7 +120,7 @@ fn started<T: Default>(start: unsafe extern "C" fn(*const sys::View, *mut T) -> 
     (unsafe { start(view, &mut out) } == sys::DONE).then_some(out)
 }
 
-/// What the steps of the seven walks that keep sections return: exports, libraries and imports, DLLs and functions, leaves, records.
+/// What the seven walks return that map RVAs, by lists and a plan: exports, libraries and imports, DLLs and functions, leaves, records.
 type Items = (
     Vec<sys::Export>,
     Vec<sys::Library>,
@@ -120,39 +132,44 @@ type Items = (
 );
 
 /// The items of an image by these sections, without an index of them.
-fn items_by_steps(image: &Image, sections: &[sys::Section]) -> Items {
+fn items_of(image: &Image, sections: &[sys::Section]) -> Items {
     let view = sys::View::of(image.bytes(), image.info(), sections, &[]);
-    let kept = sys::KeptSections::default();
-    let mut all = Items::default();
+    let (mut all, none) = (Items::default(), core::ptr::null_mut());
     if let Some(exports) = started(sys::pe_c_export_tables, &view) {
         // SAFETY: the view is of slices, and both records are lent for the call; so are those below.
-        all.0 =
-            items(sys::ExportWalk { exports, kept }, |walk, out| unsafe { sys::pe_c_next_export(&view, walk, out) });
+        all.0 = listed(exports, |walk, out, written| unsafe {
+            sys::pe_c_list_exports(&view, walk, none, 0, out.as_mut_ptr(), out.len(), written)
+        });
     }
     if let Some(libraries) = started(sys::pe_c_import_libraries, &view) {
-        let walk = sys::LibraryWalk { libraries, kept };
         // SAFETY: as above.
-        all.1 = items(walk, |walk, out| unsafe { sys::pe_c_next_library(&view, walk, out) });
+        all.1 = listed(libraries, |walk, out, written| unsafe {
+            sys::pe_c_list_libraries(&view, walk, none, 0, out.as_mut_ptr(), out.len(), written)
+        });
     }
     for library in &all.1 {
-        let walk = sys::ImportWalk { imports: library.imports, kept };
         // SAFETY: as above.
-        all.2.extend(items(walk, |walk, out| unsafe { sys::pe_c_next_import(&view, walk, out) }));
+        all.2.extend(listed(library.imports, |walk, out, written| unsafe {
+            sys::pe_c_list_imports(&view, walk, none, 0, out.as_mut_ptr(), out.len(), written)
+        }));
     }
     if let Some(entries) = started(sys::pe_c_delay_imports, &view) {
-        let walk = sys::DelayImportWalk { entries, kept };
         // SAFETY: as above.
-        all.3 = items(walk, |walk, out| unsafe { sys::pe_c_next_delay_import(&view, walk, out) });
+        all.3 = listed(entries, |walk, out, written| unsafe {
+            sys::pe_c_list_delay_imports(&view, walk, none, 0, out.as_mut_ptr(), out.len(), written)
+        });
     }
     for dll in &all.3 {
-        let walk = sys::DelayedFunctionWalk { functions: dll.functions, kept };
         // SAFETY: as above.
-        all.4.extend(items(walk, |walk, out| unsafe { sys::pe_c_next_delayed_function(&view, walk, out) }));
+        all.4.extend(listed(dll.functions, |walk, out, written| unsafe {
+            sys::pe_c_list_delayed_functions(&view, walk, none, 0, out.as_mut_ptr(), out.len(), written)
+        }));
     }
     if let Some(leaves) = started(sys::pe_c_resource_leaves, &view) {
-        let walk = sys::LeafWalk { leaves, kept };
         // SAFETY: as above.
-        all.5 = items(walk, |walk, out| unsafe { sys::pe_c_next_resource_leaf(&view, walk, out) });
+        all.5 = listed(leaves, |walk, out, written| unsafe {
+            sys::pe_c_list_resource_leaves(&view, walk, out.as_mut_ptr(), out.len(), written)
+        });
     }
     let mut walk = sys::PlanWalk::default();
     if let Some(table) = started(sys::pe_c_function_table, &view) {
@@ -187,9 +204,9 @@ fn with_chained_functions() -> Vec<u8> {
     made.image()
 }
 
-/// A step whose walk keeps the section of the RVA takes no search: with one for each RVA these would take a minute.
+/// A list and a plan that keep the section of the RVA take no search: with one for each RVA these would take a minute.
 #[test]
-fn steps_under_many_sections_take_no_longer_than_under_one() {
+fn lists_and_plans_under_many_sections_take_no_longer_than_under_one() {
     let start = Instant::now();
     let mut counts = [0; 7];
     for bytes in [
@@ -204,8 +221,8 @@ fn steps_under_many_sections_take_no_longer_than_under_one() {
         let image = Image::parse(&bytes, Mode::Strict).unwrap();
         assert_eq!(image.sections().len(), 1);
         let sections = [&vec![sys::Section::default(); 65_534], image.sections()].concat();
-        let found = items_by_steps(&image, &sections);
-        assert!(found == items_by_steps(&image, image.sections()));
+        let found = items_of(&image, &sections);
+        assert!(found == items_of(&image, image.sections()));
         let own =
             [found.0.len(), found.1.len(), found.2.len(), found.3.len(), found.4.len(), found.5.len(), found.6.len()];
         for (count, more) in counts.iter_mut().zip(own) {

@@ -1,7 +1,7 @@
 -- Lists are the items that steps return.
 use Rattle.std.proofs.Common.{◌≡◌, inl, inr, ℕ, zero, suc, ◌<◌, ◌≤◌, List, [], ◌∷◌, ◌++◌, length, map, take, drop, length-drop, Option, Some, None, Result, Ok, Err, refl, sym, ap, subst, ◌∙◌, arith}
 use Rattle.std.specs.List.{flat_map}
-use Rattle.pe_c.specs.Lists.{EndAtRefusal, GiveLists, HaveRoom, Lists, Numbered, Stops, Takes, by_number, in_lists, items_after, items_in, list_of, values_first}
+use Rattle.pe_c.specs.Lists.{EndAtRefusal, GiveLists, GiveSteps, HaveRoom, Lists, Numbered, Stops, Takes, by_number, in_lists, items_after, items_in, list_of, one_of, values_first}
 use Rattle.pe_c.specs.Runs.{IsOver, ReturnsItems}
 
 module _ {W X R : Type 0} (number : R → ℕ) (Steps : W → Result (Option X) R → W → Type 0) where
@@ -156,5 +156,28 @@ module _ {W X R : Type 0} (number : R → ℕ) (Steps : W → Result (Option X) 
       let more = join ns [] tt some.1 (omega arith) in
       ap (λ (ys : List (Result X ℕ)). Err (number r) ∷ ys) (more ∙ ap (map (by_number number)) (sym e))
 
+  -- ---- a call with room for one
+
+  a_step : (xs : List X) (w u v : W) → Takes (Numbered number Steps) w xs u → Stops (Numbered number Steps) 1 xs u v → (given : Result (Option X) R) × Steps w given v × (Ok xs ≡ one_of number given)
+  a_step [] w u v t (inl full) = absurd (omega (arith, full.0))
+  a_step [] w u v t (inr (inl over)) =
+      let none = nothing_of over.1.0 over.1.2 in
+      (Ok None, subst (λ (z : W). Steps z (Ok None) v) t (subst (λ (a : Result (Option X) R). Steps u a v) none over.1.1), refl)
+  a_step [] w u v t (inr (inr left)) = absurd (omega (arith, left.0))
+  a_step (x ∷ []) w u v t (inl full) =
+      let value = value_of t.1.0 x t.1.2 in
+      (Ok (Some x), subst (λ (z : W). Steps w (Ok (Some x)) z) (sym (full.1 ∙ t.2)) (subst (λ (a : Result (Option X) R). Steps w a t.0) value t.1.1), refl)
+  a_step (x ∷ []) w u v t (inr (inl over)) = absurd (omega (arith, over.0))
+  a_step (x ∷ []) w u v t (inr (inr left)) = absurd (omega (arith, left.1))
+  a_step (x ∷ y ∷ xs) w u v t (inl full) = absurd (omega (arith, full.0))
+  a_step (x ∷ y ∷ xs) w u v t (inr (inl over)) = absurd (omega (arith, over.0))
+  a_step (x ∷ y ∷ xs) w u v t (inr (inr left)) = absurd (omega (arith, left.1))
+
+  one_step : GiveSteps number Steps
+  one_step w v (Ok xs) (u, t, s) = a_step xs w u v t s
+  one_step w v (Err e) l =
+      let refused = refusal_of l.0 e l.2 in
+      (Err refused.0, subst (λ (a : Result (Option X) R). Steps w a v) refused.1 l.1, ap (λ (n : ℕ). Err n) refused.2)
+
   pub give_lists : GiveLists number Steps
-  give_lists = (one_call, λ items e ns some le. join ns items e some le)
+  give_lists = (one_call, λ items e ns some le. join ns items e some le, one_step)

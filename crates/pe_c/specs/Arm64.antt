@@ -223,7 +223,7 @@ abbrev pub flat_arm64_item : Result Arm64UnwindCodeData Error → Result Arm64Co
 flat_arm64_item (Ok item) = Ok (flat_arm64 item.offset item.code)
 flat_arm64_item (Err e) = Err (kind_of e)
 
--- what a call for the next code returns, and the walk after it
+-- what a list with room for one code returns, and the walk after it
 abbrev pub AnswersArm64Code : List ℕ → Arm64CodeWalk → Arm64CodeWalk → ℕ → Arm64Code → Arm64Code → Type 0
 AnswersArm64Code b old_walk new_walk number old new =
     (answer : Result (Option Arm64Code) Refusal) × StepsArm64Codes b old_walk answer new_walk × HandsOutIf number old new answer

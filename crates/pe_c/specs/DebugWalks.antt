@@ -43,9 +43,9 @@ reported w None = Ok None
 reported w (Some (Ok e)) = Ok (Some (pogo_entry w e))
 reported w (Some (Err e)) = Err (kind_of e)
 
--- a step of a walk, by its result as numbers
+-- a step of a walk, by its result as numbers; the name of the entry is in its range
 abbrev pub StepsPogoEntries : List ℕ → Range → Result (Option PogoEntry) Refusal → Range → Type 0
-StepsPogoEntries b w answer new = (given : Option (Result POGOInfoEntry Error)) × StepsPogo b w given new × (answer ≡ reported w given)
+StepsPogoEntries b w answer new = (given : Option (Result POGOInfoEntry Error)) × StepsPogo b w given new × (answer ≡ reported w given) × IsNamed b w given
 
 -- the entries of a stream as a walk returns them: each takes two numbers and its name, padded to a multiple of 4
 abbrev pub entries_reported : Range → List (Result Entry Refusal) → List (Result PogoEntry Refusal)
@@ -53,8 +53,3 @@ entries_reported w [] = []
 entries_reported w (Ok e ∷ items) =
     Ok (record { name = record { offset = w.offset + 8; length = length e.name }; rva = e.rva; size = e.size }) ∷ entries_reported (range_after w (rounded_up (8 + length e.name) 4)) items
 entries_reported w (Err refusal ∷ items) = Err refusal ∷ entries_reported w items
-
--- what a call returns for a step
-abbrev pub HandsOutPogoEntry : List ℕ → Range → Range → ℕ → PogoEntry → PogoEntry → Type 0
-HandsOutPogoEntry b w walk number old new =
-    (answer : Option (Result POGOInfoEntry Error)) × StepsPogo b w answer walk × IsNamed b w answer × HandsOutIf number old new (reported w answer)

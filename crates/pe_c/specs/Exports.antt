@@ -151,7 +151,3 @@ StepsExportsIf false offset b w answer new = StepsOverExports offset b (tables_o
 -- a step: nothing at the end of the name table; `Short`, and the walk is over, where a table is not inside the bytes
 abbrev pub StepsExports : (ℕ → Option ℕ) → List ℕ → Exports → Result (Option Export) Refusal → Exports → Type 0
 StepsExports offset b w answer new = StepsExportsIf (nat_le (count_of w) w.next) offset b w answer new
-
--- what a call for the next export returns, and the walk after it
-abbrev pub HandsOutExport : (ℕ → Option ℕ) → List ℕ → Exports → Exports → ℕ → Export → Export → Type 0
-HandsOutExport offset b w walk number old new = (answer : Result (Option Export) Refusal) × StepsExports offset b w answer walk × HandsOutIf number old new answer

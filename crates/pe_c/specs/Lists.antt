@@ -118,13 +118,25 @@ HaveRoom (n ∷ ns) = (0 < n) × HaveRoom ns
 abbrev pub ListsJoin : {X R : Type 0} → (R → ℕ) → List (Result X R) → Type 0
 ListsJoin number items = (ns : List ℕ) → HaveRoom ns → length items ≤ length ns → flat_map items_in (in_lists number ns items) ≡ map (by_number number) items
 
+-- what a step returns, in a list with room for one value
+abbrev pub one_of : {X R : Type 0} → (R → ℕ) → Result (Option X) R → Result (List X) ℕ
+one_of number (Ok None) = Ok []
+one_of number (Ok (Some x)) = Ok (x ∷ [])
+one_of number (Err refusal) = Err (number refusal)
+
+-- a call with room for one value returns what a step does, and leaves the walk where the step leaves it
+abbrev pub GiveSteps : {W X R : Type 0} → (R → ℕ) → (W → Result (Option X) R → W → Type 0) → Type 0
+GiveSteps {W} {X} {R} number Steps =
+    (w v : W) (answer : Result (List X) ℕ) → Lists (Numbered number Steps) 1 w answer v → (given : Result (Option X) R) × Steps w given v × (answer ≡ one_of number given)
+
 -- list calls return what the steps return: where these return some items, a call returns the first of them, and the walk after
--- it has the others left; and calls one after the other return all of them
+-- it has the others left; calls one after the other return all of them; and a call with room for one is a step
 abbrev pub GiveLists : {W X R : Type 0} → (R → ℕ) → (W → Result (Option X) R → W → Type 0) → Type 0
 GiveLists {W} {X} {R} number Steps =
     ((n : ℕ) (w v : W) (items : List (Result X R)) (answer : Result (List X) ℕ) → 0 < n → ReturnsItems Steps w items → Lists (Numbered number Steps) n w answer v →
     (answer ≡ list_of number n items) × ReturnsItems Steps v (items_after n items))
     × ((items : List (Result X R)) → EndAtRefusal items → ListsJoin number items)
+    × GiveSteps number Steps
 
 -- ---- the loop
 

@@ -198,7 +198,7 @@ abbrev pub flat_item : Result UnwindCode Error → Result Code Refusal
 flat_item (Ok code) = Ok (flat code)
 flat_item (Err e) = Err (kind_of e)
 
--- what a call for the next code returns, and the walk after it
+-- what a list with room for one code returns, and the walk after it
 abbrev pub HandsOutCode : List ℕ → CodeWalk → CodeWalk → ℕ → Code → Code → Type 0
 HandsOutCode b old_walk new_walk number old new =
     (answer : Option (Result UnwindCode Error)) × WalksIn (bytes_at b old_walk.left) old_walk answer new_walk × HandsOutIf number old new (flat_answer answer)

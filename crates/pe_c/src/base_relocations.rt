@@ -75,24 +75,6 @@ pub fn next_block(bytes: &[u8], walk: &mut Range) -> Result<Option<RelocationBlo
     }))
 }
 
-/// Steps through the blocks: returns the next one, and moves `walk` past it. `NOTHING` where no bytes are left, and where a
-/// block of zeros, page and size, ends the list.
-///
-/// Errors, after which the walk is over: `SHORT` where `walk` is not inside the bytes, or the header of the block is truncated;
-/// `DIRECTORY_BLOCK_SIZE`; `DIRECTORY_BLOCK_TRUNCATED`.
-#[unsafe(no_mangle)]
-pub extern "C" fn pe_c_next_relocation_block(
-    bytes: &[u8],
-    walk: &mut Range,
-    out: &mut RelocationBlock,
-) -> u32
-    ensures block { DirectoryHandsOut result out.old out.new
-        (step_of (block_reported walk.old) (first_in first_block bytes.now walk.old)) }
-    ensures walk { walk.new ≡ left_after walk.old (first_in first_block bytes.now walk.old) }
-{
-    hand_out_found(next_block(bytes, walk), out)
-}
-
 /// The next relocation of a walk through the entries of a page. It is over after an error.
 pub fn next_relocation(bytes: &[u8], page_rva: u32, walk: &mut Range) -> Result<Option<Relocation>>
     ensures relocation { directory_answer (λ x. x) result
@@ -115,24 +97,4 @@ pub fn next_relocation(bytes: &[u8], page_rva: u32, walk: &mut Range) -> Result<
         kind: u32::from(relocation.kind),
         argument: u32::from(relocation.argument.unwrap_or(0)),
     }))
-}
-
-/// Steps through the relocations of a block: returns the next one, and moves `walk`, at first the `entries` of the block, past it.
-/// `page_rva` is that of the block. `NOTHING` where no bytes are left.
-///
-/// Errors, after which the walk is over: `SHORT` where `walk` is not inside the bytes, or the entry is truncated;
-/// `DIRECTORY_NO_ARGUMENT`.
-#[unsafe(no_mangle)]
-pub extern "C" fn pe_c_next_relocation(
-    bytes: &[u8],
-    page_rva: u32,
-    walk: &mut Range,
-    out: &mut Relocation,
-) -> u32
-    ensures relocation { DirectoryHandsOut result out.old out.new
-        (step_of relocation_reported (first_in (first_relocation page_rva) bytes.now walk.old)) }
-    ensures walk { walk.new
-        ≡ left_after walk.old (first_in (first_relocation page_rva) bytes.now walk.old) }
-{
-    hand_out_found(next_relocation(bytes, page_rva, walk), out)
 }

@@ -170,29 +170,6 @@ pub fn next_bound_import(
     }))
 }
 
-/// Steps through bound imports: returns the next DLL, and moves `walk`, at first a copy of `table`, past it and its forwarders.
-/// `table` is the range of the directory, from which the offsets of names count. `NOTHING` where no bytes are left, or where
-/// the next entry has no name.
-///
-/// Errors, after which the walk is over: `SHORT` where `walk` is not inside the bytes, or the entry or its forwarders are
-/// truncated, or `table` is not inside the bytes; `DIRECTORY_BOUND_IMPORT_NAME`.
-#[unsafe(no_mangle)]
-pub extern "C" fn pe_c_next_bound_import(
-    bytes: &[u8],
-    table: &Range,
-    walk: &mut Range,
-    out: &mut BoundImport,
-) -> u32
-    ensures import { DirectoryHandsOut result out.old out.new
-        (step_of (λ x. x) (first_bound bytes.now table.now walk.old)) }
-    ensures walk { walk.new ≡ left_after walk.old (first_bound bytes.now table.now walk.old) }
-{
-    hand_out_found(
-        next_bound_import(&BoundNames::alone(bytes, *table), walk),
-        out,
-    )
-}
-
 /// The next forwarder of a walk. It is over after an error.
 pub fn next_forwarder(
     names: &BoundNames<'_, '_>,
@@ -215,25 +192,6 @@ pub fn next_forwarder(
         time_date_stamp: forwarder.time_date_stamp,
         spare: 0,
     }))
-}
-
-/// Steps through the DLLs that a DLL forwards to: returns the next one, and moves `walk`, at first the `forwarders` of the DLL,
-/// past it. `table` is the range of the directory. `NOTHING` where no bytes are left.
-///
-/// Errors, after which the walk is over: `SHORT` where `walk` or `table` is not inside the bytes, or the entry is truncated;
-/// `DIRECTORY_BOUND_IMPORT_NAME`.
-#[unsafe(no_mangle)]
-pub extern "C" fn pe_c_next_bound_forwarder(
-    bytes: &[u8],
-    table: &Range,
-    walk: &mut Range,
-    out: &mut BoundForwarder,
-) -> u32
-    ensures forwarder { DirectoryHandsOut result out.old out.new
-        (next_forwarder bytes.now table.now walk.old) }
-    ensures walk { walk.new ≡ after_forwarder bytes.now table.now walk.old }
-{
-    hand_out_found(next_forwarder(&BoundNames::alone(bytes, *table), walk), out)
 }
 
 /// Writes the offsets of the names of the next DLLs, from the start of the directory, to a room, as starts, of as many as it has room

@@ -211,17 +211,6 @@ pub fn symbol_at(bytes: &[u8], table: &Range, index: u64) -> Result<Option<Symbo
     Ok(Some(symbol_with(table, rows as u64, index, &symbol)))
 }
 
-/// Reads the symbol in an entry of a symbol table: `NOTHING` past the last entry. Auxiliary records have entries of their
-/// own, and nothing in these says that they are none of symbols: `pe_c_next_symbol` skips them.
-///
-/// Error: `SHORT` where the table is not inside the bytes.
-#[unsafe(no_mangle)]
-pub extern "C" fn pe_c_symbol(bytes: &[u8], table: &Range, index: u64, out: &mut Symbol) -> u32
-    ensures { HandsOutIf result out.old out.new (symbol_at bytes.now table.now index) }
-{
-    hand_out_some(symbol_at(bytes, table, index), out)
-}
-
 fn next_symbol(bytes: &[u8], walk: &mut SymbolWalk) -> Result<Option<Symbol>>
     ensures symbol { answer_of result ≡ symbol_at bytes.now walk.old.table walk.old.next }
     ensures walk { walk.new

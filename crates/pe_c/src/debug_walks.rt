@@ -6,11 +6,11 @@ ghost use Rattle.std.specs.Prelude.{◌≡◌, ◌+◌, ◌≤◌, ◌^◌, leng
 ghost use Rattle.pe_core.specs.Refusals.{answer_of};
 ghost use Rattle.pe_records.specs.DebugDirectory.{debug_entry_at};
 ghost use Rattle.pe_c.specs.HandsOut.{HandsOutIf};
-ghost use Rattle.pe_c.specs.DebugWalks.{HandsOutPogoEntry, IsNamed, StepsPogo, StepsPogoEntries, StepsOverPogo, pogo_entry};
+ghost use Rattle.pe_c.specs.DebugWalks.{IsNamed, StepsPogo, StepsPogoEntries, StepsOverPogo, pogo_entry};
 ghost use Rattle.pe_c.specs.Walks.{next_of, walk_of};
 
 use crate::ranges::{NO_BYTES, Range, slice_of};
-use crate::results::{DONE, NOTHING, hand_out_some, number_of};
+use crate::results::hand_out_some;
 use crate::walks::next_entry;
 use pe_core::{Result, rounded_up};
 use pe_records::{
@@ -114,24 +114,5 @@ pub fn next_pogo_reported(bytes: &[u8], walk: &mut Range) -> Result<Option<PogoE
         Some(Ok(entry)) => Ok(Some(pogo_entry(&here, &entry))),
         None => Ok(None),
         Some(Err(error)) => Err(error),
-    }
-}
-
-/// Reads the next entry of a POGO record: `NOTHING` at the end of the walk.
-///
-/// Errors: `SHORT` where the walk is not inside the bytes, or too few are left for an entry; `POGO_NAME` where the name
-/// is not NUL-terminated, or its padding is truncated. After an error the walk is over.
-#[unsafe(no_mangle)]
-pub extern "C" fn pe_c_next_pogo_entry(bytes: &[u8], walk: &mut Range, out: &mut PogoEntry) -> u32
-    ensures { HandsOutPogoEntry bytes.now walk.old walk.new result out.old out.new }
-{
-    let here = *walk;
-    match next_pogo_entry(bytes, walk) {
-        Some(Ok(entry)) => {
-            *out = pogo_entry(&here, &entry);
-            DONE
-        }
-        None => NOTHING,
-        Some(Err(error)) => number_of(&error),
     }
 }

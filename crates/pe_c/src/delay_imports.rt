@@ -6,10 +6,10 @@
 ghost use Rattle.std.specs.Prelude.{◌≡◌, ◌≤◌, length};
 ghost use Rattle.pe_directories.specs.DelayImports.{ordinal_flag};
 ghost use Rattle.pe_directories.specs.DirectoryRefusals.{directory_answer};
-ghost use Rattle.pe_c.specs.DelayImports.{address_in, address_offset, library_of, dll_range, first_library_in, first_function_in, first_of_walk, function_of, functions_after, functions_of, name_range, named_at, ordinal_in, rva_of};
+ghost use Rattle.pe_c.specs.DelayImports.{address_in, address_offset, library_of, dll_range, first_library_in, first_function_in, function_of, functions_of, name_range, named_at, ordinal_in, rva_of};
 ghost use Rattle.pe_c.specs.Directories.{DirectoryHandsOut, left_after, step_of, table_at};
 ghost use Rattle.pe_c.specs.NearMaps.{IsWindow};
-ghost use Rattle.pe_c.specs.KeptSections.{ChangeNothing, KeepsOn, map_kept};
+ghost use Rattle.pe_c.specs.KeptSections.{ChangeNothing, map_kept};
 ghost use Rattle.pe_c.specs.Views.{directory_sections, map_of};
 
 use crate::directories::{Result, range_left, table_at};
@@ -40,33 +40,13 @@ pub struct DelayedFunctions {
     pub spare: u32,
 }
 
-/// A walk over the DLLs of the delay import directory step by step.
-#[repr(C)]
-#[derive(Clone, Copy)]
-pub struct DelayWalk {
-    /// The entries that are left.
-    pub entries: Range,
-    /// The sections of its last RVAs.
-    pub kept: KeptSections,
-}
-
-/// A walk over what is imported of a DLL step by step.
-#[repr(C)]
-#[derive(Clone, Copy)]
-pub struct DelayedFunctionWalk {
-    /// Where it stands.
-    pub functions: DelayedFunctions,
-    /// The sections of its last RVAs.
-    pub kept: KeptSections,
-}
-
 /// A DLL that is loaded when one of its functions is called first.
 #[repr(C)]
 #[derive(Clone, Copy)]
 pub struct DelayLibrary {
     /// The DLL's name: UTF-8, without its final zero.
     pub name: Range,
-    /// Where a walk over what is imported of it starts, for `DelayedFunctionWalk`.
+    /// Where a walk over what is imported of it starts, for `pe_c_list_delayed_functions`.
     pub functions: DelayedFunctions,
     /// The entry of the directory.
     pub descriptor: DelayImport,
@@ -299,33 +279,6 @@ pub fn next_library_kept(
     next_library(names, kept, walk)
 }
 
-/// Steps through the DLLs of the delay import directory: returns the next one, and moves `walk` past it. `NOTHING` where no
-/// bytes are left, or where the next entry has no name: then `walk` stays. Strict and permissive mode make no difference.
-///
-/// Errors, after which the walk is over: `SHORT` where `walk` is not inside the bytes, or the entry is truncated;
-/// `DIRECTORY_VA_BELOW_BASE`, `UNMAPPED`, `DIRECTORY_DELAY_IMPORT_NAME` of the name; `DIRECTORY_VA_BELOW_BASE`, `UNMAPPED`
-/// of the table of what is imported.
-#[unsafe(no_mangle)]
-pub extern "C" fn pe_c_next_delay_import(
-    view: &View,
-    walk: &mut DelayWalk,
-    out: &mut DelayLibrary,
-) -> u32
-    ensures library { DirectoryHandsOut result out.old out.new (step_of (λ x. x)
-        (first_library_in (map_kept view.now walk.old.kept)
-        view.now.bytes.now view.now.image.now walk.old.entries)) }
-    ensures entries { walk.new.entries ≡ left_after walk.old.entries
-        (first_library_in (map_kept view.now walk.old.kept)
-        view.now.bytes.now view.now.image.now walk.old.entries) }
-    ensures kept { KeepsOn view.now result walk.old.kept walk.new.kept }
-{
-    let given = next_library(&NamedView::alone(view), walk.kept, &mut walk.entries);
-    if let Ok(Some(library)) = &given {
-        walk.kept = kept_after_library(view, walk.kept, &library.descriptor);
-    }
-    hand_out_found(given, out)
-}
-
 /// The least number of a table that is an ordinal: its highest bit is set.
 fn ordinal_flag(is_64: bool) -> u64
     ensures { result ≡ ordinal_flag is_64 }
@@ -502,38 +455,4 @@ pub fn next_function_kept(
         names.now.view.now.bytes.now names.now.view.now.image.now attributes left.old) }
 {
     next_function(names, kept, attributes, left)
-}
-
-/// Steps through what is imported of a DLL: returns the next function, and moves `walk` past it. `NOTHING` where the table
-/// ends: then `walk` stays. Strict and permissive mode make no difference.
-///
-/// Errors, after which the walk is over: `SHORT` where the bytes end before the table does, or where `walk` is not inside the
-/// bytes; of an import by name `DIRECTORY_VA_BELOW_BASE`, `UNMAPPED` of its address, `SHORT` of the hint there,
-/// `DIRECTORY_DELAY_IMPORT_NAME`.
-#[unsafe(no_mangle)]
-pub extern "C" fn pe_c_next_delayed_function(
-    view: &View,
-    walk: &mut DelayedFunctionWalk,
-    out: &mut DelayedFunction,
-) -> u32
-    ensures function { DirectoryHandsOut result out.old out.new (step_of (λ x. x)
-        (first_of_walk (map_kept view.now walk.old.kept)
-        view.now.bytes.now view.now.image.now walk.old.functions)) }
-    ensures functions { walk.new.functions ≡ functions_after walk.old.functions
-        (first_of_walk (map_kept view.now walk.old.kept)
-        view.now.bytes.now view.now.image.now walk.old.functions) }
-    ensures kept { KeepsOn view.now result walk.old.kept walk.new.kept }
-{
-    let before = walk.functions;
-    let names = NamedView::alone(view);
-    let given = next_function(
-        &names,
-        walk.kept,
-        before.attributes,
-        &mut walk.functions.left,
-    );
-    if let Ok(Some(function)) = &given {
-        walk.kept = kept_after_function(view, walk.kept, &before, function);
-    }
-    hand_out_found(given, out)
 }

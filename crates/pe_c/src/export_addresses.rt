@@ -185,20 +185,3 @@ pub fn exported_at(
     let addresses = addresses_in(table, addresses);
     Ok(exported_in(names, &NO_WINDOW, &addresses, index))
 }
-
-/// Reads the entry with an index, from 0: `NOTHING` where the table has no such entry. Strict and permissive mode make no
-/// difference.
-///
-/// Errors: `SHORT` where the table is not inside the bytes.
-#[unsafe(no_mangle)]
-pub extern "C" fn pe_c_export_at(
-    view: &View,
-    table: &AddressTable,
-    index: u64,
-    out: &mut Exported,
-) -> u32
-    ensures { HandsOutIf result out.old out.new
-        (exported_at (map_of view.now) view.now.bytes.now table.now index) }
-{
-    hand_out_some(exported_at(&NamedView::alone(view), table, index), out)
-}

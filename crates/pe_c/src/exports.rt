@@ -4,23 +4,21 @@
 //! all of them by their index.
 //! https://learn.microsoft.com/windows/win32/debug/pe-format#the-edata-section-image-only
 
-ghost use Rattle.std.specs.Prelude.{◌≡◌, ◌+◌, ◌*◌, ◌/◌, ◌≤◌, length, None, if◌then◌else◌};
+ghost use Rattle.std.specs.Prelude.{◌≡◌, ◌*◌, None, if◌then◌else◌};
 ghost use Rattle.pe_core.specs.Exports.{export_data_at, export_data_view};
 ghost use Rattle.pe_core.specs.Refusals.{ReturnsAs, answer_of};
 ghost use Rattle.pe_c.specs.HandsOut.{HandsOutIf};
 ghost use Rattle.pe_c.specs.Images.{export_directory};
-ghost use Rattle.pe_c.specs.Exports.{HandsOutExport, FindsNext, StepsExports, export_table, tables_at, tables_or_short, reported_entry, text_from, view_of, walk_over};
-ghost use Rattle.pe_c.specs.KeptSections.{ChangeNothing, KeepsOn, map_kept};
+ghost use Rattle.pe_c.specs.Exports.{export_table, tables_at, tables_or_short, text_from, view_of, walk_over};
 ghost use Rattle.pe_c.specs.Ranges.{or_no_bytes};
 ghost use Rattle.pe_c.specs.Views.{map_of};
 
 use crate::image::{EXPORT_TABLE, directory, is_absent};
-use crate::kept_sections::{KeptSections, keeps_sections, kept_after, map_kept};
 use crate::named_view::NamedView;
 use crate::ranges::{NO_BYTES, Range, range_from, slice_of};
 use crate::results::hand_out_some;
 use crate::view::{View, map_by};
-use pe_core::{DataDirectory, ExportData, Result, lies_in, read_u32, u16_at, u32_at};
+use pe_core::{DataDirectory, ExportData, Result};
 
 /// Where a walk over the exports of an image stands: the tables of its export directory, and the index of the next name.
 #[repr(C)]
@@ -36,16 +34,6 @@ pub struct Exports {
     pub next: u64,
     /// The export directory: an RVA inside it is that of a forwarder's text.
     pub directory: DataDirectory,
-}
-
-/// A walk over exports step by step.
-#[repr(C)]
-#[derive(Clone, Copy)]
-pub struct ExportWalk {
-    /// Where it stands.
-    pub exports: Exports,
-    /// The sections of its last RVAs.
-    pub kept: KeptSections,
 }
 
 /// An export that has a name.
@@ -160,60 +148,6 @@ pub fn forwarder_if(is_forwarder: bool, names: &NamedView<'_>, offset: Option<us
     }
 }
 
-/// The export of entry `i` of the name table, if its name is mapped and is text, and its ordinal is in the address
-/// table. Which are forwarders depends on the export directory.
-fn reported_entry(
-    names: &NamedView<'_>,
-    kept: KeptSections,
-    tables: &Tables<'_>,
-    directory: DataDirectory,
-    i: usize,
-) -> Option<Export>
-    requires { 4 * i + 4 ≤ length tables.now.names.now }
-    ensures { result ≡ reported_entry (map_kept names.now.view.now kept)
-        names.now.view.now.bytes.now directory (view_of tables.now) i }
-{
-    let name_rva = read_u32(tables.names, 4 * i);
-    let offset = map_kept(names.view, kept, u64::from(name_rva))?;
-    let name = names.text_at(offset)?;
-    let ordinal = u16_at(tables.ordinals, 2 * i).ok()?;
-    let rva = u32_at(tables.addresses, 4 * usize::from(ordinal)).ok()?;
-    let exported = map_kept(names.view, kept, u64::from(rva));
-    let is_forwarder = lies_in(directory, rva);
-    Some(Export {
-        name: Range {
-            offset: offset as u64,
-            length: name.len() as u64,
-        },
-        forwarder: forwarder_if(is_forwarder, names, exported),
-        offset: exported.unwrap_or(0) as u64,
-        rva,
-        has_offset: u32::from(exported.is_some()),
-        index: u32::from(ordinal),
-        is_forwarder: u32::from(is_forwarder),
-    })
-}
-
-/// The first entry of the name table, from `from` on, that has an export, and the index after it.
-fn find_next(
-    names: &NamedView<'_>,
-    kept: KeptSections,
-    tables: &Tables<'_>,
-    directory: DataDirectory,
-    from: usize,
-) -> Option<(Export, u64)>
-    ensures { FindsNext (reported_entry (map_kept names.now.view.now kept)
-        names.now.view.now.bytes.now directory (view_of tables.now))
-        from (length tables.now.names.now / 4) result }
-{
-    for i in from..tables.names.len() / 4 {
-        if let Some(export) = reported_entry(names, kept, tables, directory, i) {
-            return Some((export, i as u64 + 1));
-        }
-    }
-    None
-}
-
 /// The tables of a walk. `Short` where one is not inside the bytes.
 pub fn tables_of<'a>(bytes: &'a [u8], walk: &Exports) -> Result<Tables<'a>>
     ensures { ReturnsAs view_of result (tables_or_short bytes.entry.now walk.now) }
@@ -223,78 +157,4 @@ pub fn tables_of<'a>(bytes: &'a [u8], walk: &Exports) -> Result<Tables<'a>>
         ordinals: slice_of(bytes, &walk.ordinals)?,
         addresses: slice_of(bytes, &walk.addresses)?,
     })
-}
-
-/// One step of a walk.
-pub fn step(names: &NamedView<'_>, kept: KeptSections, walk: &mut Exports) -> Result<Option<Export>>
-    ensures { StepsExports (map_kept names.now.view.now kept)
-        names.now.view.now.bytes.now walk.old (answer_of result) walk.new }
-{
-    let count = walk.names.length / 4;
-    if count <= walk.next {
-        return Ok(None);
-    }
-    let tables = match tables_of(names.view.bytes, walk) {
-        Ok(tables) => tables,
-        Err(error) => {
-            // Without names the walk is over.
-            walk.names = NO_BYTES;
-            return Err(error);
-        }
-    };
-    match find_next(names, kept, &tables, walk.directory, walk.next as usize) {
-        Some((export, next)) => {
-            walk.next = next;
-            Ok(Some(export))
-        }
-        None => {
-            walk.next = count;
-            Ok(None)
-        }
-    }
-}
-
-/// The RVA of the name of the export before the next, if the table has it.
-fn name_rva_before(view: &View, walk: &Exports) -> Option<u32> {
-    let names = slice_of(view.bytes, &walk.names).ok()?;
-    let entry = (walk.next as usize).saturating_sub(1);
-    u32_at(names, entry.saturating_mul(4)).ok()
-}
-
-/// What a walk keeps after an export: the sections of what is exported and of its name.
-fn kept_after_export(
-    view: &View,
-    kept: KeptSections,
-    walk: &Exports,
-    export: &Export,
-) -> KeptSections
-    ensures { ChangeNothing view.now kept → ChangeNothing view.now result }
-{
-    if !keeps_sections(view) {
-        return kept;
-    }
-    let exported = kept_after(view, kept, export.rva);
-    match name_rva_before(view, walk) {
-        Some(name_rva) => kept_after(view, exported, name_rva),
-        None => exported,
-    }
-}
-
-/// Reads the next export that has a name, in the order of the name table: `NOTHING` after the last. Entries are skipped
-/// whose name is unmapped, not NUL-terminated or not UTF-8, or whose ordinal is not in the address table. Strict
-/// and permissive mode make no difference. Each name and each forwarder's text is read to its end, so texts that overlap are read
-/// once each.
-///
-/// Errors: `SHORT` where the tables are not inside the bytes. After it the walk is over.
-#[unsafe(no_mangle)]
-pub extern "C" fn pe_c_next_export(view: &View, walk: &mut ExportWalk, out: &mut Export) -> u32
-    ensures export { HandsOutExport (map_kept view.now walk.old.kept) view.now.bytes.now
-        walk.old.exports walk.new.exports result out.old out.new }
-    ensures kept { KeepsOn view.now result walk.old.kept walk.new.kept }
-{
-    let given = step(&NamedView::alone(view), walk.kept, &mut walk.exports);
-    if let Ok(Some(export)) = &given {
-        walk.kept = kept_after_export(view, walk.kept, &walk.exports, export);
-    }
-    hand_out_some(given, out)
 }

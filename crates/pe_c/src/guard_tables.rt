@@ -182,19 +182,3 @@ pub fn next_entry(bytes: &[u8], walk: &mut GuardEntries) -> Result<Option<GuardE
     };
     Ok(Some(entry_reported(&before, &entry)))
 }
-
-/// Steps through the entries of a table: returns the next one, and moves `walk` past it. `NOTHING` after the last.
-///
-/// Error: `SHORT` where the bytes end before the table does, or where `walk` is not inside the bytes: then the walk is over.
-#[unsafe(no_mangle)]
-pub extern "C" fn pe_c_next_guard_entry(
-    bytes: &[u8],
-    walk: &mut GuardEntries,
-    out: &mut GuardEntry,
-) -> u32
-    ensures entry { DirectoryHandsOut result out.old out.new
-        (step_of (entry_reported walk.old) (first_entry_in bytes.now walk.old)) }
-    ensures walk { walk.new ≡ entries_after walk.old (first_entry_in bytes.now walk.old) }
-{
-    hand_out_found(next_entry(bytes, walk), out)
-}

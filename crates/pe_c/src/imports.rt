@@ -8,26 +8,20 @@ ghost use Rattle.pe_core.specs.Imports.{entry_size, name_or_refusal};
 ghost use Rattle.pe_core.specs.Refusals.{Returns, ReturnsAs, answer_of};
 ghost use Rattle.pe_core.specs.Text.{text_at};
 ghost use Rattle.pe_c.specs.HandsOut.{HandsOutIf};
-ghost use Rattle.pe_c.specs.KeptSections.{ChangeNothing, KeepsOn, map_kept};
+ghost use Rattle.pe_c.specs.KeptSections.{ChangeNothing, map_kept};
 ghost use Rattle.pe_c.specs.NearMaps.{IsWindow};
 ghost use Rattle.pe_c.specs.Views.{map_of};
-ghost use Rattle.pe_c.specs.Imports.{import_at, import_step, libraries_at, library_at, library_of, library_step, named_reported};
+ghost use Rattle.pe_c.specs.Imports.{libraries_at, library_at, library_of, library_step};
 
 use crate::image::{IMPORT_TABLE, directory, is_absent};
-use crate::kept_sections::{
-    KeptSections, NO_SECTIONS, keeps_sections, kept_after, map_kept, require_kept,
-};
+use crate::kept_sections::{KeptSections, keeps_sections, kept_after, map_kept, require_kept};
 use crate::named_view::NamedView;
 use crate::near_map::{NO_WINDOW, Window, map_near};
-use crate::ranges::{NO_BYTES, Range, range_from};
+use crate::ranges::{Range, range_from};
 use crate::results::hand_out_some;
-use crate::step_failures::hint_rva;
 use crate::text_runs::Run;
 use crate::view::View;
-use crate::walks::next_entry;
-use pe_core::{
-    Error, ImportDirectoryEntry, Reason, Result, RvaMap, lookup_number, lookup_size, u16_at,
-};
+use pe_core::{Error, ImportDirectoryEntry, Reason, Result, RvaMap, lookup_number, lookup_size};
 
 /// The size of a record of the import directory in bytes.
 const SIZE_OF_RECORD: u64 = 20;
@@ -57,33 +51,13 @@ pub struct Imports {
     pub rva: u64,
 }
 
-/// A walk over libraries step by step.
-#[repr(C)]
-#[derive(Clone, Copy)]
-pub struct LibraryWalk {
-    /// Where it stands.
-    pub libraries: Libraries,
-    /// The sections of its last RVAs.
-    pub kept: KeptSections,
-}
-
-/// A walk over the imports of a library step by step.
-#[repr(C)]
-#[derive(Clone, Copy)]
-pub struct ImportWalk {
-    /// Where it stands.
-    pub imports: Imports,
-    /// The sections of its last RVAs.
-    pub kept: KeptSections,
-}
-
 /// A library (DLL) that an image imports from, and the numbers of its record (`IMAGE_IMPORT_DESCRIPTOR`).
 #[repr(C)]
 #[derive(Clone, Copy)]
 pub struct Library {
     /// UTF-8, without its final zero.
     pub name: Range,
-    /// Where a walk over its imports starts, for `ImportWalk`.
+    /// Where a walk over its imports starts, for `pe_c_list_imports`.
     pub imports: Imports,
     /// RVA of its lookup table, or 0: then the address table is the list of its imports.
     pub lookup_table_rva: u32,
@@ -274,110 +248,6 @@ pub fn library_step_kept(
     library_step(names, kept, walk)
 }
 
-/// Reads the next library of an import directory: `NOTHING` after the last. The directory ends at a record whose name
-/// or address table has the RVA 0. A list whose RVA is unmapped is empty. Each name and each list is read to its end,
-/// so those that overlap are read once each. Strict and permissive mode make no difference.
-///
-/// Errors: `SHORT` where the record is truncated; `UNMAPPED`, `IMPORT_NAME` of its name; `SHORT` where no zero entry
-/// ends its list. After the last and after an error the walk is over.
-#[unsafe(no_mangle)]
-pub extern "C" fn pe_c_next_library(view: &View, walk: &mut LibraryWalk, out: &mut Library) -> u32
-    ensures returned { HandsOutIf result out.old out.new
-        (library_step (map_kept view.now walk.old.kept) (entry_size (view.now.image.now.width == 64))
-        view.now.bytes.now walk.old.libraries).0 }
-    ensures libraries { walk.new.libraries
-        ≡ (library_step (map_kept view.now walk.old.kept) (entry_size (view.now.image.now.width == 64))
-        view.now.bytes.now walk.old.libraries).1 }
-    ensures kept { KeepsOn view.now result walk.old.kept walk.new.kept }
-{
-    let (given, after) = library_step(&NamedView::alone(view), walk.kept, walk.libraries);
-    walk.libraries = after;
-    if let Ok(Some(library)) = &given {
-        walk.kept = kept_after_library(view, walk.kept, library);
-    }
-    hand_out_some(given, out)
-}
-
-/// The import by name of an entry. Errors: `Unmapped` of the entry's RVA, `Short` of the hint, `ImportName`.
-fn named_import(names: &NamedView<'_>, kept: KeptSections, entry: u64, rva: u64) -> Result<Import>
-    ensures { Returns result (named_reported
-        (map_kept names.now.view.now kept) names.now.view.now.bytes.now entry rva) }
-{
-    let name_rva = (entry % 0x8000_0000) as u32;
-    let offset = require_kept(names.view, kept, name_rva)?;
-    let hint = u16_at(names.view.bytes, offset)?;
-    let name = name_at(names, offset + SIZE_OF_HINT, name_rva)?;
-    Ok(Import {
-        name: range_from(name.len() as u64, Some(offset + SIZE_OF_HINT)),
-        rva,
-        ordinal: u32::from(hint),
-        has_name: 1,
-    })
-}
-
-/// The import of an entry and its slot. With its highest bit set the low 16 bits of an entry are an ordinal; else its
-/// low 31 bits are the RVA of a hint and a name.
-#[tactic(auto, unfolding(pe_core::specs::Imports::import_of))]
-fn import_at(names: &NamedView<'_>, kept: KeptSections, entry: u64, rva: u64) -> Result<Import>
-    ensures { Returns result (import_at (map_kept names.now.view.now kept)
-        (entry_size (names.now.view.now.image.now.width == 64)) names.now.view.now.bytes.now entry rva) }
-{
-    let highest = if names.view.image.width == 64 {
-        0x8000_0000_0000_0000
-    } else {
-        0x8000_0000
-    };
-    if entry >= highest {
-        return Ok(Import {
-            name: NO_BYTES,
-            rva,
-            ordinal: (entry % 0x1_0000) as u32,
-            has_name: 0,
-        });
-    }
-    named_import(names, kept, entry, rva)
-}
-
-/// One step over the imports of a library. Inlined in each of its callers, since a call costs a fifth of a step.
-#[inline(always)]
-#[tactic(auto, unfolding(crate::specs::Imports::import_step))]
-pub fn import_step(
-    names: &NamedView<'_>,
-    kept: KeptSections,
-    walk: &mut Imports,
-) -> Result<Option<Import>>
-    ensures returned { (answer_of result, walk.new) ≡ import_step
-        (map_kept names.now.view.now kept) (entry_size (names.now.view.now.image.now.width == 64)) names.now.view.now.bytes.now walk.old }
-    ensures there { IfOk result (λ i. IfSome i (λ _. walk.old.left.offset
-        + entry_size (names.now.view.now.image.now.width == 64) ≤ length names.now.view.now.bytes.now)) }
-{
-    let is_64 = names.view.image.width == 64;
-    let size = lookup_size(is_64);
-    let Some(left) = next_entry(names.view.bytes, &mut walk.left, size)? else {
-        return Ok(None);
-    };
-    let entry = lookup_number(left, 0, is_64);
-    match import_at(names, kept, entry, walk.rva) {
-        Ok(import) => {
-            // A caller may pass any RVA.
-            walk.rva = walk.rva.wrapping_add(size as u64);
-            Ok(Some(import))
-        }
-        Err(error) => {
-            walk.left = NO_BYTES;
-            Err(error)
-        }
-    }
-}
-
-/// One step of a walk that keeps no sections.
-pub fn import_by_view(names: &NamedView<'_>, walk: &mut Imports) -> Result<Option<Import>>
-    ensures { (answer_of result, walk.new) ≡ import_step (map_of names.now.view.now)
-        (entry_size (names.now.view.now.image.now.width == 64)) names.now.view.now.bytes.now walk.old }
-{
-    import_step(names, NO_SECTIONS, walk)
-}
-
 /// One of the records that a walk may have left, by its index among them. None at the record that ends the directory.
 pub fn record_left(view: &View, walk: &Libraries, index: usize) -> Option<ImportDirectoryEntry> {
     let offset = index.saturating_mul(SIZE_OF_RECORD as usize);
@@ -445,42 +315,4 @@ pub fn put_entry_names(view: &View, entries: &[u8], near: &mut Window, room: &mu
         }
     }
     count
-}
-
-/// What a walk keeps after the import that it was at: the section of its hint.
-fn kept_after_import(
-    view: &View,
-    kept: KeptSections,
-    before: &Imports,
-    import: &Import,
-) -> KeptSections
-    ensures { ChangeNothing view.now kept → ChangeNothing view.now result }
-{
-    if import.has_name == 0 || !keeps_sections(view) {
-        return kept;
-    }
-    kept_after(view, kept, hint_rva(view, before))
-}
-
-/// Reads the next import of a library: `NOTHING` after the last. Each name is read to its end, so names that overlap
-/// are read once each. Strict and permissive mode make no difference.
-///
-/// Errors: `SHORT` where the walk is not inside the bytes, or its entry is truncated; `UNMAPPED` of the entry's RVA;
-/// `SHORT` of the hint there; `IMPORT_NAME` of the name. After an error the walk is over.
-#[unsafe(no_mangle)]
-pub extern "C" fn pe_c_next_import(view: &View, walk: &mut ImportWalk, out: &mut Import) -> u32
-    ensures returned { HandsOutIf result out.old out.new
-        (import_step (map_kept view.now walk.old.kept) (entry_size (view.now.image.now.width == 64))
-        view.now.bytes.now walk.old.imports).0 }
-    ensures imports { walk.new.imports
-        ≡ (import_step (map_kept view.now walk.old.kept) (entry_size (view.now.image.now.width == 64))
-        view.now.bytes.now walk.old.imports).1 }
-    ensures kept { KeepsOn view.now result walk.old.kept walk.new.kept }
-{
-    let before = walk.imports;
-    let given = import_step(&NamedView::alone(view), walk.kept, &mut walk.imports);
-    if let Ok(Some(import)) = &given {
-        walk.kept = kept_after_import(view, walk.kept, &before, import);
-    }
-    hand_out_some(given, out)
 }

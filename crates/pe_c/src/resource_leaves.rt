@@ -11,14 +11,14 @@ ghost use Rattle.pe_resource.specs.LeafPositions.{leaf_start, tree_at, tree_view
 ghost use Rattle.pe_resource.specs.Leaves.{tree_answer};
 ghost use Rattle.pe_c.specs.HandsOut.{HandsOutIf};
 ghost use Rattle.pe_c.specs.Modes.{options_of};
-ghost use Rattle.pe_c.specs.KeptSections.{ChangeNothing, KeepsOn, map_kept};
+ghost use Rattle.pe_c.specs.KeptSections.{ChangeNothing, map_kept};
 ghost use Rattle.pe_c.specs.Views.{directory_sections, map_of, may_map};
-ghost use Rattle.pe_c.specs.ResourceLeaves.{StartsLeaves, TreeHandsOut, after_item, content_of, first_item, image_tree, items_left, leaf_reported, leaves_start, leaves_walk, name_in, position_of, walk_at};
+ghost use Rattle.pe_c.specs.ResourceLeaves.{StartsLeaves, after_item, content_of, first_item, image_tree, items_left, leaf_reported, leaves_start, leaves_walk, name_in, position_of, walk_at};
 
 use crate::image::{RESOURCE_TABLE, directory, is_absent};
 use crate::kept_sections::{KeptSections, kept_after, sections_for};
 use crate::ranges::{NO_BYTES, Range, range_of, slice_of};
-use crate::results::{DONE, NOTHING, hand_out_leaf, number_of, options};
+use crate::results::{DONE, NOTHING, number_of, options};
 use crate::version::range_by;
 use crate::view::{View, sections_of};
 use pe_core::{ByteRange, DataDirectory, MappedBytes, Result};
@@ -74,16 +74,6 @@ pub struct ResourceLeaves {
     pub resource_type: ResourceEntry,
     /// The entry of the name that the languages are of.
     pub name: ResourceEntry,
-}
-
-/// A walk over the leaves of a resource tree step by step.
-#[repr(C)]
-#[derive(Clone, Copy)]
-pub struct LeafWalk {
-    /// Where it stands.
-    pub leaves: ResourceLeaves,
-    /// The sections of its last RVAs.
-    pub kept: KeptSections,
 }
 
 fn byte_range(range: &Range) -> ByteRange
@@ -303,29 +293,4 @@ pub fn next_leaf_kept(
     ensures walk { walk.new ≡ leaves_walk view.now.bytes.now (map_of view.now) walk.old }
 {
     next_leaf(view, kept, walk)
-}
-
-/// Steps through the leaves of a resource tree: returns the next one, and moves `walk` past it. `NOTHING` at the end.
-///
-/// Errors, after which the walk is over: `SHORT` where `walk` is not inside the bytes, or where a directory, its entries, a
-/// data entry or a name is truncated; `TREE_NOT_DIRECTORY`, `TREE_NOT_DATA`, `TREE_NO_ENTRIES` of an entry that has no leaf.
-#[unsafe(no_mangle)]
-pub extern "C" fn pe_c_next_resource_leaf(
-    view: &View,
-    walk: &mut LeafWalk,
-    out: &mut ResourceLeaf,
-) -> u32
-    ensures leaf { TreeHandsOut result out.old out.new (first_item (items_left view.now.bytes.now
-        (map_kept view.now walk.old.kept) walk.old.leaves)) }
-    ensures left { items_left view.now.bytes.now (map_kept view.now walk.old.kept) walk.new.leaves
-        ≡ after_item (items_left view.now.bytes.now (map_kept view.now walk.old.kept) walk.old.leaves) }
-    ensures leaves { walk.new.leaves
-        ≡ leaves_walk view.now.bytes.now (map_kept view.now walk.old.kept) walk.old.leaves }
-    ensures kept { KeepsOn view.now result walk.old.kept walk.new.kept }
-{
-    let given = next_leaf(view, walk.kept, &mut walk.leaves);
-    if let Ok(Some(leaf)) = &given {
-        walk.kept = kept_after(view, walk.kept, leaf.rva);
-    }
-    hand_out_leaf(given, out)
 }

@@ -222,23 +222,6 @@ pub fn hand_out_found<T: Copy>(
     }
 }
 
-/// The same of what may be absent, by an error of a resource tree.
-pub fn hand_out_leaf<T: Copy>(
-    given: std::result::Result<Option<T>, ResourceTreeError>,
-    out: &mut T,
-) -> u32
-    ensures { TreeHandsOut result out.old out.new (tree_answer given) }
-{
-    match given {
-        Ok(Some(value)) => {
-            *out = value;
-            DONE
-        }
-        Ok(None) => NOTHING,
-        Err(error) => number_of_tree(&error),
-    }
-}
-
 /// Hands out the length of a file: `DONE` where a room of so many bytes has room for it, `ROOM` where not; or the number of an error,
 /// and then `out` is unchanged.
 pub fn hand_out_length(given: std::result::Result<u64, u32>, room: usize, out: &mut u64) -> u32

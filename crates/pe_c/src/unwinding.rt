@@ -16,7 +16,7 @@ ghost use Rattle.pe_c.specs.Ranges.{bytes_at};
 ghost use Rattle.pe_frame.specs.Undoing.{bytes_above};
 ghost use Rattle.pe_c.specs.Exports.{one_if_some};
 ghost use Rattle.pe_c.specs.NearRecords.{PutsRecord, codes_after};
-ghost use Rattle.pe_c.specs.Unwinding.{exception_table_at, HandsOutFound, function_in, or_no_function, handler_kind, handler_address, handler_range, flat_record, flat_record_at, FindsOffset, FollowsToRecord, HandsOutRecord, links_at, from_frame, saving, plain, flat, StepsOver, WalksIn, HandsOutCode, scopes_at};
+ghost use Rattle.pe_c.specs.Unwinding.{exception_table_at, HandsOutFound, function_in, or_no_function, handler_kind, handler_address, handler_range, flat_record, flat_record_at, FindsOffset, FollowsToRecord, HandsOutRecord, links_at, from_frame, saving, plain, flat, StepsOver, WalksIn, scopes_at};
 ghost use Rattle.pe_c.specs.Views.{directory_sections, map_of};
 ghost use Rattle.pe_c.specs.Walks.{next_of, walk_of};
 
@@ -178,21 +178,6 @@ pub fn function_in(bytes: &[u8], table: &Range, index: u64) -> Result<RuntimeFun
 {
     let entries = slice_of(bytes, table)?;
     RuntimeFunction::of_table(entries, index as usize)
-}
-
-/// Reads the entry with an index, from 0, of the function table at this range.
-///
-/// Errors: `SHORT` where the range is not inside the bytes; `FUNCTION_INDEX` where the table has no such entry.
-#[unsafe(no_mangle)]
-pub extern "C" fn pe_c_function_at(
-    bytes: &[u8],
-    table: &Range,
-    index: u64,
-    out: &mut RuntimeFunction,
-) -> u32
-    ensures { HandsOut result out.old out.new (function_in bytes.now table.now index) }
-{
-    hand_out(function_in(bytes, table, index), out)
 }
 
 /// The field `chained` of a record that is not chained.
@@ -649,25 +634,6 @@ pub fn next_code(bytes: &[u8], walk: &mut CodeWalk) -> Option<Result<UnwindCode>
             walk.left = NO_BYTES;
             Some(Err(error))
         }
-    }
-}
-
-/// Reads the next code of a walk: `NOTHING` at its end. The codes of the function to which the record is chained are
-/// undone after those of the record.
-///
-/// Errors: `SHORT` where the walk is not inside the bytes, or a code is truncated; `UNWIND_CODE` for an invalid code.
-/// After an error the walk is over.
-#[unsafe(no_mangle)]
-pub extern "C" fn pe_c_next_code(bytes: &[u8], walk: &mut CodeWalk, out: &mut Code) -> u32
-    ensures { HandsOutCode bytes.now walk.old walk.new result out.old out.new }
-{
-    match next_code(bytes, walk) {
-        Some(Ok(code)) => {
-            *out = flat(code);
-            DONE
-        }
-        None => NOTHING,
-        Some(Err(error)) => number_of(&error),
     }
 }
 

@@ -126,19 +126,3 @@ pub fn next_block(bytes: &[u8], walk: &mut Range) -> Result<Option<VersionBlock>
         Err(error) => Err(error_of(error)),
     }
 }
-
-/// Steps through blocks: returns the next one, and moves `walk` past it. `NOTHING` where no bytes are left, and at a length of 0.
-///
-/// Errors: `SHORT` where `walk` is not inside the bytes, or a block is truncated, which ends the walk; `RESOURCE_STRING` where
-/// the length of a block is below 6, which ends the walk, or its key has no zero code unit in it, after which `walk` goes on.
-#[unsafe(no_mangle)]
-pub extern "C" fn pe_c_next_version_block(
-    bytes: &[u8],
-    walk: &mut Range,
-    out: &mut VersionBlock,
-) -> u32
-    ensures block { HandsOutIf result out.old out.new (block_step bytes.now walk.old) }
-    ensures walk { walk.new ≡ block_walk bytes.now walk.old }
-{
-    hand_out_some(next_block(bytes, walk), out)
-}

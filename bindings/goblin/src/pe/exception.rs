@@ -140,7 +140,7 @@ impl RuntimeFunctionIterator<'_> {
     /// The next functions, once all that were taken are returned.
     fn more(&mut self) -> Result<&[sys::Function], Refusal> {
         let data = self.data;
-        self.batch.fill(|next, room| View::of_bytes(data).list_functions(&raw::whole(data), next, room))
+        self.batch.fill(|next, room| raw::list_functions(data, &raw::whole(data), next, room))
     }
 
     #[cold]
@@ -313,7 +313,7 @@ fn refused_after(count: usize, bytes: &[u8], form: sys::CodeForm, refusal: Refus
     let mut walk = whole_walk(bytes, form);
     let mut room = raw::room::<_, MOST_CODES>();
     // Of a list that is full the walk is after its last code; where it has none, it is at its start.
-    let _ = room.get_mut(..count).map(|room| View::of_bytes(bytes).list_codes(&mut walk, room).is_ok());
+    let _ = room.get_mut(..count).map(|room| raw::list_codes(bytes, &mut walk, room).is_ok());
     code_error(bytes, &walk, refusal)
 }
 
@@ -372,7 +372,7 @@ impl UnwindCodeIterator<'_> {
             return None;
         }
         let (before, mut room) = (self.walk, raw::room::<_, { raw::FEW }>());
-        match View::of_bytes(self.bytes).list_codes(&mut self.walk, &mut room) {
+        match raw::list_codes(self.bytes, &mut self.walk, &mut room) {
             Ok(codes) => self.taken.set(codes),
             Err(refusal) => {
                 self.walk.left.length = 0;
@@ -1241,7 +1241,7 @@ impl Arm64UnwindCodeIterator<'_> {
         let bytes = self.bytes;
         let filled = self.batch.fill(|walk, room| match walk.left.length {
             0 => Ok(&[]),
-            _ => View::of_bytes(bytes).list_arm64_codes(walk, room),
+            _ => raw::list_arm64_codes(bytes, walk, room),
         });
         if let Err(refusal) = filled {
             return Some(Err(refusal.into()));

@@ -211,7 +211,7 @@ impl RelocationWordIterator<'_> {
     fn next_of_list(&mut self) -> error::Result<Option<u16>> {
         if self.batch.taken() == 0 {
             let bytes = self.bytes;
-            self.batch.fill(|walk, room| View::of_bytes(bytes).list_relocations(0, walk, room))?;
+            self.batch.fill(|walk, room| raw::list_relocations(bytes, 0, walk, room))?;
         }
         let Some(it) = self.batch.next() else { return Ok(None) };
         self.argument = if it.kind == HIGHADJ { Some(raw::narrow(it.argument)?) } else { None };

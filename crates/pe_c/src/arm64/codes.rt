@@ -5,10 +5,10 @@ ghost use Rattle.std.specs.Prelude.{◌≡◌, ◌+◌, ◌*◌, ◌≤◌, ◌^
 ghost use Rattle.pe_core.specs.Refusals.{answer_of, answer_by};
 ghost use Rattle.pe_unwind.specs.Arm64Encoding.{bit};
 ghost use Rattle.pe_c.specs.HandsOut.{HandsOut};
-ghost use Rattle.pe_c.specs.Arm64.{case_number, numbers_of, arm64_walk_at, left_of_stream, StepsOverArm64, WalksInArm64, AnswersArm64Code};
+ghost use Rattle.pe_c.specs.Arm64.{case_number, numbers_of, arm64_walk_at, left_of_stream, StepsOverArm64, WalksInArm64};
 
 use crate::ranges::{NO_BYTES, Range, slice_of};
-use crate::results::{hand_out, hand_out_some};
+use crate::results::hand_out;
 use pe_core::{Error, Reason, Result};
 use pe_unwind::{Arm64CustomStackCase, Arm64UnwindCode, Arm64UnwindCodeIterator};
 
@@ -243,21 +243,4 @@ pub fn next_code(bytes: &[u8], walk: &mut Arm64CodeWalk) -> Result<Option<Arm64C
             Err(error)
         }
     }
-}
-
-/// Reads the next code of a walk: `NOTHING` at its end. `End` and `EndC` do not end a walk, since the codes of epilogs
-/// follow those of the prolog: the caller stops there.
-///
-/// Errors: `SHORT` where the walk is not inside the bytes; `ARM64_STREAM` where its offset and the bytes left add up to
-/// no multiple of 4, or to more than 4,294,967,292; `ARM64_CUT` where a code is truncated. After an error the walk is
-/// over.
-#[unsafe(no_mangle)]
-pub extern "C" fn pe_c_next_arm64_code(
-    bytes: &[u8],
-    walk: &mut Arm64CodeWalk,
-    out: &mut Arm64Code,
-) -> u32
-    ensures { AnswersArm64Code bytes.now walk.old walk.new result out.old out.new }
-{
-    hand_out_some(next_code(bytes, walk), out)
 }

@@ -113,21 +113,6 @@ pub fn function_in(bytes: &[u8], table: &Range, index: u64) -> Result<Arm64Runti
     Arm64RuntimeFunction::of_table(entries, index as usize)
 }
 
-/// Reads the entry with an index, from 0, of the function table at this range.
-///
-/// Errors: `SHORT` where the range is not inside the bytes; `FUNCTION_INDEX` where the table has no such entry.
-#[unsafe(no_mangle)]
-pub extern "C" fn pe_c_arm64_function_at(
-    bytes: &[u8],
-    table: &Range,
-    index: u64,
-    out: &mut Arm64RuntimeFunction,
-) -> u32
-    ensures { HandsOut result out.old out.new (arm64_function_in bytes.now table.now index) }
-{
-    hand_out(function_in(bytes, table, index), out)
-}
-
 /// Reads the fields of packed unwind data from an entry. Always returns `DONE`: where the data is not packed, the
 /// fields mean nothing.
 #[unsafe(no_mangle)]

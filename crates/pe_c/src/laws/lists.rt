@@ -24,7 +24,8 @@ ghost use Rattle.pe_c.specs.declared.ranges.Range.{Range};
 /// Where the steps of a walk return some items, which the laws of walks say for each of them, a list call with room for `n`
 /// entries returns the first `n`, or all that come before the end or before an error, and the walk after it has the other items
 /// left. Where an error is the first item the call returns its number, and the walk is over. So calls one after the other, with
-/// room for any numbers of entries, return exactly the items, and then no entry.
+/// room for any numbers of entries, return exactly the items, and then no entry. A call with room for one entry returns what a step
+/// does, and leaves the walk where that does: so do the functions for the next item that `pe.h` defines over lists.
 pub fn lists_are_what_steps_return()
     ensures codes { (b : List ℕ) → GiveLists result_number (StepsCodes b) }
     ensures arm64_codes { (b : List ℕ) → GiveLists result_number (StepsArm64Codes b) }

@@ -9,7 +9,6 @@ use crate::arm64::codes::{Arm64Code, Arm64CodeWalk, next_code};
 use crate::arm64::functions::function_in;
 use crate::lists::{Steps, hand_out_list, if_there, next_index, numbered};
 use crate::ranges::Range;
-use crate::view::View;
 use pe_unwind::Arm64RuntimeFunction;
 
 /// Steps over the entries of a function table.
@@ -33,20 +32,17 @@ impl<'a> Steps<u64, Arm64RuntimeFunction> for Functions<'a> {
 /// Errors: `ROOM` where `entries` is empty; `SHORT` where the range is not inside the bytes.
 #[unsafe(no_mangle)]
 pub extern "C" fn pe_c_list_arm64_functions(
-    view: &View,
+    bytes: &[u8],
     table: &Range,
     next: &mut u64,
     entries: &mut [Arm64RuntimeFunction],
     written: &mut u64,
 ) -> u32
     ensures { HandsOutList (Numbered result_number
-        (StepsByIndex (λ i. if_there (arm64_function_in view.now.bytes.now table.now i))))
+        (StepsByIndex (λ i. if_there (arm64_function_in bytes.now table.now i))))
         result next.old next.new entries.old entries.new written.old written.new }
 {
-    let functions = Functions {
-        bytes: view.bytes,
-        table,
-    };
+    let functions = Functions { bytes, table };
     hand_out_list(&functions, next, entries, written)
 }
 
@@ -69,13 +65,13 @@ impl<'a> Steps<Arm64CodeWalk, Arm64Code> for Codes<'a> {
 /// Errors: `ROOM` where `entries` is empty; those of `pe_c_next_arm64_code`.
 #[unsafe(no_mangle)]
 pub extern "C" fn pe_c_list_arm64_codes(
-    view: &View,
+    bytes: &[u8],
     walk: &mut Arm64CodeWalk,
     entries: &mut [Arm64Code],
     written: &mut u64,
 ) -> u32
-    ensures { HandsOutList (Numbered result_number (StepsArm64Codes view.now.bytes.now))
+    ensures { HandsOutList (Numbered result_number (StepsArm64Codes bytes.now))
         result walk.old walk.new entries.old entries.new written.old written.new }
 {
-    hand_out_list(&Codes { bytes: view.bytes }, walk, entries, written)
+    hand_out_list(&Codes { bytes }, walk, entries, written)
 }

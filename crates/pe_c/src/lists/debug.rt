@@ -8,7 +8,6 @@ ghost use Rattle.pe_c.specs.Lists.{HandsOutList, Numbered};
 use crate::debug_walks::{PogoEntry, next_pogo_reported};
 use crate::lists::{Steps, hand_out_list, numbered};
 use crate::ranges::Range;
-use crate::view::View;
 
 /// Steps over the entries of a POGO record.
 #[derive(Clone, Copy)]
@@ -29,13 +28,13 @@ impl<'a> Steps<Range, PogoEntry> for PogoEntries<'a> {
 /// Errors: `ROOM` where `entries` is empty; those of `pe_c_next_pogo_entry`.
 #[unsafe(no_mangle)]
 pub extern "C" fn pe_c_list_pogo_entries(
-    view: &View,
+    bytes: &[u8],
     walk: &mut Range,
     entries: &mut [PogoEntry],
     written: &mut u64,
 ) -> u32
-    ensures { HandsOutList (Numbered result_number (StepsPogoEntries view.now.bytes.now))
+    ensures { HandsOutList (Numbered result_number (StepsPogoEntries bytes.now))
         result walk.old walk.new entries.old entries.new written.old written.new }
 {
-    hand_out_list(&PogoEntries { bytes: view.bytes }, walk, entries, written)
+    hand_out_list(&PogoEntries { bytes }, walk, entries, written)
 }

@@ -12,25 +12,16 @@ ghost use Rattle.pe_c.specs.Views.{map_of};
 
 use crate::export_addresses::{AddressTable, Exported, addresses_in, exported_at, exported_in};
 use crate::export_texts::{put_text_offsets, texts_cost_much};
-use crate::exports::{Export, Exports, Tables, step, tables_of};
-use crate::kept_sections::NO_SECTIONS;
-use crate::lists::{Steps, hand_out_list, next_index, numbered};
+use crate::exports::{Export, Exports, Tables, tables_of};
+use crate::lists::{Steps, hand_out_list, next_index};
 use crate::named_view::NamedView;
 use crate::near_exports::{NO_WINDOWS, NearExports, find_near};
 use crate::near_map::{Window, window_at};
-use crate::ranges::slice_of;
+use crate::ranges::{NO_BYTES, slice_of};
+use crate::results::number_of;
 use crate::text_runs::Run;
 use crate::view::View;
 use pe_core::ExportAddresses;
-
-impl<'a> Steps<Exports, Export> for NamedView<'a> {
-    ghost steps = { λ s. Numbered result_number (StepsExports
-        (map_of s.view.now) s.view.now.bytes.now) };
-
-    fn step(&self, walk: &mut Exports) -> Result<Option<Export>, u32> {
-        numbered(step(self, NO_SECTIONS, walk))
-    }
-}
 
 /// One step of a walk whose tables are inside the bytes.
 #[inline(always)]
@@ -102,6 +93,34 @@ fn list_near(
     let number = hand_out_list(&InTables, &mut near, entries, written);
     *walk = near.walk;
     number
+}
+
+impl<'a> Steps<Exports, Export> for NamedView<'a> {
+    ghost steps = { λ s. Numbered result_number (StepsExports
+        (map_of s.view.now) s.view.now.bytes.now) };
+
+    fn step(&self, walk: &mut Exports) -> Result<Option<Export>, u32> {
+        if walk.names.length / 4 <= walk.next {
+            return Ok(None);
+        }
+        let tables = match tables_of(self.view.bytes, walk) {
+            Ok(tables) => tables,
+            Err(error) => {
+                // Without names the walk is over.
+                walk.names = NO_BYTES;
+                return Err(number_of(&error));
+            }
+        };
+        let mut near = NearExports {
+            names: *self,
+            tables,
+            walk: *walk,
+            windows: NO_WINDOWS,
+        };
+        let export = next_near(&mut near);
+        *walk = near.walk;
+        Ok(export)
+    }
 }
 
 /// Lists the exports of a walk step by step. Out of line: it is for a walk whose tables are not inside the bytes, whose first step is

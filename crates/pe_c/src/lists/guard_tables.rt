@@ -8,7 +8,6 @@ ghost use Rattle.pe_c.specs.Lists.{HandsOutList, Numbered};
 use crate::guard_tables::{GuardEntries, GuardEntry, next_entry};
 use crate::lists::{Steps, hand_out_list};
 use crate::results::number_of_directory;
-use crate::view::View;
 
 /// Steps over the entries of a table.
 #[derive(Clone, Copy)]
@@ -32,13 +31,13 @@ impl<'a> Steps<GuardEntries, GuardEntry> for Entries<'a> {
 /// Errors: `ROOM` where `entries` is empty; those of `pe_c_next_guard_entry`.
 #[unsafe(no_mangle)]
 pub extern "C" fn pe_c_list_guard_entries(
-    view: &View,
+    bytes: &[u8],
     walk: &mut GuardEntries,
     entries: &mut [GuardEntry],
     written: &mut u64,
 ) -> u32
-    ensures { HandsOutList (Numbered directory_number (StepsGuardEntries view.now.bytes.now))
+    ensures { HandsOutList (Numbered directory_number (StepsGuardEntries bytes.now))
         result walk.old walk.new entries.old entries.new written.old written.new }
 {
-    hand_out_list(&Entries { bytes: view.bytes }, walk, entries, written)
+    hand_out_list(&Entries { bytes }, walk, entries, written)
 }

@@ -9,7 +9,6 @@ use crate::base_relocations::{Relocation, RelocationBlock, next_block, next_relo
 use crate::lists::{Steps, hand_out_list};
 use crate::ranges::Range;
 use crate::results::number_of_directory;
-use crate::view::View;
 
 /// Steps over the blocks of base relocations.
 #[derive(Clone, Copy)]
@@ -33,15 +32,15 @@ impl<'a> Steps<Range, RelocationBlock> for Blocks<'a> {
 /// Errors: `ROOM` where `entries` is empty; those of `pe_c_next_relocation_block`.
 #[unsafe(no_mangle)]
 pub extern "C" fn pe_c_list_relocation_blocks(
-    view: &View,
+    bytes: &[u8],
     walk: &mut Range,
     entries: &mut [RelocationBlock],
     written: &mut u64,
 ) -> u32
-    ensures { HandsOutList (Numbered directory_number (StepsBlocks view.now.bytes.now))
+    ensures { HandsOutList (Numbered directory_number (StepsBlocks bytes.now))
         result walk.old walk.new entries.old entries.new written.old written.new }
 {
-    hand_out_list(&Blocks { bytes: view.bytes }, walk, entries, written)
+    hand_out_list(&Blocks { bytes }, walk, entries, written)
 }
 
 /// Steps over the relocations of a block.
@@ -68,18 +67,15 @@ impl<'a> Steps<Range, Relocation> for Relocations<'a> {
 /// Errors: `ROOM` where `entries` is empty; those of `pe_c_next_relocation`.
 #[unsafe(no_mangle)]
 pub extern "C" fn pe_c_list_relocations(
-    view: &View,
+    bytes: &[u8],
     page_rva: u32,
     walk: &mut Range,
     entries: &mut [Relocation],
     written: &mut u64,
 ) -> u32
-    ensures { HandsOutList (Numbered directory_number (StepsRelocations page_rva view.now.bytes.now))
+    ensures { HandsOutList (Numbered directory_number (StepsRelocations page_rva bytes.now))
         result walk.old walk.new entries.old entries.new written.old written.new }
 {
-    let relocations = Relocations {
-        bytes: view.bytes,
-        page_rva,
-    };
+    let relocations = Relocations { bytes, page_rva };
     hand_out_list(&relocations, walk, entries, written)
 }

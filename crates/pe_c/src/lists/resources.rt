@@ -97,13 +97,13 @@ impl<'a> Steps<Range, VersionBlock> for Blocks<'a> {
 /// Errors: `ROOM` where `entries` is empty; those of `pe_c_next_version_block`, after which the walk goes on as after that call.
 #[unsafe(no_mangle)]
 pub extern "C" fn pe_c_list_version_blocks(
-    view: &View,
+    bytes: &[u8],
     walk: &mut Range,
     entries: &mut [VersionBlock],
     written: &mut u64,
 ) -> u32
-    ensures { HandsOutList (Numbered result_number (StepsVersionBlocks view.now.bytes.now))
+    ensures { HandsOutList (Numbered result_number (StepsVersionBlocks bytes.now))
         result walk.old walk.new entries.old entries.new written.old written.new }
 {
-    hand_out_list(&Blocks { bytes: view.bytes }, walk, entries, written)
+    hand_out_list(&Blocks { bytes }, walk, entries, written)
 }

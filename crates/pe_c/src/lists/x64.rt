@@ -69,17 +69,16 @@ impl<'a> Steps<u64, RuntimeFunction> for Entries<'a> {
 /// Errors: `ROOM` where `entries` is empty; `SHORT` where the range is not inside the bytes.
 #[unsafe(no_mangle)]
 pub extern "C" fn pe_c_list_functions(
-    view: &View,
+    bytes: &[u8],
     table: &Range,
     next: &mut u64,
     entries: &mut [RuntimeFunction],
     written: &mut u64,
 ) -> u32
     ensures { HandsOutList (Numbered result_number
-        (StepsByIndex (λ i. if_there (function_in view.now.bytes.now table.now i))))
+        (StepsByIndex (λ i. if_there (function_in bytes.now table.now i))))
         result next.old next.new entries.old entries.new written.old written.new }
 {
-    let bytes = view.bytes;
     match slice_of(bytes, table) {
         Ok(table) => hand_out_list(&Entries { table }, next, entries, written),
         // The first step is refused.
@@ -330,15 +329,15 @@ fn list_codes(bytes: &[u8], walk: &mut CodeWalk, entries: &mut [Code], written: 
 /// Errors: `ROOM` where `entries` is empty; those of `pe_c_next_code`.
 #[unsafe(no_mangle)]
 pub extern "C" fn pe_c_list_codes(
-    view: &View,
+    bytes: &[u8],
     walk: &mut CodeWalk,
     entries: &mut [Code],
     written: &mut u64,
 ) -> u32
-    ensures { HandsOutList (Numbered result_number (StepsCodes view.now.bytes.now))
+    ensures { HandsOutList (Numbered result_number (StepsCodes bytes.now))
         result walk.old walk.new entries.old entries.new written.old written.new }
 {
-    list_codes(view.bytes, walk, entries, written)
+    list_codes(bytes, walk, entries, written)
 }
 
 /// Lists the codes of a record, and writes it to `out` with the walk after them.

@@ -1,0 +1,242 @@
+//! The functions of `pe.h` that are a list with room for one entry: the next item of a walk, and an entry by its index.
+
+use super::made::FUNCTION_INDEX;
+use crate::arm64::codes::{Arm64Code, Arm64CodeWalk};
+use crate::base_relocations::{Relocation, RelocationBlock};
+use crate::bound_imports::{BoundForwarder, BoundImport};
+use crate::coff::{Symbol, SymbolWalk, pe_c_next_symbol};
+use crate::debug_walks::PogoEntry;
+use crate::delay_imports::{DelayLibrary, DelayedFunction, DelayedFunctions};
+use crate::export_addresses::{AddressTable, Exported};
+use crate::exports::{Export, Exports};
+use crate::guard_tables::{GuardEntries, GuardEntry};
+use crate::imports::{Import, Imports, Libraries, Library};
+use crate::lists::arm64::{pe_c_list_arm64_codes, pe_c_list_arm64_functions};
+use crate::lists::bound_imports::{pe_c_list_bound_forwarders, pe_c_list_bound_imports};
+use crate::lists::debug::pe_c_list_pogo_entries;
+use crate::lists::delay_imports::{pe_c_list_delay_imports, pe_c_list_delayed_functions};
+use crate::lists::exports::pe_c_list_exports;
+use crate::lists::forwarders::pe_c_list_export_addresses;
+use crate::lists::guard_tables::pe_c_list_guard_entries;
+use crate::lists::imports::{pe_c_list_imports, pe_c_list_libraries};
+use crate::lists::relocations::{pe_c_list_relocation_blocks, pe_c_list_relocations};
+use crate::lists::resources::{pe_c_list_resource_leaves, pe_c_list_version_blocks};
+use crate::lists::x64::{pe_c_list_codes, pe_c_list_functions};
+use crate::ranges::Range;
+use crate::resource_leaves::{ResourceLeaf, ResourceLeaves};
+use crate::results::{DONE, NOTHING};
+use crate::unwinding::{Code, CodeWalk};
+use crate::version_blocks::VersionBlock;
+use crate::view::View;
+use pe_unwind::{Arm64RuntimeFunction, RuntimeFunction};
+
+/// What such a function returns of a list that returns this, and writes so many entries: `none` where it writes none.
+fn one(number: u32, written: u64, none: u32) -> u32 {
+    if number == DONE && written == 0 {
+        none
+    } else {
+        number
+    }
+}
+
+pub(crate) fn pe_c_next_code(bytes: &[u8], walk: &mut CodeWalk, out: &mut Code) -> u32 {
+    let (mut entries, mut written) = ([*out], 0);
+    let number = pe_c_list_codes(bytes, walk, &mut entries, &mut written);
+    *out = entries[0];
+    one(number, written, NOTHING)
+}
+
+pub(crate) fn pe_c_next_arm64_code(
+    bytes: &[u8],
+    walk: &mut Arm64CodeWalk,
+    out: &mut Arm64Code,
+) -> u32 {
+    let (mut entries, mut written) = ([*out], 0);
+    let number = pe_c_list_arm64_codes(bytes, walk, &mut entries, &mut written);
+    *out = entries[0];
+    one(number, written, NOTHING)
+}
+
+pub(crate) fn pe_c_next_export(view: &View, walk: &mut Exports, out: &mut Export) -> u32 {
+    let (mut entries, mut written) = ([*out], 0);
+    let number = pe_c_list_exports(view, walk, &mut [], &mut entries, &mut written);
+    *out = entries[0];
+    one(number, written, NOTHING)
+}
+
+pub(crate) fn pe_c_next_library(view: &View, walk: &mut Libraries, out: &mut Library) -> u32 {
+    let (mut entries, mut written) = ([*out], 0);
+    let number = pe_c_list_libraries(view, walk, &mut [], &mut entries, &mut written);
+    *out = entries[0];
+    one(number, written, NOTHING)
+}
+
+pub(crate) fn pe_c_next_import(view: &View, walk: &mut Imports, out: &mut Import) -> u32 {
+    let (mut entries, mut written) = ([*out], 0);
+    let number = pe_c_list_imports(view, walk, &mut [], &mut entries, &mut written);
+    *out = entries[0];
+    one(number, written, NOTHING)
+}
+
+pub(crate) fn pe_c_next_delay_import(view: &View, walk: &mut Range, out: &mut DelayLibrary) -> u32 {
+    let (mut entries, mut written) = ([*out], 0);
+    let number = pe_c_list_delay_imports(view, walk, &mut [], &mut entries, &mut written);
+    *out = entries[0];
+    one(number, written, NOTHING)
+}
+
+pub(crate) fn pe_c_next_delayed_function(
+    view: &View,
+    walk: &mut DelayedFunctions,
+    out: &mut DelayedFunction,
+) -> u32 {
+    let (mut entries, mut written) = ([*out], 0);
+    let number = pe_c_list_delayed_functions(view, walk, &mut [], &mut entries, &mut written);
+    *out = entries[0];
+    one(number, written, NOTHING)
+}
+
+pub(crate) fn pe_c_next_bound_import(
+    bytes: &[u8],
+    table: &Range,
+    walk: &mut Range,
+    out: &mut BoundImport,
+) -> u32 {
+    let (mut entries, mut written) = ([*out], 0);
+    let number = pe_c_list_bound_imports(bytes, table, walk, &mut [], &mut entries, &mut written);
+    *out = entries[0];
+    one(number, written, NOTHING)
+}
+
+pub(crate) fn pe_c_next_bound_forwarder(
+    bytes: &[u8],
+    table: &Range,
+    walk: &mut Range,
+    out: &mut BoundForwarder,
+) -> u32 {
+    let (mut entries, mut written) = ([*out], 0);
+    let number = pe_c_list_bound_forwarders(
+        bytes,
+        table,
+        walk,
+        &mut [],
+        &mut entries,
+        &mut written,
+    );
+    *out = entries[0];
+    one(number, written, NOTHING)
+}
+
+pub(crate) fn pe_c_next_version_block(
+    bytes: &[u8],
+    walk: &mut Range,
+    out: &mut VersionBlock,
+) -> u32 {
+    let (mut entries, mut written) = ([*out], 0);
+    let number = pe_c_list_version_blocks(bytes, walk, &mut entries, &mut written);
+    *out = entries[0];
+    one(number, written, NOTHING)
+}
+
+pub(crate) fn pe_c_next_resource_leaf(
+    view: &View,
+    walk: &mut ResourceLeaves,
+    out: &mut ResourceLeaf,
+) -> u32 {
+    let (mut entries, mut written) = ([*out], 0);
+    let number = pe_c_list_resource_leaves(view, walk, &mut entries, &mut written);
+    *out = entries[0];
+    one(number, written, NOTHING)
+}
+
+pub(crate) fn pe_c_next_relocation_block(
+    bytes: &[u8],
+    walk: &mut Range,
+    out: &mut RelocationBlock,
+) -> u32 {
+    let (mut entries, mut written) = ([*out], 0);
+    let number = pe_c_list_relocation_blocks(bytes, walk, &mut entries, &mut written);
+    *out = entries[0];
+    one(number, written, NOTHING)
+}
+
+pub(crate) fn pe_c_next_relocation(
+    bytes: &[u8],
+    page_rva: u32,
+    walk: &mut Range,
+    out: &mut Relocation,
+) -> u32 {
+    let (mut entries, mut written) = ([*out], 0);
+    let number = pe_c_list_relocations(bytes, page_rva, walk, &mut entries, &mut written);
+    *out = entries[0];
+    one(number, written, NOTHING)
+}
+
+pub(crate) fn pe_c_next_guard_entry(
+    bytes: &[u8],
+    walk: &mut GuardEntries,
+    out: &mut GuardEntry,
+) -> u32 {
+    let (mut entries, mut written) = ([*out], 0);
+    let number = pe_c_list_guard_entries(bytes, walk, &mut entries, &mut written);
+    *out = entries[0];
+    one(number, written, NOTHING)
+}
+
+pub(crate) fn pe_c_next_pogo_entry(bytes: &[u8], walk: &mut Range, out: &mut PogoEntry) -> u32 {
+    let (mut entries, mut written) = ([*out], 0);
+    let number = pe_c_list_pogo_entries(bytes, walk, &mut entries, &mut written);
+    *out = entries[0];
+    one(number, written, NOTHING)
+}
+
+pub(crate) fn pe_c_function_at(
+    bytes: &[u8],
+    table: &Range,
+    index: u64,
+    out: &mut RuntimeFunction,
+) -> u32 {
+    let (mut next, mut entries, mut written) = (index, [*out], 0);
+    let number = pe_c_list_functions(bytes, table, &mut next, &mut entries, &mut written);
+    *out = entries[0];
+    one(number, written, FUNCTION_INDEX)
+}
+
+pub(crate) fn pe_c_arm64_function_at(
+    bytes: &[u8],
+    table: &Range,
+    index: u64,
+    out: &mut Arm64RuntimeFunction,
+) -> u32 {
+    let (mut next, mut entries, mut written) = (index, [*out], 0);
+    let number = pe_c_list_arm64_functions(bytes, table, &mut next, &mut entries, &mut written);
+    *out = entries[0];
+    one(number, written, FUNCTION_INDEX)
+}
+
+pub(crate) fn pe_c_export_at(
+    view: &View,
+    table: &AddressTable,
+    index: u64,
+    out: &mut Exported,
+) -> u32 {
+    let (mut next, mut entries, mut written) = (index, [*out], 0);
+    let number = pe_c_list_export_addresses(
+        view,
+        table,
+        &mut next,
+        &mut [],
+        &mut entries,
+        &mut written,
+    );
+    *out = entries[0];
+    one(number, written, NOTHING)
+}
+
+pub(crate) fn pe_c_symbol(bytes: &[u8], table: &Range, index: u64, out: &mut Symbol) -> u32 {
+    let mut walk = SymbolWalk {
+        table: *table,
+        next: index,
+    };
+    pe_c_next_symbol(bytes, &mut walk, out)
+}
