@@ -160,7 +160,7 @@ static uint64_t list_all_imports(const pe_c_view *view, pe_c_libraries libraries
     }
     /* Each run is for a library or an import. */
     pe_c_library_import *entries = calloc(number_of_runs, sizeof *entries);
-    if (entries == NULL || pe_c_all_imports(view, &walk) != PE_C_DONE)
+    if (entries == NULL || pe_c_import_libraries(view, &walk.libraries) != PE_C_DONE)
         written = 0;
     while (written > 0) {
         written = 0;
@@ -188,7 +188,7 @@ static uint64_t list_all_delayed(const pe_c_view *view, pe_c_run *runs, size_t n
     }
     /* Each run is for a DLL or a function. */
     pe_c_library_function *entries = calloc(number_of_runs, sizeof *entries);
-    if (entries == NULL || pe_c_all_delayed_functions(view, &walk) != PE_C_DONE)
+    if (entries == NULL || pe_c_delay_imports(view, &walk.libraries) != PE_C_DONE)
         written = 0;
     while (written > 0) {
         written = 0;

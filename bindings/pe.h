@@ -179,10 +179,8 @@
  *   pe_c_function_names             Writes to `names` what names each of these addresses, in their order; the rest of ..
  * imports
  *   pe_c_import_libraries           Returns where a walk over libraries starts
- *   pe_c_all_imports                Returns the import directory as a walk for pe_c_list_all_imports
  * delay imports
  *   pe_c_delay_imports              Returns the entries of the delay import directory, where a walk starts
- *   pe_c_all_delayed_functions      Returns the delay import directory as a walk for pe_c_list_all_delayed_functions
  * bound imports
  *   pe_c_bound_imports              Returns the bytes of the directory
  * version information and manifest
@@ -2534,7 +2532,7 @@ typedef struct {
     uint32_t has_name;              /* 1 or 0 */
 } pe_c_import;
 
-/* A walk over the imports of all libraries. */
+/* A walk over the imports of all libraries. It starts as PE_C_EMPTY with what pe_c_import_libraries returns as `libraries`. */
 typedef struct {
     pe_c_libraries libraries;       /* the libraries after the one that is walked over */
     pe_c_imports imports;           /* the imports that this one has left */
@@ -2561,10 +2559,6 @@ PE_C_SIZE(pe_c_library_import, 64);
 /* Returns where a walk over libraries starts. PE_C_NOTHING without a directory.
  * Errors: PE_C_UNMAPPED. */
 uint32_t pe_c_import_libraries(const pe_c_view *view, pe_c_libraries *out) PE_C_RESULT(1, 2);
-
-/* Returns the import directory as a walk for pe_c_list_all_imports. PE_C_NOTHING without a directory.
- * Errors: PE_C_UNMAPPED. */
-uint32_t pe_c_all_imports(const pe_c_view *view, pe_c_library_imports *out) PE_C_RESULT(1, 2);
 
 /* ---- delay imports
  *
@@ -2609,7 +2603,8 @@ typedef struct {
     uint32_t has_name;              /* 1 or 0 */
 } pe_c_delayed_function;
 
-/* A walk over the functions of all DLLs that are loaded later. */
+/* A walk over the functions of all DLLs that are loaded later. It starts as PE_C_EMPTY with what pe_c_delay_imports returns as
+ * `libraries`. */
 typedef struct {
     pe_c_range libraries;           /* the entries of the directory after that of the DLL that is walked over */
     pe_c_delayed_functions functions;   /* the functions that this one has left */
@@ -2634,10 +2629,6 @@ PE_C_SIZE(pe_c_library_function, 48);
 /* Returns the entries of the delay import directory, where a walk starts. PE_C_NOTHING where the directory is absent.
  * Errors: PE_C_UNMAPPED, PE_C_SHORT. */
 uint32_t pe_c_delay_imports(const pe_c_view *view, pe_c_range *out) PE_C_RESULT(1, 2);
-
-/* Returns the delay import directory as a walk for pe_c_list_all_delayed_functions. PE_C_NOTHING where the
- * directory is absent. Errors: PE_C_UNMAPPED, PE_C_SHORT. */
-uint32_t pe_c_all_delayed_functions(const pe_c_view *view, pe_c_library_functions *out) PE_C_RESULT(1, 2);
 
 /* ---- bound imports
  *

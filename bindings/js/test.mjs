@@ -756,14 +756,14 @@ test('a list in one call has what its walk has, and starts where that is', () =>
     assert.deepEqual(read('delayed_functions', structuredClone(late.functions), runs), [...delayed.delayedFunctions(late)]);
   }
   assert.deepEqual(read('delay_imports', delayed.call('pe_c_delay_imports')), [...delayed.list('delayImports')]);
-  const later = read('all_delayed_functions', delayed.call('pe_c_all_delayed_functions'));
+  const later = read('all_delayed_functions', { libraries: delayed.call('pe_c_delay_imports') });
   assert.deepEqual(later.map((it) => [delayed.utf8(it.library_name), it.library, it.function.has_name ? delayed.utf8(it.function.name) : null,
     it.function.ordinal]), [['dbghelp.dll', 0n, 'SymInitialize', 0x121], ['dbghelp.dll', 0n, null, 7],
     ['VERSION.dll', 1n, 'VerQueryValueW', 0]]);
   assert.deepEqual(later[0].function, [...delayed.delayedFunctions(late)][0]);
   assert.deepEqual(listed(image, 'pe_c_list_libraries', { walk: image.call('pe_c_import_libraries'), runs: [{}, {}] }),
     [...image.list('libraries')]);
-  const all = listed(image, 'pe_c_list_all_imports', { walk: image.call('pe_c_all_imports'), runs: [{}, {}, {}] });
+  const all = listed(image, 'pe_c_list_all_imports', { walk: { libraries: image.call('pe_c_import_libraries') }, runs: [{}, {}, {}] });
   assert.deepEqual(all.map((it) => [image.utf8(it.library_name), it.library, it.import.has_name ? image.utf8(it.import.name) : null,
     it.import.ordinal]), [['KERNEL32.dll', 0n, 'Sleep', 42], ['KERNEL32.dll', 0n, null, 17], ['a.dll', 1n, 'f', 0]]);
   assert.deepEqual(all[0].import, [...image.imports(dll)][0]);

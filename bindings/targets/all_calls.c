@@ -535,7 +535,7 @@ static void imports(const struct file *file)
             WALK_WHY(ITEMS, pe_c_next_delayed_function, pe_c_delayed_function_failure, function, VIEW, delayed.functions) {}
         }
     }
-    if (IS_DONE(pe_c_all_delayed_functions, all, VIEW, &all))
+    if (pe_c_delay_imports(VIEW, &all.libraries) == PE_C_DONE)
         LIST(pe_c_list_all_delayed_functions, pe_c_library_function, VIEW, &all, runs, ROWS);
     if (!IS_DONE(pe_c_bound_imports, table, VIEW, &table))
         return;
@@ -732,8 +732,8 @@ static void lists_of_names(const struct file *file)
         LIST(pe_c_list_imports, pe_c_import, VIEW, &together, runs, ROWS);
     }
     pe_c_library_imports all = PE_C_EMPTY;
-    if (IS_DONE(pe_c_all_imports, all, VIEW, &all))
-        LIST(pe_c_list_all_imports, pe_c_library_import, VIEW, &all, runs, ROWS);
+    all.libraries = libraries;
+    LIST(pe_c_list_all_imports, pe_c_library_import, VIEW, &all, runs, ROWS);
 }
 
 static void lists_of_functions(const struct file *file)

@@ -75,10 +75,6 @@ use crate::imports::Imports;
 use crate::imports::Libraries;
 use crate::imports::pe_c_import_libraries;
 use crate::kept_sections::KeptSections;
-use crate::library_functions::LibraryFunctions;
-use crate::library_functions::pe_c_all_delayed_functions;
-use crate::library_imports::LibraryImports;
-use crate::library_imports::pe_c_all_imports;
 use crate::lists::delay_imports::pe_c_list_delay_imports;
 use crate::lists::delay_imports::pe_c_list_delayed_functions;
 use crate::lists::imports::pe_c_list_imports;
@@ -181,24 +177,7 @@ fn ranges_of_tables(rt: HostRuntime) -> Result<(), Fail> {
         range_by(|v, out| pe_c_delay_imports(v, out), view)
     });
     assert_eq!(rt; found, want);
-    let found = by_second(&bytes, &with_directory(13, 24), |view| {
-        range_by(all_delayed, view)
-    });
-    assert_eq!(rt; found, want);
     Ok(())
-}
-
-/// The libraries that a walk over all delayed functions starts with.
-fn all_delayed(view: &View<'_>, out: &mut Range) -> u32 {
-    let mut walk = LibraryFunctions {
-        libraries: *out,
-        functions: functions_in([0, 0], 0),
-        library_name: range(1, 2),
-        begun: 3,
-    };
-    let answer = pe_c_all_delayed_functions(view, &mut walk);
-    *out = walk.libraries;
-    answer
 }
 
 /// Six names in the first half and five in the second; the DLL has the name `first`.
@@ -257,19 +236,6 @@ fn imports(rt: HostRuntime) -> Result<(), Fail> {
         (pe_c_import_libraries(view, &mut out), out.next)
     });
     assert_eq!(rt; libraries, (DONE, 0x410));
-    let all = by_second(&bytes, &image, |view| {
-        let mut out = LibraryImports {
-            libraries: NO_LIBRARIES,
-            imports: Imports {
-                left: range(1, 2),
-                rva: 3,
-            },
-            library_name: range(4, 5),
-            begun: 6,
-        };
-        (pe_c_all_imports(view, &mut out), out.libraries.next)
-    });
-    assert_eq!(rt; all, (DONE, 0x410));
     Ok(())
 }
 

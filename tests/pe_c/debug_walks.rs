@@ -1,11 +1,8 @@
 //! The entries of the debug directory and of POGO, one a step.
 
-use super::made::{
-    OVER, POGO_NAME, SHORT, UNTOUCHED, X64, image, of_range, range, sections, untouched, view,
-};
+use super::made::{OVER, POGO_NAME, SHORT, UNTOUCHED, of_range, range, untouched};
 use super::steps::pe_c_next_pogo_entry;
 use crate::debug_walks::{PogoEntry, pe_c_next_debug_entry};
-use crate::lists::debug::pe_c_list_pogo_entries;
 use crate::ranges::Range;
 use crate::results::{DONE, NOTHING};
 use pe_records::ImageDebugDirectory;
@@ -106,26 +103,5 @@ fn pogo_entries_that_are_refused(rt: HostRuntime) {
         assert_eq!(rt; step_of_pogo(POGO, &mut walk), first);
         let refused = (number, NO_PART, OVER);
         assert_eq!(rt; step_of_pogo(POGO, &mut walk), refused, "of {length} bytes");
-    }
-}
-
-/// The three entries by two calls, then none.
-#[test]
-fn lists_of_pogo_entries(rt: HostRuntime) {
-    let none = PogoEntry {
-        name: untouched(),
-        rva: 5,
-        size: 6,
-    };
-    let (mut walk, mut entries, mut written) = (range(1, 36), [none; 2], 77);
-    for (count, left, first) in [
-        (2, [25, 12], (0x1000, 3)),
-        (1, [37, 0], (0x0403_0201, 0x0807_0605)),
-        (0, [37, 0], (0x0403_0201, 0x0807_0605)),
-    ] {
-        let answer = pe_c_list_pogo_entries(POGO, &mut walk, &mut entries, &mut written);
-        assert_eq!(rt; (answer, written, of_range(walk)), (DONE, count, left));
-        assert_eq!(rt; (entries[0].rva, entries[0].size), first);
-        assert_eq!(rt; (entries[1].rva, entries[1].size), (0x2000, 5));
     }
 }

@@ -1,4 +1,4 @@
-//! The tables of a load configuration: which is which, where each starts, its entries one a step and in lists.
+//! The tables of a load configuration: which is which, where each starts, its entries one a step.
 
 use super::made::{
     DIRECTORY_VA_BELOW_BASE, SHORT, UNMAPPED, X64, directory, having, image, of_range, range,
@@ -7,7 +7,6 @@ use super::made::{
 use super::steps::pe_c_next_guard_entry;
 use crate::guard_tables::{GuardEntries, GuardEntry, pe_c_guard_table};
 use crate::image::Image;
-use crate::lists::guard_tables::pe_c_list_guard_entries;
 use crate::ranges::Range;
 use crate::results::{DONE, NOTHING};
 use std::alloc::{AllocError, Global};
@@ -133,35 +132,5 @@ fn entries_one_a_step(rt: HostRuntime) -> Result<(), Fail> {
     assert_eq!(rt; pe_c_next_guard_entry(&bytes, &mut walk, &mut out), SHORT);
     assert_eq!(rt; (out.rva, fields(&walk)), (0x0B0A_0908, ([0, 0], 0, 0, 0)));
     assert_eq!(rt; pe_c_next_guard_entry(&bytes, &mut walk, &mut out), NOTHING);
-    Ok(())
-}
-
-/// A list has what the steps return, and goes on where it stopped.
-#[test]
-fn entries_in_lists(rt: HostRuntime) -> Result<(), Fail> {
-    let bytes = with_tables(rt.alloc(), 0)?;
-    let mut walk = GuardEntries {
-        entries: range(280, 20),
-        count: 6,
-        flag_size: 0,
-        spare: 0,
-    };
-    let mut entries = [NO_ENTRY; 3];
-    let mut written = 9;
-    let found = pe_c_list_guard_entries(&bytes, &mut walk, &mut entries, &mut written);
-    assert_eq!(rt; found, DONE);
-    assert_eq!(rt;
-        (written, entries[0].rva, entries[1].rva, entries[2].rva),
-        (3, 0x0403_0201, 0x0807_0605, 0x0C0B_0A09)
-    );
-    let found = pe_c_list_guard_entries(&bytes, &mut walk, &mut entries, &mut written);
-    assert_eq!(rt; found, DONE);
-    assert_eq!(rt;
-        (written, entries[0].rva, entries[1].rva, entries[2].rva),
-        (2, 0x100F_0E0D, 0x1413_1211, 0x0C0B_0A09)
-    );
-    let found = pe_c_list_guard_entries(&bytes, &mut walk, &mut entries, &mut written);
-    assert_eq!(rt; found, SHORT);
-    assert_eq!(rt; (written, fields(&walk)), (2, ([0, 0], 0, 0, 0)));
     Ok(())
 }

@@ -1,14 +1,12 @@
 //! The list of the functions of all delay-loaded DLLs, whose names are read together in a room of the caller.
 
-use super::made::{
-    OVER, RUN, SHORT, X64, directory, having, image, of_range, range, sections, view,
-};
+use super::made::{OVER, RUN, SHORT, X64, image, of_range, range, sections, view};
 use crate::delay_imports::{DelayedFunction, DelayedFunctions};
 use crate::image::Image;
-use crate::library_functions::{LibraryFunction, LibraryFunctions, pe_c_all_delayed_functions};
+use crate::library_functions::{LibraryFunction, LibraryFunctions};
 use crate::lists::library_functions::pe_c_list_all_delayed_functions;
 use crate::ranges::Range;
-use crate::results::{DONE, NOTHING};
+use crate::results::DONE;
 use pe_images::image as bytes_of;
 use std::alloc::Global;
 use std::test::Fail;
@@ -123,21 +121,6 @@ fn list(
         &mut written,
     );
     (answer, written, room.map(of_function))
-}
-
-#[test]
-fn walks_over_all_delayed_functions(rt: HostRuntime) -> Result<(), Fail> {
-    let bytes = with_dlls(rt.alloc())?;
-    for (virtual_address, size, number, start) in [
-        (0x1010, 96, DONE, ([0x10, 96], OVER, 0, OVER, 0)),
-        (0, 0, NOTHING, ([9, 9], OVER, 0, OVER, 0)),
-    ] {
-        let image = having(image(X64), 13, directory(virtual_address, size));
-        let mut walk = walk_over([9, 9]);
-        let answer = pe_c_all_delayed_functions(&view(&bytes, &image, &sections()), &mut walk);
-        assert_eq!(rt; (answer, of_walk(walk)), (number, start));
-    }
-    Ok(())
 }
 
 #[test]

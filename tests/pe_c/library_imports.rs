@@ -6,10 +6,10 @@ use super::made::{
 };
 use crate::image::Image;
 use crate::imports::{Import, Imports, Libraries};
-use crate::library_imports::{LibraryImport, LibraryImports, pe_c_all_imports};
+use crate::library_imports::{LibraryImport, LibraryImports};
 use crate::lists::library_imports::pe_c_list_all_imports;
 use crate::ranges::Range;
-use crate::results::{DONE, NOTHING};
+use crate::results::DONE;
 use pe_images::put;
 use std::test::Fail;
 
@@ -113,24 +113,6 @@ const IMPORTS: [Fields; 3] = [
     ((OVER, 0x2008, 17, 0), ([0xA0, 1], 0), 0),
     ((OVER, 0x1088, 5, 0), ([0xA2, 2], 1), 0),
 ];
-
-#[test]
-fn walks_over_all_imports(rt: HostRuntime) -> Result<(), Fail> {
-    let bytes = with_imports(rt.alloc())?;
-    for (virtual_address, number, start) in [
-        (0x1010, DONE, (0x10, 0, OVER, 0, OVER, 0)),
-        (0, NOTHING, (9, 0, OVER, 0, OVER, 0)),
-    ] {
-        let image = match virtual_address {
-            0 => image(X64),
-            other => with_directory(other),
-        };
-        let mut walk = walk_at(9);
-        let answer = pe_c_all_imports(&view(&bytes, &image, &sections()), &mut walk);
-        assert_eq!(rt; (answer, of_walk(walk)), (number, start));
-    }
-    Ok(())
-}
 
 #[test]
 fn all_imports_in_their_order(rt: HostRuntime) -> Result<(), Fail> {

@@ -1,30 +1,22 @@
 //! Lists in one call: the entries of a walk, so many a call as there is room for, errors after the entries before them, and what
 //! is left as it was. The entries are those that the tests of the steps expect.
 
-use super::base_relocations::two_blocks;
 use super::imports::{NO_IMPORT, with_imports};
 use super::made::{
-    ARM64_CUT, DIRECTORY_NO_ARGUMENT, IMPORT_NAME, OVER, RESOURCE_STRING, SHORT,
-    TREE_NOT_DIRECTORY, UNMAPPED, UNWIND_CODE, X64, directory, having, image, of_range, range,
-    sections, untouched, view,
+    IMPORT_NAME, OVER, SHORT, TREE_NOT_DIRECTORY, UNMAPPED, UNWIND_CODE, X64, directory, having,
+    image, of_range, range, sections, view,
 };
 use super::resource_leaves::{NO_LEAF, of_size, with_tree};
-use super::version_blocks::BLOCKS;
-use crate::arm64::codes::{Arm64Code, Arm64CodeWalk};
-use crate::base_relocations::{Relocation, RelocationBlock};
 use crate::imports::Imports;
-use crate::lists::arm64::{pe_c_list_arm64_codes, pe_c_list_arm64_functions};
 use crate::lists::imports::pe_c_list_imports;
-use crate::lists::relocations::{pe_c_list_relocation_blocks, pe_c_list_relocations};
-use crate::lists::resources::{pe_c_list_resource_leaves, pe_c_list_version_blocks};
+use crate::lists::resources::pe_c_list_resource_leaves;
 use crate::lists::x64::{CodeForm, pe_c_all_codes, pe_c_list_codes, pe_c_list_functions};
 use crate::ranges::Range;
 use crate::resource_leaves::pe_c_resource_leaves;
 use crate::results::{DONE, ROOM};
 use crate::unwinding::{Code, CodeWalk};
-use crate::version_blocks::VersionBlock;
 use pe_images::put;
-use pe_unwind::{Arm64RuntimeFunction, RuntimeFunction};
+use pe_unwind::RuntimeFunction;
 use std::test::Fail;
 
 /// What `written` is before a call.
@@ -148,59 +140,6 @@ fn all_codes_of_a_record(rt: HostRuntime) {
     assert_eq!(rt; all_codes(&bytes[..3], 1, 3), (SHORT, 1, [40, 7, 7]));
 }
 
-/// Two entries of ARM64, and a stream of `nop`, `set_fp`, and a code of two bytes of which one is there.
-#[test]
-fn arm64_in_lists(rt: HostRuntime) {
-    let bytes = [
-        0x10, 0, 0, 0, 0x20, 0, 0, 0, 0x30, 0, 0, 0, 0x41, 0, 0, 0, 0xE3, 0xE1, 0xE3, 0xC8,
-    ];
-    let none = Arm64RuntimeFunction {
-        begin_address: 7,
-        unwind_data: 8,
-    };
-    let mut next = 0;
-    for (want, count, after) in [([0x10, 7], 1, 1), ([0x30, 7], 1, 2)] {
-        let mut entries = [none; 2];
-        let mut written = UNWRITTEN;
-        let answer = pe_c_list_arm64_functions(
-            &bytes,
-            &range(0, 16),
-            &mut next,
-            &mut entries[..1],
-            &mut written,
-        );
-        assert_eq!(rt; (answer, written, next), (DONE, count, after));
-        assert_eq!(rt; entries.map(|entry| entry.begin_address), want);
-    }
-    let mut walk = Arm64CodeWalk {
-        left: range(16, 4),
-        offset: 0,
-    };
-    for (answer, count, left) in [(DONE, 3, [19, 1]), (ARM64_CUT, UNWRITTEN, OVER)] {
-        let none = Arm64Code {
-            offset: 7,
-            length: 7,
-            kind: 7,
-            operand: 7,
-            value: 7,
-            flags: 7,
-        };
-        let mut entries = [none; 5];
-        let mut written = UNWRITTEN;
-        let number = pe_c_list_arm64_codes(&bytes, &mut walk, &mut entries, &mut written);
-        assert_eq!(rt;
-            (number, written, of_range(walk.left)),
-            (answer, count, left)
-        );
-        let kinds = if count == 3 {
-            [18, 16, 18, 7, 7]
-        } else {
-            [7; 5]
-        };
-        assert_eq!(rt; entries.map(|code| code.kind), kinds);
-    }
-}
-
 #[test]
 fn imports_in_lists(rt: HostRuntime) -> Result<(), Fail> {
     let mut bytes = with_imports(rt.alloc())?;
@@ -269,71 +208,6 @@ fn leaves_in_lists(rt: HostRuntime) -> Result<(), Fail> {
         let number = pe_c_list_resource_leaves(&view, &mut walk, &mut entries, &mut written);
         assert_eq!(rt; (number, written), (answer, count));
         assert_eq!(rt; entries.map(|entry| entry.language.id), languages);
-    }
-    Ok(())
-}
-
-/// The block without an end of its key is an error of its own, and the walk goes on after it.
-#[test]
-fn version_blocks_in_lists(rt: HostRuntime) {
-    let none = VersionBlock {
-        key: untouched(),
-        value: untouched(),
-        children: untouched(),
-        value_type: 7,
-        has_language: 8,
-        language: 9,
-        code_page: 10,
-    };
-    let mut walk = range(4, 66);
-    for (answer, count, key, left) in [
-        (DONE, 1, [10, 16], [44, 26]),
-        (RESOURCE_STRING, UNWRITTEN, [0x7777, 0x77], [52, 18]),
-        (DONE, 1, [58, 2], [64, 6]),
-        (SHORT, UNWRITTEN, [0x7777, 0x77], [70, 0]),
-        (DONE, 0, [0x7777, 0x77], [70, 0]),
-    ] {
-        let mut entries = [none; 2];
-        let mut written = UNWRITTEN;
-        let number = pe_c_list_version_blocks(&BLOCKS, &mut walk, &mut entries, &mut written);
-        assert_eq!(rt; (number, written, of_range(walk)), (answer, count, left));
-        assert_eq!(rt; of_range(entries[0].key), key);
-    }
-}
-
-#[test]
-fn relocations_in_lists(rt: HostRuntime) -> Result<(), Fail> {
-    let bytes = two_blocks(rt.alloc())?;
-    let none = RelocationBlock {
-        entries: untouched(),
-        page_rva: 7,
-        spare: 0,
-    };
-    let mut walk = range(4, 26);
-    for (count, pages, left) in [(2, [0x1000, 0x5000, 7], [30, 0]), (0, [7; 3], [30, 0])] {
-        let mut entries = [none; 3];
-        let mut written = UNWRITTEN;
-        let answer = pe_c_list_relocation_blocks(&bytes, &mut walk, &mut entries, &mut written);
-        assert_eq!(rt; (answer, written, of_range(walk)), (DONE, count, left));
-        assert_eq!(rt; entries.map(|entry| entry.page_rva), pages);
-    }
-    // The entries of the second block: a HIGHADJ at 10h with its argument, and one that has none.
-    let none = Relocation {
-        rva: 7,
-        kind: 7,
-        argument: 7,
-    };
-    let mut walk = range(24, 6);
-    for (answer, count, rva, left) in [
-        (DONE, 1, 0x5010, [28, 2]),
-        (DIRECTORY_NO_ARGUMENT, UNWRITTEN, 7, OVER),
-        (DONE, 0, 7, OVER),
-    ] {
-        let mut entries = [none; 2];
-        let mut written = UNWRITTEN;
-        let number = pe_c_list_relocations(&bytes, 0x5000, &mut walk, &mut entries, &mut written);
-        assert_eq!(rt; (number, written, of_range(walk)), (answer, count, left));
-        assert_eq!(rt; (entries[0].rva, entries[1].rva), (rva, 7));
     }
     Ok(())
 }

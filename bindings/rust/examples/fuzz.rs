@@ -756,7 +756,6 @@ fn read_by_lies(bytes: &[u8], random: &mut Random, seen: &mut Seen) {
     }
     let lie = sys::Imports { left: range, rva: index };
     steps!(view, MOST, pe_c_next_import(lie), Import, pe_c_import_failure);
-    call_of_image!(pe_c_all_imports(), LibraryImports);
     let tls = call_of_image!(pe_c_tls(), TlsDirectory);
     call_of_image!(pe_c_tls_callbacks(&sys::TlsDirectory { address_of_callbacks: random.edge(number), ..tls }), Range);
     call_of_image!(pe_c_relocation_blocks(), Range);
@@ -789,7 +788,6 @@ fn read_by_lies(bytes: &[u8], random: &mut Random, seen: &mut Seen) {
     let lie = sys::MetadataStreams { headers: range, count: few as u16, ..metadata.streams };
     walk!(pe_c_next_metadata_stream(lie), MetadataStream);
     walk!(pe_c_next_metadata_stream(sys::MetadataStreams { metadata: range, ..lie }), MetadataStream);
-    call_of_image!(pe_c_all_delayed_functions(), LibraryFunctions);
     let delayed = call_of_image!(pe_c_delay_imports(), Range);
     for walk in [delayed, range] {
         steps!(

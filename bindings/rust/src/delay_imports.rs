@@ -209,6 +209,8 @@ impl<'a> Image<'a> {
     ///
     /// [`Error::UNMAPPED`], [`Error::SHORT`].
     pub fn delayed_functions(&self) -> Result<AllDelayedFunctions<'_, 'a>, Error> {
-        Ok(AllDelayedFunctions(ImageList::started(self, self.ask(sys::pe_c_all_delayed_functions)?)))
+        let walk = self.ask(sys::pe_c_delay_imports)?;
+        let walk = walk.map(|libraries| sys::LibraryFunctions { libraries, ..sys::LibraryFunctions::default() });
+        Ok(AllDelayedFunctions(ImageList::started(self, walk)))
     }
 }

@@ -291,7 +291,8 @@ impl<'a> Image<'a> {
     ///
     /// [`Error::UNMAPPED`].
     pub fn imports(&self) -> Result<AllImports<'_, 'a>, Error> {
-        let walk = self.ask(sys::pe_c_all_imports)?;
+        let walk = self.ask(sys::pe_c_import_libraries)?;
+        let walk = walk.map(|libraries| sys::LibraryImports { libraries, ..sys::LibraryImports::default() });
         let libraries = self.libraries()?.take_while(Result::is_ok).count() as u64;
         Ok(AllImports { list: ImageList::started(self, walk), libraries })
     }

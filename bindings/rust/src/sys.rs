@@ -1655,6 +1655,8 @@ pub struct Import {
 const _: () = assert!(core::mem::size_of::<Import>() == 32);
 
 /// A walk over the imports of all libraries.
+///
+/// It starts as `PE_C_EMPTY` with what [`pe_c_import_libraries`] returns as `libraries`.
 #[repr(C)]
 #[derive(Clone, Copy, Debug, Default, PartialEq, Eq)]
 pub struct LibraryImports {
@@ -1752,6 +1754,8 @@ pub struct DelayedFunction {
 const _: () = assert!(core::mem::size_of::<DelayedFunction>() == 24);
 
 /// A walk over the functions of all DLLs that are loaded later.
+///
+/// It starts as `PE_C_EMPTY` with what [`pe_c_delay_imports`] returns as `libraries`.
 #[repr(C)]
 #[derive(Clone, Copy, Debug, Default, PartialEq, Eq)]
 pub struct LibraryFunctions {
@@ -3723,22 +3727,12 @@ extern "C" {
     ///
     /// Errors: [`Error::UNMAPPED`].
     pub fn pe_c_import_libraries(view: *const View, out: *mut Libraries) -> u32;
-    /// Returns the import directory as a walk for [`pe_c_list_all_imports`].
-    ///
-    /// [`NOTHING`] without a directory.
-    ///
-    /// Errors: [`Error::UNMAPPED`].
-    pub fn pe_c_all_imports(view: *const View, out: *mut LibraryImports) -> u32;
     /// Returns the entries of the delay import directory, where a walk starts.
     ///
     /// [`NOTHING`] where the directory is absent.
     ///
     /// Errors: [`Error::UNMAPPED`], [`Error::SHORT`].
     pub fn pe_c_delay_imports(view: *const View, out: *mut Range) -> u32;
-    /// Returns the delay import directory as a walk for [`pe_c_list_all_delayed_functions`].
-    ///
-    /// [`NOTHING`] where the directory is absent. Errors: [`Error::UNMAPPED`], [`Error::SHORT`].
-    pub fn pe_c_all_delayed_functions(view: *const View, out: *mut LibraryFunctions) -> u32;
     /// Returns the bytes of the directory: the table that the next two calls take.
     ///
     /// [`NOTHING`] where it is absent.

@@ -1,17 +1,14 @@
 -- The walk over the functions of all delay-loaded DLLs returns those of each DLL in turn.
 use Rattle.std.proofs.Common.{◌≡◌, ℕ, zero, suc, ◌<◌, List, [], ◌∷◌, length, drop, Option, Some, None, Result, Ok, Err, length-drop, refl, sym, ap, subst, ◌∙◌, arith}
-use Rattle.std.specs.Option.{option_map}
 use Rattle.pe_core.specs.Refusals.{Refusal, ◌>>=◌}
-use Rattle.pe_core.specs.declared.section_table.SectionTable.{SectionTable}
 use Rattle.pe_directories.specs.DelayImports.{first_delay_import}
 use Rattle.pe_directories.specs.DirectoryRefusals.{DirectoryRefusal, of_image}
 use Rattle.pe_directories.specs.Walks.{First}
 use Rattle.pe_directories.specs.declared.delay_import.DelayImport.{DelayImport}
 use Rattle.pe_c.specs.DelayImports.{first_library_in, first_of_walk, functions_after, library_of}
 use Rattle.pe_c.specs.DirectoryRuns.{StepsDelayLibraries, StepsDelayedFunctions}
-use Rattle.pe_c.specs.Directories.{first_of, left_after, read_first, step_of, table_at}
-use Rattle.pe_c.specs.Images.{map_of_image}
-use Rattle.pe_c.specs.LibraryFunctions.{AreFunctionsOf, StepsLibraryFunctions, Turn, Turns, all_over, at_library, before_first, library_functions_at, next_library, of_libraries, of_library, turn, turn_by_function, turn_by_library, with_library}
+use Rattle.pe_c.specs.Directories.{first_of, left_after, read_first, step_of}
+use Rattle.pe_c.specs.LibraryFunctions.{AreFunctionsOf, StepsLibraryFunctions, Turn, Turns, all_over, at_library, before_first, next_library, of_libraries, of_library, turn, turn_by_function, turn_by_library, with_library}
 use Rattle.pe_c.specs.LibraryImports.{then_items}
 use Rattle.pe_c.specs.Ranges.{bytes_at, no_bytes}
 use Rattle.pe_c.specs.Runs.{IsOver, ReturnsItems}
@@ -177,20 +174,6 @@ module _ (offset : ℕ → Option ℕ) (b : List ℕ) (image : images.Image) whe
   all_in_turn walk own libraries functions h others are =
       in_library own walk (of_libraries functions walk.begun libraries) h (λ left none. from_libraries functions libraries (record walk { functions = left }) none others are)
 
-  from_first : (libraries : List (Result DelayLibrary DirectoryRefusal)) (functions : DelayLibrary → List (Result DelayedFunction DirectoryRefusal)) (start : Range) → ReturnsItems Others start libraries → AreFunctionsOf offset b image functions libraries →
+  pub from_first : (libraries : List (Result DelayLibrary DirectoryRefusal)) (functions : DelayLibrary → List (Result DelayedFunction DirectoryRefusal)) (start : Range) → ReturnsItems Others start libraries → AreFunctionsOf offset b image functions libraries →
       ReturnsItems All (before_first start) (of_libraries functions 0 libraries)
   from_first libraries functions start h are = from_libraries functions libraries (before_first start) (none_left 0 0) h are
-
-started : (b : List ℕ) (image : images.Image) (sections : List SectionTable) (start : Range) (walk : LibraryFunctions) → table_at 13 b image sections ≡ Ok (Some start) → library_functions_at b image sections ≡ Ok (Some walk) → before_first start ≡ walk
-started b image sections start walk at is =
-    let same : Ok (Some (before_first start)) ≡ Ok (Some walk) = ap (λ (r : Result (Option Range) DirectoryRefusal). r >>= λ o. Ok (option_map before_first o)) (sym at) ∙ is in
-    cc
-
-pub all_of_image : (b : List ℕ) (image : images.Image) (sections : List SectionTable) (start : Range) (walk : LibraryFunctions) (libraries : List (Result DelayLibrary DirectoryRefusal)) (functions : DelayLibrary → List (Result DelayedFunction DirectoryRefusal)) →
-    table_at 13 b image sections ≡ Ok (Some start) → library_functions_at b image sections ≡ Ok (Some walk) →
-    ReturnsItems (StepsDelayLibraries (map_of_image image sections) b image) start libraries →
-    AreFunctionsOf (map_of_image image sections) b image functions libraries →
-    ReturnsItems (StepsLibraryFunctions (map_of_image image sections) b image) walk (of_libraries functions 0 libraries)
-all_of_image b image sections start walk libraries functions at is h are =
-    subst (λ (u : LibraryFunctions). ReturnsItems (StepsLibraryFunctions (map_of_image image sections) b image) u (of_libraries functions 0 libraries)) (started b image sections start walk at is)
-    (from_first (map_of_image image sections) b image libraries functions start h are)

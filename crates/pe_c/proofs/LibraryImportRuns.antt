@@ -1,19 +1,14 @@
 -- The walk over the imports of all libraries returns those of each library in turn.
 use Rattle.std.proofs.Common.{◌≡◌, ℕ, zero, suc, ◌==◌, List, [], ◌∷◌, Option, Some, None, Result, Ok, Err, refl, sym, ap, subst, ◌∙◌, arith}
-use Rattle.std.specs.Option.{option_map}
-use Rattle.pe_core.specs.Imports.{entry_size}
-use Rattle.pe_core.specs.Refusals.{Refusal, ◌>>=◌}
-use Rattle.pe_core.specs.declared.section_table.SectionTable.{SectionTable}
-use Rattle.pe_c.specs.declared.image.Image.{Image}
+use Rattle.pe_core.specs.Refusals.{Refusal}
 use Rattle.pe_c.specs.declared.imports.Import.{Import}
 use Rattle.pe_c.specs.declared.imports.Imports.{Imports}
 use Rattle.pe_c.specs.declared.imports.Libraries.{Libraries}
 use Rattle.pe_c.specs.declared.imports.Library.{Library}
 use Rattle.pe_c.specs.declared.library_imports.LibraryImport.{LibraryImport}
 use Rattle.pe_c.specs.declared.library_imports.LibraryImports.{LibraryImports}
-use Rattle.pe_c.specs.Images.{map_of_image}
-use Rattle.pe_c.specs.Imports.{StepsImports, StepsLibraries, import_by, import_left, import_step, libraries_at, library_step, no_libraries}
-use Rattle.pe_c.specs.LibraryImports.{AreImportsOf, StepsLibraryImports, Turn, Turns, after_import, all_over, at_library, before_first, library_imports_at, next_library, of_libraries, of_library, then_items, turn, turn_by_import, turn_by_library, with_library}
+use Rattle.pe_c.specs.Imports.{StepsImports, StepsLibraries, import_by, import_left, import_step, library_step, no_libraries}
+use Rattle.pe_c.specs.LibraryImports.{AreImportsOf, StepsLibraryImports, Turn, Turns, after_import, all_over, at_library, before_first, next_library, of_libraries, of_library, then_items, turn, turn_by_import, turn_by_library, with_library}
 use Rattle.pe_c.specs.Runs.{IsOver, ReturnsItems}
 use Rattle.pe_c.specs.Walks.{left_entry}
 use Rattle.pe_c.proofs.ImportRuns.{step_last}
@@ -165,22 +160,6 @@ module _ (offset : ℕ → Option ℕ) (w : ℕ) (b : List ℕ) where
   all_in_turn walk own libraries imports h others are =
       in_library own walk (of_libraries w b imports walk.begun libraries) h (λ left none. from_libraries imports libraries (record walk { imports = left }) none others are)
 
-  from_first : (libraries : List (Result Library Refusal)) (imports : Library → List (Result Import Refusal)) (start : Libraries) → ReturnsItems Others start libraries → AreImportsOf offset w b imports libraries →
+  pub from_first : (libraries : List (Result Library Refusal)) (imports : Library → List (Result Import Refusal)) (start : Libraries) → ReturnsItems Others start libraries → AreImportsOf offset w b imports libraries →
       ReturnsItems All (before_first start) (of_libraries w b imports 0 libraries)
   from_first libraries imports start h are = from_libraries imports libraries (before_first start) (none_left 0) h are
-
-started : (image : Image) (sections : List SectionTable) (start : Libraries) (walk : LibraryImports) → libraries_at image (map_of_image image sections) ≡ Ok (Some start) → library_imports_at image (map_of_image image sections) ≡ Ok (Some walk) → before_first start ≡ walk
-started image sections start walk at is =
-    let same : Ok (Some (before_first start)) ≡ Ok (Some walk) = ap (λ (r : Result (Option Libraries) Refusal). r >>= λ o. Ok (option_map before_first o)) (sym at) ∙ is in
-    cc
-
-pub all_of_image : (b : List ℕ) (image : Image) (sections : List SectionTable) (start : Libraries) (walk : LibraryImports) (libraries : List (Result Library Refusal)) (imports : Library → List (Result Import Refusal)) →
-    libraries_at image (map_of_image image sections) ≡ Ok (Some start) → library_imports_at image (map_of_image image sections) ≡ Ok (Some walk) →
-    ReturnsItems (StepsLibraries (map_of_image image sections) (entry_size (image.width == 64)) b) start libraries →
-    AreImportsOf (map_of_image image sections) (entry_size (image.width == 64)) b imports libraries →
-    ReturnsItems (StepsLibraryImports (map_of_image image sections) (entry_size (image.width == 64)) b) walk (of_libraries (entry_size (image.width == 64)) b imports 0 libraries)
-all_of_image b image sections start walk libraries imports at is h are =
-    let offset : ℕ → Option ℕ = map_of_image image sections in
-    let w : ℕ = entry_size (image.width == 64) in
-    subst (λ (u : LibraryImports). ReturnsItems (StepsLibraryImports offset w b) u (of_libraries w b imports 0 libraries)) (started image sections start walk at is)
-    (from_first offset w b libraries imports start h are)

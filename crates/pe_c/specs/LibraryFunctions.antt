@@ -1,12 +1,9 @@
 -- What is imported of all delay-loaded DLLs: one walk that goes through the walk over DLLs, and through the walk over the functions of each.
 use Rattle.std.specs.Prelude.{◌≡◌, ℕ, zero, suc, ◌-◌, List, [], ◌∷◌, Option, Some, None, Result, Ok, Err}
-use Rattle.std.specs.Option.{option_map}
-use Rattle.pe_core.specs.Refusals.{◌>>=◌}
-use Rattle.pe_core.specs.declared.section_table.SectionTable.{SectionTable}
 use Rattle.pe_directories.specs.DirectoryRefusals.{DirectoryRefusal}
 use Rattle.pe_c.specs.DelayImports.{first_library_in, first_of_walk, functions_after}
 use Rattle.pe_c.specs.DirectoryRuns.{StepsDelayedFunctions}
-use Rattle.pe_c.specs.Directories.{left_after, step_of, table_at}
+use Rattle.pe_c.specs.Directories.{left_after, step_of}
 use Rattle.pe_c.specs.LibraryImports.{one_more, then_items}
 use Rattle.pe_c.specs.Ranges.{no_bytes}
 use Rattle.pe_c.specs.Runs.{ReturnsItems, read_items}
@@ -23,10 +20,6 @@ use Rattle.pe_c.specs.declared.ranges.Range.{Range}
 -- a walk before the first of these DLLs
 abbrev pub before_first : Range → LibraryFunctions
 before_first libraries = record { libraries = libraries; functions = record { left = no_bytes; attributes = 0; spare = 0 }; library_name = no_bytes; begun = 0 }
-
--- the functions of all DLLs of an image's delay import directory, if it has one
-abbrev pub library_functions_at : List ℕ → Image → List SectionTable → Result (Option LibraryFunctions) DirectoryRefusal
-library_functions_at b image sections = table_at 13 b image sections >>= λ o. Ok (option_map before_first o)
 
 -- the walk at the start of this DLL, after which these are left
 abbrev pub at_library : LibraryFunctions → Range → DelayLibrary → LibraryFunctions

@@ -1,9 +1,7 @@
 -- The imports of all libraries: one walk that goes through the walk over libraries, and through the walk over the imports of each.
 use Rattle.std.specs.Prelude.{◌≡◌, ℕ, zero, suc, ◌+◌, ◌-◌, ◌%◌, ◌^◌, ◌==◌, min, List, [], ◌∷◌, Option, Some, None, Result, Ok, Err, if◌then◌else◌}
-use Rattle.std.specs.Option.{option_map}
 use Rattle.pe_core.specs.Bytes.{le}
-use Rattle.pe_core.specs.Refusals.{Refusal, ◌>>=◌}
-use Rattle.pe_c.specs.declared.image.Image.{Image}
+use Rattle.pe_core.specs.Refusals.{Refusal}
 use Rattle.pe_c.specs.declared.imports.Import.{Import}
 use Rattle.pe_c.specs.declared.imports.Imports.{Imports}
 use Rattle.pe_c.specs.declared.imports.Libraries.{Libraries}
@@ -11,7 +9,7 @@ use Rattle.pe_c.specs.declared.imports.Library.{Library}
 use Rattle.pe_c.specs.declared.library_imports.LibraryImport.{LibraryImport}
 use Rattle.pe_c.specs.declared.library_imports.LibraryImports.{LibraryImports}
 use Rattle.pe_c.specs.declared.ranges.Range.{Range}
-use Rattle.pe_c.specs.Imports.{StepsImports, import_step, libraries_at, library_step, no_imports, no_libraries}
+use Rattle.pe_c.specs.Imports.{StepsImports, import_step, library_step, no_imports, no_libraries}
 use Rattle.pe_c.specs.Ranges.{no_bytes, range_after}
 use Rattle.pe_c.specs.Runs.{ReturnsItems, read_in_turn}
 
@@ -20,10 +18,6 @@ use Rattle.pe_c.specs.Runs.{ReturnsItems, read_in_turn}
 -- a walk before the first of these libraries
 abbrev pub before_first : Libraries → LibraryImports
 before_first libraries = record { libraries = libraries; imports = record { left = no_bytes; rva = 0 }; library_name = no_bytes; begun = 0 }
-
--- the imports of an image's import directory, if it has one
-abbrev pub library_imports_at : Image → (ℕ → Option ℕ) → Result (Option LibraryImports) Refusal
-library_imports_at image offset = libraries_at image offset >>= λ o. Ok (option_map before_first o)
 
 -- how many libraries a walk has begun after one more
 abbrev pub one_more : ℕ → ℕ

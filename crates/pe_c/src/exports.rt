@@ -4,12 +4,12 @@
 //! all of them by their index.
 //! https://learn.microsoft.com/windows/win32/debug/pe-format#the-edata-section-image-only
 
-ghost use Rattle.std.specs.Prelude.{◌≡◌, ◌*◌, None, if◌then◌else◌};
+ghost use Rattle.std.specs.Prelude.{◌≡◌, ◌+◌, ◌*◌, ◌/◌, ◌≤◌, length, None, if◌then◌else◌};
 ghost use Rattle.pe_core.specs.Exports.{export_data_at, export_data_view};
 ghost use Rattle.pe_core.specs.Refusals.{ReturnsAs, answer_of};
 ghost use Rattle.pe_c.specs.HandsOut.{HandsOutIf};
 ghost use Rattle.pe_c.specs.Images.{export_directory};
-ghost use Rattle.pe_c.specs.Exports.{export_table, tables_at, tables_or_short, text_from, view_of, walk_over};
+ghost use Rattle.pe_c.specs.Exports.{FindsNext, StepsExports, export_table, tables_at, tables_or_short, reported_entry, text_from, view_of, walk_over};
 ghost use Rattle.pe_c.specs.Ranges.{or_no_bytes};
 ghost use Rattle.pe_c.specs.Views.{map_of};
 
@@ -18,7 +18,7 @@ use crate::named_view::NamedView;
 use crate::ranges::{NO_BYTES, Range, range_from, slice_of};
 use crate::results::hand_out_some;
 use crate::view::{View, map_by};
-use pe_core::{DataDirectory, ExportData, Result};
+use pe_core::{DataDirectory, ExportData, Result, lies_in, read_u32, u16_at, u32_at};
 
 /// Where a walk over the exports of an image stands: the tables of its export directory, and the index of the next name.
 #[repr(C)]
@@ -148,6 +148,58 @@ pub fn forwarder_if(is_forwarder: bool, names: &NamedView<'_>, offset: Option<us
     }
 }
 
+/// The export of entry `i` of the name table, if its name is mapped and is text, and its ordinal is in the address
+/// table. Which are forwarders depends on the export directory.
+fn reported_entry(
+    names: &NamedView<'_>,
+    tables: &Tables<'_>,
+    directory: DataDirectory,
+    i: usize,
+) -> Option<Export>
+    requires { 4 * i + 4 ≤ length tables.now.names.now }
+    ensures { result ≡ reported_entry (map_of names.now.view.now)
+        names.now.view.now.bytes.now directory (view_of tables.now) i }
+{
+    let name_rva = read_u32(tables.names, 4 * i);
+    let offset = map_by(names.view, name_rva)?;
+    let name = names.text_at(offset)?;
+    let ordinal = u16_at(tables.ordinals, 2 * i).ok()?;
+    let rva = u32_at(tables.addresses, 4 * usize::from(ordinal)).ok()?;
+    let exported = map_by(names.view, rva);
+    let is_forwarder = lies_in(directory, rva);
+    Some(Export {
+        name: Range {
+            offset: offset as u64,
+            length: name.len() as u64,
+        },
+        forwarder: forwarder_if(is_forwarder, names, exported),
+        offset: exported.unwrap_or(0) as u64,
+        rva,
+        has_offset: u32::from(exported.is_some()),
+        index: u32::from(ordinal),
+        is_forwarder: u32::from(is_forwarder),
+    })
+}
+
+/// The first entry of the name table, from `from` on, that has an export, and the index after it.
+fn find_next(
+    names: &NamedView<'_>,
+    tables: &Tables<'_>,
+    directory: DataDirectory,
+    from: usize,
+) -> Option<(Export, u64)>
+    ensures { FindsNext (reported_entry (map_of names.now.view.now)
+        names.now.view.now.bytes.now directory (view_of tables.now))
+        from (length tables.now.names.now / 4) result }
+{
+    for i in from..tables.names.len() / 4 {
+        if let Some(export) = reported_entry(names, tables, directory, i) {
+            return Some((export, i as u64 + 1));
+        }
+    }
+    None
+}
+
 /// The tables of a walk. `Short` where one is not inside the bytes.
 pub fn tables_of<'a>(bytes: &'a [u8], walk: &Exports) -> Result<Tables<'a>>
     ensures { ReturnsAs view_of result (tables_or_short bytes.entry.now walk.now) }
@@ -157,4 +209,33 @@ pub fn tables_of<'a>(bytes: &'a [u8], walk: &Exports) -> Result<Tables<'a>>
         ordinals: slice_of(bytes, &walk.ordinals)?,
         addresses: slice_of(bytes, &walk.addresses)?,
     })
+}
+
+/// One step of a walk.
+pub fn step(names: &NamedView<'_>, walk: &mut Exports) -> Result<Option<Export>>
+    ensures { StepsExports (map_of names.now.view.now)
+        names.now.view.now.bytes.now walk.old (answer_of result) walk.new }
+{
+    let count = walk.names.length / 4;
+    if count <= walk.next {
+        return Ok(None);
+    }
+    let tables = match tables_of(names.view.bytes, walk) {
+        Ok(tables) => tables,
+        Err(error) => {
+            // Without names the walk is over.
+            walk.names = NO_BYTES;
+            return Err(error);
+        }
+    };
+    match find_next(names, &tables, walk.directory, walk.next as usize) {
+        Some((export, next)) => {
+            walk.next = next;
+            Ok(Some(export))
+        }
+        None => {
+            walk.next = count;
+            Ok(None)
+        }
+    }
 }

@@ -5,28 +5,25 @@
 ghost use Rattle.std.specs.Prelude.{◌≡◌, ◌<◌, ◌≤◌, IfNone, length};
 ghost use Rattle.std.specs.Option.{option_map};
 ghost use Rattle.pe_directories.specs.DirectoryRefusals.{directory_answer};
-ghost use Rattle.pe_c.specs.Directories.{DirectoryHandsOut};
 ghost use Rattle.pe_c.specs.KeptSections.{ChangeNothing};
-ghost use Rattle.pe_c.specs.LibraryFunctions.{StepsLibraryFunctions, all_over, at_library, before_first, library_functions_at, next_library, turn, with_library};
+ghost use Rattle.pe_c.specs.LibraryFunctions.{StepsLibraryFunctions, all_over, at_library, next_library, turn, with_library};
 ghost use Rattle.pe_c.specs.NearMaps.{IsWindow};
-ghost use Rattle.pe_c.specs.Views.{directory_sections, map_of};
+ghost use Rattle.pe_c.specs.Views.{map_of};
 
 use crate::delay_imports::{
     DelayLibrary, DelayedFunction, DelayedFunctions, kept_after_function_step, kept_after_library,
     next_function_kept, next_library_kept, offset_near, put_function_names,
 };
-use crate::directories::{Result, table_at};
-use crate::image::DELAY_IMPORT_DESCRIPTOR;
+use crate::directories::Result;
 use crate::kept_sections::KeptSections;
 use crate::named_view::NamedView;
 use crate::near_map::{NO_WINDOW, Window};
 use crate::ranges::{NO_BYTES, Range, slice_of};
-use crate::results::hand_out_found;
 use crate::text_runs::Run;
 use crate::view::View;
 use pe_directories::{DelayImport, DelayImports};
 
-/// A walk over the functions of all DLLs of a delay import directory.
+/// A walk over the functions of all DLLs of a delay import directory. It starts as zeros with what `pe_c_delay_imports` returns.
 #[repr(C)]
 #[derive(Clone, Copy)]
 pub struct LibraryFunctions {
@@ -50,44 +47,6 @@ pub struct LibraryFunction {
     pub library_name: Range,
     /// The DLL's index in the order of the delay import directory.
     pub library: u64,
-}
-
-/// A walk before the first of these DLLs.
-fn before_first(libraries: Range) -> LibraryFunctions
-    ensures { result ≡ before_first libraries }
-{
-    LibraryFunctions {
-        libraries,
-        functions: DelayedFunctions {
-            left: NO_BYTES,
-            attributes: 0,
-            spare: 0,
-        },
-        library_name: NO_BYTES,
-        begun: 0,
-    }
-}
-
-fn library_functions_at(view: &View) -> Result<Option<LibraryFunctions>>
-    ensures { directory_answer (λ x. x) result ≡ library_functions_at
-        view.now.bytes.now view.now.image.now (directory_sections view.now 13) }
-{
-    match table_at(view, DELAY_IMPORT_DESCRIPTOR)? {
-        Some(libraries) => Ok(Some(before_first(libraries))),
-        None => Ok(None),
-    }
-}
-
-/// Returns the delay import directory of an image as a walk over the functions of all its DLLs, at its start: `NOTHING` where the
-/// directory is absent. Strict and permissive mode make no difference.
-///
-/// Errors: `UNMAPPED`, `SHORT`.
-#[unsafe(no_mangle)]
-pub extern "C" fn pe_c_all_delayed_functions(view: &View, out: &mut LibraryFunctions) -> u32
-    ensures { DirectoryHandsOut result out.old out.new (library_functions_at
-        view.now.bytes.now view.now.image.now (directory_sections view.now 13)) }
-{
-    hand_out_found(library_functions_at(view), out)
 }
 
 /// A function with its DLL, as a walk returns it.

@@ -6,27 +6,26 @@ ghost use Rattle.std.specs.Prelude.{◌≡◌, ◌+◌, ◌==◌, ◌<◌, ◌�
 ghost use Rattle.std.specs.Option.{option_map};
 ghost use Rattle.pe_core.specs.Imports.{entry_size};
 ghost use Rattle.pe_core.specs.Refusals.{answer_of};
-ghost use Rattle.pe_c.specs.HandsOut.{HandsOutIf};
-ghost use Rattle.pe_c.specs.LibraryImports.{StepsLibraryImports, all_over, at_library, library_imports_at, next_library, turn, with_library};
+ghost use Rattle.pe_c.specs.LibraryImports.{StepsLibraryImports, all_over, at_library, next_library, turn, with_library};
 ghost use Rattle.pe_c.specs.KeptSections.{ChangeNothing};
 ghost use Rattle.pe_c.specs.NearMaps.{IsWindow};
 ghost use Rattle.pe_c.specs.Views.{map_of};
 
 use crate::imports::{
-    Import, Imports, Libraries, Library, NO_LIBRARIES, kept_after_library_step, libraries_at,
-    library_step_kept, put_entry_names, record_left,
+    Import, Imports, Libraries, Library, NO_LIBRARIES, kept_after_library_step, library_step_kept,
+    put_entry_names, record_left,
 };
 use crate::kept_sections::KeptSections;
 use crate::named_view::NamedView;
 use crate::near_imports::step_near;
 use crate::near_map::{NO_WINDOW, Window, map_near};
 use crate::ranges::{NO_BYTES, Range, bytes_there};
-use crate::results::hand_out_some;
 use crate::text_runs::Run;
 use crate::view::View;
 use pe_core::{ImportDirectoryEntry, Result, lookup_number, lookup_size};
 
-/// A walk over the imports of all libraries of an import directory.
+/// A walk over the imports of all libraries of an import directory. It starts as zeros with the libraries that
+/// `pe_c_import_libraries` returns.
 #[repr(C)]
 #[derive(Clone, Copy)]
 pub struct LibraryImports {
@@ -54,35 +53,6 @@ pub struct LibraryImport {
     pub hint_rva: u32,
     /// 0.
     pub spare: u32,
-}
-
-fn library_imports_at(view: &View) -> Result<Option<LibraryImports>>
-    ensures { answer_of result ≡ library_imports_at view.now.image.now (map_of view.now) }
-{
-    let Some(libraries) = libraries_at(view)? else {
-        return Ok(None);
-    };
-    Ok(Some(LibraryImports {
-        libraries,
-        imports: Imports {
-            left: NO_BYTES,
-            rva: 0,
-        },
-        library_name: NO_BYTES,
-        begun: 0,
-    }))
-}
-
-/// Returns the import directory of an image as a walk over the imports of all its libraries, at its start: `NOTHING` where the
-/// directory is absent. Strict and permissive mode make no difference.
-///
-/// Errors: `UNMAPPED`.
-#[unsafe(no_mangle)]
-pub extern "C" fn pe_c_all_imports(view: &View, out: &mut LibraryImports) -> u32
-    ensures { HandsOutIf result out.old out.new (library_imports_at view.now.image.now
-        (map_of view.now)) }
-{
-    hand_out_some(library_imports_at(view), out)
 }
 
 /// An import with its library, as a walk returns it whose next entry it is of.

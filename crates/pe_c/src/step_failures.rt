@@ -28,11 +28,9 @@ use crate::failure_numbers::{
     failure_with, needed_at, needed_in, no_numbers, numbers, refused, refused_value, u16_there,
     u32_there,
 };
-use crate::imports::{Imports, Libraries, library_step_kept};
+use crate::imports::{Imports, Libraries, import_step, library_step_kept};
 use crate::kept_sections::NO_SECTIONS;
 use crate::named_view::NamedView;
-use crate::near_imports::step_near;
-use crate::near_map::NO_WINDOW;
 use crate::ranges::{Range, bytes_there};
 use crate::view::{View, map_by};
 use pe_core::{ImportDirectoryEntry, lookup_number, lookup_size, require_bytes};
@@ -151,7 +149,6 @@ fn import_numbers(view: &View, walk: &Imports, number: u32) -> ErrorNumbers
     }
 }
 
-#[tactic(auto, using(crate::proofs::NearMaps::no_window))]
 fn import_failure(view: &View, walk: &Imports) -> Option<Failure>
     ensures { result ≡ failure_by (import_numbers (map_of view.now)
         (entry_size (view.now.image.now.width == 64)) view.now.bytes.now walk.now)
@@ -159,8 +156,7 @@ fn import_failure(view: &View, walk: &Imports) -> Option<Failure>
         (entry_size (view.now.image.now.width == 64)) view.now.bytes.now walk.now).0) }
 {
     let mut after = *walk;
-    let mut hints = NO_WINDOW;
-    match refused(step_near(&NamedView::alone(view), &mut after, &mut hints)) {
+    match refused(import_step(&NamedView::alone(view), &mut after)) {
         Some(number) => Some(failure_with(number, import_numbers(view, walk, number))),
         None => None,
     }

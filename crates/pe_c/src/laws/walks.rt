@@ -3,7 +3,6 @@
 //! call starts for an image, one for any walk over some bytes, and one for a walk that is not inside the bytes.
 
 ghost use Rattle.std.specs.Prelude.{◌≡◌, ◌+◌, ◌<◌, ◌==◌, ◌∷◌, List, Ok, Err, Result, Some, [], length, map, ℕ, Option};
-ghost use Rattle.pe_core.specs.Imports.{entry_size};
 ghost use Rattle.pe_core.specs.Refusals.{Refusal};
 ghost use Rattle.pe_core.specs.Rows.{entry_items};
 ghost use Rattle.pe_core.specs.declared.section_table.SectionTable.{SectionTable};
@@ -27,10 +26,10 @@ ghost use Rattle.pe_c.specs.Clr.{streams_in};
 ghost use Rattle.pe_c.specs.DirectoryRuns.{HasBlock, HasBound, StepsBlocks, StepsBoundImports, StepsCallbacks, StepsDelayLibraries, StepsDelayedFunctions, StepsForwarders, StepsRelocations, StepsStreams, forwarders_reported, relocations_reported, ReturnsBlocks, ReturnsBounds, ReturnsStreams};
 ghost use Rattle.pe_c.specs.Directories.{table_at};
 ghost use Rattle.pe_c.specs.Images.{directory, map_of_image};
-ghost use Rattle.pe_c.specs.Imports.{StepsImports, StepsLibraries, libraries_at};
-ghost use Rattle.pe_c.specs.LibraryFunctions.{AreFunctionsOf, StepsLibraryFunctions, library_functions_at};
+ghost use Rattle.pe_c.specs.Imports.{StepsImports, StepsLibraries};
+ghost use Rattle.pe_c.specs.LibraryFunctions.{AreFunctionsOf, StepsLibraryFunctions};
 ghost use Rattle.pe_c.specs.LibraryFunctions as delayed;
-ghost use Rattle.pe_c.specs.LibraryImports.{AreImportsOf, StepsLibraryImports, library_imports_at, of_libraries, of_library, then_items};
+ghost use Rattle.pe_c.specs.LibraryImports.{AreImportsOf, StepsLibraryImports, before_first, of_libraries, of_library, then_items};
 ghost use Rattle.pe_c.specs.Ranges.{bytes_at};
 ghost use Rattle.pe_c.specs.ResourceLeaves.{StartsTree, StepsLeaves, item_reported, items_left};
 ghost use Rattle.pe_c.specs.Runs.{ReturnsItems, read_items};
@@ -152,19 +151,14 @@ pub fn walks_give_the_delay_imports()
 
 /// A walk over the imports of all libraries returns what the walk over the imports of its library has left, and then, for each
 /// library that the walk over libraries has left, what the walk over its imports returns: each import with the name and the index
-/// of its library, up to the first error of either walk. So the walk that `pe_c_all_imports` starts returns the imports of all.
+/// of its library, up to the first error of either walk. So the walk that starts with all libraries returns the
+/// imports of all.
 pub fn walks_give_all_imports()
-    ensures of_image { (b : List ℕ) (image : Image) (sections : List SectionTable)
-        (start : Libraries) (walk : LibraryImports) (libraries : List (Result Library Refusal))
-        (imports : Library → List (Result Import Refusal)) →
-        libraries_at image (map_of_image image sections) ≡ Ok (Some start) →
-        library_imports_at image (map_of_image image sections) ≡ Ok (Some walk) →
-        ReturnsItems (StepsLibraries
-        (map_of_image image sections) (entry_size (image.width == 64)) b) start libraries →
-        AreImportsOf (map_of_image image sections) (entry_size (image.width == 64)) b imports libraries →
-        ReturnsItems (StepsLibraryImports
-        (map_of_image image sections) (entry_size (image.width == 64)) b) walk
-        (of_libraries (entry_size (image.width == 64)) b imports 0 libraries) }
+    ensures from_first { (offset : ℕ → Option ℕ) (w : ℕ) (b : List ℕ) (libraries : List (Result Library Refusal))
+        (imports : Library → List (Result Import Refusal)) (start : Libraries) →
+        ReturnsItems (StepsLibraries offset w b) start libraries →
+        AreImportsOf offset w b imports libraries →
+        ReturnsItems (StepsLibraryImports offset w b) (before_first start) (of_libraries w b imports 0 libraries) }
     ensures imports { (offset : ℕ → Option ℕ) (w : ℕ) (b : List ℕ) (walk : LibraryImports)
         (own : List (Result Import Refusal)) (libraries : List (Result Library Refusal))
         (imports : Library → List (Result Import Refusal)) →
@@ -178,17 +172,14 @@ pub fn walks_give_all_imports()
 
 /// A walk over the functions of all delay-loaded DLLs returns what the walk over the functions of its DLL has left, and then, for
 /// each DLL that the walk over DLLs has left, what the walk over its functions returns: each function with the name and the index
-/// of its DLL, up to the first error of either walk. So the walk that `pe_c_all_delayed_functions` starts returns those of all.
+/// of its DLL, up to the first error of either walk. So the walk that starts with all DLLs returns those of all.
 pub fn walks_give_all_delayed_functions()
-    ensures of_image { (b : List ℕ) (image : Image) (sections : List SectionTable)
-        (start : Range) (walk : LibraryFunctions)
+    ensures from_first { (offset : ℕ → Option ℕ) (b : List ℕ) (image : Image)
         (libraries : List (Result DelayLibrary DirectoryRefusal))
-        (functions : DelayLibrary → List (Result DelayedFunction DirectoryRefusal)) →
-        table_at 13 b image sections ≡ Ok (Some start) →
-        library_functions_at b image sections ≡ Ok (Some walk) →
-        ReturnsItems (StepsDelayLibraries (map_of_image image sections) b image) start libraries →
-        AreFunctionsOf (map_of_image image sections) b image functions libraries →
-        ReturnsItems (StepsLibraryFunctions (map_of_image image sections) b image) walk
+        (functions : DelayLibrary → List (Result DelayedFunction DirectoryRefusal)) (start : Range) →
+        ReturnsItems (StepsDelayLibraries offset b image) start libraries →
+        AreFunctionsOf offset b image functions libraries →
+        ReturnsItems (StepsLibraryFunctions offset b image) (delayed.before_first start)
         (delayed.of_libraries functions 0 libraries) }
     ensures functions { (offset : ℕ → Option ℕ) (b : List ℕ) (image : Image)
         (walk : LibraryFunctions) (own : List (Result DelayedFunction DirectoryRefusal))

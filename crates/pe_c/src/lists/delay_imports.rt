@@ -45,6 +45,18 @@ impl<'a> Steps<KeptWalk<'a, Range>, DelayLibrary> for InDirectory {
     }
 }
 
+impl<'a> Steps<Range, DelayLibrary> for NamedView<'a> {
+    ghost steps = { λ s. Numbered directory_number (StepsDelayLibraries (map_of s.view.now)
+        s.view.now.bytes.now s.view.now.image.now) };
+
+    fn step(&self, walk: &mut Range) -> Result<Option<DelayLibrary>, u32> {
+        match next_library_kept(self, NO_SECTIONS, walk) {
+            Ok(library) => Ok(library),
+            Err(error) => Err(number_of_directory(&error)),
+        }
+    }
+}
+
 /// Lists the DLLs of a walk.
 fn list_libraries(
     names: &NamedView<'_>,
@@ -84,6 +96,9 @@ pub extern "C" fn pe_c_list_delay_imports(
         (map_of view.now) view.now.bytes.now view.now.image.now))
         result walk.old walk.new entries.old entries.new written.old written.new }
 {
+    if runs.is_empty() && entries.len() <= 1 {
+        return hand_out_list(&NamedView::alone(view), walk, entries, written);
+    }
     let room = first_runs(runs, entries.len());
     let count = put_dll_names(view, walk, room);
     let names = NamedView::together(view, &mut room[..count]);
@@ -112,6 +127,18 @@ impl<'a> Steps<KeptWalk<'a, DelayedFunctions>, DelayedFunction> for InTable {
         let kept = kept_after_function_step(names.view, kept, &before, &given);
         *list = KeptWalk { names, walk, kept };
         match given {
+            Ok(function) => Ok(function),
+            Err(error) => Err(number_of_directory(&error)),
+        }
+    }
+}
+
+impl<'a> Steps<DelayedFunctions, DelayedFunction> for NamedView<'a> {
+    ghost steps = { λ s. Numbered directory_number (StepsDelayedFunctions (map_of s.view.now)
+        s.view.now.bytes.now s.view.now.image.now) };
+
+    fn step(&self, walk: &mut DelayedFunctions) -> Result<Option<DelayedFunction>, u32> {
+        match next_function_kept(self, NO_SECTIONS, walk.attributes, &mut walk.left) {
             Ok(function) => Ok(function),
             Err(error) => Err(number_of_directory(&error)),
         }
@@ -158,6 +185,9 @@ pub extern "C" fn pe_c_list_delayed_functions(
         (map_of view.now) view.now.bytes.now view.now.image.now))
         result walk.old walk.new entries.old entries.new written.old written.new }
 {
+    if runs.is_empty() && entries.len() <= 1 {
+        return hand_out_list(&NamedView::alone(view), walk, entries, written);
+    }
     let room = first_runs(runs, entries.len());
     let mut near = NO_WINDOW;
     let count = put_function_names(view, walk, &mut near, room);

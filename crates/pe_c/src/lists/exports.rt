@@ -12,13 +12,12 @@ ghost use Rattle.pe_c.specs.Views.{map_of};
 
 use crate::export_addresses::{AddressTable, Exported, addresses_in, exported_at, exported_in};
 use crate::export_texts::{put_text_offsets, texts_cost_much};
-use crate::exports::{Export, Exports, Tables, tables_of};
-use crate::lists::{Steps, hand_out_list, next_index};
+use crate::exports::{Export, Exports, Tables, step, tables_of};
+use crate::lists::{Steps, hand_out_list, next_index, numbered};
 use crate::named_view::NamedView;
 use crate::near_exports::{NO_WINDOWS, NearExports, find_near};
 use crate::near_map::{Window, window_at};
-use crate::ranges::{NO_BYTES, slice_of};
-use crate::results::number_of;
+use crate::ranges::slice_of;
 use crate::text_runs::Run;
 use crate::view::View;
 use pe_core::ExportAddresses;
@@ -100,34 +99,13 @@ impl<'a> Steps<Exports, Export> for NamedView<'a> {
         (map_of s.view.now) s.view.now.bytes.now) };
 
     fn step(&self, walk: &mut Exports) -> Result<Option<Export>, u32> {
-        if walk.names.length / 4 <= walk.next {
-            return Ok(None);
-        }
-        let tables = match tables_of(self.view.bytes, walk) {
-            Ok(tables) => tables,
-            Err(error) => {
-                // Without names the walk is over.
-                walk.names = NO_BYTES;
-                return Err(number_of(&error));
-            }
-        };
-        let mut near = NearExports {
-            names: *self,
-            tables,
-            walk: *walk,
-            windows: NO_WINDOWS,
-        };
-        let export = next_near(&mut near);
-        *walk = near.walk;
-        Ok(export)
+        numbered(step(self, walk))
     }
 }
 
-/// Lists the exports of a walk step by step. Out of line: it is for a walk whose tables are not inside the bytes, whose first step is
-/// refused.
-#[cold]
-#[inline(never)]
-fn list_outside(
+/// Lists the exports of a walk step by step: of one step, which no section near it makes faster, and of a walk whose tables are not
+/// inside the bytes, whose first step is refused.
+fn list_steps(
     names: &NamedView<'_>,
     walk: &mut Exports,
     entries: &mut [Export],
@@ -151,9 +129,12 @@ fn list_exports(
         (StepsExports (map_of names.now.view.now) names.now.view.now.bytes.now))
         result walk.old walk.new entries.old entries.new written.old written.new }
 {
+    if entries.len() <= 1 {
+        return list_steps(names, walk, entries, written);
+    }
     match tables_of(names.view.bytes, walk) {
         Ok(tables) => list_near(names, &tables, walk, entries, written),
-        Err(_) => list_outside(names, walk, entries, written),
+        Err(_) => list_steps(names, walk, entries, written),
     }
 }
 
@@ -161,7 +142,7 @@ fn list_exports(
 fn texts_of<'a>(view: &'a View<'a>, walk: &Exports, runs: &'a mut [Run]) -> NamedView<'a>
     ensures { result.view.now ≡ view.entry.now }
 {
-    if !texts_cost_much(view, walk, runs.len()) {
+    if runs.is_empty() || !texts_cost_much(view, walk, runs.len()) {
         return NamedView::alone(view);
     }
     let count = put_text_offsets(view, walk, runs);
@@ -250,10 +231,8 @@ fn list_inside(
     number
 }
 
-/// Lists the entries of a table that is not inside the bytes: the first step is refused.
-#[cold]
-#[inline(never)]
-fn list_addresses_outside(
+/// Lists the entries of a table step by step: one, or those of a table that is not inside the bytes, whose first step is refused.
+fn list_addresses_in_steps(
     addresses: &Addresses<'_, '_>,
     next: &mut u64,
     entries: &mut [Exported],
@@ -280,6 +259,9 @@ pub fn list_addresses(
         result next.old next.new entries.old entries.new written.old written.new }
 {
     let names = *names;
+    if entries.len() <= 1 {
+        return list_addresses_in_steps(&Addresses { names, table }, next, entries, written);
+    }
     match slice_of(names.view.bytes, &table.addresses) {
         Ok(addresses) => {
             let near = window_at(names.view, table.directory.virtual_address);
@@ -287,6 +269,6 @@ pub fn list_addresses(
             let addresses = InAddresses { names, table, near };
             list_inside(&addresses, next, entries, written)
         }
-        Err(_) => list_addresses_outside(&Addresses { names, table }, next, entries, written),
+        Err(_) => list_addresses_in_steps(&Addresses { names, table }, next, entries, written),
     }
 }

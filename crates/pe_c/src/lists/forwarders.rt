@@ -61,6 +61,9 @@ fn named_forwarders<'a>(
 ) -> NamedView<'a>
     ensures { result.view.now ≡ view.entry.now }
 {
+    if room.is_empty() {
+        return NamedView::alone(view);
+    }
     let count = put_forwarders(view, table, next, most, room);
     NamedView::together(view, &mut room[..count])
 }

@@ -9,7 +9,7 @@ ghost use Rattle.pe_c.specs.NearLists.{StepsKeptLibraries, StepsNearImports};
 ghost use Rattle.pe_c.specs.Views.{map_of};
 
 use crate::imports::{
-    Import, Imports, Libraries, Library, kept_after_library_step, library_step_kept,
+    Import, Imports, Libraries, Library, import_step, kept_after_library_step, library_step_kept,
     put_entry_names, put_library_lists, put_library_names,
 };
 use crate::kept_sections::{KeptWalk, NO_SECTIONS};
@@ -38,6 +38,17 @@ impl<'a> Steps<KeptWalk<'a, Libraries>, Library> for InDirectory {
         let (given, walk) = library_step_kept(&names, kept, walk);
         let kept = kept_after_library_step(names.view, kept, &given);
         *list = KeptWalk { names, walk, kept };
+        numbered(given)
+    }
+}
+
+impl<'a> Steps<Libraries, Library> for NamedView<'a> {
+    ghost steps = { λ s. Numbered result_number (StepsLibraries (map_of s.view.now)
+        (entry_size (s.view.now.image.now.width == 64)) s.view.now.bytes.now) };
+
+    fn step(&self, walk: &mut Libraries) -> Result<Option<Library>, u32> {
+        let (given, after) = library_step_kept(self, NO_SECTIONS, *walk);
+        *walk = after;
         numbered(given)
     }
 }
@@ -94,6 +105,9 @@ pub extern "C" fn pe_c_list_libraries(
         (entry_size (view.now.image.now.width == 64)) view.now.bytes.now))
         result walk.old walk.new entries.old entries.new written.old written.new }
 {
+    if runs.is_empty() && entries.len() <= 1 {
+        return hand_out_list(&NamedView::alone(view), walk, entries, written);
+    }
     list_libraries(&named_libraries(view, walk, runs), walk, entries, written)
 }
 
@@ -115,6 +129,15 @@ impl<'a> Steps<NearImports<'a>, Import> for InLibrary {
         let given = step_near(&names, &mut walk, &mut hints);
         *near = NearImports { names, walk, hints };
         numbered(given)
+    }
+}
+
+impl<'a> Steps<Imports, Import> for NamedView<'a> {
+    ghost steps = { λ s. Numbered result_number (StepsImports (map_of s.view.now)
+        (entry_size (s.view.now.image.now.width == 64)) s.view.now.bytes.now) };
+
+    fn step(&self, walk: &mut Imports) -> Result<Option<Import>, u32> {
+        numbered(import_step(self, walk))
     }
 }
 
@@ -161,6 +184,9 @@ pub extern "C" fn pe_c_list_imports(
         (entry_size (view.now.image.now.width == 64)) view.now.bytes.now))
         result walk.old walk.new entries.old entries.new written.old written.new }
 {
+    if runs.is_empty() && entries.len() <= 1 {
+        return hand_out_list(&NamedView::alone(view), walk, entries, written);
+    }
     let mut hints = NO_WINDOW;
     let left = bytes_there(view.bytes, &walk.left);
     let count = put_entry_names(view, left, &mut hints, runs);

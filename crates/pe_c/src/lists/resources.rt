@@ -40,6 +40,17 @@ impl<'a> Steps<KeptWalk<'a, ResourceLeaves>, ResourceLeaf> for InTree {
     }
 }
 
+impl<'a> Steps<ResourceLeaves, ResourceLeaf> for NamedView<'a> {
+    ghost steps = { λ s. Numbered tree_number (StepsLeaves s.view.now.bytes.now (map_of s.view.now)) };
+
+    fn step(&self, walk: &mut ResourceLeaves) -> Result<Option<ResourceLeaf>, u32> {
+        match next_leaf_kept(self.view, NO_SECTIONS, walk) {
+            Ok(leaf) => Ok(leaf),
+            Err(error) => Err(number_of_tree(&error)),
+        }
+    }
+}
+
 /// Lists the leaves of a walk.
 fn list_leaves(
     names: &NamedView<'_>,
@@ -75,7 +86,11 @@ pub extern "C" fn pe_c_list_resource_leaves(
         (StepsLeaves view.now.bytes.now (map_of view.now)))
         result walk.old walk.new entries.old entries.new written.old written.new }
 {
-    list_leaves(&NamedView::alone(view), walk, entries, written)
+    let names = NamedView::alone(view);
+    if entries.len() <= 1 {
+        return hand_out_list(&names, walk, entries, written);
+    }
+    list_leaves(&names, walk, entries, written)
 }
 
 /// Steps over blocks of version information.
