@@ -274,15 +274,22 @@ public:
             return call(&of, &at, runs.data(), runs.size(), room, size, &written);
         });
     }
-    /* The same of the entries of a table, from the first on. */
+    /* The same of a list that takes the bytes alone; and of the entries of a table, from the first on. */
+    template <class W, class T>
+    auto list(std::uint32_t (*call)(const std::uint8_t *, std::size_t, W *, T *, std::size_t, std::uint64_t *),
+              const outcome<W> &walk) const
+    {
+        return entries_of<T>(walk, [this, call, at = *walk](T *room, std::size_t size, std::uint64_t &written) mutable {
+            return call(bytes_.data(), bytes_.size(), &at, room, size, &written);
+        });
+    }
     template <class R, class T>
-    auto list(std::uint32_t (*call)(const pe_c_view *, const R *, std::uint64_t *, T *, std::size_t, std::uint64_t *),
+    auto list(std::uint32_t (*call)(const std::uint8_t *, std::size_t, const R *, std::uint64_t *, T *, std::size_t, std::uint64_t *),
               const outcome<R> &table) const
     {
         return entries_of<T>(table, [this, call, of = *table, next = std::uint64_t(0)](T *room, std::size_t size,
                                                                                      std::uint64_t &written) mutable {
-            pe_c_view it = view();
-            return call(&it, &of, &next, room, size, &written);
+            return call(bytes_.data(), bytes_.size(), &of, &next, room, size, &written);
         });
     }
     /* The items of a walk by the call of a step, which takes the bytes alone. */
@@ -323,7 +330,14 @@ public:
     auto delay_imports() const { return list(pe_c_list_delay_imports, ask(pe_c_delay_imports)); }
     /* The imports of all libraries, each with the name of its library. Libraries of a hostile file may share a list, and its leaves a
      * directory, so that there are many more of them than the file has bytes: a loop over such ends by a number of its own. */
-    auto all_imports() const { return list(pe_c_list_all_imports, ask(pe_c_all_imports), most_libraries()); }
+    auto all_imports() const
+    {
+        auto libraries = ask(pe_c_import_libraries);
+        pe_c_library_imports all{};
+        all.libraries = *libraries;
+        auto start = libraries ? outcome<pe_c_library_imports>(all) : outcome<pe_c_library_imports>(libraries.why());
+        return list(pe_c_list_all_imports, start, most_libraries());
+    }
 
 private:
     /* Runs for two names of each library: a record of the directory has 20 bytes. */
