@@ -4187,7 +4187,7 @@ typedef struct {
 
 /* The record of a symbol. */
 typedef struct {
-    pe_c_range record;              /* the record: the number of the bytes after that number, its kind, its content */
+    pe_c_range range;               /* the record: the number of the bytes after that number, its kind, its content */
     pe_c_range name;                /* UTF-8, without its final zero; of a public symbol as linkers have it, mangled; of a procedure
                                        as in the source; no bytes of other records */
     uint32_t rva;                   /* the RVA of a public symbol or procedure, where `result` is PE_C_DONE; else 0 */
@@ -4199,7 +4199,7 @@ typedef struct {
     uint16_t kind;                  /* S_PUB32 0x110E; of procedures S_LPROC32 0x110F, S_GPROC32 0x1110, 0x1146, 0x1147; or
                                        another */
     uint32_t result;                /* PE_C_DONE; PE_C_NOTHING without an RVA; or the number of an error of this record alone,
-                                       and then no other field than the record and its kind is set */
+                                       and then no other field than `range` and `kind` is set */
 } pe_c_pdb_symbol;
 
 PE_C_SIZE(pe_c_pdb_info, 96);
