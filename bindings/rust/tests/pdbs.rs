@@ -1,8 +1,6 @@
 //! Program databases: the PDB that lld-link wrote for the repository's tests, by what llvm-pdbutil 14.0.6 prints of it.
 
-#[path = "../../../tests/pdb_bytes.rs"]
-mod pdb_bytes;
-
+use super::made;
 use pe_c::{Error, Guid, Pdb, SymbolFrame, SymbolKey};
 
 const GUID: Guid = Guid(*b"\xE4\x54\xD9\x94\x4D\x79\x23\xF2\x4C\x4C\x44\x20\x50\x44\x42\x2E");
@@ -11,21 +9,13 @@ const GUID: Guid = Guid(*b"\xE4\x54\xD9\x94\x4D\x79\x23\xF2\x4C\x4C\x44\x20\x50\
 const DBI: usize = 13 * 4096;
 const MODULE: usize = 11 * 4096;
 
-fn made() -> Vec<u8> {
-    let mut bytes = vec![0; pdb_bytes::LENGTH];
-    for (offset, part) in pdb_bytes::PIECES {
-        bytes[offset..offset + part.len()].copy_from_slice(part);
-    }
-    bytes
-}
-
 fn named(frames: &[SymbolFrame]) -> Vec<(&str, u32, u32, bool)> {
     frames.iter().map(|it| (it.name.as_str(), it.function_rva, it.offset, it.is_public)).collect()
 }
 
 #[test]
 fn a_pdb_has_the_key_of_its_image() {
-    let bytes = made();
+    let bytes = made::pdb();
     let pdb = Pdb::parse(&bytes).unwrap();
     assert_eq!((pdb.info().machine, pdb.info().number_of_streams, pdb.info().age), (0x8664, 16, 1));
     assert_eq!(pdb.dbi(), Ok(()));
@@ -44,7 +34,7 @@ fn a_pdb_has_the_key_of_its_image() {
 
 #[test]
 fn modules_and_symbols_are_listed() {
-    let bytes = made();
+    let bytes = made::pdb();
     let pdb = Pdb::parse(&bytes).unwrap();
     let modules = pdb.modules().unwrap();
     let listed: Vec<_> = modules.iter().map(|it| (it.name.as_str(), it.file.as_str(), it.stream)).collect();
@@ -65,7 +55,7 @@ fn modules_and_symbols_are_listed() {
 
 #[test]
 fn functions_are_named() {
-    let bytes = made();
+    let bytes = made::pdb();
     let pdb = Pdb::parse(&bytes).unwrap();
     let symbolizer = pdb.symbolizer().unwrap();
     assert!(symbolizer.damaged().is_empty());
@@ -80,7 +70,7 @@ fn functions_are_named() {
 
 #[test]
 fn a_damaged_module_costs_its_names_alone() {
-    let mut bytes = made();
+    let mut bytes = made::pdb();
     // The record of `helper` in the module has a size of 1.
     bytes[MODULE + 72] = 1;
     bytes[MODULE + 73] = 0;
@@ -94,7 +84,7 @@ fn a_damaged_module_costs_its_names_alone() {
 
 #[test]
 fn what_is_refused_has_an_error() {
-    let mut bytes = made();
+    let mut bytes = made::pdb();
     assert_eq!(Pdb::parse(b"MZ").unwrap_err(), Error::SHORT);
     assert_eq!(Pdb::parse(&bytes[1..]).unwrap_err(), Error::PDB_MAGIC);
     bytes[DBI] = 0;
