@@ -305,6 +305,15 @@
  *   pe_c_is_image_of                Returns PE_C_DONE where an image is that of a module
  *   pe_c_memory_runs                Writes the memory of pieces in any order to `runs`, as pieces that ascend and do not ..
  *   pe_c_memory_ranges              Writes to `found`, for each of the ranges that are asked for, whose offset is an ..
+ * program databases
+ *   pe_c_pdb                        Reads what a PDB says of itself
+ *   pe_c_is_pdb_of                  Returns PE_C_DONE where a PDB is that of an image with this key
+ *   pe_c_pdb_starts                 Writes to the start of `room` where the directory lists the blocks of each stream
+ *   pe_c_pdb_stream                 Copies the stream with a number to the start of `room`. `starts` is what ..
+ *   pe_c_list_pdb_modules           Lists the modules, and moves the walk past them
+ *   pe_c_list_pdb_symbols           Lists the records of symbols, and moves the walk past them
+ *   pe_c_pdb_index                  Makes an index of the symbols of a kind, PE_C_PDB_PUBLICS or PE_C_PDB_PROCEDURES, by ..
+ *   pe_c_find_pdb_symbol            Finds the symbol of an RVA by an index that pe_c_pdb_index made of these bytes and ..
  */
 
 #ifndef PE_C_H

@@ -1007,9 +1007,9 @@ test('a PDB, its streams, modules and symbols', () => {
   assert.equal(pdb.call('pe_c_pdb_starts', { room: starts }), 16n);
   const stream = (index) => {
     const room = new Uint8Array(1160);
-    return library.file(room.subarray(0, Number(pdb.call('pe_c_pdb_stream', { starts, index, room }))));
+    return room.subarray(0, Number(pdb.call('pe_c_pdb_stream', { starts, index, room })));
   };
-  const dbi = stream(3), symbols = stream(info.symbol_stream), sections = stream(info.section_headers).bytes;
+  const dbi = library.file(stream(3)), symbols = library.file(stream(info.symbol_stream)), sections = stream(info.section_headers);
   const modules = listed(dbi, 'pe_c_list_pdb_modules', { walk: info.modules });
   assert.deepEqual(modules.map((it) => [dbi.utf8(it.name), it.stream]), [['a.obj', 11], ['b.obj', 12], ['* Linker *', 13]]);
   const walk = { offset: 0n, length: 108n }, range = { ...walk };

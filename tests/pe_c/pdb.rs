@@ -284,7 +284,7 @@ fn modules_are_listed(rt: HostRuntime) -> Result<(), Fail> {
         assert_eq!(rt; [module.code_offset, module.code_size], code);
         assert_eq!(rt; [module.section, module.stream, module.number_of_files], numbers);
     }
-    assert_eq!(rt; &dbi[280..290], b"* Linker *");
+    assert_eq!(rt; &dbi[280..290], b"* Linker *".as_slice());
     written = 9;
     for (start, error) in [(range(64, 63), SHORT), (range(64, 65), PDB_NAME), (range(717, 1), SHORT)] {
         walk = start;
@@ -326,7 +326,7 @@ fn symbols_are_those_that_pdbutil_lists(rt: HostRuntime) -> Result<(), Fail> {
     assert_eq!(rt; numbers_of(&entries[0]), [0x1000, 0, 0, 2, 1, 0x110E, DONE]);
     assert_eq!(rt; (of_range(entries[1].range), of_range(entries[1].name)), ([20, 24], [34, 6]));
     assert_eq!(rt; numbers_of(&entries[1]), [0x1050, 0, 80, 2, 1, 0x110E, DONE]);
-    assert_eq!(rt; &symbols[34..40], b"helper");
+    assert_eq!(rt; &symbols[34..40], b"helper".as_slice());
     for entry in &entries[2..5] {
         assert!(rt; matches!(entry.kind, 0x1125 | 0x1127));
         assert_eq!(rt; (entry.result, entry.name.length, entry.rva), (NOTHING, 0, 0));

@@ -53,9 +53,9 @@ pub struct PdbSymbol {
 }
 
 /// A record of which nothing is known.
-fn record_reported(offset: u64, record: &SymbolRecord<'_>, result: u32) -> PdbSymbol
+fn record_reported(offset: u64, record: &SymbolRecord<'_>, number: u32) -> PdbSymbol
     requires { offset + length record.now.content.now < 2 ^ 63 }
-    ensures { result ≡ record_reported offset (symbol_view record.now) result }
+    ensures { result ≡ record_reported offset (symbol_view record.now) number }
 {
     PdbSymbol {
         range: Range {
@@ -69,7 +69,7 @@ fn record_reported(offset: u64, record: &SymbolRecord<'_>, result: u32) -> PdbSy
         flags: 0,
         section: 0,
         kind: record.kind,
-        result,
+        result: number,
     }
 }
 
