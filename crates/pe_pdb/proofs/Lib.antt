@@ -9,3 +9,4 @@ pub mod SymbolEntries
 pub mod NearestEntries
 pub mod EntriesOfRecords
 pub mod LineWalks
+pub mod SortedEntries
