@@ -10,3 +10,7 @@ pub mod NearestEntries
 pub mod EntriesOfRecords
 pub mod LineWalks
 pub mod SortedEntries
+pub mod NamedStreams
+pub mod ModuleRanges
+pub mod LineEntries
+pub mod LineOrder
