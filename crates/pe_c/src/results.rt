@@ -8,11 +8,11 @@ ghost use Rattle.pe_core.specs.Refusals.{kind_of, kind_of_reason, answer_of};
 ghost use Rattle.pe_c.specs.Directories.{DirectoryHandsOut, directory_number};
 ghost use Rattle.pe_c.specs.HandsOut.{result_number, HandsOut, HandsOutIf};
 ghost use Rattle.pe_c.specs.Modes.{options_of};
-ghost use Rattle.pe_c.specs.ResourceLeaves.{TreeHandsOut, tree_number};
+ghost use Rattle.pe_c.specs.ResourceLeaves.{tree_number};
 ghost use Rattle.pe_c.specs.Signing.{sign_number};
 ghost use Rattle.pe_c.specs.WrittenFiles.{HandsOutLength};
 ghost use Rattle.pe_directories.specs.DirectoryRefusals.{directory_answer, directory_kind_of};
-ghost use Rattle.pe_resource.specs.Leaves.{tree_answer, tree_kind_of};
+ghost use Rattle.pe_resource.specs.Leaves.{tree_kind_of};
 ghost use Rattle.pe_sign.specs.SignRefusals.{sign_kind_of};
 
 use pe_core::{Error, ParseMode, ParseOptions, Reason, Result};

@@ -6,7 +6,6 @@
 ghost use Rattle.std.specs.Prelude.{◌≡◌, ◌+◌, ◌<◌, ◌^◌, length};
 ghost use Rattle.pe_core.specs.Refusals.{answer_of, kind_of};
 ghost use Rattle.pe_resource.specs.VersionBlocks.{block_kind_of, block_view};
-ghost use Rattle.pe_c.specs.HandsOut.{HandsOutIf};
 ghost use Rattle.pe_c.specs.VersionBlocks.{HandsOutBlocks, block_step, block_walk, refusal_of, reported};
 ghost use Rattle.pe_c.specs.Views.{may_map};
 

@@ -4,7 +4,7 @@
 ghost use Rattle.std.specs.Prelude.{◌≡◌};
 ghost use Rattle.pe_core.specs.Refusals.{answer_of};
 ghost use Rattle.pe_unwind.specs.Arm64Lookup.{length_by};
-ghost use Rattle.pe_c.specs.HandsOut.{HandsOut, HandsOutIf};
+ghost use Rattle.pe_c.specs.HandsOut.{HandsOutIf};
 ghost use Rattle.pe_c.specs.Arm64.{HandsOutArm64Found, LocatesArm64In, arm64_function_in, packed_fields};
 ghost use Rattle.pe_c.specs.Ranges.{bytes_at};
 ghost use Rattle.pe_c.specs.Unwinding.{exception_table_at};
@@ -12,7 +12,7 @@ ghost use Rattle.pe_c.specs.Views.{directory_sections, map_of};
 
 use crate::image::{EXCEPTION_TABLE, directory, is_absent};
 use crate::ranges::{Range, range_of, slice_of};
-use crate::results::{DONE, hand_out, hand_out_some, options};
+use crate::results::{DONE, hand_out_some, options};
 use crate::view::{View, sections_of};
 use pe_core::{COFF_MACHINE_ARM64, CountedTable, Result};
 use pe_unwind::{Arm64RuntimeFunction, ExceptionData, search_arm64};

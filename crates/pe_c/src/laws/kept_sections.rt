@@ -1,6 +1,6 @@
 //! The law of the sections that a walk keeps: steps that test them first return what they return without them.
 
-ghost use Rattle.std.specs.Prelude.{◌≡◌, ◌<◌, ℕ, length};
+ghost use Rattle.std.specs.Prelude.{◌≡◌, ◌<◌, length};
 ghost use Rattle.pe_c.specs.KeptSections.{ChangeNothing, ReturnsAsItKeeps, map_kept, no_sections};
 ghost use Rattle.pe_c.specs.Plans.{StepsPlan};
 ghost use Rattle.pe_c.specs.Unwinding.{links_at};
@@ -22,6 +22,6 @@ pub fn kept_sections_change_nothing()
 
 /// So the steps of a whole plan, one after the other, return the records that the laws of plans say for where it stands.
 pub fn walks_return_as_they_keep()
-    ensures plans { (table : Range) → ReturnsAsItKeeps (λ (w : PlanWalk). w.plan) (λ w. w.kept)
+    ensures { (table : Range) → ReturnsAsItKeeps (λ (w : PlanWalk). w.plan) (λ w. w.kept)
         (λ v m. StepsPlan v.bytes.now (links_at m v.bytes.now table)) }
 {}

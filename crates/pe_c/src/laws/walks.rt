@@ -24,7 +24,6 @@ ghost use Rattle.pe_resource.specs.declared.leaves.ResourceLeaf as trees;
 ghost use Rattle.pe_c.specs.BoundImports.{bound_imports_at};
 ghost use Rattle.pe_c.specs.Clr.{streams_in};
 ghost use Rattle.pe_c.specs.DirectoryRuns.{HasBlock, HasBound, StepsBlocks, StepsBoundImports, StepsCallbacks, StepsDelayLibraries, StepsDelayedFunctions, StepsForwarders, StepsRelocations, StepsStreams, forwarders_reported, relocations_reported, ReturnsBlocks, ReturnsBounds, ReturnsStreams};
-ghost use Rattle.pe_c.specs.Directories.{table_at};
 ghost use Rattle.pe_c.specs.Images.{directory, map_of_image};
 ghost use Rattle.pe_c.specs.Imports.{StepsImports, StepsLibraries};
 ghost use Rattle.pe_c.specs.LibraryFunctions.{AreFunctionsOf, StepsLibraryFunctions};
