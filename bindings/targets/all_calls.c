@@ -1028,10 +1028,11 @@ static void dump(const struct file *file)
 /* How many bytes of a stream are read, and how many numbers of a room. */
 enum { STREAM = 1 << 16, NUMBERS = 256 };
 
-static uint8_t stream_bytes[STREAM], section_bytes[STREAM];
+static uint8_t stream_bytes[STREAM], section_bytes[STREAM], name_bytes[STREAM];
 
 /* What streams of a PDB say, by bytes of the section headers. */
-static void symbols(const uint8_t *bytes, size_t length, const uint8_t *headers, size_t headers_length, pe_c_range walk)
+static void pdb_symbols(const uint8_t *bytes, size_t length, const uint8_t *headers, size_t headers_length,
+                        pe_c_range walk)
 {
     for (uint32_t kind = PE_C_PDB_PUBLICS; kind <= PE_C_PDB_PROCEDURES; kind++) {
         uint64_t index[NUMBERS] = PE_C_EMPTY, written = 0;
@@ -1045,6 +1046,22 @@ static void symbols(const uint8_t *bytes, size_t length, const uint8_t *headers,
     LIST(pe_c_list_pdb_symbols, pe_c_pdb_symbol, bytes, length, headers, headers_length, &walk);
 }
 
+/* The lines and source files of a range of a stream. */
+static void pdb_lines(const uint8_t *bytes, size_t length, const pe_c_range *range, const uint8_t *headers,
+                      size_t headers_length, const uint8_t *names, size_t names_length)
+{
+    pe_c_pdb_line_entry index[NUMBERS] = PE_C_EMPTY;
+    pe_c_pdb_line line = PE_C_EMPTY;
+    pe_c_range files = PE_C_EMPTY, name = PE_C_EMPTY;
+    uint64_t written = 0;
+    CALL(pe_c_pdb_lines, index, bytes, length, range, headers, headers_length, index, NUMBERS, &written);
+    add(written);
+    for (uint32_t rva = 0xFFF; rva < 0x1100; rva += 11)
+        CALL(pe_c_find_pdb_line, line, index, written < NUMBERS ? (size_t)written : NUMBERS, rva, &line);
+    CALL(pe_c_pdb_files, files, bytes, length, range, &files);
+    CALL(pe_c_pdb_file_name, name, bytes, length, &files, names, names_length, line.file, &name);
+}
+
 static size_t stream_of(const struct file *file, const uint64_t *starts, size_t count, uint32_t index, uint8_t *room)
 {
     uint64_t written = 0;
@@ -1054,6 +1071,38 @@ static size_t stream_of(const struct file *file, const uint64_t *starts, size_t 
         return 0;
     add_bytes(room, (size_t)written);
     return (size_t)written;
+}
+
+/* As if a file were a stream of a PDB. */
+static void pdb_stream(const struct file *file, const uint64_t *starts)
+{
+    pe_c_range all = {0, file->length}, walk = all;
+    pdb_symbols(BYTES, file->bytes, file->length / 40 * 40, all);
+    LIST(pe_c_list_pdb_modules, pe_c_pdb_module, BYTES, &walk);
+    pdb_lines(BYTES, &all, file->bytes, file->length / 40 * 40, BYTES);
+    stream_of(file, starts, NUMBERS, 1, stream_bytes);
+}
+
+/* The streams of a PDB. */
+static void pdb_streams(const struct file *file, const pe_c_pdb_info *info, const uint64_t *starts, size_t count)
+{
+    static const uint8_t name[6] = {'/', 'n', 'a', 'm', 'e', 's'};
+    pe_c_pdb_module module = PE_C_EMPTY;
+    pe_c_range walk = info->modules;
+    uint32_t number = 0;
+    uint64_t one = 0;
+    size_t headers = stream_of(file, NULL, 0, info->section_headers, section_bytes);
+    size_t length = stream_of(file, starts, count, info->symbol_stream, stream_bytes);
+    pe_c_range all = {0, length};
+    pdb_symbols(stream_bytes, length, section_bytes, headers, all);
+    length = stream_of(file, starts, count, 1, stream_bytes);
+    CALL(pe_c_pdb_named_stream, number, stream_bytes, length, name, sizeof name, &number);
+    length = stream_of(file, starts, count, 3, stream_bytes);
+    CALL(pe_c_list_pdb_modules, module, stream_bytes, length, &walk, &module, 1, &one);
+    LIST(pe_c_list_pdb_modules, pe_c_pdb_module, stream_bytes, length, &walk);
+    length = stream_of(file, starts, count, module.stream, stream_bytes);
+    size_t names = stream_of(file, starts, count, number, name_bytes);
+    pdb_lines(stream_bytes, length, &module.lines, section_bytes, headers, name_bytes, names);
 }
 
 static void pdb(const struct file *file)
@@ -1067,20 +1116,10 @@ static void pdb(const struct file *file)
     for (int i = 0; i < 16; i++)
         key.guid[i] = info.guid[i];
     CALL(pe_c_is_pdb_of, key, &key, &info);
-    if (!is_pdb) {
-        /* As if the file were a stream of one. */
-        pe_c_range all = {0, file->length}, walk = {0, file->length};
-        symbols(BYTES, file->bytes, file->length / 40 * 40, all);
-        LIST(pe_c_list_pdb_modules, pe_c_pdb_module, BYTES, &walk);
-        stream_of(file, starts, NUMBERS, 1, stream_bytes);
-        return;
-    }
-    size_t headers = stream_of(file, NULL, 0, info.section_headers, section_bytes);
-    size_t length = stream_of(file, starts, (size_t)written, info.symbol_stream, stream_bytes);
-    pe_c_range all = {0, length};
-    symbols(stream_bytes, length, section_bytes, headers, all);
-    length = stream_of(file, starts, (size_t)written, 3, stream_bytes);
-    LIST(pe_c_list_pdb_modules, pe_c_pdb_module, stream_bytes, length, &info.modules);
+    if (is_pdb)
+        pdb_streams(file, &info, starts, written < NUMBERS ? (size_t)written : NUMBERS);
+    else
+        pdb_stream(file, starts);
 }
 
 /* ---- all of it */
