@@ -1,6 +1,6 @@
-//! The line of an RVA: an index of the lines of a module, in a room that the caller has. It is sorted once, and each RVA is looked up
-//! by binary search. A row reaches to the next row by offset, of whatever block and subsection, at most to the end of its
-//! subsection's code; of several at one offset the last counts.
+//! The line of an RVA: an index of the lines of a module, in a room that the caller has. It is sorted once, and each RVA is
+//! looked up by binary search. A row reaches to the next row by offset, of whatever block and subsection, at most to the end of
+//! its subsection's code; of several at one offset the last counts.
 
 ghost use Rattle.std.specs.Prelude.{◌≡◌, ◌+◌, ◌*◌, ◌^◌, List, length};
 ghost use Rattle.pe_pdb.specs.LineEntries.{count_of, module_lines};
@@ -34,8 +34,8 @@ fn key_of(rva: u32, index: u32) -> u64
 }
 
 impl<'r> LineIndex<'r> {
-    /// How many entries an index has of the lines of a module, the bytes of `ModuleRecord::line_bytes`: as many as a room for it has to
-    /// have. Errors, in order: `SymbolsSize`; those of the first subsection, or block of rows, that is refused.
+    /// How many entries an index has of the lines of a module, the bytes of `ModuleRecord::line_bytes`: as many as a room for it
+    /// has to have. Errors, in order: `SymbolsSize`; those of the first subsection, or block of rows, that is refused.
     pub fn count(bytes: &[u8], sections: &SectionHeaders<'_>) -> Result<usize>
         ensures { PdbReturns (λ n. n) result (count_of (module_lines sections.now.bytes.now bytes.now)) }
     {
@@ -50,9 +50,9 @@ impl<'r> LineIndex<'r> {
         LineIndex { entries: room }
     }
 
-    /// The index of the lines of a module. A row whose offset is not below the size of its code is left out, as is one in no section. What
-    /// is in the room after the call is left open. Errors, in order: those of `count`; `Room` if the room has fewer entries than the
-    /// index.
+    /// The index of the lines of a module. A row whose offset is not below the size of its code is left out, as is one in no
+    /// section. What is in the room after the call is left open. Errors, in order: those of `count`; `Room` if the room has fewer
+    /// entries than the index.
     pub fn new(
         bytes: &[u8],
         sections: &SectionHeaders<'_>,
@@ -81,8 +81,8 @@ impl<'r> LineIndex<'r> {
         Some(self.entries[after - 1].line)
     }
 
-    /// The line of an RVA, with where its code starts, its file and column. `None` where no code with lines is, and where the code is of no
-    /// line: 0, F00F00h, FEEFEEh.
+    /// The line of an RVA, with where its code starts, its file and column. `None` where no code with lines is, and where the
+    /// code is of no line: 0, F00F00h, FEEFEEh.
     pub fn line_at(&self, rva: u32) -> Option<CodeLine>
         ensures { (xs : List Line) → AreEntries xs self.now.entries.now → LineAt xs rva result }
     {
