@@ -1,9 +1,9 @@
 -- Walks over the annotations and the rows of an inlined function, and over the functions that have an offset.
-use Rattle.std.proofs.Common.{◌≡◌, ℕ, zero, suc, ◌+◌, ◌-◌, ◌*◌, ◌<◌, ◌≤◌, Bool, true, false, cond, List, [], ◌∷◌, length, Option, Some, None, Result, Ok, Err, refl, ap, sym, subst, ◌∙◌, arith, leb, ltb}
+use Rattle.std.proofs.Common.{◌≡◌, ℕ, ◌+◌, ◌-◌, ◌<◌, ◌≤◌, Bool, true, false, List, [], ◌∷◌, length, Option, Some, None, Result, Ok, Err, refl, ap, sym, ◌∙◌, arith}
 use Rattle.std.proofs.lemmas.Bool.Decides.{nat_tests}
 use Rattle.std.specs.Prelude.{◌==◌, nat_le, nat_lt, if◌then◌else◌}
 use Rattle.pe_core.specs.Bytes.{le, holds}
-use Rattle.pe_core.specs.Refusals.{outcome, ◌>>=◌}
+use Rattle.pe_core.specs.Refusals.{outcome}
 use Rattle.pe_pdb.specs.Annotations.{annotation_at, annotations, closed, ended, has_offset, kept, last_with, moved, number_at, number_size, number_value, row_from, rows_of, starts_row}
 use Rattle.pe_pdb.specs.InlineWalks.{started}
 use Rattle.pe_pdb.specs.InlineSites.{followed, frames_in, step_of}
@@ -14,7 +14,6 @@ use Rattle.pe_pdb.specs.declared.annotation.Annotation.{Annotation}
 use Rattle.pe_pdb.specs.declared.inline_rows.Cursor.{Cursor}
 use Rattle.pe_pdb.specs.declared.inline_rows.InlineRow.{InlineRow}
 use Rattle.pe_pdb.specs.declared.inline_rows.OpenRow.{OpenRow}
-use Rattle.pe_pdb.specs.declared.inline_walk.InlineFrame.{InlineFrame}
 use Rattle.pe_pdb.specs.declared.inline_walk.Scopes.{Scopes}
 use Rattle.pe_pdb.proofs.RecordWalks.{both, first_passed, passed, second_passed, symbols_more, symbols_none, symbols_refused}
 use Rattle.pe_pdb.proofs.Walked.{items_none, items_step}
@@ -52,18 +51,18 @@ annotations_later b p z is =
     later_if p (op.0 == 0) _ _ z one.2
     (λ e. let end = same_end _ z e in let inside = n.1 in omega (arith, end, inside))
     (λ e.
-      let two = both (outcome ((nat_le op.0 13, Refused) ∷ []) p) _ z e in
-      let three = both (number_at b op.1) _ z two.2 in
-      let first = three.0 in
-      let m = number_later b op.1 first three.1 in
-      let low : p < first.1 = (let one = n.0 in let two = m.0 in omega (arith, one, two)) in
-      later_if p (op.0 == 12) _ _ z three.2
-      (λ e.
-        let four = both (number_at b first.1) _ z e in
-        let k = number_later b first.1 four.0 four.1 in
-        let end = same_end _ z four.2 in
-        let last = k.0 in omega (arith, low, last, end))
-      (λ e. let end = same_end _ z e in omega (arith, low, end)))
+    let two = both (outcome ((nat_le op.0 13, Refused) ∷ []) p) _ z e in
+    let three = both (number_at b op.1) _ z two.2 in
+    let first = three.0 in
+    let m = number_later b op.1 first three.1 in
+    let low : p < first.1 = (let one = n.0 in let two = m.0 in omega (arith, one, two)) in
+    later_if p (op.0 == 12) _ _ z three.2
+    (λ e.
+    let four = both (number_at b first.1) _ z e in
+    let k = number_later b first.1 four.0 four.1 in
+    let end = same_end _ z four.2 in
+    let last = k.0 in omega (arith, low, last, end))
+    (λ e. let end = same_end _ z e in omega (arith, low, end)))
 
 -- ---- rows
 

@@ -1,9 +1,9 @@
 -- Walks over the records of inlined functions.
-use Rattle.std.proofs.Common.{◌≡◌, ℕ, ◌+◌, ◌*◌, ◌<◌, ◌≤◌, Bool, true, false, List, [], ◌∷◌, length, Option, Some, None, Result, Ok, Err, refl, ap, sym, ◌∙◌, arith}
-use Rattle.std.specs.Prelude.{◌==◌, if◌then◌else◌}
+use Rattle.std.proofs.Common.{◌≡◌, ℕ, ◌+◌, ◌*◌, ◌<◌, ◌≤◌, Bool, true, false, List, [], ◌∷◌, length, Some, None, Result, Ok, Err, ap, ◌∙◌, arith}
+use Rattle.std.specs.Prelude.{◌==◌}
 use Rattle.pe_core.specs.Bytes.{le, holds}
-use Rattle.pe_core.specs.Refusals.{outcome, ◌>>=◌}
-use Rattle.pe_pdb.specs.Inlinees.{first_inlinee, inlinee_at, inlinee_end, inlinee_row, inlinees}
+use Rattle.pe_core.specs.Refusals.{outcome}
+use Rattle.pe_pdb.specs.Inlinees.{first_inlinee, inlinee_at, inlinee_end, inlinees}
 use Rattle.pe_pdb.specs.Refusals.{PdbRefusal, Short, RecordTruncated}
 use Rattle.pe_pdb.specs.Walks.{Advances}
 use Rattle.pe_pdb.specs.declared.inlinee.InlineeLine.{InlineeLine}

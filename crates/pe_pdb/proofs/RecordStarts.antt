@@ -1,10 +1,10 @@
 -- The starts of records.
-use Rattle.std.proofs.Common.{◌≡◌, ℕ, zero, suc, ◌+◌, ◌-◌, ◌<◌, ◌≤◌, true, leb, List, [], ◌∷◌, length, get_or, slice_set, Result, Ok, Err, refl, ap, sym, ◌∙◌, arith, below_more}
+use Rattle.std.proofs.Common.{◌≡◌, ℕ, zero, suc, ◌+◌, ◌-◌, ◌<◌, ◌≤◌, true, leb, List, length, get_or, slice_set, Ok, Err, refl, ap, sym, ◌∙◌, arith, below_more}
 use Rattle.std.proofs.lemmas.Bool.Decides.{nat_tests}
 use Rattle.std.proofs.lemmas.List.{get_or-set_same, get_or-set_other}
 use Rattle.pe_core.specs.Refusals.{◌>>=◌}
 use Rattle.pe_pdb.specs.Ids.{AreStarts, TypesView, count_of, start_of, starts_in}
-use Rattle.pe_pdb.specs.Refusals.{PdbRefusal, Room}
+use Rattle.pe_pdb.specs.Refusals.{PdbRefusal}
 use Rattle.pe_pdb.specs.Symbols.{Symbol, symbol_at, symbol_end}
 
 pub start_none : (b : List ℕ) → start_of b 0 ≡ Ok 0

@@ -1,15 +1,12 @@
 -- What is read of annotations that are written.
-use Rattle.std.proofs.Common.{◌≡◌, ℕ, zero, suc, ◌+◌, ◌-◌, ◌*◌, ◌/◌, ◌%◌, ◌^◌, ◌<◌, ◌≤◌, Bool, true, false, List, [], ◌∷◌, ◌++◌, length, get_or, Result, Ok, refl, ap, sym, subst, ◌∙◌, arith, append_assoc, length-append, inl, inr, ltb, leb}
+use Rattle.std.proofs.Common.{◌≡◌, ℕ, suc, ◌+◌, ◌-◌, ◌*◌, ◌/◌, ◌%◌, ◌^◌, ◌<◌, ◌≤◌, Bool, true, false, List, [], ◌∷◌, ◌++◌, length, get_or, Ok, refl, ap, sym, subst, ◌∙◌, arith, append_assoc, length-append, inl, inr, ltb, leb}
 use Rattle.std.proofs.lemmas.Bool.{cases_lt}
 use Rattle.std.proofs.lemmas.Bool.Decides.{nat_tests}
-use Rattle.std.proofs.lemmas.List.{append-nil, get_or-append-add}
-use Rattle.std.proofs.lemmas.Nat.{div-add-mod', mod_below}
-use Rattle.std.specs.Prelude.{◌==◌, nat_le, nat_lt, slice_index, if◌then◌else◌}
-use Rattle.pe_core.specs.Bytes.{le, holds}
-use Rattle.pe_core.specs.Refusals.{outcome, ◌>>=◌}
+use Rattle.std.proofs.lemmas.List.{get_or-append-add}
+use Rattle.std.specs.Prelude.{◌==◌, slice_index, if◌then◌else◌}
+use Rattle.pe_core.specs.Bytes.{le}
 use Rattle.pe_core.proofs.NumberBytes.{le-cons, le-zero}
-use Rattle.pe_pdb.specs.Annotations.{annotation_at, number_at, number_size, number_value}
-use Rattle.pe_pdb.specs.Refusals.{PdbRefusal}
+use Rattle.pe_pdb.specs.Annotations.{annotation_at, number_at}
 use Rattle.pe_pdb.specs.WrittenAnnotations.{IsWritable, written, written_number}
 use Rattle.pe_pdb.specs.declared.annotation.Annotation.{Annotation}
 
@@ -143,7 +140,7 @@ read_if a true is fits before after =
     let one = next_read a.operation p (p + length o) b before o ((f ++ s) ++ after) (number_read a.operation (let h = fits.known in omega (arith, h))) first refl refl in
     let two = next_read a.first (p + length o) (p + length o + length f) b (before ++ o) f (s ++ after) (number_read a.first fits.first) second (sym (length-append before o)) refl in
     let three = next_read a.second (p + length o + length f) (p + length o + length f + length s) b ((before ++ o) ++ f) s after (number_read a.second fits.second) third
-      (let l = length-append (before ++ o) f in let m = length-append before o in omega (arith, l, m)) refl in
+    (let l = length-append (before ++ o) f in let m = length-append before o in omega (arith, l, m)) refl in
     let size : p + length o + length f + length s ≡ p + length (o ++ (f ++ s)) = (let l = length-append o (f ++ s) in let m = length-append f s in omega (arith, l, m)) in
     subst (λ (l : List ℕ). annotation_at (before ++ (l ++ after)) p ≡ Ok (a, p + length l)) (sym w)
     (read_by_two a b p (p + length o) (p + length o + length f) (p + length o + length f + length s) fits one two three is ∙ ap (λ (n : ℕ). Ok (a, n)) size)

@@ -1,5 +1,5 @@
 -- Binary annotations of an inlined function: numbers that say, each from what the ones before it said, which code is of which line.
-use Rattle.std.specs.Prelude.{◌≡◌, ℕ, ◌+◌, ◌-◌, ◌*◌, ◌/◌, ◌%◌, ◌^◌, ◌==◌, ◌&&◌, ◌||◌, Bool, List, [], ◌∷◌, length, nat_le, nat_lt, Option, Some, None, Result, Ok, Err, if◌then◌else◌}
+use Rattle.std.specs.Prelude.{ℕ, ◌+◌, ◌-◌, ◌*◌, ◌/◌, ◌%◌, ◌^◌, ◌==◌, ◌&&◌, ◌||◌, Bool, List, [], ◌∷◌, length, nat_le, nat_lt, Option, Some, None, Result, Ok, Err, if◌then◌else◌}
 use Rattle.pe_core.specs.Bytes.{le, holds}
 use Rattle.pe_core.specs.Refusals.{outcome, ◌>>=◌}
 use Rattle.pe_pdb.specs.Refusals.{PdbRefusal, Annotation as Refused}
@@ -32,11 +32,11 @@ number_at b p =
 unfoldable pub annotation_at : List ℕ → ℕ → Result (Annotation × ℕ) PdbRefusal
 annotation_at b p =
     number_at b p >>= λ operation.
-      if operation.0 == 0 then Ok (record { operation = 0; first = 0; second = 0 }, length b)
-      else (outcome ((nat_le operation.0 13, Refused) ∷ []) p >>= λ known.
-        number_at b operation.1 >>= λ first.
-          if operation.0 == 12 then (number_at b first.1 >>= λ second. Ok (record { operation = operation.0; first = first.0; second = second.0 }, second.1))
-          else Ok (record { operation = operation.0; first = first.0; second = 0 }, first.1))
+    if operation.0 == 0 then Ok (record { operation = 0; first = 0; second = 0 }, length b)
+    else (outcome ((nat_le operation.0 13, Refused) ∷ []) p >>= λ known.
+    number_at b operation.1 >>= λ first.
+    if operation.0 == 12 then (number_at b first.1 >>= λ second. Ok (record { operation = operation.0; first = first.0; second = second.0 }, second.1))
+    else Ok (record { operation = operation.0; first = first.0; second = 0 }, first.1))
 
 -- those from an offset on
 abbrev pub annotations : List ℕ → ℕ → List (Result Annotation PdbRefusal)

@@ -1,5 +1,5 @@
 -- The streams of types and of ids: records that are known by their indexes. And the names of functions that are ids.
-use Rattle.std.specs.Prelude.{◌≡◌, ℕ, zero, suc, ◌+◌, ◌-◌, ◌<◌, List, [], ◌∷◌, length, nat_le, slice_index_or, Result, Ok, Err}
+use Rattle.std.specs.Prelude.{◌≡◌, ℕ, zero, suc, ◌-◌, ◌<◌, List, [], ◌∷◌, nat_le, slice_index_or, Result, Ok}
 use Rattle.pe_core.specs.Bytes.{le, range, holds}
 use Rattle.pe_core.specs.Refusals.{outcome, ◌>>=◌}
 use Rattle.pe_core.specs.Text.{text_at}

@@ -1,9 +1,8 @@
-use Rattle.std.proofs.Common.{◌≡◌, ℕ, ◌+◌, ◌-◌, ◌<◌, ◌≤◌, length, List, [], ◌∷◌, Result, Ok, Err, arith, rules, ap, sym, ◌∙◌}
-use Rattle.pe_pdb.specs.InlineSites.{followed, frames_in, frames_left, no_scopes}
+use Rattle.std.proofs.Common.{◌≡◌, ℕ, ◌-◌, ◌<◌, length, List, ◌∷◌, Result, Ok, Err, arith, rules, ap, sym, ◌∙◌}
+use Rattle.pe_pdb.specs.InlineSites.{followed, frames_in, no_scopes}
 use Rattle.pe_pdb.specs.Refusals.{PdbRefusal, pdb_kind_of}
 use Rattle.pe_pdb.specs.Symbols.{symbol_end, symbol_view, symbols}
 use Rattle.pe_pdb.specs.declared.inline_walk.InlineFrame.{InlineFrame}
-use Rattle.pe_pdb.specs.declared.inline_walk.Scopes.{Scopes}
 use Rattle.pe_pdb.specs.declared.inline_walk.Step.{Step}
 use Rattle.pe_pdb.proofs.InlineWalks.{frames_end, frames_more, frames_refused}
 use Rattle.pe_pdb.proofs.RecordWalks.{symbol_offset}
@@ -35,8 +34,8 @@ loop-self-preserved-in-Over c =
     let kept : length c.at-in-Over.result.bytes.now ≡ length b = ap (λ r. length r.now) c.at-in-Over.ensures.bytes in
     record {
       same = c.loop-self.invariant.same ∙ frames_more s.offset s.scopes b s.next v c.loop-self-test.true c.in-Ok.ensures.value
-        ∙ ap (λ (r : Result Step PdbRefusal). followed (λ inner. frames_in s.offset inner (symbols b (symbol_end v))) r) (c.in-Ok-step.ensures.value ∙ ap (λ (k : Step). Ok k) c.in-Over.is)
-        ∙ sym (c.at-in-Over.ensures.left ∙ frames_end s.offset _ b (length b) (omega arith));
+          ∙ ap (λ (r : Result Step PdbRefusal). followed (λ inner. frames_in s.offset inner (symbols b (symbol_end v))) r) (c.in-Ok-step.ensures.value ∙ ap (λ (k : Step). Ok k) c.in-Over.is)
+          ∙ sym (c.at-in-Over.ensures.left ∙ frames_end s.offset _ b (length b) (omega arith));
       bound = omega (arith, kept, c.at-in-Over.ensures.next, c.loop-self.invariant.bound);
     }
 
@@ -65,8 +64,8 @@ loop-self-preserved c =
     let kept : length c.at-in-On.result.bytes.now ≡ length b = ap (λ r. length r.now) c.at-in-On.ensures.bytes in
     record {
       same = c.loop-self.invariant.same ∙ frames_more s.offset s.scopes b s.next v c.loop-self-test.true c.in-Ok.ensures.value
-        ∙ ap (λ (r : Result Step PdbRefusal). followed (λ inner. frames_in s.offset inner (symbols b (symbol_end v))) r) (c.in-Ok-step.ensures.value ∙ ap (λ (k : Step). Ok k) c.in-On.is)
-        ∙ sym (c.at-in-On.ensures.left ∙ ap (λ (n : ℕ). frames_in s.offset c.in-On.scopes (symbols b n)) c.end.ensures);
+          ∙ ap (λ (r : Result Step PdbRefusal). followed (λ inner. frames_in s.offset inner (symbols b (symbol_end v))) r) (c.in-Ok-step.ensures.value ∙ ap (λ (k : Step). Ok k) c.in-On.is)
+          ∙ sym (c.at-in-On.ensures.left ∙ ap (λ (n : ℕ). frames_in s.offset c.in-On.scopes (symbols b n)) c.end.ensures);
       bound = omega (arith, start, kept, c.at-in-On.ensures.next, c.end.ensures, c.loop-self.invariant.bound);
     }
 

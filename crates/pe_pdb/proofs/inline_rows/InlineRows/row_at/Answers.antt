@@ -1,7 +1,7 @@
-use Rattle.std.proofs.Common.{◌≡◌, ℕ, Bool, List, [], ◌∷◌, Option, Some, None, Result, Ok, Err, true, false, arith, rules, ap, sym, ◌∙◌}
+use Rattle.std.proofs.Common.{◌≡◌, ℕ, Bool, ◌∷◌, Some, Result, Err, true, false, rules, ap, sym, ◌∙◌}
 use Rattle.std.specs.Prelude.{if◌then◌else◌}
-use Rattle.pe_pdb.specs.Annotations.{has_offset, last_with, row_at, rows_left}
-use Rattle.pe_pdb.specs.Refusals.{PdbRefusal, pdb_kind_of}
+use Rattle.pe_pdb.specs.Annotations.{last_with, row_at, rows_left}
+use Rattle.pe_pdb.specs.Refusals.{pdb_kind_of}
 use Rattle.pe_pdb.specs.Walks.{step_view}
 use Rattle.pe_pdb.specs.declared.error.PdbError.{PdbError}
 use Rattle.pe_pdb.specs.declared.inline_rows.InlineRow.{InlineRow}

@@ -1,5 +1,5 @@
-use Rattle.std.proofs.Common.{◌≡◌, ℕ, ◌+◌, ◌-◌, ◌<◌, ◌≤◌, length, List, [], ◌∷◌, Option, Some, None, Result, Ok, Err, true, false, arith, rules, ap, sym, ◌∙◌}
-use Rattle.pe_pdb.specs.Annotations.{annotations, ended, moved, rows_left, rows_of, starts_row}
+use Rattle.std.proofs.Common.{◌≡◌, ◌-◌, ◌≤◌, length, List, [], ◌∷◌, Option, Some, None, Result, Ok, Err, true, false, arith, rules, ap, sym, ◌∙◌}
+use Rattle.pe_pdb.specs.Annotations.{annotations, ended, rows_left, rows_of, starts_row}
 use Rattle.pe_pdb.specs.InlineWalks.{started}
 use Rattle.pe_pdb.specs.Refusals.{PdbRefusal, pdb_kind_of}
 use Rattle.pe_pdb.specs.declared.inline_rows.InlineRow.{InlineRow}
@@ -23,7 +23,7 @@ returns-in-Some-clause-steps c =
     let had : s.last ≡ Some c.in-Some.before = sym c.replace.ensures.value ∙ c.in-Some.is in
     c.loop-self.invariant.same ∙ rows_started s.bytes.now s.next s.cursor s.last a c.in-Ok.parsed.1 c.loop-self-test.true c.in-Ok.ensures.value starts
     ∙ started_after s.cursor c.moved-self.result s.last c.replace.new.self a c.new-row.result c.in-Some.before c.closed.result (annotations s.bytes.now c.in-Ok.parsed.1)
-      c.moved-self.ensures c.new-row.ensures c.replace.ensures.after had c.closed.ensures
+    c.moved-self.ensures c.new-row.ensures c.replace.ensures.after had c.closed.ensures
 
 pub loop-self-preserved-in_default : goal.loop-self-preserved-in_default
 loop-self-preserved-in_default c =
@@ -34,7 +34,7 @@ loop-self-preserved-in_default c =
     let few : started c.replace.new.self ≤ 1 = started_few c.replace.new.self in
     record {
       same = c.loop-self.invariant.same ∙ rows_started s.bytes.now s.next s.cursor s.last a c.in-Ok.parsed.1 c.loop-self-test.true c.in-Ok.ensures.value starts
-        ∙ started_first s.cursor c.moved-self.result s.last c.replace.new.self a c.new-row.result (annotations s.bytes.now c.in-Ok.parsed.1)
+          ∙ started_first s.cursor c.moved-self.result s.last c.replace.new.self a c.new-row.result (annotations s.bytes.now c.in-Ok.parsed.1)
           c.moved-self.ensures c.new-row.ensures c.replace.ensures.after had;
       bound = omega (arith, few, c.in-Ok.ensures.after, c.loop-self-test.true, c.loop-self.invariant.bound);
     }
@@ -47,7 +47,7 @@ loop-self-preserved c =
     let same : started c.kept-self.result ≡ started s.last = ap (λ (o : Option OpenRow). started o) c.kept-self.ensures ∙ started_kept a s.last in
     record {
       same = c.loop-self.invariant.same ∙ rows_on s.bytes.now s.next s.cursor s.last a c.in-Ok.parsed.1 c.loop-self-test.true c.in-Ok.ensures.value starts
-        ∙ not_started s.cursor c.moved-self.result s.last c.kept-self.result a (annotations s.bytes.now c.in-Ok.parsed.1) c.moved-self.ensures c.kept-self.ensures;
+          ∙ not_started s.cursor c.moved-self.result s.last c.kept-self.result a (annotations s.bytes.now c.in-Ok.parsed.1) c.moved-self.ensures c.kept-self.ensures;
       bound = omega (arith, same, c.in-Ok.ensures.after, c.loop-self-test.true, c.loop-self.invariant.bound);
     }
 

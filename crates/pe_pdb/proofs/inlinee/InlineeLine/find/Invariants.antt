@@ -1,6 +1,4 @@
 use Rattle.std.proofs.Common.{◌≡◌, ◌-◌, length}
-use Rattle.pe_core.specs.Bytes.{le}
-use Rattle.std.specs.Prelude.{◌==◌}
 use Rattle.pe_pdb.specs.Inlinees.{first_inlinee, inlinees}
 use Rattle.pe_pdb.proofs.inlinee.InlineeLine.find.Given as goal
 

@@ -1,4 +1,4 @@
-use Rattle.std.proofs.Common.{rules, arith, ◌≡◌, ◌-◌, ◌<◌, ℕ, true, false, get_or, leb, refl}
+use Rattle.std.proofs.Common.{rules, arith, ◌≡◌, ◌-◌, ◌<◌, ℕ, true, false, get_or, leb}
 use Rattle.std.proofs.lemmas.Bool.Decides.{nat_tests}
 use Rattle.std.proofs.lemmas.List.{get_or_default}
 use Rattle.std.proofs.lemmas.List.Sorted.{IsPartitionPoint-from_clause, IsPartitionedBy-leb}
@@ -24,6 +24,6 @@ returns c = λ xs are.
     let rise = rvas_rise es (index_small xs es are) c.args.self.now.ascending in
     let cut = IsPartitionPoint-from_clause (λ (e : LineEntry). leb e.line.rva x) es n c.partition_point-after.ensures.partitioned (IsPartitionedBy-leb (λ (e : LineEntry). e.line.rva) es x rise) (λ a r f' k. search rules) in
     last_permuted xs es x _ are (nearest_of es x n c.args.self.now.ascending some within
-        (λ k d low lt. let t : leb (get_or es k d).line.rva x ≡ true = cut.0 k d (omega arith) low in grind (arith, nat_tests))
-        (λ k d high lt. let t : leb (get_or es k d).line.rva x ≡ false = cut.1 k d high lt in grind (arith, nat_tests))
-        _ (λ d. get_or_default es (n - 1) d _ (omega (arith, within, some))))
+    (λ k d low lt. let t : leb (get_or es k d).line.rva x ≡ true = cut.0 k d (omega arith) low in grind (arith, nat_tests))
+    (λ k d high lt. let t : leb (get_or es k d).line.rva x ≡ false = cut.1 k d high lt in grind (arith, nat_tests))
+    _ (λ d. get_or_default es (n - 1) d _ (omega (arith, within, some))))
