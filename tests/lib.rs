@@ -48,6 +48,10 @@ mod minidumps;
 #[cfg(test)]
 mod pdb_bytes;
 #[cfg(test)]
+mod pdb_inlined_bytes;
+#[cfg(test)]
+mod pdb_lines;
+#[cfg(test)]
 mod pdb_symbols;
 #[cfg(test)]
 mod pdbs;

@@ -14,3 +14,8 @@ pub mod NamedStreams
 pub mod ModuleRanges
 pub mod LineEntries
 pub mod LineOrder
+pub mod LastLines
+pub mod InlineWalks
+pub mod Inlinees
+pub mod RecordStarts
+pub mod WrittenAnnotations

@@ -1,5 +1,5 @@
 -- The lines of a module, as loops over rows, blocks and subsections write them to a room.
-use Rattle.std.proofs.Common.{◌≡◌, ℕ, zero, suc, ◌+◌, ◌-◌, ◌<◌, ◌≤◌, List, [], ◌∷◌, ◌++◌, length, take, set, Option, Some, None, Result, Ok, Err, refl, ap, sym, subst, ◌∙◌, arith, append_assoc, length-append, inl, inr}
+use Rattle.std.proofs.Common.{◌≡◌, ℕ, suc, ◌+◌, ◌-◌, ◌≤◌, List, [], ◌∷◌, ◌++◌, length, take, set, Option, Some, None, Result, Ok, Err, refl, ap, sym, subst, ◌∙◌, arith, append_assoc, length-append, inl, inr}
 use Rattle.std.proofs.lemmas.Bool.{cases_lt}
 use Rattle.std.proofs.lemmas.List.{append-nil, set_past, take-append-le, take_all, take_more_set}
 use Rattle.std.proofs.Math.ListN.{length-set}
@@ -140,7 +140,7 @@ gathers_more {X} f whole left rest x ys first count n room after next so is line
   sofar = so.sofar ++ ys;
   writes = writes_both so.sofar ys first count n room after next so.writes writes;
   more = so.more ∙ ap (λ (l : List (Result X PdbRefusal)). with_rest so.sofar (gathered f l)) is
-    ∙ ap (λ (r : Result (List CodeLine) PdbRefusal). with_rest so.sofar r) (gathered_more f x rest ys lines) ∙ with_joined so.sofar ys (gathered f rest);
+      ∙ ap (λ (r : Result (List CodeLine) PdbRefusal). with_rest so.sofar r) (gathered_more f x rest ys lines) ∙ with_joined so.sofar ys (gathered f rest);
 }
 
 -- an item that is refused

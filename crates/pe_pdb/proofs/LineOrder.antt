@@ -1,7 +1,7 @@
 -- The last line at or before an RVA, in entries that are sorted.
-use Rattle.std.proofs.Common.{◌≡◌, ℕ, zero, suc, ◌+◌, ◌-◌, ◌*◌, ◌^◌, ◌<◌, ◌≤◌, List, [], ◌∷◌, length, get_or, Option, Some, None, refl, ap, sym, subst, ◌∙◌, arith, inl, inr}
+use Rattle.std.proofs.Common.{◌≡◌, ℕ, zero, suc, ◌+◌, ◌-◌, ◌*◌, ◌^◌, ◌<◌, ◌≤◌, List, [], ◌∷◌, length, get_or, ap, sym, subst, ◌∙◌, arith, inl, inr}
 use Rattle.std.specs.List.{All, Contains}
-use Rattle.std.specs.List.Sorted.{IsNonDecreasingBy, IsPermutation}
+use Rattle.std.specs.List.Sorted.{IsNonDecreasingBy}
 use Rattle.std.proofs.lemmas.Bool.{cases_lt}
 use Rattle.std.proofs.lemmas.List.{get_or_default}
 use Rattle.std.proofs.lemmas.List.Sorted.{All-permutation, Contains-permutation, IsPermutation-sym}
@@ -74,8 +74,8 @@ last_of xs rva e small near =
     let i = at.0 in
     let index : e.index ≡ i = at.2 in
     let key : (k : ℕ) (d : CodeLine) → k < length xs → (get_or xs k d).rva ≤ rva → (get_or xs k d).rva * 2 ^ 32 + k ≤ e.line.rva * 2 ^ 32 + i =
-    λ k d lt le. subst (λ (n : ℕ). (get_or xs k d).rva * 2 ^ 32 + k ≤ e.line.rva * 2 ^ 32 + n) index (of_each (λ k. k.line.rva ≤ rva → line_key k ≤ line_key e) xs near.last k d lt le) in
-    (i,
+    λ k d lt le. subst (λ (n : ℕ). (get_or xs k d).rva * 2 ^ 32 + k ≤ e.line.rva * 2 ^ 32 + n) index (of_each (λ k. k.line.rva ≤ rva → line_key k ≤ line_key e) xs near.last k d lt le) in (
+      i,
       record {
         listed = at.1;
         before = λ d. subst (λ (x : CodeLine). x.rva ≤ rva) (sym (at.3 d)) near.before;
@@ -85,7 +85,8 @@ last_of xs rva e small near =
             let b = near.before in
             key_index e.line.rva (get_or xs k d).rva i k own (key k d lt (omega (arith, own, b)));
       },
-      at.3)
+      at.3,
+    )
 
 -- in another order
 pub last_permuted : (xs : List CodeLine) (es : List LineEntry) (rva : ℕ) (e : LineEntry) → AreEntries xs es → IsNearestEntry es rva e → (i : ℕ) × IsLastBefore xs rva i × ((d : CodeLine) → get_or xs i d ≡ e.line)

@@ -1,5 +1,5 @@
 -- The first of some pairs with a name.
-use Rattle.std.proofs.Common.{◌≡◌, ℕ, zero, suc, ◌+◌, ◌-◌, ◌<◌, true, false, List, length, Some, None, refl, ap, sym, subst, ◌∙◌, arith}
+use Rattle.std.proofs.Common.{◌≡◌, ℕ, zero, suc, ◌+◌, ◌-◌, ◌<◌, true, false, List, Some, None, refl, ap, sym, subst, ◌∙◌, arith}
 use Rattle.pe_core.specs.Bytes.{le}
 use Rattle.pe_pdb.specs.Names.{first_named, is_text_at}
 

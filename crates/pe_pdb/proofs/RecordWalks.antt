@@ -17,12 +17,12 @@ passed ((true, r) ∷ tests) v y is = passed tests v y is
 passed ((false, r) ∷ tests) v y is = absurd (cc is)
 
 -- both of two steps that succeed
-both : {A B : Type 0} (r : Result A PdbRefusal) (f : A → Result B PdbRefusal) (y : B) → (r >>= f) ≡ Ok y → (x : A) × (r ≡ Ok x) × (f x ≡ Ok y)
+pub both : {A B : Type 0} (r : Result A PdbRefusal) (f : A → Result B PdbRefusal) (y : B) → (r >>= f) ≡ Ok y → (x : A) × (r ≡ Ok x) × (f x ≡ Ok y)
 both (Ok x) f y is = (x, refl, is)
 both (Err r) f y is = absurd (cc is)
 
 -- the first of tests that pass
-first_passed : {Y : Type 0} (test : Bool) (r : PdbRefusal) (tests : List (Bool × PdbRefusal)) (v y : Y) → outcome ((test, r) ∷ tests) v ≡ Ok y → test ≡ true
+pub first_passed : {Y : Type 0} (test : Bool) (r : PdbRefusal) (tests : List (Bool × PdbRefusal)) (v y : Y) → outcome ((test, r) ∷ tests) v ≡ Ok y → test ≡ true
 first_passed true r tests v y is = refl
 first_passed false r tests v y is = absurd (cc is)
 

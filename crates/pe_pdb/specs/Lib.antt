@@ -19,5 +19,11 @@ pub mod Names
 pub mod LineEntries
 pub mod LineKeys
 pub mod LineIndexes
+pub mod Annotations
+pub mod InlineWalks
+pub mod InlineSites
+pub mod Inlinees
+pub mod Ids
+pub mod WrittenAnnotations
 pub mod Contributions
 pub mod ModuleIndexes

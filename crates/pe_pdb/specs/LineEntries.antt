@@ -1,10 +1,10 @@
 -- The rows of all lines of a module, each with its RVA, and the entries of an index of them.
-use Rattle.std.specs.Prelude.{◌≡◌, ℕ, zero, suc, ◌+◌, ◌-◌, ◌*◌, ◌/◌, ◌%◌, ◌^◌, ◌==◌, ◌&&◌, Bool, List, [], ◌∷◌, ◌++◌, length, take, nat_le, nat_lt, slice_set, Option, Some, None, Result, Ok, Err, if◌then◌else◌}
+use Rattle.std.specs.Prelude.{◌≡◌, ℕ, zero, suc, ◌+◌, ◌-◌, ◌*◌, ◌/◌, ◌%◌, ◌^◌, ◌==◌, ◌&&◌, Bool, List, [], ◌∷◌, ◌++◌, length, take, nat_le, nat_lt, Option, Some, None, Result, Ok, Err, if◌then◌else◌}
 use Rattle.std.specs.Option.{option_to_list}
 use Rattle.pe_core.specs.Bytes.{le}
 use Rattle.pe_core.specs.Gathered.{with_rest}
 use Rattle.pe_core.specs.Refusals.{◌>>=◌}
-use Rattle.pe_pdb.specs.Lines.{BlockView, SubsectionView, blocks, line_header, line_header_of, line_row, subsections}
+use Rattle.pe_pdb.specs.Lines.{BlockView, SubsectionView, blocks, line_header_of, line_row, subsections}
 use Rattle.pe_pdb.specs.Refusals.{PdbRefusal, SymbolsSize, pdb_kind_of}
 use Rattle.pe_pdb.specs.SectionHeaders.{rva_of}
 use Rattle.pe_pdb.specs.declared.error.PdbError.{PdbError}

@@ -1,5 +1,5 @@
-//! [Section contributions](https://llvm.org/docs/PDB/DbiStream.html#section-contribution-substream), a part of the DBI stream: which
-//! module has which code, and data. A number of 4 bytes says which version they are, of 28 or of 32 bytes each.
+//! [Section contributions](https://llvm.org/docs/PDB/DbiStream.html#section-contribution-substream), a part of the DBI stream:
+//! which module has which code, and data. A number of 4 bytes says which version they are, of 28 or of 32 bytes each.
 //!
 //! `put_ranges` writes the RVAs of each into a room. Of these `ModuleIndex` is made, which finds the module of an RVA.
 
@@ -74,8 +74,8 @@ impl<'a> SectionContributions<'a> {
         Ok(SectionContributions { wide, rows })
     }
 
-    /// Those of `Dbi::contributions`. There are none where these are no bytes. Errors, in order: `Short` if there are fewer than four;
-    /// `ContributionsVersion`; `ContributionsSize` if what follows is not a multiple of the size of one.
+    /// Those of `Dbi::contributions`. There are none where these are no bytes. Errors, in order: `Short` if there are fewer than
+    /// four; `ContributionsVersion`; `ContributionsSize` if what follows is not a multiple of the size of one.
     #[tactic(auto, unfolding(crate::specs::Contributions::contributions_of))]
     pub fn parse(bytes: &'a [u8]) -> Result<SectionContributions<'a>>
         ensures { PdbReturns contributions_view result (contributions_of bytes.entry.now) }
@@ -131,8 +131,8 @@ impl<'a> SectionContributions<'a> {
         Some(self.row(width(self.wide) * index))
     }
 
-    /// Writes the RVAs of each into the first entries of a room, in their order, and returns how many there are. `Err` of that number
-    /// where the room has fewer; then nothing changes.
+    /// Writes the RVAs of each into the first entries of a room, in their order, and returns how many there are. `Err` of that
+    /// number where the room has fewer; then nothing changes.
     #[tactic(auto, using(crate::proofs::ModuleRanges::row_inside))]
     pub fn put_ranges(
         &self,

@@ -111,7 +111,8 @@ pub enum PdbError {
     /// The bytes of section contributions are not a multiple of the size of one: how many there are.
     #[error("section contributions of {0} bytes")]
     ContributionsSize(usize),
-    /// An annotation of an inlined function is truncated, or none that is known: its offset, or that of its operand, in the annotations.
+    /// An annotation of an inlined function is truncated, or none that is known: its offset, or that of its operand, in the
+    /// annotations.
     #[error("invalid annotation at offset {0} of an inlined function")]
     Annotation(usize),
     /// Records or lines that are indexed have 4 GiB or more, as no stream has.

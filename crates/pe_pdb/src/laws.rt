@@ -1,23 +1,28 @@
 //! What the definitions that contracts cite say together.
 
-ghost use Rattle.std.specs.Prelude.{◌≡◌, ◌↔◌, ℕ, ◌+◌, ◌-◌, ◌*◌, ◌/◌, ◌^◌, ◌<◌, ◌≤◌, [], length, nat_le, take, List, Ok, Option, Result, Some, if◌then◌else◌};
+ghost use Rattle.std.specs.Prelude.{◌≡◌, ◌↔◌, ℕ, ◌+◌, ◌++◌, ◌-◌, ◌*◌, ◌/◌, ◌^◌, ◌<◌, ◌≤◌, [], length, nat_le, take, List, Ok, Option, Result, Some, if◌then◌else◌, true};
 ghost use Rattle.std.specs.Int.{div_ceil};
 ghost use Rattle.std.specs.List.{Contains};
 ghost use Rattle.pe_core.specs.Offsets.{bytes_in};
 ghost use Rattle.pe_core.specs.declared.byte_range.ByteRange.{ByteRange};
 ghost use Rattle.pe_pdb.specs.Streams.{CopiesStream, HasBlocks, StreamView, block_bytes, contiguous_of, joined, stream_bytes};
+ghost use Rattle.pe_pdb.specs.Annotations.{annotation_at};
 ghost use Rattle.pe_pdb.specs.Keys.{key_of};
 ghost use Rattle.pe_pdb.specs.Lines.{block_at, block_end, blocks, subsection_at, subsection_end, subsections};
+ghost use Rattle.pe_pdb.specs.LineIndexes.{IsLastBefore, LineAt, NoneStarts, is_line};
 ghost use Rattle.pe_pdb.specs.Modules.{module_at, module_end, modules};
 ghost use Rattle.pe_pdb.specs.SectionHeaders.{rva_of, start_of};
 ghost use Rattle.pe_pdb.specs.SymbolEntries.{HasEntry, addresses, rva_by};
 ghost use Rattle.pe_pdb.specs.SymbolIndexes.{Nearest};
 ghost use Rattle.pe_pdb.specs.Symbols.{symbol_at, symbol_end, symbols};
 ghost use Rattle.pe_pdb.specs.Walks.{with_end, with_more};
+ghost use Rattle.pe_pdb.specs.WrittenAnnotations.{IsWritable, written};
+ghost use Rattle.pe_pdb.specs.declared.annotation.Annotation.{Annotation};
 ghost use Rattle.pe_pdb.specs.declared.dbi.DbiHeader.{DbiHeader};
 ghost use Rattle.pe_pdb.specs.declared.error.PdbError.{PdbError};
 ghost use Rattle.pe_pdb.specs.declared.info.PdbInfo.{PdbInfo};
 ghost use Rattle.pe_pdb.specs.declared.key.PdbKey.{PdbKey};
+ghost use Rattle.pe_pdb.specs.declared.line_entries.CodeLine.{CodeLine};
 ghost use Rattle.pe_pdb.specs.declared.symbol_entries.SymbolClass.{SymbolClass};
 ghost use Rattle.pe_pdb.specs.declared.symbol_lookup.SymbolAddress.{SymbolAddress};
 
@@ -75,4 +80,22 @@ pub fn entries_are_symbols()
 /// Entries have one nearest symbol.
 pub fn nearest_is_one()
     ensures { (xs : List ℕ) (rva : ℕ) (one other : Option SymbolAddress) → Nearest xs rva one → Nearest xs rva other → one ≡ other }
+{}
+
+/// Lines have one answer at an RVA. Between two rows nothing changes: the row that is the last one before an RVA is so at each
+/// later one, as long as no row starts on the way.
+pub fn rows_are_last_before()
+    ensures one { (xs : List CodeLine) (rva : ℕ) (one other : Option CodeLine) →
+        LineAt xs rva one → LineAt xs rva other → one ≡ other }
+    ensures between { (xs : List CodeLine) (rva x i : ℕ) →
+        IsLastBefore xs rva i → rva ≤ x → NoneStarts xs rva x → IsLastBefore xs x i }
+    ensures covered { (xs : List CodeLine) (rva : ℕ) (line : CodeLine) → LineAt xs rva (Some line) →
+        (line.rva ≤ rva) × (rva < line.rva + line.code_size) × (is_line line.line ≡ true) }
+{}
+
+/// Annotations of an inlined function are read as they are written: numbers of one, two and four bytes, whatever stands before
+/// and after.
+pub fn annotations_are_written()
+    ensures { (a : Annotation) → IsWritable a → (before after : List ℕ) →
+        annotation_at (before ++ (written a ++ after)) (length before) ≡ Ok (a, length before + length (written a)) }
 {}

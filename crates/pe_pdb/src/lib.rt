@@ -13,17 +13,28 @@
 //! 3. `SymbolIndex` sorts these by their RVAs in a room; `nearest` finds the last one at or before an RVA, and `PublicSymbol` reads
 //!    its name;
 //! 4. `Modules` and `ProcedureSymbol` have the functions that no other object sees, with their sizes: `covering` finds the one that
-//!    has an RVA. `Subsections` has the rows of their lines.
+//!    has an RVA. `SectionContributions` and `ModuleIndex` say which module that is in;
+//! 5. `LineIndex` finds the line of an RVA in the lines of its module (`Subsections`); `FileChecksum` and `Names` have the name of
+//!    its file;
+//! 6. `InlineFrames` walks over the functions that were inlined there, the outermost first; `InlineRow` and `InlineeLine` have
+//!    their lines, and `TypeRecords` their names (`FunctionId`).
 //!
 //! Every call is proved to return what its definition in `specs/` says, for every byte string.
 #![tactic(auto)]
 
+mod annotation;
 mod checksum;
 mod contribution;
 mod dbi;
 mod error;
 mod file;
+mod ids;
 mod info;
+mod inline_frames;
+mod inline_rows;
+mod inline_site;
+mod inline_walk;
+mod inlinee;
 mod key;
 pub mod laws;
 mod line;
@@ -54,7 +65,15 @@ pub use dbi::{
 };
 pub use error::{PdbError, Result};
 pub use file::Msf;
+pub use ids::{
+    FunctionId, ID_STREAM, LF_FUNC_ID, LF_MFUNC_ID, LF_STRING_ID, TYPE_STREAM, TypeRecords,
+    string_id,
+};
 pub use info::{INFO_STREAM, PdbInfo};
+pub use inline_rows::{InlineRow, InlineRows};
+pub use inline_site::{InlineSite, S_INLINESITE, S_INLINESITE2};
+pub use inline_walk::{InlineFrame, InlineFrames};
+pub use inlinee::{DEBUG_S_INLINEELINES, InlineeLine};
 pub use key::PdbKey;
 pub use line::{
     DEBUG_S_FILECHKSMS, DEBUG_S_LINES, FIRST_BLOCK, LineBlock, LineBlocks, LineHeader, LineRow,

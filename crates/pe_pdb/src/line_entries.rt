@@ -19,7 +19,8 @@ pub(crate) const UNIT: u64 = 1 << 32;
 pub struct CodeLine {
     /// Where its code starts.
     pub rva: u32,
-    /// How many bytes of code there are from there to the end of the subsection. The line's own code may end before, at the next row.
+    /// How many bytes of code there are from there to the end of the subsection. The line's own code may end before, at the next
+    /// row.
     pub code_size: u32,
     /// Its file: an offset in the content of `DEBUG_S_FILECHKSMS`, for `FileChecksum::parse`.
     pub file: u32,
@@ -171,8 +172,8 @@ fn put_subsection(
     }
 }
 
-/// Writes the lines of a module to a room, as many as it has place for, and returns how many there are. Errors, in order: `SymbolsSize`;
-/// those of the first subsection or block that is refused.
+/// Writes the lines of a module to a room, as many as it has place for, and returns how many there are. Errors, in order:
+/// `SymbolsSize`; those of the first subsection or block that is refused.
 pub(crate) fn put_lines(
     bytes: &[u8],
     sections: &SectionHeaders<'_>,

@@ -4,6 +4,7 @@
 
 ghost use Rattle.std.specs.Prelude.{◌≡◌, ◌+◌, ◌*◌, ◌^◌, List, length};
 ghost use Rattle.pe_pdb.specs.LineEntries.{count_of, module_lines};
+ghost use Rattle.pe_pdb.specs.LineKeys.{line_key};
 ghost use Rattle.pe_pdb.specs.LineIndexes.{AreEntries, IndexesLines, LastBefore, LineAt, PutsLineIndex, PutsSortedLines, in_room, is_line};
 ghost use Rattle.pe_pdb.specs.Refusals.{PdbReturns};
 ghost use Rattle.pe_pdb.specs.declared.line_entries.CodeLine.{CodeLine as Line};

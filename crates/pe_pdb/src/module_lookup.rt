@@ -1,5 +1,5 @@
-//! The module of an RVA: an index of the ranges of section contributions, in rooms that the caller has. It is made in n log n steps,
-//! and an RVA is looked up by binary search. Contributions stand in no order; where two have an RVA, the first counts.
+//! The module of an RVA: an index of the ranges of section contributions, in rooms that the caller has. It is made in n log n
+//! steps, and an RVA is looked up by binary search. Contributions stand in no order; where two have an RVA, the first counts.
 
 ghost use Rattle.std.specs.Prelude.{◌≡◌, ◌<◌, ◌^◌, length};
 ghost use Rattle.pe_pdb.specs.Contributions.{module_at_rva};
@@ -27,8 +27,8 @@ impl AddressesOf<ModuleRange> for Stated {
 }
 
 impl<'r> ModuleIndex<'r> {
-    /// The index of these ranges, as `put_ranges` writes them. The room has to have four entries for each; what is in it after the call
-    /// is left open. `Err` of the number that it has to have where it has fewer.
+    /// The index of these ranges, as `put_ranges` writes them. The room has to have four entries for each; what is in it after
+    /// the call is left open. `Err` of the number that it has to have where it has fewer.
     pub fn new(
         ranges: &'r [ModuleRange],
         room: &'r mut [RangeEntry],

@@ -69,8 +69,8 @@ impl<'a> Names<'a> {
         })
     }
 
-    /// The name at an offset in the texts, up to the first zero. An offset inside a text is one too. Error: `Name` if the offset is past
-    /// the texts, or no zero follows it.
+    /// The name at an offset in the texts, up to the first zero. An offset inside a text is one too. Error: `Name` if the offset
+    /// is past the texts, or no zero follows it.
     pub fn name_at(&self, offset: u32) -> Result<&'a [u8]>
         ensures { PdbReturns (λ b. b.now) result (name_at self.now.texts.now offset) }
     {
@@ -82,8 +82,8 @@ impl<'a> Names<'a> {
     }
 }
 
-/// Whether a name stands at an offset in some texts, with a zero after it. It compares no more bytes than the name has, so that names
-/// without a zero cost nothing.
+/// Whether a name stands at an offset in some texts, with a zero after it. It compares no more bytes than the name has, so that
+/// names without a zero cost nothing.
 #[tactic(auto, unfolding(crate::specs::Names::is_text_at))]
 fn is_text_at(texts: &[u8], offset: usize, name: &[u8]) -> bool
     ensures { result ≡ is_text_at texts.now offset name.now }
@@ -185,9 +185,9 @@ fn pairs_start(bytes: &[u8], table: usize) -> Result<usize>
     Ok(pairs)
 }
 
-/// The index of the stream with a name, by the bytes of the info stream: `NAMES_STREAM` and others. Of several with one name the first
-/// pair counts. `None` where there is no such stream. Errors, in order: `Short`, `RecordTruncated` if the names of streams, or one of
-/// the lists of the table, pass the end. It takes as many steps as the stream has bytes, times those of the name.
+/// The index of the stream with a name, by the bytes of the info stream: `NAMES_STREAM` and others. Of several with one name the
+/// first pair counts. `None` where there is no such stream. Errors, in order: `Short`, `RecordTruncated` if the names of streams,
+/// or one of the lists of the table, pass the end. It takes as many steps as the stream has bytes, times those of the name.
 #[tactic(auto, unfolding(crate::specs::Names::named_stream))]
 pub fn named_stream(bytes: &[u8], name: &[u8]) -> Result<Option<u32>>
     ensures { PdbReturns (λ o. o) result (named_stream bytes.now name.now) }

@@ -85,7 +85,7 @@ impl<'a> ProcedureSymbol<'a> {
 }
 
 /// Whether a record is that of a procedure.
-fn is_procedure(kind: u16) -> bool
+pub(crate) fn is_procedure(kind: u16) -> bool
     ensures { result ≡ is_procedure kind }
 {
     matches!(kind, S_LPROC32 | S_GPROC32 | S_LPROC32_ID | S_GPROC32_ID)

@@ -1,4 +1,4 @@
-use Rattle.std.proofs.Common.{◌≡◌, ◌+◌, Option, arith, refl, subst, ◌∙◌}
+use Rattle.std.proofs.Common.{Option, arith, refl, subst, ◌∙◌}
 use Rattle.std.specs.Option.{option_to_list}
 use Rattle.pe_pdb.specs.LineEntries.{Writes, code_view}
 use Rattle.pe_pdb.specs.Lines.{block_view}

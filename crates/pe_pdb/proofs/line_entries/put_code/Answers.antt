@@ -1,7 +1,7 @@
-use Rattle.std.proofs.Common.{◌≡◌, ℕ, ◌+◌, ◌*◌, ◌<◌, ◌≤◌, length, List, ◌∷◌, Result, Ok, Err, arith, rules, refl, ap, sym, ◌∙◌}
+use Rattle.std.proofs.Common.{◌≡◌, ℕ, ◌≤◌, ◌∷◌, Ok, Err, arith, rules, refl, ap, sym, ◌∙◌}
 use Rattle.pe_pdb.specs.LineEntries.{block_lines, code_view, lines_of_code, rows_in}
 use Rattle.pe_pdb.specs.Lines.{BlockView, block_view, blocks}
-use Rattle.pe_pdb.specs.Refusals.{PdbRefusal, pdb_kind_of}
+use Rattle.pe_pdb.specs.Refusals.{pdb_kind_of}
 use Rattle.pe_pdb.proofs.LineEntries.{gathers_all, gathers_error, gathers_more}
 use Rattle.pe_pdb.proofs.LineWalks.{block_is, blocks_more, blocks_none, blocks_refused}
 use Rattle.pe_pdb.proofs.line_entries.put_code.Goals as goal
@@ -35,8 +35,8 @@ loop-next-preserved c =
     let start : c.in_ok-block.block.offset ≡ c.loop-next.next = at.0 in
     record {
       gathers = gathers_more (λ (v : BlockView). Ok (block_lines (code_view c.args.code.now) v (rows_in v))) (blocks b 12) (blocks b c.loop-next.next) (blocks b c.end-next.result) v (block_lines (code_view c.args.code.now) v (rows_in v))
-        c.args.count c.loop-next.after c.put_block-after.result c.args.room.now c.loop-next.room c.put_block-after.new.room c.loop-next.invariant.gathers
-        (blocks_more b c.loop-next.next v c.loop-next-test.true c.in_ok-block.ensures.value ∙ ap (λ (n : ℕ). Ok v ∷ blocks b n) (sym c.end-next.ensures)) refl c.put_block-after.ensures.writes;
+          c.args.count c.loop-next.after c.put_block-after.result c.args.room.now c.loop-next.room c.put_block-after.new.room c.loop-next.invariant.gathers
+          (blocks_more b c.loop-next.next v c.loop-next-test.true c.in_ok-block.ensures.value ∙ ap (λ (n : ℕ). Ok v ∷ blocks b n) (sym c.end-next.ensures)) refl c.put_block-after.ensures.writes;
       few = omega (arith, start, c.in_ok-block.ensures.room, c.end-next.ensures, c.put_block-after.ensures.few, c.loop-next.invariant.few);
       inside = omega (arith, c.in_ok-block.ensures.inside, c.end-next.ensures);
       same = c.put_block-after.ensures.len ∙ c.loop-next.invariant.same;

@@ -1,6 +1,4 @@
-use Rattle.std.proofs.Common.{◌≡◌, ◌+◌, length, ap, ◌∙◌}
-use Rattle.std.proofs.Math.ListN.{length-set}
-use Rattle.pe_pdb.proofs.LineEntries.{entry, writes_none, writes_some}
+use Rattle.pe_pdb.proofs.LineEntries.{writes_some}
 use Rattle.pe_pdb.proofs.line_entries.put_line.Goals as goal
 
 pub returns-clause-writes : goal.returns-clause-writes

@@ -1,9 +1,9 @@
-use Rattle.std.proofs.Common.{◌≡◌, ℕ, ◌+◌, ◌*◌, ◌^◌, ◌<◌, ◌≤◌, length, List, [], ◌∷◌, Result, Ok, Err, arith, rules, refl, ap, sym, ◌∙◌, ltb, true}
+use Rattle.std.proofs.Common.{◌≡◌, ℕ, ◌+◌, ◌^◌, ◌<◌, length, List, [], ◌∷◌, Ok, Err, arith, rules, ap, sym, ◌∙◌, ltb, true}
 use Rattle.std.proofs.lemmas.Bool.Decides.{nat_tests}
 use Rattle.std.proofs.lemmas.Grind.{div_ceil_times}
 use Rattle.pe_pdb.specs.LineEntries.{gathered, lines_of_subsection, module_lines}
-use Rattle.pe_pdb.specs.Lines.{SubsectionView, subsection_view, subsections}
-use Rattle.pe_pdb.specs.Refusals.{PdbRefusal, pdb_kind_of}
+use Rattle.pe_pdb.specs.Lines.{subsection_view, subsections}
+use Rattle.pe_pdb.specs.Refusals.{pdb_kind_of}
 use Rattle.pe_pdb.proofs.LineEntries.{gathers_all, gathers_error, gathers_more, gathers_refused, no_entries}
 use Rattle.pe_pdb.proofs.LineWalks.{subsection_offset, subsections_later, subsections_more, subsections_none, subsections_refused}
 use Rattle.pe_pdb.proofs.line_entries.put_lines.Goals as goal
@@ -47,8 +47,8 @@ loop-next-preserved c =
     let w = c.in_ok-count.ensures.writes in
     record {
       gathers = gathers_more (lines_of_subsection s) (subsections b 0) (subsections b c.loop-next.next) (subsections b c.end-next.result) v w.0
-        0 c.loop-next.count c.in_ok-count.count c.args.room.now c.loop-next.room _ c.loop-next.invariant.gathers
-        (subsections_more b c.loop-next.next v c.loop-next-test.true c.in_ok-subsection.ensures.value ∙ ap (λ (n : ℕ). Ok v ∷ subsections b n) (sym c.end-next.ensures)) w.1 w.2;
+          0 c.loop-next.count c.in_ok-count.count c.args.room.now c.loop-next.room _ c.loop-next.invariant.gathers
+          (subsections_more b c.loop-next.next v c.loop-next-test.true c.in_ok-subsection.ensures.value ∙ ap (λ (n : ℕ). Ok v ∷ subsections b n) (sym c.end-next.ensures)) w.1 w.2;
       few = omega (arith, at, times.0, c.end-next.ensures, c.in_ok-count.ensures.few, c.loop-next.invariant.few);
       near = omega (arith, times.1, c.end-next.ensures, c.in_ok-subsection.ensures.inside);
       same = c.in_ok-count.ensures.len ∙ c.loop-next.invariant.same;

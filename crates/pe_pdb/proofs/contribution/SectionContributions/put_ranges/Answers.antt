@@ -1,4 +1,4 @@
-use Rattle.std.proofs.Common.{◌≡◌, ℕ, ◌*◌, ◌<◌, ◌≤◌, length, arith, ap, ◌∙◌}
+use Rattle.std.proofs.Common.{◌≡◌, ℕ, ◌*◌, ◌≤◌, length, arith, ap, ◌∙◌}
 use Rattle.pe_pdb.specs.Contributions.{contribution_at, contribution_row, contributions_view, module_range}
 use Rattle.pe_pdb.proofs.ModuleRanges.{all_written, one_more}
 use Rattle.pe_pdb.proofs.contribution.SectionContributions.put_ranges.Goals as goal

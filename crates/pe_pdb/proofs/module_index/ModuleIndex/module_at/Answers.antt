@@ -1,4 +1,4 @@
-use Rattle.std.proofs.Common.{◌≡◌, ℕ, ◌+◌, ◌-◌, ◌*◌, ◌<◌, ◌^◌, length, arith, rules, sym, ap, ◌∙◌}
+use Rattle.std.proofs.Common.{ℕ, ◌-◌, ◌<◌, length, arith, rules, sym, ap, ◌∙◌}
 use Rattle.std.specs.Option.{option_map}
 use Rattle.pe_core.proofs.RangeFounds.{index_found, index_none, index_within}
 use Rattle.pe_pdb.specs.Contributions.{module_at_rva}

@@ -1,0 +1,153 @@
+-- Walks over the annotations and the rows of an inlined function, and over the functions that have an offset.
+use Rattle.std.proofs.Common.{◌≡◌, ℕ, ◌+◌, ◌-◌, ◌<◌, ◌≤◌, Bool, true, false, List, [], ◌∷◌, length, Option, Some, None, Result, Ok, Err, refl, ap, sym, ◌∙◌, arith}
+use Rattle.std.proofs.lemmas.Bool.Decides.{nat_tests}
+use Rattle.std.specs.Prelude.{◌==◌, nat_le, nat_lt, if◌then◌else◌}
+use Rattle.pe_core.specs.Bytes.{le, holds}
+use Rattle.pe_core.specs.Refusals.{outcome}
+use Rattle.pe_pdb.specs.Annotations.{annotation_at, annotations, closed, ended, has_offset, kept, last_with, moved, number_at, number_size, number_value, row_from, rows_of, starts_row}
+use Rattle.pe_pdb.specs.InlineWalks.{started}
+use Rattle.pe_pdb.specs.InlineSites.{followed, frames_in, step_of}
+use Rattle.pe_pdb.specs.Refusals.{PdbRefusal, Annotation as Refused}
+use Rattle.pe_pdb.specs.Symbols.{Symbol, symbol_at, symbol_end, symbols}
+use Rattle.pe_pdb.specs.Walks.{Advances}
+use Rattle.pe_pdb.specs.declared.annotation.Annotation.{Annotation}
+use Rattle.pe_pdb.specs.declared.inline_rows.Cursor.{Cursor}
+use Rattle.pe_pdb.specs.declared.inline_rows.InlineRow.{InlineRow}
+use Rattle.pe_pdb.specs.declared.inline_rows.OpenRow.{OpenRow}
+use Rattle.pe_pdb.specs.declared.inline_walk.Scopes.{Scopes}
+use Rattle.pe_pdb.proofs.RecordWalks.{both, first_passed, passed, second_passed, symbols_more, symbols_none, symbols_refused}
+use Rattle.pe_pdb.proofs.Walked.{items_none, items_step}
+
+-- ---- annotations
+
+-- a number ends after its start, in the bytes
+number_later : (b : List ℕ) (p : ℕ) (n : ℕ × ℕ) → number_at b p ≡ Ok n → (p < n.1) × (p < length b)
+unfolding number_at
+number_later b p n is =
+    let size : ℕ = number_size (le b p 1) in
+    let value : ℕ × ℕ = (number_value b p, p + size) in
+    let more : List (Bool × PdbRefusal) = (holds b p size, Refused) ∷ [] in
+    let same = passed ((holds b p 1, Refused) ∷ (nat_lt 0 size, Refused) ∷ more) value n is in
+    let first : holds b p 1 ≡ true = first_passed (holds b p 1) Refused ((nat_lt 0 size, Refused) ∷ more) value n is in
+    let some : nat_lt 0 size ≡ true = second_passed (holds b p 1) (nat_lt 0 size) Refused Refused more value n is in
+    let end : p + size ≡ n.1 = ap (λ (m : ℕ × ℕ). m.1) same in
+    let wide : 0 < size = grind (arith, nat_tests) in
+    let inside : p + 1 ≤ length b = grind (arith, nat_tests) in
+    (omega (arith, end, wide), omega (arith, inside))
+
+later_if : (p : ℕ) (t : Bool) (x y : Result (Annotation × ℕ) PdbRefusal) (z : Annotation × ℕ) → (if t then x else y) ≡ Ok z → (x ≡ Ok z → p < z.1) → (y ≡ Ok z → p < z.1) → p < z.1
+later_if p true x y z is one other = one is
+later_if p false x y z is one other = other is
+
+same_end : (x z : Annotation × ℕ) → ◌≡◌ {A = Result (Annotation × ℕ) PdbRefusal} (Ok x) (Ok z) → x.1 ≡ z.1
+same_end x z is = let same : x ≡ z = cc is in ap (λ (y : Annotation × ℕ). y.1) same
+
+pub annotations_later : (b : List ℕ) → Advances (annotation_at b)
+unfolding annotation_at
+annotations_later b p z is =
+    let one = both (number_at b p) _ z is in
+    let op = one.0 in
+    let n = number_later b p op one.1 in
+    later_if p (op.0 == 0) _ _ z one.2
+    (λ e. let end = same_end _ z e in let inside = n.1 in omega (arith, end, inside))
+    (λ e.
+    let two = both (outcome ((nat_le op.0 13, Refused) ∷ []) p) _ z e in
+    let three = both (number_at b op.1) _ z two.2 in
+    let first = three.0 in
+    let m = number_later b op.1 first three.1 in
+    let low : p < first.1 = (let one = n.0 in let two = m.0 in omega (arith, one, two)) in
+    later_if p (op.0 == 12) _ _ z three.2
+    (λ e.
+    let four = both (number_at b first.1) _ z e in
+    let k = number_later b first.1 four.0 four.1 in
+    let end = same_end _ z four.2 in
+    let last = k.0 in omega (arith, low, last, end))
+    (λ e. let end = same_end _ z e in omega (arith, low, end)))
+
+-- ---- rows
+
+pub rows_end : (b : List ℕ) (p : ℕ) (c : Cursor) (last : Option OpenRow) → length b ≤ p → rows_of c last (annotations b p) ≡ ended last 0 []
+unfolding rows_of
+rows_end b p c last past = ap (λ (l : List (Result Annotation PdbRefusal)). rows_of c last l) (items_none (annotation_at b) (length b) p past)
+
+annotations_more : (b : List ℕ) (p : ℕ) (a : Annotation) (q : ℕ) → p < length b → annotation_at b p ≡ Ok (a, q) → annotations b p ≡ Ok a ∷ annotations b q
+annotations_more b p a q before is = items_step (annotation_at b) (annotations_later b) (length b) p before ∙ rw is
+
+annotations_refused : (b : List ℕ) (p : ℕ) (r : PdbRefusal) → p < length b → annotation_at b p ≡ Err r → annotations b p ≡ Err r ∷ []
+annotations_refused b p r before is = items_step (annotation_at b) (annotations_later b) (length b) p before ∙ rw is
+
+pub rows_started : (b : List ℕ) (p : ℕ) (c : Cursor) (last : Option OpenRow) (a : Annotation) (q : ℕ) → p < length b → annotation_at b p ≡ Ok (a, q) → starts_row a ≡ true →
+    rows_of c last (annotations b p) ≡ ended last (moved c a).offset (rows_of (moved c a) (Some (row_from a (moved c a))) (annotations b q))
+unfolding rows_of
+rows_started b p c last a q before is starts = ap (λ (l : List (Result Annotation PdbRefusal)). rows_of c last l) (annotations_more b p a q before is) ∙ rw starts
+
+pub rows_on : (b : List ℕ) (p : ℕ) (c : Cursor) (last : Option OpenRow) (a : Annotation) (q : ℕ) → p < length b → annotation_at b p ≡ Ok (a, q) → starts_row a ≡ false →
+    rows_of c last (annotations b p) ≡ rows_of (moved c a) (kept a last) (annotations b q)
+unfolding rows_of
+rows_on b p c last a q before is starts = ap (λ (l : List (Result Annotation PdbRefusal)). rows_of c last l) (annotations_more b p a q before is) ∙ rw starts
+
+pub rows_refused : (b : List ℕ) (p : ℕ) (c : Cursor) (last : Option OpenRow) (r : PdbRefusal) → p < length b → annotation_at b p ≡ Err r → rows_of c last (annotations b p) ≡ Err r ∷ []
+unfolding rows_of
+rows_refused b p c last r before is = ap (λ (l : List (Result Annotation PdbRefusal)). rows_of c last l) (annotations_refused b p r before is)
+
+-- a row that starts where there was one before it
+pub started_after : (c next : Cursor) (last after : Option OpenRow) (a : Annotation) (row before : OpenRow) (out : InlineRow) (more : List (Result Annotation PdbRefusal)) →
+    next ≡ moved c a → row ≡ row_from a next → after ≡ Some row → last ≡ Some before → out ≡ closed before next.offset →
+    ended last (moved c a).offset (rows_of (moved c a) (Some (row_from a (moved c a))) more) ≡ Ok out ∷ rows_of next after more
+started_after c next last after a row before out more at is made had closes =
+    ap (λ (o : Option OpenRow). ended o (moved c a).offset (rows_of (moved c a) (Some (row_from a (moved c a))) more)) had
+    ∙ ap (λ (k : Cursor). ended (Some before) k.offset (rows_of k (Some (row_from a k)) more)) (sym at)
+    ∙ ap (λ (r : InlineRow). ◌∷◌ (Ok r) (rows_of next (Some (row_from a next)) more)) (sym closes)
+    ∙ ap (λ (o : Option OpenRow). ◌∷◌ (Ok out) (rows_of next o more)) (ap (λ (r : OpenRow). Some r) (sym is) ∙ sym made)
+
+-- and where there was none
+pub started_first : (c next : Cursor) (last after : Option OpenRow) (a : Annotation) (row : OpenRow) (more : List (Result Annotation PdbRefusal)) →
+    next ≡ moved c a → row ≡ row_from a next → after ≡ Some row → last ≡ None →
+    ended last (moved c a).offset (rows_of (moved c a) (Some (row_from a (moved c a))) more) ≡ rows_of next after more
+started_first c next last after a row more at is made had =
+    ap (λ (o : Option OpenRow). ended o (moved c a).offset (rows_of (moved c a) (Some (row_from a (moved c a))) more)) had
+    ∙ ap (λ (k : Cursor). rows_of k (Some (row_from a k)) more) (sym at)
+    ∙ ap (λ (o : Option OpenRow). rows_of next o more) (ap (λ (r : OpenRow). Some r) (sym is) ∙ sym made)
+
+-- an annotation that starts none
+pub not_started : (c next : Cursor) (last after : Option OpenRow) (a : Annotation) (more : List (Result Annotation PdbRefusal)) →
+    next ≡ moved c a → after ≡ kept a last → rows_of (moved c a) (kept a last) more ≡ rows_of next after more
+not_started c next last after a more at made =
+    ap (λ (k : Cursor). rows_of k (kept a last) more) (sym at) ∙ ap (λ (o : Option OpenRow). rows_of next o more) (sym made)
+
+pub started_few : (o : Option OpenRow) → started o ≤ 1
+started_few None = omega arith
+started_few (Some r) = omega arith
+
+pub started_kept : (a : Annotation) (o : Option OpenRow) → started (kept a o) ≡ started o
+started_kept a None = refl
+started_kept a (Some r) = refl
+
+-- ---- the last row of an offset
+
+pub last_end : (x : ℕ) (found : Option InlineRow) (rows : List (Result InlineRow PdbRefusal)) → rows ≡ [] → last_with x found rows ≡ Ok found
+unfolding last_with
+last_end x found rows is = ap (λ (l : List (Result InlineRow PdbRefusal)). last_with x found l) is
+
+pub last_more : (x : ℕ) (found : Option InlineRow) (rows more : List (Result InlineRow PdbRefusal)) (r : InlineRow) → rows ≡ Ok r ∷ more → last_with x found rows ≡ last_with x (if has_offset x r then Some r else found) more
+unfolding last_with
+last_more x found rows more r is = ap (λ (l : List (Result InlineRow PdbRefusal)). last_with x found l) is
+
+pub last_refused : (x : ℕ) (found : Option InlineRow) (rows more : List (Result InlineRow PdbRefusal)) (r : PdbRefusal) → rows ≡ Err r ∷ more → last_with x found rows ≡ Err r
+unfolding last_with
+last_refused x found rows more r is = ap (λ (l : List (Result InlineRow PdbRefusal)). last_with x found l) is
+
+-- ---- functions that have an offset
+
+pub frames_end : (x : ℕ) (scopes : Scopes) (b : List ℕ) (p : ℕ) → length b ≤ p → frames_in x scopes (symbols b p) ≡ []
+unfolding frames_in
+frames_end x scopes b p past = ap (λ (l : List (Result Symbol PdbRefusal)). frames_in x scopes l) (symbols_none b p past)
+
+pub frames_more : (x : ℕ) (scopes : Scopes) (b : List ℕ) (p : ℕ) (s : Symbol) → p < length b → symbol_at b p ≡ Ok s →
+    frames_in x scopes (symbols b p) ≡ followed (λ inner. frames_in x inner (symbols b (symbol_end s))) (step_of x scopes s)
+unfolding frames_in
+frames_more x scopes b p s before is = ap (λ (l : List (Result Symbol PdbRefusal)). frames_in x scopes l) (symbols_more b p s before is)
+
+pub frames_refused : (x : ℕ) (scopes : Scopes) (b : List ℕ) (p : ℕ) (r : PdbRefusal) → p < length b → symbol_at b p ≡ Err r → frames_in x scopes (symbols b p) ≡ Err r ∷ []
+unfolding frames_in
+frames_refused x scopes b p r before is = ap (λ (l : List (Result Symbol PdbRefusal)). frames_in x scopes l) (symbols_refused b p r before is)

@@ -1,0 +1,51 @@
+-- Walks over the records of inlined functions.
+use Rattle.std.proofs.Common.{◌≡◌, ℕ, ◌+◌, ◌*◌, ◌<◌, ◌≤◌, Bool, true, false, List, [], ◌∷◌, length, Some, None, Result, Ok, Err, ap, ◌∙◌, arith}
+use Rattle.std.specs.Prelude.{◌==◌}
+use Rattle.pe_core.specs.Bytes.{le, holds}
+use Rattle.pe_core.specs.Refusals.{outcome}
+use Rattle.pe_pdb.specs.Inlinees.{first_inlinee, inlinee_at, inlinee_end, inlinees}
+use Rattle.pe_pdb.specs.Refusals.{PdbRefusal, Short, RecordTruncated}
+use Rattle.pe_pdb.specs.Walks.{Advances}
+use Rattle.pe_pdb.specs.declared.inlinee.InlineeLine.{InlineeLine}
+use Rattle.pe_pdb.proofs.RecordWalks.{both, passed}
+use Rattle.pe_pdb.proofs.Walked.{items_none, items_step}
+
+end_later : (extended : Bool) (b : List ℕ) (p n : ℕ) → inlinee_end extended b p ≡ Ok n → p < n
+end_later true b p n is =
+    let same : p + 16 + 4 * le b (p + 12) 4 ≡ n = passed ((holds b (p + 12) 4, Short) ∷ (holds b (p + 16) (4 * le b (p + 12) 4), RecordTruncated) ∷ []) (p + 16 + 4 * le b (p + 12) 4) n is in
+    omega (arith, same)
+end_later false b p n is = let same : p + 12 ≡ n = cc is in omega (arith, same)
+
+same_end : (x z : InlineeLine × ℕ) → ◌≡◌ {A = Result (InlineeLine × ℕ) PdbRefusal} (Ok x) (Ok z) → x.1 ≡ z.1
+same_end x z is = let same : x ≡ z = cc is in ap (λ (y : InlineeLine × ℕ). y.1) same
+
+inlinees_later : (extended : Bool) (b : List ℕ) → Advances (inlinee_at extended b)
+unfolding inlinee_at
+inlinees_later extended b p z is =
+    let one = both (outcome ((holds b p 12, Short) ∷ []) p) _ z is in
+    let two = both (inlinee_end extended b p) _ z one.2 in
+    let later = end_later extended b p two.0 two.1 in
+    let end = same_end _ z two.2 in
+    omega (arith, later, end)
+
+pub first_end : (id : ℕ) (b : List ℕ) (p : ℕ) → length b ≤ p → first_inlinee id (inlinees b p) ≡ Ok None
+unfolding first_inlinee
+first_end id b p past = ap (first_inlinee id) (items_none (inlinee_at (le b 0 4 == 1) b) (length b) p past)
+
+inlinees_more : (b : List ℕ) (p : ℕ) (x : InlineeLine) (q : ℕ) → p < length b → inlinee_at (le b 0 4 == 1) b p ≡ Ok (x, q) → inlinees b p ≡ Ok x ∷ inlinees b q
+inlinees_more b p x q before is = items_step (inlinee_at (le b 0 4 == 1) b) (inlinees_later (le b 0 4 == 1) b) (length b) p before ∙ rw is
+
+pub first_here : (id : ℕ) (b : List ℕ) (p : ℕ) (x : InlineeLine) (q : ℕ) → p < length b → inlinee_at (le b 0 4 == 1) b p ≡ Ok (x, q) → (x.inlinee == id) ≡ true → first_inlinee id (inlinees b p) ≡ Ok (Some x)
+unfolding first_inlinee
+first_here id b p x q before is own = ap (first_inlinee id) (inlinees_more b p x q before is) ∙ rw own
+
+pub first_later : (id : ℕ) (b : List ℕ) (p : ℕ) (x : InlineeLine) (q : ℕ) → p < length b → inlinee_at (le b 0 4 == 1) b p ≡ Ok (x, q) → (x.inlinee == id) ≡ false → first_inlinee id (inlinees b p) ≡ first_inlinee id (inlinees b q)
+unfolding first_inlinee
+first_later id b p x q before is own = ap (first_inlinee id) (inlinees_more b p x q before is) ∙ rw own
+
+inlinees_refused : (b : List ℕ) (p : ℕ) (r : PdbRefusal) → p < length b → inlinee_at (le b 0 4 == 1) b p ≡ Err r → inlinees b p ≡ Err r ∷ []
+inlinees_refused b p r before is = items_step (inlinee_at (le b 0 4 == 1) b) (inlinees_later (le b 0 4 == 1) b) (length b) p before ∙ rw is
+
+pub first_refused : (id : ℕ) (b : List ℕ) (p : ℕ) (r : PdbRefusal) → p < length b → inlinee_at (le b 0 4 == 1) b p ≡ Err r → first_inlinee id (inlinees b p) ≡ Err r
+unfolding first_inlinee
+first_refused id b p r before is = ap (first_inlinee id) (inlinees_refused b p r before is)

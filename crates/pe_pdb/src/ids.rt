@@ -1,0 +1,161 @@
+//! The streams of [types and ids](https://llvm.org/docs/PDB/TpiStream.html): records that others name by an index, which counts
+//! from that of the first on. Their layout is that of symbols (`SymbolRecord`). An inlined function is named by an id, whose
+//! record has its name.
+//!
+//! Records have no place of their own, so a caller writes the starts of all of them into a room once (`put_starts`), and reads the
+//! record with an index where it starts.
+
+ghost use Rattle.std.specs.Prelude.{◌≡◌, ◌-◌, length, IfOk};
+ghost use Rattle.pe_pdb.specs.Ids.{AreStarts, count_of, function_id_of, function_id_view, starts_in, string_id_of, types_of, types_view};
+ghost use Rattle.pe_pdb.specs.Refusals.{PdbReturns};
+
+use crate::error::{PdbError, Result};
+use crate::symbol::SymbolRecord;
+use pe_core::{read_u32, text_at};
+
+/// The index of the stream of types.
+pub const TYPE_STREAM: u32 = 2;
+
+/// The index of the stream of ids.
+pub const ID_STREAM: u32 = 4;
+
+/// A function: its scope is a namespace, the index of a `LF_STRING_ID`, or 0.
+pub const LF_FUNC_ID: u16 = 0x1601;
+
+/// A member function: its scope is a class, an index of the stream of types.
+pub const LF_MFUNC_ID: u16 = 0x1602;
+
+/// A text.
+pub const LF_STRING_ID: u16 = 0x1605;
+
+/// The size of the header of a stream in bytes.
+const SIZE_OF_HEADER: usize = 56;
+
+/// How many bytes come before the name of a function, and before a text.
+const FUNCTION_NAME: usize = 8;
+
+const STRING: usize = 4;
+
+/// The records of a stream of types or ids.
+#[derive(Clone, Copy, Debug)]
+pub struct TypeRecords<'a> {
+    /// The index of the first record.
+    pub first: u32,
+    /// The index after that of the last one.
+    pub end: u32,
+    /// The records, for `SymbolRecord::parse`.
+    pub records: &'a [u8],
+}
+
+/// A function, by its record in the stream of ids.
+#[derive(Clone, Copy, Debug, PartialEq)]
+pub struct FunctionId<'a> {
+    /// What it is in: of `LF_FUNC_ID` an id, of `LF_MFUNC_ID` a type.
+    pub scope: u32,
+    /// Its type, an index of the stream of types.
+    pub type_index: u32,
+    /// Its name, without its scope.
+    pub name: &'a str,
+}
+
+impl<'a> TypeRecords<'a> {
+    /// The records of a stream that has these bytes. Errors, in order: `Short` if there are fewer than 56; `RecordTruncated` if
+    /// the records pass the end.
+    #[tactic(auto, unfolding(crate::specs::Ids::types_of))]
+    pub fn parse(bytes: &'a [u8]) -> Result<TypeRecords<'a>>
+        ensures { PdbReturns types_view result (types_of bytes.entry.now) }
+    {
+        if bytes.len() < SIZE_OF_HEADER {
+            return Err(PdbError::Short {
+                needed: SIZE_OF_HEADER,
+                length: bytes.len(),
+            });
+        }
+        let start = read_u32(bytes, 4) as usize;
+        let size = read_u32(bytes, 16) as usize;
+        if bytes.len() < start + size {
+            return Err(PdbError::RecordTruncated {
+                offset: start,
+                needed: size,
+                length: bytes.len(),
+            });
+        }
+        Ok(TypeRecords {
+            first: read_u32(bytes, 8),
+            end: read_u32(bytes, 12),
+            records: &bytes[start..start + size],
+        })
+    }
+
+    /// How many records the stream says that it has: as many as a room for their starts has to have.
+    pub fn len(&self) -> usize
+        ensures { result ≡ count_of (types_view self.now) }
+    {
+        self.end.saturating_sub(self.first) as usize
+    }
+
+    /// Writes the start of each record in `records` into a room, that of the first at the start, and returns how many there are.
+    /// What follows them in the room is left open. Errors, in order: `Room` if the room has fewer entries; those of
+    /// `SymbolRecord::parse`, of the first record that is refused.
+    pub fn put_starts(&self, room: &mut [u64]) -> Result<usize>
+        ensures count { PdbReturns (λ n. n) result (starts_in (length room.old) (types_view self.now)) }
+        ensures starts { IfOk result (λ n. AreStarts self.now.records.now room.new n) }
+    {
+        let count = self.len();
+        if room.len() < count {
+            return Err(PdbError::Room {
+                needed: count,
+                length: room.len(),
+            });
+        }
+        let mut next = 0;
+        for index in 0..count {
+            let record = SymbolRecord::parse(self.records, next)?;
+            room[index] = next as u64;
+            next = record.end();
+        }
+        Ok(count)
+    }
+}
+
+impl<'a> FunctionId<'a> {
+    /// The function of a record of kind `LF_FUNC_ID` or `LF_MFUNC_ID` with this content. Errors, in order: `Short` if there are
+    /// fewer than eight bytes; `Name`.
+    #[tactic(auto, unfolding(crate::specs::Ids::function_id_of))]
+    pub fn parse(content: &'a [u8]) -> Result<FunctionId<'a>>
+        ensures { PdbReturns function_id_view result (function_id_of content.entry.now) }
+    {
+        if content.len() < FUNCTION_NAME {
+            return Err(PdbError::Short {
+                needed: FUNCTION_NAME,
+                length: content.len(),
+            });
+        }
+        match text_at(content, FUNCTION_NAME) {
+            Some(name) => Ok(FunctionId {
+                scope: read_u32(content, 0),
+                type_index: read_u32(content, 4),
+                name,
+            }),
+            None => Err(PdbError::Name(FUNCTION_NAME)),
+        }
+    }
+}
+
+/// The text of a record of kind `LF_STRING_ID` with this content: the name of a namespace and others. Errors, in order: `Short`
+/// if there are fewer than four bytes; `Name`.
+#[tactic(auto, unfolding(crate::specs::Ids::string_id_of))]
+pub fn string_id(content: &[u8]) -> Result<&str>
+    ensures { PdbReturns (λ s. s.now) result (string_id_of content.now) }
+{
+    if content.len() < STRING {
+        return Err(PdbError::Short {
+            needed: STRING,
+            length: content.len(),
+        });
+    }
+    match text_at(content, STRING) {
+        Some(text) => Ok(text),
+        None => Err(PdbError::Name(STRING)),
+    }
+}

@@ -1,0 +1,103 @@
+//! Where inlined functions are in the source ([layout](https://llvm.org/docs/PDB/ModiStream.html)): the subsection
+//! `DEBUG_S_INLINEELINES` of a module. The lines of `InlineRow` count from the line of the function's record, whose file is that of
+//! rows without one.
+
+ghost use Rattle.std.specs.Prelude.{◌≡◌, ◌+◌, ◌≤◌, ◌<◌, ◌==◌, length, IfOk};
+ghost use Rattle.pe_core.specs.Bytes.{le};
+ghost use Rattle.pe_pdb.specs.Inlinees.{inlinee_at, inlinee_end, inlinee_of, inlinee_row};
+ghost use Rattle.pe_pdb.specs.Refusals.{PdbReturns};
+
+use crate::error::{PdbError, Result};
+use pe_core::read_u32;
+
+/// The subsection with the inlined functions of a module.
+pub const DEBUG_S_INLINEELINES: u32 = 0xF6;
+
+/// The size of a record without other files, in bytes.
+const SIZE_OF_RECORD: usize = 12;
+
+/// Where an inlined function is in the source.
+#[repr(C)]
+#[derive(Clone, Copy, Debug, PartialEq)]
+pub struct InlineeLine {
+    /// Which function it is, an index of the stream of ids.
+    pub inlinee: u32,
+    /// Its file, an offset in the content of `DEBUG_S_FILECHKSMS`.
+    pub file: u32,
+    /// Its line.
+    pub line: u32,
+}
+
+/// Where the record at an offset ends, whose 12 bytes are known to be there.
+fn inlinee_end(extended: bool, bytes: &[u8], offset: usize) -> Result<usize>
+    requires { offset + 12 ≤ length bytes.now }
+    ensures value { PdbReturns (λ n. n) result (inlinee_end extended bytes.now offset) }
+    ensures after { IfOk result (λ n. offset < n) }
+{
+    let start = offset + SIZE_OF_RECORD;
+    if !extended {
+        return Ok(start);
+    }
+    if bytes.len() - start < 4 {
+        return Err(PdbError::Short {
+            needed: 4,
+            length: bytes.len() - start,
+        });
+    }
+    let size = 4 * read_u32(bytes, start) as usize;
+    if bytes.len() - start - 4 < size {
+        return Err(PdbError::RecordTruncated {
+            offset,
+            needed: SIZE_OF_RECORD + 4 + size,
+            length: bytes.len(),
+        });
+    }
+    Ok(start + 4 + size)
+}
+
+impl InlineeLine {
+    /// The record at an offset, and where it ends.
+    #[tactic(auto, unfolding(crate::specs::Inlinees::inlinee_at, crate::specs::Inlinees::inlinee_row))]
+    fn parse(extended: bool, bytes: &[u8], offset: usize) -> Result<(InlineeLine, usize)>
+        ensures value { PdbReturns (λ r. r) result (inlinee_at extended bytes.now offset) }
+        ensures after { IfOk result (λ r. offset < r.1) }
+    {
+        if bytes.len() < SIZE_OF_RECORD || offset > bytes.len() - SIZE_OF_RECORD {
+            return Err(PdbError::Short {
+                needed: SIZE_OF_RECORD,
+                length: bytes.len().saturating_sub(offset),
+            });
+        }
+        let end = inlinee_end(extended, bytes, offset)?;
+        let line = InlineeLine {
+            inlinee: read_u32(bytes, offset),
+            file: read_u32(bytes, offset + 4),
+            line: read_u32(bytes, offset + 8),
+        };
+        Ok((line, end))
+    }
+
+    /// Where the function with an id is in the source, by the content of `DEBUG_S_INLINEELINES`: its first record. `None` where
+    /// it has none. It reads the records in their order, so a caller looks up few. Errors, in order: `Short` if there are fewer
+    /// than four bytes; `Short` or `RecordTruncated` of a record before the function's.
+    pub fn find(content: &[u8], inlinee: u32) -> Result<Option<InlineeLine>>
+        ensures { PdbReturns (λ r. r) result (inlinee_of content.now inlinee) }
+    {
+        if content.len() < 4 {
+            return Err(PdbError::Short {
+                needed: 4,
+                length: content.len(),
+            });
+        }
+        let extended = read_u32(content, 0) == 1;
+        let mut next = 4;
+        while next < content.len() {
+            let (line, end) = InlineeLine::parse(extended, content, next)?;
+            if line.inlinee == inlinee {
+                return Ok(Some(line));
+            }
+            next = end;
+        }
+        Ok(None)
+    }
+}

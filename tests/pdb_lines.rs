@@ -1,0 +1,687 @@
+//! Which file and line, and which inlined functions an RVA is of, and which module has it: of the two files of lld-link, by what
+//! llvm-pdbutil 14.0.6 prints of them (`dump -l -il -symbols -string-table -section-contribs`), and of the same streams in other
+//! blocks. Records that no such file has are made by hand from LLVM's pages and cvinfo.h.
+
+use crate::images::{image, put, with_byte};
+use crate::pdb_inlined_bytes;
+use crate::pdbs::{all_of, pdb, refused, scattered};
+use pe_core::RangeEntry;
+use pe_pdb::{
+    CodeLine, Contribution, DBI_STREAM, DEBUG_S_FILECHKSMS, DEBUG_S_INLINEELINES, Dbi,
+    FileChecksum, FunctionId, ID_STREAM, INFO_STREAM, InlineFrames, InlineRow, InlineRows,
+    InlineSite, InlineeLine, LF_FUNC_ID, LF_STRING_ID, LineEntry, LineIndex, ModuleIndex,
+    ModuleRange, Modules, Msf, NAMES_STREAM, Names, PdbError, S_INLINESITE, S_INLINESITE2,
+    SectionContributions, SectionHeaders, Subsections, SymbolRecord, TypeRecords, named_stream,
+    string_id,
+};
+use std::alloc::{AllocError, Global};
+use std::test::Fail;
+
+/// The file of lld-link with inlined functions.
+fn inlined(alloc: Global) -> Result<Vec<u8>, AllocError> {
+    image(alloc, pdb_inlined_bytes::LENGTH, &pdb_inlined_bytes::PIECES)
+}
+
+/// The lines of a module by its index, as bytes.
+fn lines_of(alloc: Global, msf: &Msf<'_>, index: usize) -> Result<Vec<u8>, Fail> {
+    let bytes = all_of(alloc, msf, DBI_STREAM)?;
+    let dbi = Dbi::parse(&bytes)?;
+    let Some(module) = Modules::new(dbi.modules).nth(index) else {
+        return Err(Fail::new("no module"));
+    };
+    let header = module?.header;
+    let stream = all_of(alloc, msf, u32::from(header.stream))?;
+    let mut lines = Vec::new(alloc);
+    for byte in header.line_bytes(&stream)? {
+        lines.push(*byte)?;
+    }
+    Ok(lines)
+}
+
+/// The name of a source file, by its offset in the files of a module.
+fn file_name(alloc: Global, msf: &Msf<'_>, lines: &[u8], file: u32) -> Result<Vec<u8>, Fail> {
+    let info = all_of(alloc, msf, INFO_STREAM)?;
+    let Some(stream) = named_stream(&info, NAMES_STREAM)? else {
+        return Err(Fail::new("no names"));
+    };
+    let bytes = all_of(alloc, msf, stream)?;
+    let names = Names::parse(&bytes)?;
+    let mut name = Vec::new(alloc);
+    for subsection in Subsections::new(lines) {
+        let subsection = subsection?;
+        if subsection.kind == DEBUG_S_FILECHKSMS {
+            let record = FileChecksum::parse(subsection.content, file as usize)?;
+            for byte in names.name_at(record.name_offset)? {
+                name.push(*byte)?;
+            }
+        }
+    }
+    Ok(name)
+}
+
+#[test]
+fn streams_are_found_by_their_names(rt: HostRuntime) -> Result<(), Fail> {
+    let bytes = inlined(rt.alloc())?;
+    let msf = Msf::parse(&bytes)?;
+    let info = all_of(rt.alloc(), &msf, INFO_STREAM)?;
+    assert_eq!(rt; named_stream(&info, NAMES_STREAM)?, Some(13));
+    assert_eq!(rt; named_stream(&info, b"/LinkInfo")?, Some(5));
+    assert_eq!(rt; named_stream(&info, b"/name")?, None);
+    assert_eq!(rt; named_stream(&info, b"names")?, None);
+    assert_eq!(rt; named_stream(&info, b"")?, None);
+    let stream = all_of(rt.alloc(), &msf, 13)?;
+    let names = Names::parse(&stream)?;
+    assert_eq!(rt; names.version, 1);
+    assert!(rt; names.name_at(2)? == b"c.c".as_slice() && names.name_at(6)? == b"c.h".as_slice());
+    assert!(rt; names.name_at(3)? == b".c".as_slice() && names.name_at(0)?.is_empty());
+    // shows: pe_pdb/src/names.rt name_at Name
+    assert!(rt; refused(names.name_at(10), PdbError::Name(10)));
+    assert!(rt; refused(names.name_at(11), PdbError::Name(11)));
+    Ok(())
+}
+
+#[test]
+fn lines_reach_to_the_next_row(rt: HostRuntime) -> Result<(), Fail> {
+    let bytes = pdb(rt.alloc())?;
+    let msf = Msf::parse(&bytes)?;
+    let other = scattered(rt.alloc(), &msf)?;
+    let moved = Msf::parse(&other)?;
+    for file in [&msf, &moved] {
+        let headers = all_of(rt.alloc(), file, 10)?;
+        let sections = SectionHeaders::parse(&headers)?;
+        let lines = lines_of(rt.alloc(), file, 1)?;
+        assert_eq!(rt; LineIndex::count(&lines, &sections)?, 6);
+        let mut few = [LineEntry::default(); 5];
+        // shows: pe_pdb/src/line_lookup.rt new Room
+        let small = PdbError::Room {
+            needed: 6,
+            length: 5,
+        };
+        assert!(rt; refused(LineIndex::new(&lines, &sections, &mut few), small));
+        let mut room = [LineEntry::default(); 7];
+        let index = LineIndex::new(&lines, &sections, &mut room)?;
+        for (rva, start, line, name) in [
+            (0x1050, 0x1050, 4, "b.c"),
+            (0x1057, 0x1050, 4, "b.c"),
+            (0x1058, 0x1058, 5, "b.c"),
+            (0x1065, 0x1065, 900, "generated\\else.inc"),
+            (0x1070, 0x1065, 900, "generated\\else.inc"),
+            (0x1071, 0x1071, 9, "b.c"),
+            (0x107C, 0x1071, 9, "b.c"),
+            (0x1080, 0x1080, 1, "b.c"),
+            (0x108B, 0x1085, 2, "b.c"),
+        ] {
+            let Some(found) = index.line_at(rva) else {
+                return Err(Fail::new("no line"));
+            };
+            assert_eq!(rt; (found.rva, found.line, found.column), (start, line, 0));
+            let own = file_name(rt.alloc(), file, &lines, found.file)?;
+            assert!(rt; own.as_slice() == name.as_bytes());
+        }
+        for rva in [0, 0x104F, 0x107D, 0x107F, 0x108C, 0xFFFF_FFFF] {
+            assert_eq!(rt; index.line_at(rva), None::<CodeLine>);
+        }
+    }
+    Ok(())
+}
+
+#[test]
+fn columns_are_those_of_the_rows(rt: HostRuntime) -> Result<(), Fail> {
+    let bytes = inlined(rt.alloc())?;
+    let msf = Msf::parse(&bytes)?;
+    let headers = all_of(rt.alloc(), &msf, 10)?;
+    let sections = SectionHeaders::parse(&headers)?;
+    let lines = lines_of(rt.alloc(), &msf, 0)?;
+    let mut room = [LineEntry::default(); 12];
+    let index = LineIndex::new(&lines, &sections, &mut room)?;
+    for (rva, start, code_size, line, column) in [
+        (0x1004, 0x1000, 64, 3, 0),
+        (0x1005, 0x1005, 59, 4, 11),
+        (0x1031, 0x1020, 32, 5, 21),
+        (0x1032, 0x1032, 14, 5, 14),
+        (0x103F, 0x103A, 6, 5, 3),
+        (0x1040, 0x1040, 43, 7, 0),
+        (0x1044, 0x1041, 42, 8, 16),
+        (0x106A, 0x1069, 2, 9, 3),
+    ] {
+        let found = CodeLine {
+            rva: start,
+            code_size,
+            file: 0,
+            line,
+            column,
+        };
+        assert_eq!(rt; index.line_at(rva), Some(found));
+    }
+    assert_eq!(rt; index.line_at(0x106B), None::<CodeLine>);
+    Ok(())
+}
+
+/// Lines by hand: code at 10h of section 1, of so many bytes, with rows of one file (an offset and a line), and no columns.
+fn lines_by_hand(alloc: Global, size: u32, rows: &[(u32, u32)]) -> Result<Vec<u8>, AllocError> {
+    let block = 12 + 8 * rows.len() as u32;
+    let mut bytes = vec![in alloc; 0u8; 8 + 12 + block as usize]?;
+    for (offset, number) in [
+        (0, 0xF2),
+        (4, 12 + block),
+        (8, 0x10),
+        (12, 1),
+        (16, size),
+        (20, 0x18),
+        (24, rows.len() as u32),
+        (28, block),
+    ] {
+        put(&mut bytes, &[(offset, &u32::to_le_bytes(number))]);
+    }
+    for index in 0..rows.len() {
+        let (offset, line) = rows[index];
+        let at = 32 + 8 * index;
+        put(&mut bytes, &[(at, &u32::to_le_bytes(offset))]);
+        put(
+            &mut bytes,
+            &[(at + 4, &u32::to_le_bytes(line | 0x8000_0000))],
+        );
+    }
+    Ok(bytes)
+}
+
+#[test]
+fn rows_by_hand_have_the_lines_of_the_format(rt: HostRuntime) -> Result<(), Fail> {
+    let bytes = pdb(rt.alloc())?;
+    let msf = Msf::parse(&bytes)?;
+    let headers = all_of(rt.alloc(), &msf, 10)?;
+    let sections = SectionHeaders::parse(&headers)?;
+    let mut room = [LineEntry::default(); 8];
+    // In no order, two at one offset, lines that are none, one past the code.
+    let rows = [
+        (8, 20),
+        (0, 10),
+        (8, 21),
+        (4, 0xF0_0F00),
+        (12, 0xFE_EFEE),
+        (14, 0),
+        (16, 30),
+    ];
+    let lines = lines_by_hand(rt.alloc(), 16, &rows)?;
+    let index = LineIndex::new(&lines, &sections, &mut room)?;
+    let listed = [
+        Some(10),
+        Some(10),
+        Some(10),
+        Some(10),
+        None,
+        None,
+        None,
+        None,
+        Some(21),
+        Some(21),
+        Some(21),
+        Some(21),
+        None,
+        None,
+        None,
+        None,
+        None,
+    ];
+    for offset in 0..17 {
+        let line = index
+            .line_at(0x1010 + offset as u32)
+            .map(|found| found.line);
+        assert_eq!(rt; line, listed[offset]);
+    }
+    // In no section; of another kind, such as one that is to be ignored; truncated in the second of two subsections.
+    let mut none = lines.clone()?;
+    put(&mut none, &[(12, b"\x04")]);
+    assert_eq!(rt; LineIndex::count(&none, &sections)?, 0);
+    put(&mut none, &[(3, b"\x80")]);
+    assert_eq!(rt; LineIndex::count(&none, &sections)?, 0);
+    let two = lines_of(rt.alloc(), &msf, 1)?;
+    let short = PdbError::RecordTruncated {
+        offset: 88,
+        needed: 48,
+        length: 135,
+    };
+    assert!(rt; refused(LineIndex::count(&two[..135], &sections), short));
+    Ok(())
+}
+
+#[test]
+fn contributions_are_those_that_pdbutil_lists(rt: HostRuntime) -> Result<(), Fail> {
+    let bytes = pdb(rt.alloc())?;
+    let msf = Msf::parse(&bytes)?;
+    let headers = all_of(rt.alloc(), &msf, 10)?;
+    let sections = SectionHeaders::parse(&headers)?;
+    let stream = all_of(rt.alloc(), &msf, DBI_STREAM)?;
+    let part = Dbi::parse(&stream)?.contributions;
+    let all = SectionContributions::parse(part)?;
+    assert_eq!(rt; all.len(), 8);
+    let first = Contribution {
+        section: 1,
+        offset: 0,
+        size: 73,
+        characteristics: 0x6050_0020,
+        module_index: 0,
+        data_checksum: 3533884269,
+        relocations_checksum: 0,
+    };
+    assert_eq!(rt; all.get(0), Some(first));
+    assert_eq!(rt;
+        all.get(7).map(|it| (it.section, it.offset, it.size)),
+        Some((3, 12, 24))
+    );
+    assert_eq!(rt; all.get(8), None::<Contribution>);
+    let mut ranges = [ModuleRange::default(); 8];
+    let few: std::result::Result<usize, usize> = all.put_ranges(&sections, &mut ranges[..7]);
+    assert!(rt; few == Err(8));
+    assert!(rt; all.put_ranges(&sections, &mut ranges) == Ok(8));
+    let mut room = [RangeEntry::default(); 32];
+    let Ok(index) = ModuleIndex::new(&ranges, &mut room) else {
+        return Err(Fail::new("no room"));
+    };
+    for (rva, module) in [
+        (0xFFF, None),
+        (0x1000, Some(0)),
+        (0x1048, Some(0)),
+        (0x1049, None),
+        (0x1050, Some(1)),
+        (0x108B, Some(1)),
+        (0x108C, None),
+        (0x2000, Some(2)),
+        (0x2066, Some(2)),
+        (0x2067, None),
+        (0x2068, Some(0)),
+        (0x2070, Some(1)),
+        (0x3000, Some(0)),
+        (0x300C, Some(1)),
+        (0x3024, None),
+    ] {
+        assert_eq!(rt; index.module_at(rva), module);
+    }
+    let mut small = [RangeEntry::default(); 31];
+    assert!(rt; matches!(ModuleIndex::new(&ranges, &mut small), Err(32)));
+    // The later version, 4 bytes more each: one contribution, then two, of which the first counts.
+    let mut wide = vec![in rt.alloc(); 0u8; 4 + 64]?;
+    put(&mut wide, &[(0, &u32::to_le_bytes(0xF131_51E4))]);
+    put(
+        &mut wide,
+        &[(4, b"\x01"), (8, b"\x10"), (12, b"\x08"), (20, b"\x05")],
+    );
+    put(
+        &mut wide,
+        &[(36, b"\x01"), (40, b"\x14"), (44, b"\x08"), (52, b"\x06")],
+    );
+    let all = SectionContributions::parse(&wide)?;
+    assert!(rt; all.put_ranges(&sections, &mut ranges[..2]) == Ok(2));
+    let Ok(index) = ModuleIndex::new(&ranges[..2], &mut room) else {
+        return Err(Fail::new("no room"));
+    };
+    assert_eq!(rt;
+        (index.module_at(0x1010), index.module_at(0x1017)),
+        (Some(5), Some(5))
+    );
+    assert_eq!(rt;
+        (index.module_at(0x1018), index.module_at(0x101C)),
+        (Some(6), None)
+    );
+    assert_eq!(rt; SectionContributions::parse(&[])?.len(), 0);
+    // shows: pe_pdb/src/contribution.rt parse Short
+    let short = PdbError::Short {
+        needed: 4,
+        length: 3,
+    };
+    assert!(rt; refused(SectionContributions::parse(&part[..3]), short));
+    // shows: pe_pdb/src/contribution.rt parse ContributionsVersion
+    let other = with_byte(wide, 0, 0xE5);
+    assert!(rt;
+        refused(
+            SectionContributions::parse(&other),
+            PdbError::ContributionsVersion(0xF131_51E5)
+        )
+    );
+    // shows: pe_pdb/src/contribution.rt of ContributionsSize
+    assert!(rt;
+        refused(
+            SectionContributions::parse(&part[..59]),
+            PdbError::ContributionsSize(55)
+        )
+    );
+    Ok(())
+}
+
+#[test]
+fn inlined_functions_are_those_that_pdbutil_lists(rt: HostRuntime) -> Result<(), Fail> {
+    let bytes = inlined(rt.alloc())?;
+    let msf = Msf::parse(&bytes)?;
+    let symbols = all_of(rt.alloc(), &msf, 11)?;
+    let record = SymbolRecord::parse(&symbols, 192)?;
+    let site = InlineSite::parse(record.kind, record.content)?;
+    assert_eq!(rt;
+        (record.kind, site.parent, site.end),
+        (S_INLINESITE, 72, 336)
+    );
+    assert_eq!(rt; site.inlinee, 0x1000);
+    // The procedure, an offset in it, and of each function its record, its id, and its row: offset, length, line.
+    let entry: [(usize, u32, &[(usize, u32, u32, u32, u32)]); 9] = [
+        (72, 4, &[]),
+        (
+            72,
+            5,
+            &[(192, 0x1000, 5, 0x1B, 1), (252, 0x1001, 5, 0x1B, 1)],
+        ),
+        (
+            72,
+            0x1F,
+            &[(192, 0x1000, 5, 0x1B, 1), (252, 0x1001, 5, 0x1B, 1)],
+        ),
+        (72, 0x20, &[(340, 0x1001, 0x20, 0x12, 1)]),
+        (72, 0x32, &[]),
+        (432, 8, &[]),
+        (
+            432,
+            9,
+            &[(568, 0x1000, 9, 0x1B, 1), (648, 0x1001, 9, 0x1B, 1)],
+        ),
+        (432, 0x25, &[(568, 0x1000, 0x24, 2, 2)]),
+        (432, 0x26, &[]),
+    ];
+    for (procedure, offset, listed) in entry {
+        let mut count = 0;
+        for frame in InlineFrames::new(&symbols[..748], procedure, offset)? {
+            let frame = frame?;
+            let row = frame.row;
+            let own = (
+                frame.record_offset,
+                frame.inlinee,
+                row.offset,
+                row.length,
+                row.line,
+            );
+            assert!(rt; row.file.is_none() && listed.get(count) == Some(&own));
+            count += 1;
+        }
+        assert_eq!(rt; count, listed.len());
+    }
+    Ok(())
+}
+
+#[test]
+fn inlined_functions_are_where_pdbutil_says(rt: HostRuntime) -> Result<(), Fail> {
+    let bytes = inlined(rt.alloc())?;
+    let msf = Msf::parse(&bytes)?;
+    let lines = lines_of(rt.alloc(), &msf, 0)?;
+    for subsection in Subsections::new(&lines) {
+        let subsection = subsection?;
+        if subsection.kind != DEBUG_S_INLINEELINES {
+            continue;
+        }
+        for (inlinee, line) in [(0x1000, 6), (0x1001, 1)] {
+            let Some(found) = InlineeLine::find(subsection.content, inlinee)? else {
+                return Err(Fail::new("no line"));
+            };
+            assert_eq!(rt; (found.inlinee, found.line), (inlinee, line));
+            let name = file_name(rt.alloc(), &msf, &lines, found.file)?;
+            assert!(rt; name.as_slice() == b"c.h".as_slice());
+        }
+        assert_eq!(rt;
+            InlineeLine::find(subsection.content, 0x1002)?,
+            None::<InlineeLine>
+        );
+    }
+    // With other files: one of the first function, none of the second, and a third that is truncated.
+    let mut other = vec![in rt.alloc(); 0u8; 4 + 20 + 16 + 16]?;
+    put(
+        &mut other,
+        &[
+            (0, b"\x01"),
+            (4, b"\x05"),
+            (12, b"\x07"),
+            (16, b"\x01"),
+            (20, b"\x18"),
+        ],
+    );
+    put(
+        &mut other,
+        &[(24, b"\x06"), (32, b"\x09"), (40, b"\x07"), (52, b"\x01")],
+    );
+    let line = |inlinee| match InlineeLine::find(&other, inlinee) {
+        Ok(found) => found.map(|found: InlineeLine| found.line),
+        Err(_) => None,
+    };
+    assert_eq!(rt; (line(5), line(6)), (Some(7), Some(9)));
+    // shows: pe_pdb/src/inlinee.rt inlinee_end RecordTruncated
+    let truncated = PdbError::RecordTruncated {
+        offset: 40,
+        needed: 20,
+        length: 56,
+    };
+    assert!(rt; refused(InlineeLine::find(&other, 8), truncated));
+    // shows: pe_pdb/src/inlinee.rt inlinee_end Short
+    let short = PdbError::Short {
+        needed: 4,
+        length: 3,
+    };
+    assert!(rt; refused(InlineeLine::find(&other[..19], 8), short));
+    // shows: pe_pdb/src/inlinee.rt find Short
+    assert!(rt; refused(InlineeLine::find(&other[..3], 8), short));
+    // shows: pe_pdb/src/inlinee.rt parse Short
+    let short = PdbError::Short {
+        needed: 12,
+        length: 11,
+    };
+    assert!(rt; refused(InlineeLine::find(&other[..15], 5), short));
+    Ok(())
+}
+
+#[test]
+fn annotations_are_those_of_cvinfo(rt: HostRuntime) -> Result<(), Fail> {
+    // Line -1; file 98h; 4 bytes 10h later; a row 10000h later; 15 later a row at a line more, of 2 bytes; the end.
+    let bytes = b"\x06\x03\x05\x80\x98\x0C\x04\x10\x03\xC0\x01\0\0\x0B\x2F\x04\x02\0\0";
+    let minus = 0xFFFF_FFFF;
+    let listed = [(0x10, 4, minus), (0x1_0010, 15, minus), (0x1_001F, 2, 0)];
+    let mut count = 0;
+    for row in InlineRows::new(bytes) {
+        let row = row?;
+        assert_eq!(rt; (row.offset, row.length, row.line), listed[count.min(2)]);
+        assert_eq!(rt; row.file, Some(0x98));
+        count += 1;
+    }
+    assert_eq!(rt; count, 3);
+    let line = |offset| match InlineRows::row_at(bytes, offset) {
+        Ok(row) => row.map(|row: InlineRow| row.offset),
+        Err(_) => None,
+    };
+    assert_eq!(rt;
+        (line(0xF), line(0x13), line(0x14)),
+        (None, Some(0x10), None)
+    );
+    assert_eq!(rt;
+        (line(0x1_001E), line(0x1_0020), line(0x1_0021)),
+        (Some(0x1_0010), Some(0x1_001F), None)
+    );
+    // shows: pe_pdb/src/annotation.rt parse Annotation
+    // shows: pe_pdb/src/annotation.rt number_at Annotation
+    for (bytes, offset) in [
+        (b"\x03".as_slice(), 1),
+        (b"\x0E\x01".as_slice(), 0),
+        (b"\xE0\0\0\0".as_slice(), 0),
+        (b"\x03\x01\x83".as_slice(), 2),
+        (b"\x06\xC0\0\0".as_slice(), 1),
+        (b"\x0C\x01".as_slice(), 2),
+    ] {
+        assert!(rt; refused(InlineRows::row_at(bytes, 0), PdbError::Annotation(offset)));
+    }
+    // shows: pe_pdb/src/inline_site.rt parse Short
+    let short = PdbError::Short {
+        needed: 16,
+        length: 15,
+    };
+    assert!(rt; refused(InlineSite::parse(S_INLINESITE2, &bytes[..15]), short));
+    assert_eq!(rt;
+        InlineSite::parse(S_INLINESITE2, &bytes[..17])?
+            .annotations
+            .len(),
+        1
+    );
+    Ok(())
+}
+
+#[test]
+fn damaged_names_and_files_are_refused(rt: HostRuntime) -> Result<(), Fail> {
+    let bytes = inlined(rt.alloc())?;
+    let msf = Msf::parse(&bytes)?;
+    let stream = all_of(rt.alloc(), &msf, 13)?;
+    // shows: pe_pdb/src/names.rt parse Short
+    let short = PdbError::Short {
+        needed: 12,
+        length: 11,
+    };
+    assert!(rt; refused(Names::parse(&stream[..11]), short));
+    // shows: pe_pdb/src/names.rt parse NamesSignature
+    let other = with_byte(stream.clone()?, 3, 0xEE);
+    assert!(rt; refused(Names::parse(&other), PdbError::NamesSignature(0xEEFE_EFFE)));
+    // shows: pe_pdb/src/names.rt parse RecordTruncated
+    let truncated = PdbError::RecordTruncated {
+        offset: 12,
+        needed: 10,
+        length: 21,
+    };
+    assert!(rt; refused(Names::parse(&stream[..21]), truncated));
+    let info = all_of(rt.alloc(), &msf, INFO_STREAM)?;
+    // shows: pe_pdb/src/names.rt stream_texts Short
+    let short = PdbError::Short {
+        needed: 32,
+        length: 31,
+    };
+    assert!(rt; refused(named_stream(&info[..31], NAMES_STREAM), short));
+    // shows: pe_pdb/src/names.rt stream_texts RecordTruncated
+    let truncated = PdbError::RecordTruncated {
+        offset: 32,
+        needed: 17,
+        length: 48,
+    };
+    assert!(rt; refused(named_stream(&info[..48], NAMES_STREAM), truncated));
+    // shows: pe_pdb/src/names.rt pairs_start RecordTruncated
+    let truncated = PdbError::RecordTruncated {
+        offset: 69,
+        needed: 16,
+        length: 84,
+    };
+    assert!(rt; refused(named_stream(&info[..84], NAMES_STREAM), truncated));
+    // shows: pe_pdb/src/names.rt pairs_start Short
+    let short = PdbError::Short {
+        needed: 8,
+        length: 7,
+    };
+    assert!(rt; refused(named_stream(&info[..56], NAMES_STREAM), short));
+    // shows: pe_pdb/src/names.rt words_end Short
+    let short = PdbError::Short {
+        needed: 4,
+        length: 3,
+    };
+    assert!(rt; refused(named_stream(&info[..60], NAMES_STREAM), short));
+    // shows: pe_pdb/src/names.rt words_end RecordTruncated
+    let many = with_byte(info, 59, 0xFF);
+    let truncated = PdbError::RecordTruncated {
+        offset: 61,
+        needed: 4 * 0x00FF_0001,
+        length: 93,
+    };
+    assert!(rt; refused(named_stream(&many, NAMES_STREAM), truncated));
+    let lines = lines_of(rt.alloc(), &msf, 0)?;
+    for subsection in Subsections::new(&lines) {
+        let subsection = subsection?;
+        if subsection.kind != DEBUG_S_FILECHKSMS {
+            continue;
+        }
+        let content = subsection.content;
+        let file = FileChecksum::parse(content, 24)?;
+        assert_eq!(rt; (file.name_offset, file.kind, file.hash.len()), (6, 1, 16));
+        assert_eq!(rt; (file.hash[0], file.hash[15]), (0xB8, 0x26));
+        // shows: pe_pdb/src/checksum.rt parse Short
+        let short = PdbError::Short {
+            needed: 6,
+            length: 5,
+        };
+        assert!(rt; refused(FileChecksum::parse(&content[..29], 24), short));
+        // shows: pe_pdb/src/checksum.rt parse RecordTruncated
+        let truncated = PdbError::RecordTruncated {
+            offset: 24,
+            needed: 22,
+            length: 45,
+        };
+        assert!(rt; refused(FileChecksum::parse(&content[..45], 24), truncated));
+    }
+    Ok(())
+}
+
+#[test]
+fn ids_are_those_that_pdbutil_lists(rt: HostRuntime) -> Result<(), Fail> {
+    let bytes = inlined(rt.alloc())?;
+    let msf = Msf::parse(&bytes)?;
+    let stream = all_of(rt.alloc(), &msf, ID_STREAM)?;
+    let ids = TypeRecords::parse(&stream)?;
+    assert_eq!(rt; (ids.first, ids.end, ids.len()), (0x1000, 0x100A, 10));
+    let mut room = [0u64; 11];
+    assert_eq!(rt; ids.put_starts(&mut room)?, 10);
+    for (index, kind, name) in [
+        (0x1000, LF_FUNC_ID, "twice"),
+        (0x1001, LF_FUNC_ID, "clamp"),
+        (0x1003, LF_FUNC_ID, "helper"),
+        (0x1005, LF_STRING_ID, "c.c"),
+    ] {
+        let record = SymbolRecord::parse(ids.records, room[index - 0x1000] as usize)?;
+        assert_eq!(rt; record.kind, kind);
+        let own = if kind == LF_FUNC_ID {
+            let function = FunctionId::parse(record.content)?;
+            assert_eq!(rt; function.scope, 0);
+            function.name
+        } else {
+            string_id(record.content)?
+        };
+        assert_eq!(rt; own, name);
+    }
+    let twice = SymbolRecord::parse(ids.records, 0)?.content;
+    assert_eq!(rt; FunctionId::parse(twice)?.type_index, 0x1001);
+    // shows: pe_pdb/src/ids.rt put_starts Room
+    let small = PdbError::Room {
+        needed: 10,
+        length: 9,
+    };
+    assert!(rt; refused(ids.put_starts(&mut room[..9]), small));
+    let mut more = stream.clone()?;
+    put(&mut more, &[(12, b"\x0B")]);
+    let end = PdbError::Short {
+        needed: 4,
+        length: 0,
+    };
+    assert!(rt; refused(TypeRecords::parse(&more)?.put_starts(&mut room), end));
+    // shows: pe_pdb/src/ids.rt parse Short
+    let short = PdbError::Short {
+        needed: 56,
+        length: 55,
+    };
+    assert!(rt; refused(TypeRecords::parse(&stream[..55]), short));
+    // shows: pe_pdb/src/ids.rt parse RecordTruncated
+    let truncated = PdbError::RecordTruncated {
+        offset: 56,
+        needed: stream.len() - 56,
+        length: stream.len() - 1,
+    };
+    assert!(rt; refused(TypeRecords::parse(&stream[..stream.len() - 1]), truncated));
+    let short = PdbError::Short {
+        needed: 8,
+        length: 7,
+    };
+    assert!(rt; refused(FunctionId::parse(&twice[..7]), short));
+    // shows: pe_pdb/src/ids.rt parse Name
+    assert!(rt; refused(FunctionId::parse(&twice[..13]), PdbError::Name(8)));
+    // shows: pe_pdb/src/ids.rt string_id Short
+    let short = PdbError::Short {
+        needed: 4,
+        length: 3,
+    };
+    assert!(rt; refused(string_id(&twice[..3]), short));
+    // shows: pe_pdb/src/ids.rt string_id Name
+    assert!(rt; refused(string_id(&twice[8..13]), PdbError::Name(4)));
+    Ok(())
+}
