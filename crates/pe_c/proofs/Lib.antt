@@ -14,6 +14,7 @@ pub mod NumberLists
 pub mod GuardLists
 pub mod Utf16Texts
 pub mod StreamLists
+pub mod PdbStreams
 pub mod ListStarts
 pub mod EntryRuns
 pub mod EvenRecords

@@ -84,16 +84,21 @@ pub extern "C" fn pe_c_find_pdb_line(index: &[LineEntry], rva: u32, out: &mut Co
 }
 
 /// The range of the source files in the lines of a module.
+#[tactic(auto, unfolding(crate::specs::PdbLines::first_files))]
 fn files_in(lines: &[u8]) -> Result<Option<Range>>
     ensures { pdb_answer result ≡ first_files (subsections lines.now 0) }
 {
     for subsection in Subsections::new(lines) {
-        let subsection = subsection?;
-        if subsection.kind == DEBUG_S_FILECHKSMS {
-            return Ok(Some(Range {
-                offset: subsection.offset as u64 + SIZE_OF_PREFIX,
-                length: subsection.content.len() as u64,
-            }));
+        match subsection {
+            Ok(subsection) => {
+                if subsection.kind == DEBUG_S_FILECHKSMS {
+                    return Ok(Some(Range {
+                        offset: subsection.offset as u64 + SIZE_OF_PREFIX,
+                        length: subsection.content.len() as u64,
+                    }));
+                }
+            }
+            Err(error) => return Err(error),
         }
     }
     Ok(None)

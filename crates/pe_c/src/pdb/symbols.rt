@@ -54,7 +54,7 @@ pub struct PdbSymbol {
 
 /// A record of which nothing is known.
 fn record_reported(offset: u64, record: &SymbolRecord<'_>, number: u32) -> PdbSymbol
-    requires { offset + length record.now.content.now < 2 ^ 63 }
+    requires { offset < 2 ^ 63 }
     ensures { result ≡ record_reported offset (symbol_view record.now) number }
 {
     PdbSymbol {
@@ -136,8 +136,9 @@ pub fn symbol_reported(
     record: &SymbolRecord<'_>,
     sections: &SectionHeaders<'_>,
 ) -> PdbSymbol
-    requires { offset + length record.now.content.now < 2 ^ 63 }
-    ensures { result ≡ symbol_reported sections.now.bytes.now offset (symbol_view record.now) }
+    requires { offset < 2 ^ 63 }
+    ensures value { result ≡ symbol_reported sections.now.bytes.now offset (symbol_view record.now) }
+    ensures range { result.range.length ≡ 4 + length record.now.content.now }
 {
     let symbol = record_reported(offset, record, NOTHING);
     if record.kind == S_PUB32 {
