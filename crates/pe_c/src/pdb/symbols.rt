@@ -137,7 +137,8 @@ pub fn symbol_reported(
     sections: &SectionHeaders<'_>,
 ) -> PdbSymbol
     requires { offset + length record.now.content.now < 2 ^ 63 }
-    ensures { result ≡ symbol_reported sections.now.bytes.now offset (symbol_view record.now) }
+    ensures value { result ≡ symbol_reported sections.now.bytes.now offset (symbol_view record.now) }
+    ensures range { result.range.length ≡ 4 + length record.now.content.now }
 {
     let symbol = record_reported(offset, record, NOTHING);
     if record.kind == S_PUB32 {
