@@ -2,7 +2,10 @@
 
 use crate::extract::{ExtractedPart, Which};
 use crate::facts::Topic;
+use crate::files::are_there;
 use crate::new_file::Target;
+use crate::stack::{Known, Places, SymbolFolders};
+use crate::Status;
 use clap::{Args, Parser, Subcommand, ValueEnum};
 use clap_complete::Shell;
 use pe_c::{Layout, Mode};
@@ -284,10 +287,8 @@ pub enum Command {
     Stack {
         /// The minidump, or - for standard input.
         dump: PathBuf,
-        /// A folder below which the images of modules are, or a file. An image is taken if its time stamp and its size are those
-        /// of a module. No path that stands in the dump is opened.
-        #[arg(long, value_name = "FOLDER")]
-        images: Vec<PathBuf>,
+        #[command(flatten)]
+        given: Given,
         #[command(flatten)]
         stacks: Stacks,
         #[command(flatten)]
@@ -424,9 +425,8 @@ pub enum Command {
         file: PathBuf,
         #[command(flatten)]
         to: Target,
-        /// Of a minidump: a folder below which the images of modules are, or a file, as of `pe stack`.
-        #[arg(long, value_name = "FOLDER")]
-        images: Vec<PathBuf>,
+        #[command(flatten)]
+        given: Given,
         #[command(flatten)]
         stacks: Stacks,
         #[command(flatten)]
@@ -455,6 +455,30 @@ pub struct Missing {
     /// A folder that is laid out as a symbol server is, with PDB files and images as NAME/KEY/NAME.
     #[arg(long, value_name = "FOLDER", requires = "missing")]
     pub symbols: Vec<PathBuf>,
+}
+
+/// Where the files of a minidump's modules are looked for.
+#[derive(Args, Clone, Debug)]
+pub struct Given {
+    /// Of a minidump: a folder below which the images of modules are, or a file. An image is taken if its time stamp and its size
+    /// are those of a module. No path that stands in the dump is opened.
+    #[arg(long, value_name = "FOLDER")]
+    pub images: Vec<PathBuf>,
+    /// Of a minidump: a folder with PDB files, as NAME/KEY/NAME or as NAME alone, or a PDB. One is read if its GUID and its age are those
+    /// that a module names. The folders of the variable _NT_SYMBOL_PATH come after these; nothing is fetched.
+    #[arg(long, value_name = "FOLDER")]
+    pub symbols: Vec<PathBuf>,
+}
+
+impl Given {
+    pub fn places(&self) -> Places {
+        Places { images: Known::below(&self.images), symbols: SymbolFolders::new(&self.symbols) }
+    }
+
+    /// Whether all of them are there; those that are not are told.
+    pub fn are_there(&self) -> Status {
+        are_there(&self.images).max(are_there(&self.symbols))
+    }
 }
 
 /// Which stacks are shown, and how much of them.
