@@ -1,5 +1,5 @@
-/* pe.h: reads PE images (Windows .exe and .dll files), TE images, COFF objects and minidumps, walks stacks, attaches
- * certificates and changes resources, from C11 and C++17.
+/* pe.h: reads PE images (Windows .exe and .dll files), TE images, COFF objects, minidumps and PDB files, walks stacks,
+ * attaches certificates and changes resources, from C11 and C++17.
  *
  * The caller's obligations, for each call:
  *   - `bytes` points to the `length` bytes of the image, a file or memory, which are readable and which nothing writes
@@ -462,6 +462,28 @@ enum pe_c_result {
     PE_C_DUMP_CONTEXT_SIZE = 558,   /* context smaller than its fields */
     PE_C_DUMP_CONTEXT_FLAGS = 559,  /* context without control or integer registers */
     PE_C_DUMP_MACHINE = 560,        /* context of another machine */
+    PE_C_PDB20 = 601,               /* a PDB 2.0, which has another layout */
+    PE_C_PDB_PORTABLE = 602,        /* a portable PDB of .NET, which has another layout */
+    PE_C_PDB_MAGIC = 603,           /* not a PDB 7.0 */
+    PE_C_PDB_BLOCK_SIZE = 604,      /* invalid block size of a PDB */
+    PE_C_PDB_FILE_SIZE = 605,       /* blocks of a PDB end past the end of the file */
+    PE_C_PDB_BLOCK_MAP = 606,       /* directory of a PDB larger than the file, or than its superblock can list */
+    PE_C_PDB_BLOCK = 607,           /* block of a PDB lies outside of the file */
+    PE_C_PDB_DIRECTORY = 608,       /* directory of a PDB too short for its streams */
+    PE_C_PDB_NO_STREAM = 609,       /* PDB has no stream with this number */
+    PE_C_PDB_STREAM_SIZE = 610,     /* stream of a PDB has more blocks than the file */
+    PE_C_PDB_OUTSIDE = 611,         /* read past the end of a stream of a PDB */
+    PE_C_PDB_INFO_VERSION = 612,    /* unknown version of the info stream of a PDB */
+    PE_C_PDB_DBI_SIGNATURE = 613,   /* DBI stream of a PDB does not start with -1 */
+    PE_C_PDB_DBI_VERSION = 614,     /* unknown version of the DBI stream of a PDB */
+    PE_C_PDB_DBI_PARTS = 615,       /* parts of the DBI stream of a PDB end past its end */
+    PE_C_PDB_SECTION_HEADERS = 616, /* section headers of a PDB are not a multiple of 40 bytes */
+    PE_C_PDB_RECORD_SIZE = 617,     /* record of a symbol smaller than its kind */
+    PE_C_PDB_RECORD_TRUNCATED = 618, /* record of a PDB ends past the end of its bytes */
+    PE_C_PDB_NAME = 619,            /* name in a PDB not NUL-terminated or not UTF-8 */
+    PE_C_PDB_MODULE_SYMBOLS = 620,  /* symbols of a module end past the end of its stream */
+    PE_C_PDB_MODULE_SIGNATURE = 621, /* stream of a module does not start with 4 */
+    PE_C_PDB_SYMBOLS_SIZE = 622,    /* symbols of a PDB have 4 GB or more */
 };
 
 /* Modes. PE_C_MAPPED is added to one of the others, or stands for PE_C_STRICT | PE_C_MAPPED. */
@@ -602,6 +624,28 @@ static inline const char *pe_c_message(uint32_t number)
     case PE_C_DUMP_CONTEXT_SIZE: return "context smaller than its fields";
     case PE_C_DUMP_CONTEXT_FLAGS: return "context without control or integer registers";
     case PE_C_DUMP_MACHINE: return "context of another machine";
+    case PE_C_PDB20: return "a PDB 2.0, which has another layout";
+    case PE_C_PDB_PORTABLE: return "a portable PDB of .NET, which has another layout";
+    case PE_C_PDB_MAGIC: return "not a PDB 7.0";
+    case PE_C_PDB_BLOCK_SIZE: return "invalid block size of a PDB";
+    case PE_C_PDB_FILE_SIZE: return "blocks of a PDB end past the end of the file";
+    case PE_C_PDB_BLOCK_MAP: return "directory of a PDB larger than the file, or than its superblock can list";
+    case PE_C_PDB_BLOCK: return "block of a PDB lies outside of the file";
+    case PE_C_PDB_DIRECTORY: return "directory of a PDB too short for its streams";
+    case PE_C_PDB_NO_STREAM: return "PDB has no stream with this number";
+    case PE_C_PDB_STREAM_SIZE: return "stream of a PDB has more blocks than the file";
+    case PE_C_PDB_OUTSIDE: return "read past the end of a stream of a PDB";
+    case PE_C_PDB_INFO_VERSION: return "unknown version of the info stream of a PDB";
+    case PE_C_PDB_DBI_SIGNATURE: return "DBI stream of a PDB does not start with -1";
+    case PE_C_PDB_DBI_VERSION: return "unknown version of the DBI stream of a PDB";
+    case PE_C_PDB_DBI_PARTS: return "parts of the DBI stream of a PDB end past its end";
+    case PE_C_PDB_SECTION_HEADERS: return "section headers of a PDB are not a multiple of 40 bytes";
+    case PE_C_PDB_RECORD_SIZE: return "record of a symbol smaller than its kind";
+    case PE_C_PDB_RECORD_TRUNCATED: return "record of a PDB ends past the end of its bytes";
+    case PE_C_PDB_NAME: return "name in a PDB not NUL-terminated or not UTF-8";
+    case PE_C_PDB_MODULE_SYMBOLS: return "symbols of a module end past the end of its stream";
+    case PE_C_PDB_MODULE_SIGNATURE: return "stream of a module does not start with 4";
+    case PE_C_PDB_SYMBOLS_SIZE: return "symbols of a PDB have 4 GB or more";
     default: return "unknown result";
     }
 }
@@ -4077,6 +4121,151 @@ uint32_t pe_c_memory_runs(const pe_c_memory_piece *pieces, size_t piece_count, p
 uint32_t pe_c_memory_ranges(const uint8_t *memory, size_t memory_length, const pe_c_memory_piece *pieces, size_t piece_count,
                             const pe_c_range *asked, size_t asked_count, pe_c_range *found, size_t found_count,
                             uint64_t *written) PE_C_RESULT(9);
+
+/* ---- program databases
+ *
+ * A PDB 7.0 has the names and lines of an image that was linked with debug information. It is a file of its own kind: `bytes`
+ * of pe_c_pdb, pe_c_pdb_starts and pe_c_pdb_stream are those of the PDB. Its streams are scattered over blocks. A caller copies a
+ * stream into a room, and the other calls take the bytes of that room: their ranges and offsets are of it, not of the file.
+ * Each part is read alone: one that is damaged leaves the others as they are.
+ *
+ * The public function at or before an RVA, of a PDB that is that of an image:
+ *
+ *     pe_c_pdb(bytes, length, &pdb);
+ *     pe_c_is_pdb_of(&key, &pdb);
+ *     pe_c_pdb_stream(bytes, length, NULL, 0, pdb.section_headers, sections, sections_length, &sections_length);
+ *     pe_c_pdb_stream(bytes, length, NULL, 0, pdb.symbol_stream, symbols, symbols_length, &symbols_length);
+ *     pe_c_range all = {0, symbols_length};
+ *     pe_c_pdb_index(PE_C_PDB_PUBLICS, symbols, symbols_length, &all, sections, sections_length, index, entries, &count);
+ *     pe_c_find_pdb_symbol(PE_C_PDB_PUBLICS, symbols, symbols_length, sections, sections_length, index, count, rva, &found);
+ *
+ * https://llvm.org/docs/PDB/ */
+
+/* Which symbols an index has. */
+enum {
+    PE_C_PDB_PUBLICS = 0,           /* public functions, of the stream of symbols */
+    PE_C_PDB_PROCEDURES = 1         /* procedures that have code, of the stream of a module; as any other number */
+};
+
+/* What a PDB says of itself. Streams are numbers for pe_c_pdb_stream, or 0xFFFF for none. */
+typedef struct {
+    uint8_t guid[16];               /* the GUID, as pe_c_key has it */
+    pe_c_range modules;             /* a walk over the modules, at its start, in the DBI stream, stream 3 */
+    pe_c_range contributions;       /* the section contributions in the DBI stream: which module has which code */
+    uint32_t version;               /* the version of the info stream, 20000404 in what linkers write */
+    uint32_t time_stamp;            /* when the PDB was made, in seconds since 1970, or a number of the linker's */
+    uint32_t age;                   /* how often the PDB was written; it may be greater than that of the image */
+    uint32_t dbi_age;               /* the age that pe_c_key of the image has */
+    uint32_t block_size;            /* the size of a block in bytes */
+    uint32_t number_of_blocks;      /* how many blocks the file has */
+    uint32_t number_of_streams;     /* how many streams it has */
+    uint32_t dbi_result;            /* PE_C_DONE, or why the DBI stream is refused: then what is read of it is 0, and streams are none */
+    uint16_t machine;               /* IMAGE_FILE_MACHINE_ of the image */
+    uint16_t flags;                 /* bit 0: linked incrementally; bit 1: private symbols are stripped; bit 2: has types that
+                                       contradict one another */
+    uint16_t build;                 /* the version of the linker: bit 15 is set, then 7 bits and 8 bits, major and minor */
+    uint16_t symbol_stream;         /* the stream of symbols: those that are public, and global ones */
+    uint16_t section_headers;       /* the stream with the section headers of the image */
+    uint16_t original_section_headers; /* those before a tool moved the code of the image, by which symbols count then */
+    uint16_t omap_to_source;        /* where an RVA was before that; no call reads it */
+    uint16_t omap_from_source;      /* where an RVA of that is now; no call reads it */
+} pe_c_pdb_info;
+
+/* A module, an object that was linked. */
+typedef struct {
+    pe_c_range name;                /* in the DBI stream, without its final zero: the path of the object, or "* Linker *" */
+    pe_c_range file;                /* the path of the library that it is from, or of the object */
+    pe_c_range symbols;             /* a walk over its symbols, at its start, in its stream */
+    pe_c_range lines;               /* its lines in its stream */
+    uint32_t code_offset;           /* where its first code is in the section */
+    uint32_t code_size;             /* how many bytes that is */
+    uint16_t section;               /* the number of that section, from 1 on */
+    uint16_t flags;                 /* bit 0: written since the last link; bit 1: edit and continue */
+    uint16_t stream;                /* its stream, or 0xFFFF without debug information */
+    uint16_t number_of_files;       /* how many source files it has */
+} pe_c_pdb_module;
+
+/* The record of a symbol. */
+typedef struct {
+    pe_c_range record;              /* the record: the number of the bytes after that number, its kind, its content */
+    pe_c_range name;                /* UTF-8, without its final zero; of a public symbol as linkers have it, mangled; of a procedure
+                                       as in the source; no bytes of other records */
+    uint32_t rva;                   /* the RVA of a public symbol or procedure, where `result` is PE_C_DONE; else 0 */
+    uint32_t size;                  /* the size of a procedure's code in bytes; else 0 */
+    uint32_t section_offset;        /* the offset in its section */
+    uint32_t flags;                 /* of a public symbol bit 0: code; bit 1: a function; bit 2: managed code; bit 3: MSIL; of a
+                                       procedure CV_PROCFLAGS */
+    uint16_t section;               /* the number of its section, from 1 on */
+    uint16_t kind;                  /* S_PUB32 0x110E; of procedures S_LPROC32 0x110F, S_GPROC32 0x1110, 0x1146, 0x1147; or
+                                       another */
+    uint32_t result;                /* PE_C_DONE; PE_C_NOTHING without an RVA; or the number of an error of this record alone,
+                                       and then no other field than the record and its kind is set */
+} pe_c_pdb_symbol;
+
+PE_C_SIZE(pe_c_pdb_info, 96);
+PE_C_SIZE(pe_c_pdb_module, 80);
+PE_C_SIZE(pe_c_pdb_symbol, 56);
+
+/* Reads what a PDB says of itself. A DBI stream that is missing, as in PDBs of compilers, or damaged costs its own fields alone.
+ * Errors: PE_C_SHORT where there are fewer than 56 bytes; PE_C_PDB20, PE_C_PDB_PORTABLE, PE_C_PDB_MAGIC; PE_C_PDB_BLOCK_SIZE;
+ * PE_C_PDB_FILE_SIZE; PE_C_PDB_BLOCK_MAP, PE_C_PDB_BLOCK, PE_C_PDB_DIRECTORY of the directory; those of pe_c_pdb_stream for
+ * the info stream, PE_C_SHORT where it has fewer than 28 bytes, PE_C_PDB_INFO_VERSION. */
+uint32_t pe_c_pdb(const uint8_t *bytes, size_t length, pe_c_pdb_info *out) PE_C_RESULT(3);
+
+/* Returns PE_C_DONE where a PDB is that of an image with this key: its GUID and the age of its DBI stream are those of the key;
+ * PE_C_NOTHING where it is another one. The age of the info stream says nothing: tools raise it that change the PDB alone.
+ * Error: pdb->dbi_result, where the DBI stream is refused. */
+uint32_t pe_c_is_pdb_of(const pe_c_key *key, const pe_c_pdb_info *pdb) PE_C_RESULT(1, 2);
+
+/* Writes to the start of `room` where the directory lists the blocks of each stream: pdb->number_of_streams numbers. By them
+ * pe_c_pdb_stream opens a stream without the sizes of those before it: who opens many makes them once.
+ * Errors: those of the directory of pe_c_pdb; PE_C_ROOM. */
+uint32_t pe_c_pdb_starts(const uint8_t *bytes, size_t length, uint64_t *room, size_t entries, uint64_t *written)
+    PE_C_RESULT(5);
+
+/* Copies the stream with a number to the start of `room`. `starts` is what pe_c_pdb_starts wrote, or NULL and 0. With another
+ * start it copies other bytes of the file, or returns an error. A call reads the list of the directory's blocks and the blocks of
+ * the stream; without starts also the sizes of the streams before it.
+ * Errors: those of the directory of pe_c_pdb; PE_C_PDB_NO_STREAM; PE_C_PDB_STREAM_SIZE; PE_C_PDB_DIRECTORY where its blocks are not
+ * all listed; PE_C_PDB_BLOCK; PE_C_ROOM. */
+uint32_t pe_c_pdb_stream(const uint8_t *bytes, size_t length, const uint64_t *starts, size_t number_of_starts, uint32_t index,
+                         uint8_t *room, size_t room_length, uint64_t *written) PE_C_RESULT(8);
+
+/* Lists the modules, and moves the walk past them. `bytes` are those of the DBI stream, stream 3; the walk starts as
+ * pdb->modules.
+ * Errors: PE_C_ROOM where there are no entries; PE_C_SHORT where the walk is not inside the bytes, or fewer than 64 are left;
+ * PE_C_PDB_NAME. After another than PE_C_ROOM the walk is over. */
+uint32_t pe_c_list_pdb_modules(const uint8_t *bytes, size_t length, pe_c_range *walk, pe_c_pdb_module *entries,
+                               size_t number_of_entries, uint64_t *written) PE_C_RESULT(3, 6);
+
+/* Lists the records of symbols, and moves the walk past them: those of the stream of symbols, by a walk that starts as all of
+ * its bytes, or of the stream of a module, by one that starts as the `symbols` of the module. Public symbols and procedures are read;
+ * of other records, as those of variables and ends of scopes, there is no more than where they are. `sections` are the bytes of the
+ * stream pdb->section_headers. Of one record alone `result` says: PE_C_NOTHING without an RVA, since it is another record or in no
+ * section; PE_C_SHORT where its content is truncated; PE_C_PDB_NAME.
+ * Errors: PE_C_ROOM where there are no entries; PE_C_PDB_SECTION_HEADERS; PE_C_SHORT where the walk is not inside the bytes, or
+ * fewer than 4 are left; PE_C_PDB_RECORD_SIZE; PE_C_PDB_RECORD_TRUNCATED. After another than PE_C_ROOM the walk is over. */
+uint32_t pe_c_list_pdb_symbols(const uint8_t *bytes, size_t length, const uint8_t *sections, size_t sections_length,
+                               pe_c_range *walk, pe_c_pdb_symbol *entries, size_t number_of_entries, uint64_t *written)
+    PE_C_RESULT(5, 8);
+
+/* Makes an index of the symbols of a kind, PE_C_PDB_PUBLICS or PE_C_PDB_PROCEDURES, by their RVAs at the start of `room`, in
+ * ascending order. An entry is the RVA times 2^32 plus the offset of the record. `symbols` is a walk as of pe_c_list_pdb_symbols.
+ * Public symbols that are no functions, procedures without code and symbols without an RVA are left out. n records take n log n steps.
+ * Errors: PE_C_PDB_SECTION_HEADERS; PE_C_SHORT where the range is not inside the bytes; PE_C_PDB_SYMBOLS_SIZE; PE_C_SHORT,
+ * PE_C_PDB_RECORD_SIZE, PE_C_PDB_RECORD_TRUNCATED of a record; PE_C_ROOM. */
+uint32_t pe_c_pdb_index(uint32_t kind, const uint8_t *bytes, size_t length, const pe_c_range *symbols, const uint8_t *sections,
+                        size_t sections_length, uint64_t *room, size_t entries, uint64_t *written) PE_C_RESULT(4, 9);
+
+/* Finds the symbol of an RVA by an index that pe_c_pdb_index made of these bytes and sections: of PE_C_PDB_PUBLICS the last
+ * function that starts at or before the RVA, which may end before it; of PE_C_PDB_PROCEDURES the one whose code has the RVA. Of
+ * several at one RVA it is that of the last record. PE_C_NOTHING without one. It takes log n steps. By entries that do not ascend it
+ * finds some record, or none.
+ * Errors: PE_C_PDB_SECTION_HEADERS; those of the record that is found: PE_C_SHORT, PE_C_PDB_RECORD_SIZE,
+ * PE_C_PDB_RECORD_TRUNCATED. */
+uint32_t pe_c_find_pdb_symbol(uint32_t kind, const uint8_t *bytes, size_t length, const uint8_t *sections,
+                              size_t sections_length, const uint64_t *index, size_t entries, uint32_t rva, pe_c_pdb_symbol *out)
+    PE_C_RESULT(9);
 
 #ifdef __cplusplus
 }

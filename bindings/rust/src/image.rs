@@ -282,6 +282,44 @@ errors! {
     DUMP_CONTEXT_FLAGS = 559;
     /// Context of another machine.
     DUMP_MACHINE = 560;
+    /// A PDB 2.0, which has another layout.
+    PDB20 = 601;
+    /// A portable PDB of .NET, which has another layout.
+    PDB_PORTABLE = 602;
+    /// Not a PDB 7.0.
+    PDB_MAGIC = 603;
+    /// Invalid block size of a PDB.
+    PDB_BLOCK_SIZE = 604;
+    /// Blocks of a PDB end past the end of the file.
+    PDB_FILE_SIZE = 605;
+    /// Directory of a PDB larger than the file, or than its superblock can list.
+    PDB_BLOCK_MAP = 606;
+    /// Block of a PDB lies outside of the file.
+    PDB_BLOCK = 607;
+    /// Directory of a PDB too short for its streams.
+    PDB_DIRECTORY = 608;
+    /// PDB has no stream with this number.
+    PDB_NO_STREAM = 609;
+    /// Stream of a PDB has more blocks than the file.
+    PDB_STREAM_SIZE = 610;
+    /// Unknown version of the info stream of a PDB.
+    PDB_INFO_VERSION = 612;
+    /// DBI stream of a PDB does not start with -1.
+    PDB_DBI_SIGNATURE = 613;
+    /// Unknown version of the DBI stream of a PDB.
+    PDB_DBI_VERSION = 614;
+    /// Parts of the DBI stream of a PDB end past its end.
+    PDB_DBI_PARTS = 615;
+    /// Section headers of a PDB are not a multiple of 40 bytes.
+    PDB_SECTION_HEADERS = 616;
+    /// Record of a symbol smaller than its kind.
+    PDB_RECORD_SIZE = 617;
+    /// Record of a PDB ends past the end of its bytes.
+    PDB_RECORD_TRUNCATED = 618;
+    /// Name in a PDB not NUL-terminated or not UTF-8.
+    PDB_NAME = 619;
+    /// Symbols of a PDB have 4 GB or more.
+    PDB_SYMBOLS_SIZE = 622;
     // Of steps of a stack walk, which pe_core does not make.
     /// Eight bytes of memory are missing: [`StepError::Missing`](crate::StepError::Missing).
     MISSING = 102;

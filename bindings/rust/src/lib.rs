@@ -1,7 +1,7 @@
 //! Reads PE images (Windows .exe and .dll files) by a proved library: headers, debug data, certificates, x64 and ARM64
 //! unwind data, exports, imports, delay and bound imports, TLS callbacks, the load configuration, base relocations, the CLR
-//! header with its metadata, Rich headers, resources, version information and the manifest; also TE images, COFF objects and
-//! minidumps. It walks stacks, changes resources, and says what signatures say. For signing tools it says what a digest covers,
+//! header with its metadata, Rich headers, resources, version information and the manifest; also TE images, COFF objects,
+//! minidumps and program databases. It walks stacks, changes resources, and says what signatures say. For signing tools it says what a digest covers,
 //! and attaches and detaches certificates.
 //!
 //! The library is proved to return what its definitions say, for every byte string; this crate is a thin safe layer over
@@ -31,6 +31,7 @@
 //! | | [`resource_leaves`](Image::resource_leaves), [`resource_root`](Image::resource_root); to change them [`ResourceEditor`] | [.rsrc] |
 //! | other files | TE images [`Te`], COFF objects [`Coff`] | [PE Format] |
 //! | | minidumps [`Dump`], the stacks of one [`Stacks`] | |
+//! | | program databases [`Pdb`], names of functions [`Symbolizer`] | |
 //!
 //! [PE Format]: https://learn.microsoft.com/windows/win32/debug/pe-format
 //! [debug section]: https://learn.microsoft.com/windows/win32/debug/pe-format#the-debug-section
@@ -113,6 +114,7 @@ mod image;
 mod image_write;
 mod imports;
 mod load_config;
+mod pdb;
 mod relocations;
 mod resource_edit;
 mod resources;
@@ -127,6 +129,7 @@ mod signing;
 mod stack_walk;
 mod stacks;
 mod symbol_server;
+mod symbolizer;
 pub mod sys;
 mod te;
 mod tls;
@@ -161,6 +164,7 @@ pub use guard_tables::{GuardEntries, GuardEntry, GuardTable};
 pub use image::{DirectoryIndex, Error, Image, Layout, Mode};
 pub use imports::{AllImports, Import, Imports, Libraries, Library, LibraryImport};
 pub use load_config::{LoadConfig, LoadConfigField};
+pub use pdb::{Pdb, PdbModule, PdbSymbol};
 pub use relocations::{Relocation, RelocationBlock, RelocationBlocks, Relocations};
 pub use resource_edit::{ResourceContent, ResourceEditor, ResourceKey, ResourcePlace};
 pub use resources::{ResourceDirectory, ResourceItem, ResourceItems, ResourceLeaf, ResourceLeaves, ResourceName};
@@ -174,12 +178,13 @@ pub use signing::{Checksum, DigestRanges, Placement};
 pub use stack_walk::{End, Frame, Frames, MachineRegisters, Module, Way};
 pub use stacks::{DumpImage, DumpImages, DumpMemory, DumpStack, ImageSource, Stacks};
 pub use symbol_server::{Guid, SymbolPath};
+pub use symbolizer::{DamagedModule, SymbolFrame, Symbolizer};
 pub use sys::{
     Arm64Context, Arm64Function, Arm64Packed, Arm64Registers, Arm64Scope, CodeAddress, CoffHeader, Context, DebugEntry,
     Directory, DosHeader, DumpEntry, DumpException, DumpHandle, DumpInfo, DumpLocation, DumpModule, DumpPiece,
     DumpPower, DumpProcess, DumpRegion, DumpSystem, DumpThread, DumpThreadInfo, DumpThreadName, DumpThreadStack,
     DumpTimes, DumpUnloaded, DumpVersion, ExportFields, Function, Headers, ImageInfo, MemoryPiece, OptionalHeader,
-    Registers, Scope, Section, SymbolEntry, TeHeader, VcFeatures,
+    PdbInfo, Registers, Scope, Section, SymbolEntry, TeHeader, VcFeatures,
 };
 pub use te::{Te, TeDebugEntries};
 pub use tls::{Tls, TlsCallbacks};

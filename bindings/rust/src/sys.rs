@@ -2813,6 +2813,110 @@ pub struct Arm64Context {
 }
 const _: () = assert!(core::mem::size_of::<Arm64Context>() == 336);
 
+/// What a PDB says of itself.
+///
+/// Streams are numbers for [`pe_c_pdb_stream`], or 0xFFFF for none.
+#[repr(C)]
+#[derive(Clone, Copy, Debug, Default, PartialEq, Eq)]
+#[cfg_attr(feature = "serde", derive(serde::Serialize))]
+#[non_exhaustive]
+pub struct PdbInfo {
+    /// The GUID, as [`Key`] has it.
+    pub guid: [u8; 16],
+    /// A walk over the modules, at its start, in the DBI stream, stream 3.
+    pub modules: Range,
+    /// The section contributions in the DBI stream: which module has which code.
+    pub contributions: Range,
+    /// The version of the info stream, 20000404 in what linkers write.
+    pub version: u32,
+    /// When the PDB was made, in seconds since 1970, or a number of the linker's.
+    pub time_stamp: u32,
+    /// How often the PDB was written; it may be greater than that of the image.
+    pub age: u32,
+    /// The age that [`Key`] of the image has.
+    pub dbi_age: u32,
+    /// The size of a block in bytes.
+    pub block_size: u32,
+    /// How many blocks the file has.
+    pub number_of_blocks: u32,
+    /// How many streams it has.
+    pub number_of_streams: u32,
+    /// [`DONE`], or why the DBI stream is refused: then what is read of it is 0, and streams are none.
+    pub dbi_result: u32,
+    /// `IMAGE_FILE_MACHINE_` of the image.
+    pub machine: u16,
+    /// Bit 0: linked incrementally; bit 1: private symbols are stripped; bit 2: has types that contradict one another.
+    pub flags: u16,
+    /// The version of the linker: bit 15 is set, then 7 bits and 8 bits, major and minor.
+    pub build: u16,
+    /// The stream of symbols: those that are public, and global ones.
+    pub symbol_stream: u16,
+    /// The stream with the section headers of the image.
+    pub section_headers: u16,
+    /// Those before a tool moved the code of the image, by which symbols count then.
+    pub original_section_headers: u16,
+    /// Where an RVA was before that; no call reads it.
+    pub omap_to_source: u16,
+    /// Where an RVA of that is now; no call reads it.
+    pub omap_from_source: u16,
+}
+const _: () = assert!(core::mem::size_of::<PdbInfo>() == 96);
+
+/// A module, an object that was linked.
+#[repr(C)]
+#[derive(Clone, Copy, Debug, Default, PartialEq, Eq)]
+pub struct PdbModule {
+    /// In the DBI stream, without its final zero: the path of the object, or "* Linker *".
+    pub name: Range,
+    /// The path of the library that it is from, or of the object.
+    pub file: Range,
+    /// A walk over its symbols, at its start, in its stream.
+    pub symbols: Range,
+    /// Its lines in its stream.
+    pub lines: Range,
+    /// Where its first code is in the section.
+    pub code_offset: u32,
+    /// How many bytes that is.
+    pub code_size: u32,
+    /// The number of that section, from 1 on.
+    pub section: u16,
+    /// Bit 0: written since the last link; bit 1: edit and continue.
+    pub flags: u16,
+    /// Its stream, or 0xFFFF without debug information.
+    pub stream: u16,
+    /// How many source files it has.
+    pub number_of_files: u16,
+}
+const _: () = assert!(core::mem::size_of::<PdbModule>() == 80);
+
+/// The record of a symbol.
+#[repr(C)]
+#[derive(Clone, Copy, Debug, Default, PartialEq, Eq)]
+pub struct PdbSymbol {
+    /// The record: the number of the bytes after that number, its kind, its content.
+    pub record: Range,
+    /// UTF-8, without its final zero; of a public symbol as linkers have it, mangled; of a procedure as in the source;
+    /// no bytes of other records.
+    pub name: Range,
+    /// The RVA of a public symbol or procedure, where `result` is [`DONE`]; else 0.
+    pub rva: u32,
+    /// The size of a procedure's code in bytes; else 0.
+    pub size: u32,
+    /// The offset in its section.
+    pub section_offset: u32,
+    /// Of a public symbol bit 0: code; bit 1: a function; bit 2: managed code; bit 3: MSIL; of a procedure
+    /// `CV_PROCFLAGS`.
+    pub flags: u32,
+    /// The number of its section, from 1 on.
+    pub section: u16,
+    /// `S_PUB32` 0x110E; of procedures `S_LPROC32` 0x110F, `S_GPROC32` 0x1110, 0x1146, 0x1147; or another.
+    pub kind: u16,
+    /// [`DONE`]; [`NOTHING`] without an RVA; or the number of an error of this record alone, and then no other field
+    /// than the record and its kind is set.
+    pub result: u32,
+}
+const _: () = assert!(core::mem::size_of::<PdbSymbol>() == 56);
+
 #[rustfmt::skip]
 extern "C" {
     /// The number of the ABI is in the name of this call, and grows with each change that breaks callers.
@@ -4876,5 +4980,122 @@ extern "C" {
         found: *mut Range,
         found_count: usize,
         written: *mut u64,
+    ) -> u32;
+    /// Reads what a PDB says of itself.
+    ///
+    /// A DBI stream that is missing, as in PDBs of compilers, or damaged costs its own fields alone.
+    ///
+    /// Errors: [`Error::SHORT`] where there are fewer than 56 bytes; [`Error::PDB20`], [`Error::PDB_PORTABLE`],
+    /// [`Error::PDB_MAGIC`]; [`Error::PDB_BLOCK_SIZE`]; [`Error::PDB_FILE_SIZE`]; [`Error::PDB_BLOCK_MAP`],
+    /// [`Error::PDB_BLOCK`], [`Error::PDB_DIRECTORY`] of the directory; those of [`pe_c_pdb_stream`] for the info
+    /// stream, [`Error::SHORT`] where it has fewer than 28 bytes, [`Error::PDB_INFO_VERSION`].
+    pub fn pe_c_pdb(bytes: *const u8, length: usize, out: *mut PdbInfo) -> u32;
+    /// Returns [`DONE`] where a PDB is that of an image with this key: its GUID and the age of its DBI stream are those
+    /// of the key; [`NOTHING`] where it is another one.
+    ///
+    /// The age of the info stream says nothing: tools raise it that change the PDB alone.
+    ///
+    /// Error: `pdb->dbi_result`, where the DBI stream is refused.
+    pub fn pe_c_is_pdb_of(key: *const Key, pdb: *const PdbInfo) -> u32;
+    /// Writes to the start of `room` where the directory lists the blocks of each stream: `pdb->number_of_streams`
+    /// numbers.
+    ///
+    /// By them [`pe_c_pdb_stream`] opens a stream without the sizes of those before it: who opens many makes them once.
+    ///
+    /// Errors: those of the directory of [`pe_c_pdb`]; [`ROOM`].
+    pub fn pe_c_pdb_starts(bytes: *const u8, length: usize, room: *mut u64, entries: usize, written: *mut u64) -> u32;
+    /// Copies the stream with a number to the start of `room`.
+    ///
+    /// `starts` is what [`pe_c_pdb_starts`] wrote, or NULL and 0. With another start it copies other bytes of the file,
+    /// or returns an error. A call reads the list of the directory's blocks and the blocks of the stream; without
+    /// starts also the sizes of the streams before it.
+    ///
+    /// Errors: those of the directory of [`pe_c_pdb`]; [`Error::PDB_NO_STREAM`]; [`Error::PDB_STREAM_SIZE`];
+    /// [`Error::PDB_DIRECTORY`] where its blocks are not all listed; [`Error::PDB_BLOCK`]; [`ROOM`].
+    pub fn pe_c_pdb_stream(
+        bytes: *const u8,
+        length: usize,
+        starts: *const u64,
+        number_of_starts: usize,
+        index: u32,
+        room: *mut u8,
+        room_length: usize,
+        written: *mut u64,
+    ) -> u32;
+    /// Lists the modules, and moves the walk past them.
+    ///
+    /// `bytes` are those of the DBI stream, stream 3; the walk starts as `pdb->modules`.
+    ///
+    /// Errors: [`ROOM`] where there are no entries; [`Error::SHORT`] where the walk is not inside the bytes, or fewer
+    /// than 64 are left; [`Error::PDB_NAME`]. After another than [`ROOM`] the walk is over.
+    pub fn pe_c_list_pdb_modules(
+        bytes: *const u8,
+        length: usize,
+        walk: *mut Range,
+        entries: *mut PdbModule,
+        number_of_entries: usize,
+        written: *mut u64,
+    ) -> u32;
+    /// Lists the records of symbols, and moves the walk past them: those of the stream of symbols, by a walk that
+    /// starts as all of its bytes, or of the stream of a module, by one that starts as the `symbols` of the module.
+    ///
+    /// Public symbols and procedures are read; of other records, as those of variables and ends of scopes, there is no
+    /// more than where they are. `sections` are the bytes of the stream `pdb->section_headers`. Of one record alone
+    /// `result` says: [`NOTHING`] without an RVA, since it is another record or in no section; [`Error::SHORT`] where
+    /// its content is truncated; [`Error::PDB_NAME`].
+    ///
+    /// Errors: [`ROOM`] where there are no entries; [`Error::PDB_SECTION_HEADERS`]; [`Error::SHORT`] where the walk is
+    /// not inside the bytes, or fewer than 4 are left; [`Error::PDB_RECORD_SIZE`]; [`Error::PDB_RECORD_TRUNCATED`].
+    /// After another than [`ROOM`] the walk is over.
+    pub fn pe_c_list_pdb_symbols(
+        bytes: *const u8,
+        length: usize,
+        sections: *const u8,
+        sections_length: usize,
+        walk: *mut Range,
+        entries: *mut PdbSymbol,
+        number_of_entries: usize,
+        written: *mut u64,
+    ) -> u32;
+    /// Makes an index of the symbols of a kind, `PE_C_PDB_PUBLICS` or `PE_C_PDB_PROCEDURES`, by their RVAs at the start
+    /// of `room`, in ascending order.
+    ///
+    /// An entry is the RVA times 2^32 plus the offset of the record. `symbols` is a walk as of
+    /// [`pe_c_list_pdb_symbols`]. Public symbols that are no functions, procedures without code and symbols without an
+    /// RVA are left out. n records take n log n steps.
+    ///
+    /// Errors: [`Error::PDB_SECTION_HEADERS`]; [`Error::SHORT`] where the range is not inside the bytes;
+    /// [`Error::PDB_SYMBOLS_SIZE`]; [`Error::SHORT`], [`Error::PDB_RECORD_SIZE`], [`Error::PDB_RECORD_TRUNCATED`] of a
+    /// record; [`ROOM`].
+    pub fn pe_c_pdb_index(
+        kind: u32,
+        bytes: *const u8,
+        length: usize,
+        symbols: *const Range,
+        sections: *const u8,
+        sections_length: usize,
+        room: *mut u64,
+        entries: usize,
+        written: *mut u64,
+    ) -> u32;
+    /// Finds the symbol of an RVA by an index that [`pe_c_pdb_index`] made of these bytes and sections: of
+    /// `PE_C_PDB_PUBLICS` the last function that starts at or before the RVA, which may end before it; of
+    /// `PE_C_PDB_PROCEDURES` the one whose code has the RVA.
+    ///
+    /// Of several at one RVA it is that of the last record. [`NOTHING`] without one. It takes log n steps. By entries
+    /// that do not ascend it finds some record, or none.
+    ///
+    /// Errors: [`Error::PDB_SECTION_HEADERS`]; those of the record that is found: [`Error::SHORT`],
+    /// [`Error::PDB_RECORD_SIZE`], [`Error::PDB_RECORD_TRUNCATED`].
+    pub fn pe_c_find_pdb_symbol(
+        kind: u32,
+        bytes: *const u8,
+        length: usize,
+        sections: *const u8,
+        sections_length: usize,
+        index: *const u64,
+        entries: usize,
+        rva: u32,
+        out: *mut PdbSymbol,
     ) -> u32;
 }

@@ -2,7 +2,7 @@
 use Rattle.std.proofs.Common.{◌≡◌, ℕ, ◌-◌, ◌≤◌, sym, arith}
 use Rattle.std.specs.Prelude.{codes}
 use Rattle.std.proofs.lemmas.List.{get_or_past}
-use Rattle.pe_c.specs.Texts.{texts, refusal_text, other_texts, other_text, sign_texts, sign_text, edit_texts, edit_text, signature_texts, signature_text, dump_texts, dump_text}
+use Rattle.pe_c.specs.Texts.{texts, refusal_text, other_texts, other_text, sign_texts, sign_text, edit_texts, edit_text, signature_texts, signature_text, dump_texts, dump_text, pdb_texts, pdb_text}
 
 pub text_past : (n : ℕ) → 39 ≤ n → codes "unknown result" ≡ refusal_text n
 unfolding refusal_text
@@ -27,3 +27,7 @@ signature_text_past n h = sym (get_or_past signature_texts n (codes "unknown res
 pub dump_text_past : (n : ℕ) → 10 ≤ n → codes "unknown result" ≡ dump_text n
 unfolding dump_text
 dump_text_past n h = sym (get_or_past dump_texts n (codes "unknown result") (omega arith))
+
+pub pdb_text_past : (n : ℕ) → 22 ≤ n → codes "unknown result" ≡ pdb_text n
+unfolding pdb_text
+pdb_text_past n h = sym (get_or_past pdb_texts n (codes "unknown result") (omega arith))

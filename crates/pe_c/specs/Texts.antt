@@ -2,7 +2,7 @@
 -- `tools/make_errors` writes the list of errors.
 use Rattle.std.specs.Prelude.{ℕ, ◌-◌, nat_lt, List, [], ◌∷◌, slice_index_or, codes, if◌then◌else◌}
 use Rattle.pe_c.specs.declared.results.TheConstants.{NOTHING}
-use Rattle.pe_c.specs.declared.texts.TheConstants.{DIRECTORIES, DUMPS, EDITS, SIGNATURES, SIGNING, TREES}
+use Rattle.pe_c.specs.declared.texts.TheConstants.{DIRECTORIES, DUMPS, EDITS, PDBS, SIGNATURES, SIGNING, TREES}
 
 -- the texts of 0 and of the refusals, in the order of their numbers
 abbrev pub texts : List (List ℕ)
@@ -188,6 +188,37 @@ dump_texts =
 unfoldable pub dump_text : ℕ → List ℕ
 dump_text n = slice_index_or dump_texts n (codes "unknown result")
 
+-- the texts of the refusals of program databases, in the order of their numbers
+abbrev pub pdb_texts : List (List ℕ)
+pdb_texts =
+    codes "a PDB 2.0, which has another layout" ∷
+    codes "a portable PDB of .NET, which has another layout" ∷
+    codes "not a PDB 7.0" ∷
+    codes "invalid block size of a PDB" ∷
+    codes "blocks of a PDB end past the end of the file" ∷
+    codes "directory of a PDB larger than the file, or than its superblock can list" ∷
+    codes "block of a PDB lies outside of the file" ∷
+    codes "directory of a PDB too short for its streams" ∷
+    codes "PDB has no stream with this number" ∷
+    codes "stream of a PDB has more blocks than the file" ∷
+    codes "read past the end of a stream of a PDB" ∷
+    codes "unknown version of the info stream of a PDB" ∷
+    codes "DBI stream of a PDB does not start with -1" ∷
+    codes "unknown version of the DBI stream of a PDB" ∷
+    codes "parts of the DBI stream of a PDB end past its end" ∷
+    codes "section headers of a PDB are not a multiple of 40 bytes" ∷
+    codes "record of a symbol smaller than its kind" ∷
+    codes "record of a PDB ends past the end of its bytes" ∷
+    codes "name in a PDB not NUL-terminated or not UTF-8" ∷
+    codes "symbols of a module end past the end of its stream" ∷
+    codes "stream of a module does not start with 4" ∷
+    codes "symbols of a PDB have 4 GB or more" ∷
+    []
+
+-- the text of a refusal of a program database, by its number from 601 on
+unfoldable pub pdb_text : ℕ → List ℕ
+pdb_text n = slice_index_or pdb_texts n (codes "unknown result")
+
 -- the text of the number of a result
 unfoldable pub result_text : ℕ → List ℕ
 result_text n =
@@ -197,4 +228,5 @@ result_text n =
     else (if nat_lt n TREES then directory_text (n - DIRECTORIES)
     else (if nat_lt n EDITS then tree_text (n - TREES)
     else (if nat_lt n SIGNATURES then edit_text (n - EDITS)
-    else (if nat_lt n DUMPS then signature_text (n - SIGNATURES) else dump_text (n - DUMPS)))))))
+    else (if nat_lt n DUMPS then signature_text (n - SIGNATURES)
+    else (if nat_lt n PDBS then dump_text (n - DUMPS) else pdb_text (n - PDBS))))))))

@@ -54,6 +54,7 @@ mod near_exports;
 mod near_imports;
 mod near_map;
 mod overlay;
+mod pdb;
 mod plan;
 mod ranges;
 mod resource_edit;

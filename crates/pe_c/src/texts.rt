@@ -3,7 +3,7 @@
 ghost use Rattle.std.specs.Prelude.{◌≡◌, ◌≤◌, length};
 ghost use Rattle.pe_c.specs.EndedTexts.{truncated_text};
 ghost use Rattle.pe_c.specs.declared.results.TheConstants.{NOTHING};
-ghost use Rattle.pe_c.specs.Texts.{refusal_text, other_text, result_text, sign_text, directory_text, tree_text, edit_text, signature_text, dump_text};
+ghost use Rattle.pe_c.specs.Texts.{refusal_text, other_text, result_text, sign_text, directory_text, tree_text, edit_text, signature_text, dump_text, pdb_text};
 
 use crate::ended_texts::put_truncated;
 use crate::results::{
@@ -27,6 +27,9 @@ const SIGNATURES: u32 = 501;
 
 /// The number of the first error of minidumps.
 const DUMPS: u32 = 551;
+
+/// The number of the first error of program databases.
+const PDBS: u32 = 601;
 
 /// The text of 0 or of the number of an error. `tools/make_errors` writes the arms.
 #[tactic(auto, unfolding(crate::specs::Texts::refusal_text))]
@@ -222,6 +225,38 @@ fn dump_text(number: u32) -> &'static str
     }
 }
 
+/// The text of an error of a program database, by its number from `PDBS` on. `tools/make_errors` writes the arms.
+#[tactic(auto, unfolding(crate::specs::Texts::pdb_text))]
+fn pdb_text(number: u32) -> &'static str
+    ensures { result.now ≡ pdb_text number }
+{
+    match number {
+        0 => "a PDB 2.0, which has another layout",
+        1 => "a portable PDB of .NET, which has another layout",
+        2 => "not a PDB 7.0",
+        3 => "invalid block size of a PDB",
+        4 => "blocks of a PDB end past the end of the file",
+        5 => "directory of a PDB larger than the file, or than its superblock can list",
+        6 => "block of a PDB lies outside of the file",
+        7 => "directory of a PDB too short for its streams",
+        8 => "PDB has no stream with this number",
+        9 => "stream of a PDB has more blocks than the file",
+        10 => "read past the end of a stream of a PDB",
+        11 => "unknown version of the info stream of a PDB",
+        12 => "DBI stream of a PDB does not start with -1",
+        13 => "unknown version of the DBI stream of a PDB",
+        14 => "parts of the DBI stream of a PDB end past its end",
+        15 => "section headers of a PDB are not a multiple of 40 bytes",
+        16 => "record of a symbol smaller than its kind",
+        17 => "record of a PDB ends past the end of its bytes",
+        18 => "name in a PDB not NUL-terminated or not UTF-8",
+        19 => "symbols of a module end past the end of its stream",
+        20 => "stream of a module does not start with 4",
+        21 => "symbols of a PDB have 4 GB or more",
+        _ => "unknown result",
+    }
+}
+
 /// The text of the number of a result.
 #[tactic(auto, unfolding(crate::specs::Texts::result_text))]
 fn text_of(number: u32) -> &'static str
@@ -241,8 +276,10 @@ fn text_of(number: u32) -> &'static str
         edit_text(number - EDITS)
     } else if number < DUMPS {
         signature_text(number - SIGNATURES)
-    } else {
+    } else if number < PDBS {
         dump_text(number - DUMPS)
+    } else {
+        pdb_text(number - PDBS)
     }
 }
 

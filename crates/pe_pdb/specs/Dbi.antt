@@ -1,5 +1,5 @@
 -- The DBI stream: a header, and the parts whose sizes it has.
-use Rattle.std.specs.Prelude.{ℕ, ◌+◌, ◌*◌, ◌==◌, ◌&&◌, not, List, [], ◌∷◌, nat_le, Option, Some, None, Result, if◌then◌else◌}
+use Rattle.std.specs.Prelude.{ℕ, ◌+◌, ◌-◌, ◌*◌, ◌==◌, ◌&&◌, not, List, [], ◌∷◌, nat_le, Option, Some, None, Result, if◌then◌else◌}
 use Rattle.pe_core.specs.Bytes.{le, range, holds}
 use Rattle.pe_core.specs.Refusals.{outcome}
 use Rattle.pe_pdb.specs.Refusals.{PdbRefusal, Short, DbiSignature, DbiVersion, DbiParts}
@@ -69,6 +69,20 @@ dbi_parts b h = record {
   edit_names = range b (64 + h.modules_size + h.contributions_size + h.section_map_size + h.source_info_size + h.type_servers_size) h.edit_names_size;
   debug_header = range b (64 + h.modules_size + h.contributions_size + h.section_map_size + h.source_info_size + h.type_servers_size + h.edit_names_size) h.debug_header_size;
 }
+
+-- the header of a stream of n bytes that starts with these
+abbrev pub dbi_header_of : List ℕ → ℕ → Result DbiHeader PdbRefusal
+dbi_header_of b n =
+    outcome (
+    (holds b 0 64, Short)
+    ∷ (le b 0 4 == SIGNATURE, DbiSignature)
+    ∷ (nat_le VERSION (le b 4 4), DbiVersion)
+    ∷ (nat_le (64 + size_of_parts (dbi_header b)) n, DbiParts) ∷ []
+    ) (dbi_header b)
+
+-- where the last part starts, the numbers of streams with tables of the image
+abbrev pub debug_start : DbiHeader → ℕ
+debug_start h = 64 + (size_of_parts h - h.debug_header_size)
 
 -- the stream that has these bytes
 abbrev pub dbi_of : List ℕ → Result DbiView PdbRefusal

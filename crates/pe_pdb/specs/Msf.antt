@@ -58,9 +58,11 @@ view_of b s = record {
 abbrev pub word_of : MsfView → ℕ → ℕ
 word_of m i = directory_word m.bytes m.words i
 
--- the blocks that the superblock lists fit in it, and there is one
+-- the directory has no more blocks than the file, which has one, and the blocks that the superblock lists fit in it
 abbrev pub lists_map : MsfView → Bool
-lists_map m = nat_lt 0 m.blocks && nat_le (52 + 4 * blocks_for m.words (blocks_for m.words m.directory_words)) (4 * m.words)
+lists_map m =
+    nat_lt 0 m.blocks && nat_le (blocks_for m.words m.directory_words) m.blocks
+    && nat_le (52 + 4 * blocks_for m.words (blocks_for m.words m.directory_words)) (4 * m.words)
 
 -- every block of the directory, and of the list of its blocks, is one of the file
 abbrev pub has_directory : MsfView → Bool

@@ -1,7 +1,7 @@
 -- An index of symbols by their RVAs: its entries in ascending order.
-use Rattle.std.specs.Prelude.{◌≡◌, ℕ, ◌-◌, ◌%◌, ◌^◌, ◌<◌, ◌≤◌, List, [], ◌∷◌, length, nat_le, nat_lt, Option, Some, None, Result, Ok, Err, if◌then◌else◌}
+use Rattle.std.specs.Prelude.{◌≡◌, ℕ, ◌-◌, ◌%◌, ◌^◌, ◌<◌, ◌≤◌, List, [], ◌∷◌, drop, length, take, nat_le, nat_lt, Option, Some, None, Result, Ok, Err, if◌then◌else◌}
 use Rattle.std.specs.List.{All, Contains}
-use Rattle.std.specs.List.Sorted.{IsPermutation}
+use Rattle.std.specs.List.Sorted.{IsNonDecreasing, IsPermutation}
 use Rattle.pe_core.specs.Refusals.{outcome, ◌>>=◌}
 use Rattle.pe_pdb.specs.Refusals.{PdbRefusal, Room, pdb_kind_of}
 use Rattle.pe_pdb.specs.Procedures.{code_size_of}
@@ -19,6 +19,19 @@ in_room n defined = defined >>= λ xs. outcome ((nat_le (length xs) n, Room) ∷
 abbrev pub Indexes : Result (List ℕ) PdbRefusal → Result SymbolIndex PdbError → Type 0
 Indexes defined (Ok index) = (xs : List ℕ) × (defined ≡ Ok xs) × IsPermutation xs index.addresses.now
 Indexes defined (Err e) = defined ≡ Err (pdb_kind_of e)
+
+-- the entries, sorted, at the start of a room, whose rest is unchanged; where there is no room for them, and after a refusal, nothing
+-- changes
+abbrev pub PutsIndex : Result (List ℕ) PdbRefusal → List ℕ → List ℕ → Result (Result ℕ ℕ) PdbError → Type 0
+PutsIndex defined old new (Ok (Ok n)) =
+    (xs : List ℕ) × (defined ≡ Ok xs) × (n ≡ length xs) × IsPermutation xs (take n new) × IsNonDecreasing (take n new)
+    × (length new ≡ length old) × (drop n new ≡ drop n old)
+PutsIndex defined old new (Ok (Err n)) = (xs : List ℕ) × (defined ≡ Ok xs) × (n ≡ length xs) × (length old < n) × (new ≡ old)
+PutsIndex defined old new (Err e) = (defined ≡ Err (pdb_kind_of e)) × (new ≡ old)
+
+-- the same of a room of as many entries
+abbrev pub PutsSorted : Result (List ℕ) PdbRefusal → List ℕ → List ℕ → Type 0
+PutsSorted defined old new = (xs : List ℕ) × (defined ≡ Ok xs) × IsPermutation xs new × IsNonDecreasing new × (length new ≡ length old)
 
 -- the symbol of an entry
 abbrev pub symbol_address : ℕ → SymbolAddress

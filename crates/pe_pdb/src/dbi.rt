@@ -4,9 +4,9 @@
 //!
 //! The part that stands last in the header, names for edit and continue, comes before the part that stands before it.
 
-ghost use Rattle.std.specs.Prelude.{◌≡◌, ◌+◌, ◌≤◌, ◌^◌, ◌<◌, length};
+ghost use Rattle.std.specs.Prelude.{◌≡◌, ◌+◌, ◌≤◌, ◌^◌, ◌<◌, IfOk, length};
 ghost use Rattle.pe_core.specs.Bytes.{range};
-ghost use Rattle.pe_pdb.specs.Dbi.{dbi_header, dbi_of, dbi_parts, dbi_view, debug_stream, size_of_parts};
+ghost use Rattle.pe_pdb.specs.Dbi.{dbi_header, dbi_header_of, dbi_of, dbi_parts, dbi_view, debug_start, debug_stream, size_of_parts};
 ghost use Rattle.pe_pdb.specs.Refusals.{PdbReturns};
 
 use crate::error::{PdbError, Result};
@@ -131,6 +131,41 @@ impl DbiHeader {
         }
     }
 
+    /// The header of a stream of so many bytes that starts with these. Errors, in order: `Short` if these are fewer than 64;
+    /// `DbiSignature`; `DbiVersion`; `DbiParts`.
+    pub fn parse(head: &[u8], length: usize) -> Result<DbiHeader>
+        ensures value { PdbReturns (λ h. h) result (dbi_header_of head.now length) }
+        ensures inside { IfOk result (λ h. 64 + size_of_parts h ≤ length) }
+    {
+        if head.len() < SIZE_OF_HEADER {
+            return Err(PdbError::Short {
+                needed: SIZE_OF_HEADER,
+                length: head.len(),
+            });
+        }
+        let signature = read_u32(head, 0);
+        if signature != SIGNATURE {
+            return Err(PdbError::DbiSignature(signature));
+        }
+        let version = read_u32(head, 4);
+        if version < VERSION {
+            return Err(PdbError::DbiVersion(version));
+        }
+        let header = DbiHeader::at(head);
+        let needed = SIZE_OF_HEADER + header.size_of_parts();
+        if length < needed {
+            return Err(PdbError::DbiParts { needed, length });
+        }
+        Ok(header)
+    }
+
+    /// Where the numbers of the streams of debug data start in the stream. They are its last part.
+    pub fn debug_start(&self) -> usize
+        ensures { result ≡ debug_start self.now }
+    {
+        SIZE_OF_HEADER + (self.size_of_parts() - self.debug_header_size as usize)
+    }
+
     /// How many bytes its parts have.
     fn size_of_parts(&self) -> usize
         ensures value { result ≡ size_of_parts self.now }
@@ -186,43 +221,29 @@ impl<'a> Dbi<'a> {
     pub fn parse(bytes: &'a [u8]) -> Result<Dbi<'a>>
         ensures { PdbReturns dbi_view result (dbi_of bytes.entry.now) }
     {
-        if bytes.len() < SIZE_OF_HEADER {
-            return Err(PdbError::Short {
-                needed: SIZE_OF_HEADER,
-                length: bytes.len(),
-            });
-        }
-        let signature = read_u32(bytes, 0);
-        if signature != SIGNATURE {
-            return Err(PdbError::DbiSignature(signature));
-        }
-        let version = read_u32(bytes, 4);
-        if version < VERSION {
-            return Err(PdbError::DbiVersion(version));
-        }
-        let header = DbiHeader::at(bytes);
-        let needed = SIZE_OF_HEADER + header.size_of_parts();
-        if bytes.len() < needed {
-            return Err(PdbError::DbiParts {
-                needed,
-                length: bytes.len(),
-            });
-        }
+        let header = DbiHeader::parse(bytes, bytes.len())?;
         Ok(Dbi::with_header(bytes, header))
     }
 
     /// The stream with a table of the image, by `DEBUG_*`. `None` where the PDB has none.
-    #[tactic(auto, unfolding(crate::specs::Dbi::debug_stream))]
     pub fn debug_stream(&self, table: usize) -> Option<u16>
         ensures { result ≡ debug_stream self.now.debug_header.now table }
     {
-        if table >= self.debug_header.len() / 2 {
-            return None;
-        }
-        let stream = read_u16(self.debug_header, 2 * table);
-        if stream == NO_STREAM {
-            return None;
-        }
-        Some(stream)
+        debug_stream(self.debug_header, table)
     }
+}
+
+/// The same, of the numbers of these streams.
+#[tactic(auto, unfolding(crate::specs::Dbi::debug_stream))]
+pub fn debug_stream(numbers: &[u8], table: usize) -> Option<u16>
+    ensures { result ≡ debug_stream numbers.now table }
+{
+    if table >= numbers.len() / 2 {
+        return None;
+    }
+    let stream = read_u16(numbers, 2 * table);
+    if stream == NO_STREAM {
+        return None;
+    }
+    Some(stream)
 }

@@ -27,9 +27,9 @@ pub enum PdbError {
         blocks: u32,
         length: usize,
     },
-    /// The blocks that list the blocks of the directory are more than the superblock has room for: the size of the directory in
-    /// bytes.
-    #[error("directory of {0} bytes is larger than the superblock can list")]
+    /// The directory has more blocks than the file, or the blocks that list them are more than the superblock has room for: the
+    /// size of the directory in bytes.
+    #[error("directory of {0} bytes is larger than the file, or than the superblock can list")]
     BlockMap(u32),
     /// A block of the directory, of its list, or of a stream is not in the file: how many blocks the file has.
     #[error("a block lies outside of the file, which has {0} blocks")]

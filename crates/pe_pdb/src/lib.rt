@@ -40,7 +40,7 @@ mod symbol_lookup;
 
 pub use dbi::{
     DBI_STREAM, DEBUG_FPO, DEBUG_OMAP_FROM_SOURCE, DEBUG_OMAP_TO_SOURCE,
-    DEBUG_ORIGINAL_SECTION_HEADERS, DEBUG_SECTION_HEADERS, Dbi, DbiHeader, NO_STREAM,
+    DEBUG_ORIGINAL_SECTION_HEADERS, DEBUG_SECTION_HEADERS, Dbi, DbiHeader, NO_STREAM, debug_stream,
 };
 pub use error::{PdbError, Result};
 pub use file::Msf;
@@ -59,4 +59,4 @@ pub use stream::Stream;
 pub use symbol::{SymbolRecord, SymbolRecords};
 pub use symbol_entries::SymbolClass;
 pub use symbol_index::SymbolIndex;
-pub use symbol_lookup::SymbolAddress;
+pub use symbol_lookup::{SymbolAddress, covering_address, nearest_address, put_symbol_index};

@@ -185,8 +185,8 @@ impl<'a> BlockMap<'a> {
 }
 
 impl<'a> Msf<'a> {
-    /// The file. Errors, in order: those of `SuperBlock::parse`; `BlockMap` if the superblock has no room for the blocks that list
-    /// the blocks of the directory; `Block` if one of these, or a block of the directory, is not in the file; `Directory` if the
+    /// The file. Errors, in order: those of `SuperBlock::parse`; `BlockMap` if the directory has more blocks than the file, or
+    /// the superblock no room for the blocks that list them; `Block` if one of these, or a block of the directory, is not in the file; `Directory` if the
     /// directory is too short for the sizes of its streams.
     pub fn parse(bytes: &'a [u8]) -> Result<Msf<'a>>
         ensures { PdbReturns msf_view result (msf_of bytes.entry.now) }
@@ -207,7 +207,7 @@ impl<'a> Msf<'a> {
         let directory_words = header.directory_size as usize / 4;
         let count = directory_words.div_ceil(words);
         let maps = count.div_ceil(words);
-        if blocks == 0 || MAP_OFFSET + 4 * maps > 4 * words {
+        if blocks == 0 || (blocks as usize) < count || MAP_OFFSET + 4 * maps > 4 * words {
             return Err(PdbError::BlockMap(header.directory_size));
         }
         if !map_below(bytes, blocks, maps) {

@@ -3,12 +3,12 @@
 //!
 //! Procedures of several modules have one index where their symbols stand in one room, one module after the other.
 
-ghost use Rattle.std.specs.Prelude.{◌≡◌, ℕ, List, length};
-ghost use Rattle.std.specs.List.Sorted.{IsPermutation};
+ghost use Rattle.std.specs.Prelude.{◌≡◌, ℕ, List, Ok, length};
+ghost use Rattle.std.specs.List.Sorted.{IsNonDecreasing, IsPermutation};
 ghost use Rattle.pe_pdb.specs.Refusals.{PdbReturns};
 ghost use Rattle.pe_pdb.specs.SymbolEntries.{addresses, count_of};
 ghost use Rattle.pe_pdb.specs.Symbols.{symbol_at};
-ghost use Rattle.pe_pdb.specs.SymbolIndexes.{Covering, Indexes, Nearest, code_size, in_room};
+ghost use Rattle.pe_pdb.specs.SymbolIndexes.{Covering, Indexes, Nearest, PutsIndex, PutsSorted, code_size, in_room};
 
 use crate::error::{PdbError, Result};
 use crate::procedure::code_size_of;
@@ -86,28 +86,78 @@ impl<'r> SymbolIndex<'r> {
     pub fn nearest(&self, rva: u32) -> Option<SymbolAddress>
         ensures { (xs : List ℕ) → IsPermutation xs self.now.addresses.now → Nearest xs rva result }
     {
-        let rva = u64::from(rva);
-        let after = self
-            .addresses
-            .partition_point(|address| *address / UNIT <= rva);
-        if after == 0 {
-            return None;
-        }
-        let address = self.addresses[after - 1];
-        Some(SymbolAddress {
-            rva: (address / UNIT) as u32,
-            record_offset: (address % UNIT) as u32,
-        })
+        nearest_address(self.addresses, rva)
     }
+
     /// The procedure whose code has an RVA: the nearest one, if it reaches there. The bytes are those of which the index was
     /// made. `None` where no code of a procedure is, as in functions without debug information.
     pub fn covering(&self, bytes: &[u8], rva: u32) -> Option<SymbolAddress>
         ensures { (xs : List ℕ) → IsPermutation xs self.now.addresses.now → Covering xs bytes.now rva result }
     {
-        let found = self.nearest(rva)?;
-        if rva.saturating_sub(found.rva) < code_size(bytes, found.record_offset as usize) {
-            return Some(found);
-        }
-        None
+        covering_address(self.addresses, bytes, rva)
     }
+}
+
+/// Writes the entries of an index, sorted, to the start of a room, and returns how many there are; the rest of the room is unchanged. `Err`
+/// of that number where the room has fewer; then nothing changes. An entry is an RVA, and below that, 32 bits, the offset of the
+/// record that has it. Errors, which change nothing: those of `SymbolIndex::count`.
+pub fn put_symbol_index(
+    class: SymbolClass,
+    bytes: &[u8],
+    start: usize,
+    sections: &SectionHeaders<'_>,
+    room: &mut [u64],
+) -> Result<std::result::Result<usize, usize>>
+    ensures { PutsIndex (addresses class bytes.now start sections.now.bytes.now) room.old room.new result }
+{
+    let count = SymbolIndex::count(class, bytes, start, sections)?;
+    if room.len() < count {
+        return Ok(Err(count));
+    }
+    put_sorted(class, bytes, start, sections, room.split_at_mut(count).0);
+    Ok(Ok(count))
+}
+
+/// Writes them to a room of as many entries.
+fn put_sorted(
+    class: SymbolClass,
+    bytes: &[u8],
+    start: usize,
+    sections: &SectionHeaders<'_>,
+    room: &mut [u64],
+)
+    requires { count_of (addresses class bytes.now start sections.now.bytes.now) ≡ Ok (length room.old) }
+    ensures { PutsSorted (addresses class bytes.now start sections.now.bytes.now) room.old room.new }
+{
+    if let Ok(_) = put_addresses(class, bytes, start, sections, room) {
+        room.sort_unstable();
+    }
+}
+
+/// What `SymbolIndex::nearest` finds in the entries of an index. Where entries do not ascend, which those of an index do, what is found
+/// is left open.
+pub fn nearest_address(entries: &[u64], rva: u32) -> Option<SymbolAddress>
+    ensures { IsNonDecreasing entries.now → (xs : List ℕ) → IsPermutation xs entries.now → Nearest xs rva result }
+{
+    let rva = u64::from(rva);
+    let after = entries.partition_point(|address| *address / UNIT <= rva);
+    if after == 0 {
+        return None;
+    }
+    let address = entries[after - 1];
+    Some(SymbolAddress {
+        rva: (address / UNIT) as u32,
+        record_offset: (address % UNIT) as u32,
+    })
+}
+
+/// What `SymbolIndex::covering` finds in the entries of an index of procedures.
+pub fn covering_address(entries: &[u64], bytes: &[u8], rva: u32) -> Option<SymbolAddress>
+    ensures { IsNonDecreasing entries.now → (xs : List ℕ) → IsPermutation xs entries.now → Covering xs bytes.now rva result }
+{
+    let found = nearest_address(entries, rva)?;
+    if rva.saturating_sub(found.rva) < code_size(bytes, found.record_offset as usize) {
+        return Some(found);
+    }
+    None
 }

@@ -229,6 +229,50 @@ class Kind(enum.IntEnum):
     """context without control or integer registers"""
     DUMP_MACHINE = 560
     """context of another machine"""
+    PDB20 = 601
+    """a PDB 2.0, which has another layout"""
+    PDB_PORTABLE = 602
+    """a portable PDB of .NET, which has another layout"""
+    PDB_MAGIC = 603
+    """not a PDB 7.0"""
+    PDB_BLOCK_SIZE = 604
+    """invalid block size of a PDB"""
+    PDB_FILE_SIZE = 605
+    """blocks of a PDB end past the end of the file"""
+    PDB_BLOCK_MAP = 606
+    """directory of a PDB larger than the file, or than its superblock can list"""
+    PDB_BLOCK = 607
+    """block of a PDB lies outside of the file"""
+    PDB_DIRECTORY = 608
+    """directory of a PDB too short for its streams"""
+    PDB_NO_STREAM = 609
+    """PDB has no stream with this number"""
+    PDB_STREAM_SIZE = 610
+    """stream of a PDB has more blocks than the file"""
+    PDB_OUTSIDE = 611
+    """read past the end of a stream of a PDB"""
+    PDB_INFO_VERSION = 612
+    """unknown version of the info stream of a PDB"""
+    PDB_DBI_SIGNATURE = 613
+    """DBI stream of a PDB does not start with -1"""
+    PDB_DBI_VERSION = 614
+    """unknown version of the DBI stream of a PDB"""
+    PDB_DBI_PARTS = 615
+    """parts of the DBI stream of a PDB end past its end"""
+    PDB_SECTION_HEADERS = 616
+    """section headers of a PDB are not a multiple of 40 bytes"""
+    PDB_RECORD_SIZE = 617
+    """record of a symbol smaller than its kind"""
+    PDB_RECORD_TRUNCATED = 618
+    """record of a PDB ends past the end of its bytes"""
+    PDB_NAME = 619
+    """name in a PDB not NUL-terminated or not UTF-8"""
+    PDB_MODULE_SYMBOLS = 620
+    """symbols of a module end past the end of its stream"""
+    PDB_MODULE_SIGNATURE = 621
+    """stream of a module does not start with 4"""
+    PDB_SYMBOLS_SIZE = 622
+    """symbols of a PDB have 4 GB or more"""
     OTHER = -1
     """a number that this version does not know"""
 

@@ -1,0 +1,350 @@
+//! Program databases (PDB 7.0): files with the names and lines of an image that was linked with debug information. A PDB has streams,
+//! scattered over blocks of the file: one says which PDB it is, one what the linker knows of the image, one has the symbols that all
+//! objects see, and each module, an object that was linked, has one with its own. See [LLVM's pages](https://llvm.org/docs/PDB/).
+//!
+//! A stream is copied when it is read. Each is read alone: one that is damaged is an error of what is read of it.
+//! [`Symbolizer`](crate::Symbolizer) names the function of an RVA.
+
+use crate::coff::room_for;
+use crate::debug::SymbolKey;
+use crate::image::{bytes_of, text_of, Error};
+use crate::symbol_server::Guid;
+use crate::sys::{self, PdbInfo, Range};
+use alloc::string::String;
+use alloc::vec::Vec;
+use core::fmt;
+
+/// The DBI stream.
+const DBI_STREAM: u32 = 3;
+/// The number of no stream.
+const NO_STREAM: u16 = 0xFFFF;
+/// What an index has: public functions, or procedures.
+pub(crate) const PUBLICS: u32 = 0;
+pub(crate) const PROCEDURES: u32 = 1;
+/// How many records a call lists.
+const AT_ONCE: usize = 64;
+
+/// A PDB.
+///
+/// ```no_run
+/// # fn main() -> Result<(), Box<dyn std::error::Error>> {
+/// let bytes = std::fs::read("app.pdb")?;
+/// let pdb = pe_c::Pdb::parse(&bytes)?;
+/// println!("{}", pdb.key("app.pdb"));
+/// for frame in pdb.symbolizer()?.frames(0x1071) {
+///     println!("{}+{:#x}", frame.name, frame.offset);
+/// }
+/// # Ok(())
+/// # }
+/// ```
+#[derive(Clone)]
+pub struct Pdb<'a> {
+    bytes: &'a [u8],
+    info: PdbInfo,
+    starts: Vec<u64>,
+}
+
+impl fmt::Debug for Pdb<'_> {
+    fn fmt(&self, f: &mut fmt::Formatter<'_>) -> fmt::Result {
+        f.debug_struct("Pdb").field("info", &self.info).finish_non_exhaustive()
+    }
+}
+
+/// A module of a PDB, an object that was linked.
+#[derive(Clone, Debug, PartialEq, Eq)]
+#[cfg_attr(feature = "serde", derive(serde::Serialize))]
+#[non_exhaustive]
+pub struct PdbModule {
+    /// The path of the object, or `* Linker *`. What is not UTF-8 is U+FFFD.
+    pub name: String,
+    /// The path of the library that it is from, or of the object.
+    pub file: String,
+    /// Its stream. `None` without debug information.
+    pub stream: Option<u16>,
+    /// The size of its symbols in bytes.
+    pub symbols_size: u32,
+    /// The size of its lines in bytes.
+    pub lines_size: u32,
+    /// The number of its source files.
+    pub number_of_files: u16,
+    /// The number of the section of its first code, from 1 on.
+    pub section: u16,
+    /// Where that is in the section.
+    pub code_offset: u32,
+    /// How many bytes that is.
+    pub code_size: u32,
+    #[cfg_attr(feature = "serde", serde(skip))]
+    symbols: Range,
+}
+
+/// A public symbol or a procedure of a PDB.
+#[derive(Clone, Debug, PartialEq, Eq)]
+#[cfg_attr(feature = "serde", derive(serde::Serialize))]
+#[non_exhaustive]
+pub struct PdbSymbol {
+    /// Of a public symbol as linkers have it: those of C++ and Rust mangled; of a procedure as in the source. Empty after an error.
+    pub name: String,
+    /// Its RVA. `None` in no section of the image, as of numbers that have names.
+    pub rva: Option<u32>,
+    /// The size of a procedure's code in bytes. 0 of a public symbol, which does not say it.
+    pub size: u32,
+    /// Whether it is a function: any procedure, and a public symbol that says so.
+    pub is_function: bool,
+    /// What its record says: `S_PUB32` 0x110E, `S_LPROC32` 0x110F, `S_GPROC32` 0x1110, and of objects 0x1146 and 0x1147.
+    pub kind: u16,
+    /// The number of its section, from 1 on.
+    pub section: u16,
+    /// The offset in the section.
+    pub section_offset: u32,
+    /// Why the record is refused: it is truncated, or its name is not UTF-8.
+    pub error: Option<Error>,
+}
+
+/// The kind of the record of a public symbol.
+const S_PUB32: u16 = 0x110E;
+
+/// The kinds of those of procedures.
+const PROCEDURE_KINDS: [u16; 4] = [0x110F, 0x1110, 0x1146, 0x1147];
+
+impl PdbSymbol {
+    fn of(found: &sys::PdbSymbol, bytes: &[u8]) -> Result<PdbSymbol, Error> {
+        let is_public = found.kind == S_PUB32;
+        Ok(PdbSymbol {
+            name: text_of(found.name, bytes)?.into(),
+            rva: (found.result == sys::DONE).then_some(found.rva),
+            size: found.size,
+            is_function: !is_public || found.flags & 2 != 0,
+            kind: found.kind,
+            section: found.section,
+            section_offset: found.section_offset,
+            error: match found.result {
+                sys::DONE | sys::NOTHING => None,
+                number => Some(Error::with_number(number)),
+            },
+        })
+    }
+}
+
+/// A stream of a number, unless that is none.
+fn stream_number(number: u16) -> Option<u16> {
+    (number != NO_STREAM).then_some(number)
+}
+
+impl<'a> Pdb<'a> {
+    /// Reads what the file says of itself, and where the directory lists the streams.
+    ///
+    /// # Errors
+    ///
+    /// [`Error::SHORT`]; [`Error::PDB20`], [`Error::PDB_PORTABLE`], [`Error::PDB_MAGIC`]; [`Error::PDB_BLOCK_SIZE`];
+    /// [`Error::PDB_FILE_SIZE`]; [`Error::PDB_BLOCK_MAP`], [`Error::PDB_BLOCK`], [`Error::PDB_DIRECTORY`]; of the info stream
+    /// [`Error::PDB_NO_STREAM`], [`Error::PDB_STREAM_SIZE`], [`Error::PDB_INFO_VERSION`]; [`Error::MEMORY`] where there is no memory for 8
+    /// bytes for each stream.
+    pub fn parse(bytes: &'a [u8]) -> Result<Self, Error> {
+        let mut info = PdbInfo::default();
+        // SAFETY: the pointer and the length are those of one slice; the record is lent for the call.
+        Error::of(unsafe { sys::pe_c_pdb(bytes.as_ptr(), bytes.len(), &mut info) })?;
+        let (mut starts, mut written) = (room_for(info.number_of_streams as usize, 0u64)?, 0);
+        // SAFETY: as above, and the room is an array of so many numbers.
+        Error::of(unsafe {
+            let (room, entries) = (starts.as_mut_ptr(), starts.len());
+            sys::pe_c_pdb_starts(bytes.as_ptr(), bytes.len(), room, entries, &mut written)
+        })?;
+        Ok(Pdb { bytes, info, starts })
+    }
+
+    /// The bytes of the file.
+    pub fn bytes(&self) -> &'a [u8] {
+        self.bytes
+    }
+
+    /// What the file says of itself. Where its DBI stream is refused `dbi_result` is not 0.
+    pub fn info(&self) -> &PdbInfo {
+        &self.info
+    }
+
+    /// Why the DBI stream is refused: then there are no modules, no symbols, and no key.
+    ///
+    /// # Errors
+    ///
+    /// The error of the stream: [`Error::PDB_NO_STREAM`], [`Error::PDB_STREAM_SIZE`], [`Error::PDB_DIRECTORY`], [`Error::PDB_BLOCK`];
+    /// [`Error::SHORT`]; [`Error::PDB_DBI_SIGNATURE`]; [`Error::PDB_DBI_VERSION`]; [`Error::PDB_DBI_PARTS`].
+    pub fn dbi(&self) -> Result<(), Error> {
+        Error::of(self.info.dbi_result)
+    }
+
+    /// Whether a tool moved the code of the image after it was linked (OMAP). Then RVAs of symbols are those before that, and are not
+    /// those of the image: nothing here maps them.
+    pub fn is_moved(&self) -> bool {
+        stream_number(self.info.omap_from_source).is_some()
+    }
+
+    /// The key by which an image names a PDB of this file name, with its path on a symbol server. A PDB does not know its own name.
+    pub fn key<'n>(&self, file_name: &'n str) -> SymbolKey<'n> {
+        SymbolKey::new(Guid(self.info.guid), self.info.dbi_age, file_name.as_bytes())
+    }
+
+    /// Whether it is the PDB of an image with this key: by the GUID and the age of the DBI stream. `false` where that is refused.
+    pub fn matches(&self, key: &SymbolKey<'_>) -> bool {
+        let key = sys::Key { guid: key.guid.0, age: key.age, ..sys::Key::default() };
+        // SAFETY: both records are lent for the call.
+        unsafe { sys::pe_c_is_pdb_of(&key, &self.info) == sys::DONE }
+    }
+
+    /// A copy of the stream with a number.
+    ///
+    /// # Errors
+    ///
+    /// [`Error::PDB_NO_STREAM`]; [`Error::PDB_STREAM_SIZE`]; [`Error::PDB_DIRECTORY`]; [`Error::PDB_BLOCK`]; [`Error::MEMORY`].
+    pub fn stream(&self, number: u32) -> Result<Vec<u8>, Error> {
+        let mut room = Vec::new();
+        match self.copy(number, &mut room) {
+            (sys::ROOM, length) => room = room_for(usize::try_from(length).map_err(|_| Error::MEMORY)?, 0u8)?,
+            (number, _) => return Error::of(number).map(|()| room),
+        }
+        Error::of(self.copy(number, &mut room).0).map(|()| room)
+    }
+
+    fn copy(&self, number: u32, room: &mut [u8]) -> (u32, u64) {
+        let (starts, mut written) = (&self.starts, 0);
+        // SAFETY: the pointers and lengths are those of slices; the room overlaps none of them, and all are lent for the call.
+        let result = unsafe {
+            let (bytes, length) = (self.bytes.as_ptr(), self.bytes.len());
+            let (room, room_length) = (room.as_mut_ptr(), room.len());
+            sys::pe_c_pdb_stream(
+                bytes,
+                length,
+                starts.as_ptr(),
+                starts.len(),
+                number,
+                room,
+                room_length,
+                &mut written,
+            )
+        };
+        (result, written)
+    }
+
+    /// The modules, in the order of the DBI stream.
+    ///
+    /// # Errors
+    ///
+    /// Those of [`Pdb::dbi`]; [`Error::SHORT`], [`Error::PDB_NAME`]; [`Error::MEMORY`].
+    pub fn modules(&self) -> Result<Vec<PdbModule>, Error> {
+        self.dbi()?;
+        let dbi = self.stream(DBI_STREAM)?;
+        let mut modules = Vec::new();
+        let mut walk = self.info.modules;
+        let mut entries = room_for(AT_ONCE, sys::PdbModule::default())?;
+        loop {
+            let mut written = 0;
+            // SAFETY: the pointers and lengths are those of slices, the walk and the number are lent for the call.
+            Error::of(unsafe {
+                let (room, count) = (entries.as_mut_ptr(), entries.len());
+                sys::pe_c_list_pdb_modules(dbi.as_ptr(), dbi.len(), &mut walk, room, count, &mut written)
+            })?;
+            if written == 0 {
+                return Ok(modules);
+            }
+            for module in entries.iter().take(written as usize) {
+                modules.push(module_of(module, &dbi)?);
+            }
+        }
+    }
+
+    /// The section headers of the image, no bytes without them: then no symbol has an RVA.
+    pub(crate) fn section_headers(&self) -> Result<Vec<u8>, Error> {
+        self.dbi()?;
+        match stream_number(self.info.section_headers) {
+            Some(number) => self.stream(number.into()),
+            None => Ok(Vec::new()),
+        }
+    }
+
+    /// The stream of symbols that all objects see, no bytes without one.
+    pub(crate) fn symbol_stream(&self) -> Result<Vec<u8>, Error> {
+        self.dbi()?;
+        match stream_number(self.info.symbol_stream) {
+            Some(number) => self.stream(number.into()),
+            None => Ok(Vec::new()),
+        }
+    }
+
+    /// The public symbols, in the order of their records.
+    ///
+    /// # Errors
+    ///
+    /// Those of [`Pdb::dbi`] and [`Pdb::stream`]; [`Error::PDB_SECTION_HEADERS`]; [`Error::SHORT`], [`Error::PDB_RECORD_SIZE`],
+    /// [`Error::PDB_RECORD_TRUNCATED`] where a record is not whole.
+    pub fn publics(&self) -> Result<Vec<PdbSymbol>, Error> {
+        let bytes = self.symbol_stream()?;
+        let all = Range { offset: 0, length: bytes.len() as u64 };
+        self.symbols(&bytes, all, &[S_PUB32])
+    }
+
+    /// The procedures of a module, in the order of their records. None of a module without a stream.
+    ///
+    /// # Errors
+    ///
+    /// Those of [`Pdb::publics`]; [`Error::SHORT`] where its symbols end past its stream.
+    pub fn procedures(&self, module: &PdbModule) -> Result<Vec<PdbSymbol>, Error> {
+        let Some(stream) = module.stream else { return Ok(Vec::new()) };
+        let bytes = self.stream(stream.into())?;
+        self.symbols(&bytes, module.symbols, &PROCEDURE_KINDS)
+    }
+
+    /// The symbols of these kinds.
+    fn symbols(&self, bytes: &[u8], mut walk: Range, kinds: &[u16]) -> Result<Vec<PdbSymbol>, Error> {
+        let sections = self.section_headers()?;
+        let mut symbols = Vec::new();
+        let mut entries = room_for(AT_ONCE, sys::PdbSymbol::default())?;
+        loop {
+            let mut written = 0;
+            // SAFETY: as in `modules`.
+            Error::of(unsafe {
+                let (room, count) = (entries.as_mut_ptr(), entries.len());
+                sys::pe_c_list_pdb_symbols(
+                    bytes.as_ptr(),
+                    bytes.len(),
+                    sections.as_ptr(),
+                    sections.len(),
+                    &mut walk,
+                    room,
+                    count,
+                    &mut written,
+                )
+            })?;
+            if written == 0 {
+                return Ok(symbols);
+            }
+            for symbol in entries.iter().take(written as usize).filter(|it| kinds.contains(&it.kind)) {
+                symbols.push(PdbSymbol::of(symbol, bytes)?);
+            }
+        }
+    }
+}
+
+fn lossy(range: Range, bytes: &[u8]) -> Result<String, Error> {
+    bytes_of(range, bytes).map(|it| String::from_utf8_lossy(it).into_owned())
+}
+
+fn module_of(module: &sys::PdbModule, dbi: &[u8]) -> Result<PdbModule, Error> {
+    Ok(PdbModule {
+        name: lossy(module.name, dbi)?,
+        file: lossy(module.file, dbi)?,
+        stream: stream_number(module.stream),
+        symbols_size: module.symbols.length as u32,
+        lines_size: module.lines.length as u32,
+        number_of_files: module.number_of_files,
+        section: module.section,
+        code_offset: module.code_offset,
+        code_size: module.code_size,
+        symbols: module.symbols,
+    })
+}
+
+impl PdbModule {
+    /// Where its symbols are in its stream.
+    pub(crate) fn symbols(&self) -> Range {
+        self.symbols
+    }
+}
