@@ -20,6 +20,8 @@ pub const EXAMPLES: &str = "  pe program.exe                        what it is, 
   pe diff old.dll new.dll               what came, went and changed
   pe unwind program.exe 1a2b            how the function at an RVA is unwound
   pe stack crash.dmp --images C:/App    why a process crashed, and the stacks of its threads
+  pe stack crash.dmp --symbols C:/Sym   with functions and lines by PDB files
+  pe pdb program.pdb 1a2b               which function and line is at an RVA
   pe key program.exe                    where a symbol server has its PDB and itself
   pe key --missing crash.dmp            which of these its modules lack
   pe digest program.exe                 what its signature signs, as SHA-256
@@ -291,6 +293,25 @@ pub enum Command {
         given: Given,
         #[command(flatten)]
         stacks: Stacks,
+        #[command(flatten)]
+        output: Output,
+    },
+    /// Show what a PDB is, what it has, and the functions and lines at RVAs.
+    Pdb {
+        /// The PDB, or - for standard input.
+        file: PathBuf,
+        /// RVAs of code, in hexadecimal, with or without 0x: the functions there, the inlined ones first, and their lines.
+        #[arg(value_name = "RVA", value_parser = rva)]
+        rvas: Vec<u32>,
+        /// The functions: procedures of modules, and public symbols where none of these starts.
+        #[arg(long)]
+        functions: bool,
+        /// The modules, which are the objects that were linked.
+        #[arg(long)]
+        modules: bool,
+        /// The streams, with their sizes.
+        #[arg(long)]
+        streams: bool,
         #[command(flatten)]
         output: Output,
     },
@@ -587,9 +608,14 @@ pub fn files_and_parts(words: &[PathBuf], walk: Walk) -> (Files, Vec<Topic>) {
 /// The words of `unwind` without `--all`: files, and an RVA last.
 pub fn files_and_rva(words: &[PathBuf], walk: Walk) -> Option<(Files, u32)> {
     let (last, files) = words.split_last().filter(|(_, files)| !files.is_empty())?;
-    let digits = last.to_str()?;
-    let rva = u32::from_str_radix(digits.strip_prefix("0x").unwrap_or(digits), 16).ok()?;
-    Some((Files { files: files.to_vec(), walk }, rva))
+    Some((Files { files: files.to_vec(), walk }, rva(last.to_str()?).ok()?))
+}
+
+/// An RVA in hexadecimal.
+fn rva(text: &str) -> Result<u32, String> {
+    let digits = text.strip_prefix("0x").unwrap_or(text);
+    let number = u32::from_str_radix(digits, 16).ok().filter(|_| digits.starts_with(|it: char| it.is_ascii_hexdigit()));
+    number.ok_or_else(|| "an RVA is a number of 32 bits in hexadecimal, as 0x1071".into())
 }
 
 #[cfg(test)]

@@ -21,7 +21,6 @@ mod names;
 mod new_file;
 mod page;
 mod pdb;
-mod pdb_stub;
 mod show;
 mod sign;
 mod stack;
@@ -166,6 +165,16 @@ fn run_command(command: &Command, out: &mut dyn Write) -> io::Result<Status> {
             let (there, places, asked) = (given.are_there(), given.places(), stacks.asked(output.json));
             let status = files::one(dump, out, |bytes, out| stack::write(dump, bytes, &places, asked, out))?;
             Ok(if there == Status::Done { status } else { there })
+        }
+        Command::Pdb { file, rvas, functions, modules, streams, output } => {
+            let asked = pdb::Asked {
+                rvas,
+                has_functions: *functions,
+                has_modules: *modules,
+                has_streams: *streams,
+                is_json: output.json,
+            };
+            files::each(&Files::one(file), out, |path, bytes| pdb::report(path, bytes, asked))
         }
         Command::Unwind { words, all, walk, reading, output } => {
             unwind_functions((words, *walk), *all, How::without_hashes(reading, output), out)

@@ -2,7 +2,7 @@
 
 use crate::demangle::both_names;
 use crate::escape::escaped;
-use crate::pdb_stub::SymbolFrame;
+use pe_c::SymbolFrame;
 use serde::Serialize;
 
 /// How many characters of the name of a function, and of the path of a source file, are shown.

@@ -6,8 +6,7 @@ use super::told::{Frame, Function, Inlined, Thread};
 use super::{Loaded, Texts};
 use crate::demangle::both_names;
 use crate::pdb::frames::{line_of, size_of, source_of, Line};
-use crate::pdb_stub::SymbolFrame;
-use pe_c::{Dump, FunctionName, NameSource};
+use pe_c::{Dump, FunctionName, NameSource, SymbolFrame};
 
 /// Puts its function to each frame that has none: by a PDB, where there are folders of them, and else by the image. The names of all
 /// frames are asked for at once: an image may have many symbols, and a dump many frames.

@@ -9,8 +9,8 @@ use super::told::{Frame, Function};
 use super::{modules, Loaded, Texts};
 use crate::facts::Refusal;
 use crate::files;
-use crate::pdb_stub::Pdb;
-use pe_c::{Dump, Image, SymbolKey};
+use crate::pdb::{damaged_of, Damaged};
+use pe_c::{Dump, Image, Pdb, SymbolKey};
 use serde::Serialize;
 use std::collections::BTreeMap;
 use std::fs;
@@ -19,6 +19,8 @@ use std::path::{Path, PathBuf};
 /// How many bytes a PDB has at most that is read, and all of a dump.
 const MOST: u64 = 2 << 30;
 const MOST_IN_ALL: u64 = 8 << 30;
+/// What is said of a PDB whose symbols are not those of the image as it is.
+const MOVED: &str = "a tool moved the code of its image after it was linked (OMAP), which is not read";
 /// How many addresses are kept with what names them: those of a recursion come again and again.
 const KEPT: usize = 256;
 
@@ -42,13 +44,6 @@ pub struct ToldPdb {
     pub damaged: Vec<Damaged>,
 }
 
-/// A part of a PDB that is refused.
-#[derive(Clone, Debug, Serialize)]
-pub struct Damaged {
-    pub part: String,
-    pub error: Refusal,
-}
-
 /// What the PDB files say of the modules, by their numbers.
 pub type ToldPdbs = BTreeMap<usize, ToldPdb>;
 
@@ -68,7 +63,7 @@ pub fn put(frames: &mut [&mut Frame], over: (&Dump<'_>, &Loaded<'_>), folders: &
         let (mut said, bytes) = files.find(&group);
         if let Some(bytes) = bytes {
             texts.add(bytes.len());
-            name_frames(frames, (&group, over.1), &bytes, &mut said, texts);
+            said = name_frames(frames, (&group, over.1), &bytes, said, texts);
         }
         told.extend(group.modules.iter().map(|it| (*it, said.clone())));
     }
@@ -103,16 +98,19 @@ fn groups_of<'k>(frames: &[&mut Frame], over: (&Dump<'k>, &Loaded<'k>), told: &m
     groups
 }
 
-/// Puts their functions to the frames that are in modules of this PDB.
-fn name_frames(frames: &mut [&mut Frame], of: (&Group<'_>, &Loaded<'_>), bytes: &[u8], said: &mut ToldPdb, texts: &mut Texts<'_>) {
+/// Puts their functions to the frames that are in modules of this PDB, and adds to what is said of it.
+fn name_frames(frames: &mut [&mut Frame], of: (&Group<'_>, &Loaded<'_>), bytes: &[u8], said: ToldPdb, texts: &mut Texts<'_>) -> ToldPdb {
     let (group, loaded) = of;
-    let symbolizer = match Pdb::parse(bytes).and_then(|it| it.symbolizer()) {
-        Ok(symbolizer) => symbolizer,
-        Err(error) => {
-            (said.state, said.error) = ("refused", Some(error.into()));
-            return;
-        }
+    let refused = |error: pe_c::Error| ToldPdb { state: "refused", error: Some(error.into()), ..said.clone() };
+    let pdb = match Pdb::parse(bytes) {
+        Ok(pdb) => pdb,
+        Err(error) => return refused(error),
     };
+    let symbolizer = match pdb.symbolizer() {
+        Ok(symbolizer) => symbolizer,
+        Err(error) => return refused(error),
+    };
+    let mut said = said;
     let mut kept = BTreeMap::new();
     for &(index, rva) in &group.frames {
         if texts.is_over {
@@ -130,8 +128,8 @@ fn name_frames(frames: &mut [&mut Frame], of: (&Group<'_>, &Loaded<'_>), bytes: 
         frame.function = function_of_pdb(found, shown, texts).map(|it| Function { is_nearest, ..it });
         said.frames += usize::from(frame.function.is_some());
     }
-    let damaged = symbolizer.damaged().into_iter();
-    said.damaged = damaged.map(|(part, error)| Damaged { part, error: error.into() }).collect();
+    said.damaged = damaged_of(&symbolizer);
+    said
 }
 
 /// Whether the function that has the code at an RVA starts at another one at the earliest, by the function table of an image. A public
@@ -191,12 +189,14 @@ impl PdbFiles<'_> {
             not_read(format!("the PDB files of one dump that are read have at most {MOST_IN_ALL} bytes"))
         })?;
         let bytes = files::whole(path).map_err(|error| not_read(error.to_string()))?;
-        let parsed = Pdb::parse(&bytes).map(|it| (it.key().to_string(), it.matches(key))).map_err(Refusal::from);
-        self.keys.insert(path.to_path_buf(), parsed.clone().map(|it| it.0));
-        match parsed {
-            Ok((_, true)) => Ok(bytes),
-            Ok((found, false)) => Err(another(&found)),
-            Err(refusal) => Err(refused(&refusal)),
+        let parsed = Pdb::parse(&bytes).and_then(|it| it.dbi().map(|()| it)).map_err(Refusal::from);
+        let found = parsed.as_ref().map(|it| it.key("").to_string()).map_err(Refusal::clone);
+        self.keys.insert(path.to_path_buf(), found.clone());
+        match (parsed, found) {
+            (Ok(pdb), _) if pdb.matches(key) && pdb.is_moved() => Err(not_read(MOVED.to_string())),
+            (Ok(pdb), _) if pdb.matches(key) => Ok(bytes),
+            (_, Ok(found)) => Err(another(&found)),
+            (_, Err(refusal)) => Err(refused(&refusal)),
         }
     }
 }
