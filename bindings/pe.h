@@ -305,6 +305,15 @@
  *   pe_c_is_image_of                Returns PE_C_DONE where an image is that of a module
  *   pe_c_memory_runs                Writes the memory of pieces in any order to `runs`, as pieces that ascend and do not ..
  *   pe_c_memory_ranges              Writes to `found`, for each of the ranges that are asked for, whose offset is an ..
+ * program databases
+ *   pe_c_pdb                        Reads what a PDB says of itself
+ *   pe_c_is_pdb_of                  Returns PE_C_DONE where a PDB is that of an image with this key
+ *   pe_c_pdb_starts                 Writes to the start of `room` where the directory lists the blocks of each stream
+ *   pe_c_pdb_stream                 Copies the stream with a number to the start of `room`. `starts` is what ..
+ *   pe_c_list_pdb_modules           Lists the modules, and moves the walk past them
+ *   pe_c_list_pdb_symbols           Lists the records of symbols, and moves the walk past them
+ *   pe_c_pdb_index                  Makes an index of the symbols of a kind, PE_C_PDB_PUBLICS or PE_C_PDB_PROCEDURES, by ..
+ *   pe_c_find_pdb_symbol            Finds the symbol of an RVA by an index that pe_c_pdb_index made of these bytes and ..
  */
 
 #ifndef PE_C_H
@@ -4187,7 +4196,7 @@ typedef struct {
 
 /* The record of a symbol. */
 typedef struct {
-    pe_c_range record;              /* the record: the number of the bytes after that number, its kind, its content */
+    pe_c_range range;               /* the record: the number of the bytes after that number, its kind, its content */
     pe_c_range name;                /* UTF-8, without its final zero; of a public symbol as linkers have it, mangled; of a procedure
                                        as in the source; no bytes of other records */
     uint32_t rva;                   /* the RVA of a public symbol or procedure, where `result` is PE_C_DONE; else 0 */
@@ -4199,7 +4208,7 @@ typedef struct {
     uint16_t kind;                  /* S_PUB32 0x110E; of procedures S_LPROC32 0x110F, S_GPROC32 0x1110, 0x1146, 0x1147; or
                                        another */
     uint32_t result;                /* PE_C_DONE; PE_C_NOTHING without an RVA; or the number of an error of this record alone,
-                                       and then no other field than the record and its kind is set */
+                                       and then no other field than `range` and `kind` is set */
 } pe_c_pdb_symbol;
 
 PE_C_SIZE(pe_c_pdb_info, 96);

@@ -998,6 +998,29 @@ test('the memory of a minidump in order, and what in it is an image', () => {
   assert.equal(x64.call('pe_c_is_image_of', { image: { ...image, size_of_image: 0x6001 }, module }), null);
 });
 
+test('a PDB, its streams, modules and symbols', () => {
+  const pdb = library.file(readFileSync(join(folder, 't.pdb'))), info = pdb.call('pe_c_pdb');
+  assert.deepEqual([info.age, info.dbi_age, info.machine, info.number_of_streams, info.dbi_result], [1, 1, 0x8664, 16, 0]);
+  const key = { guid: info.guid, age: 1 }, starts = Array.from({ length: 16 }, () => 0n);
+  assert.equal(library.file(new Uint8Array(0)).call('pe_c_is_pdb_of', { key, pdb: info }), true);
+  assert.equal(pdb.call('pe_c_is_pdb_of', { key: { ...key, age: 2 }, pdb: info }), null);
+  assert.equal(pdb.call('pe_c_pdb_starts', { room: starts }), 16n);
+  const stream = (index) => {
+    const room = new Uint8Array(1160);
+    return room.subarray(0, Number(pdb.call('pe_c_pdb_stream', { starts, index, room })));
+  };
+  const dbi = library.file(stream(3)), symbols = library.file(stream(info.symbol_stream)), sections = stream(info.section_headers);
+  const modules = listed(dbi, 'pe_c_list_pdb_modules', { walk: info.modules });
+  assert.deepEqual(modules.map((it) => [dbi.utf8(it.name), it.stream]), [['a.obj', 11], ['b.obj', 12], ['* Linker *', 13]]);
+  const walk = { offset: 0n, length: 108n }, range = { ...walk };
+  const named = listed(symbols, 'pe_c_list_pdb_symbols', { sections, walk }).filter((it) => it.result === 0);
+  assert.deepEqual(named.map((it) => [symbols.utf8(it.name), it.rva]), [['entry', 0x1000], ['helper', 0x1050]]);
+  const index = [0n, 0n], kind = constants.PE_C_PDB_PUBLICS;
+  assert.equal(symbols.call('pe_c_pdb_index', { kind, symbols: range, sections, room: index }), 2n);
+  assert.equal(symbols.utf8(symbols.call('pe_c_find_pdb_symbol', { kind, sections, index, rva: 0x104F }).name), 'entry');
+  assert.equal(refused(() => library.file(file('imports')).call('pe_c_pdb')).constant, 'PE_C_PDB_MAGIC');
+});
+
 /** A minidump whose exception's stream has 4 bytes. */
 function withoutException(bytes) {
   const damaged = Uint8Array.from(bytes), view = new DataView(damaged.buffer), directory = view.getUint32(12, true);

@@ -1035,6 +1035,66 @@ static void dump(const struct file *file)
             dump_stream(file, &stream);
 }
 
+/* ---- program databases */
+
+/* How many bytes of a stream are read, and how many numbers of a room. */
+enum { STREAM = 1 << 16, NUMBERS = 256 };
+
+static uint8_t stream_bytes[STREAM], section_bytes[STREAM];
+
+/* What streams of a PDB say, by bytes of the section headers. */
+static void symbols(const uint8_t *bytes, size_t length, const uint8_t *headers, size_t headers_length, pe_c_range walk)
+{
+    for (uint32_t kind = PE_C_PDB_PUBLICS; kind <= PE_C_PDB_PROCEDURES; kind++) {
+        uint64_t index[NUMBERS] = PE_C_EMPTY, written = 0;
+        pe_c_pdb_symbol found = PE_C_EMPTY;
+        CALL(pe_c_pdb_index, index, kind, bytes, length, &walk, headers, headers_length, index, NUMBERS, &written);
+        add(written);
+        for (uint32_t rva = 0xFFF; rva < 0x2000; rva += 0x51)
+            CALL(pe_c_find_pdb_symbol, found, kind, bytes, length, headers, headers_length, index,
+                 written < NUMBERS ? (size_t)written : NUMBERS, rva, &found);
+    }
+    LIST(pe_c_list_pdb_symbols, pe_c_pdb_symbol, bytes, length, headers, headers_length, &walk);
+}
+
+static size_t stream_of(const struct file *file, const uint64_t *starts, size_t count, uint32_t index, uint8_t *room)
+{
+    uint64_t written = 0;
+    uint32_t result = TARGET_CALL(pe_c_pdb_stream)(BYTES, starts, count, index, room, STREAM, &written);
+    note(number_of_pe_c_pdb_stream, result, &written, sizeof written);
+    if (result != PE_C_DONE)
+        return 0;
+    add_bytes(room, (size_t)written);
+    return (size_t)written;
+}
+
+static void pdb(const struct file *file)
+{
+    pe_c_pdb_info info = PE_C_EMPTY;
+    pe_c_key key = PE_C_EMPTY;
+    uint64_t starts[NUMBERS] = PE_C_EMPTY, written = 0;
+    int is_pdb = IS_DONE(pe_c_pdb, info, BYTES, &info);
+    CALL(pe_c_pdb_starts, starts, BYTES, starts, NUMBERS, &written);
+    key.age = info.dbi_age;
+    for (int i = 0; i < 16; i++)
+        key.guid[i] = info.guid[i];
+    CALL(pe_c_is_pdb_of, key, &key, &info);
+    if (!is_pdb) {
+        /* As if the file were a stream of one. */
+        pe_c_range all = {0, file->length}, walk = {0, file->length};
+        symbols(BYTES, file->bytes, file->length / 40 * 40, all);
+        LIST(pe_c_list_pdb_modules, pe_c_pdb_module, BYTES, &walk);
+        stream_of(file, starts, NUMBERS, 1, stream_bytes);
+        return;
+    }
+    size_t headers = stream_of(file, NULL, 0, info.section_headers, section_bytes);
+    size_t length = stream_of(file, starts, (size_t)written, info.symbol_stream, stream_bytes);
+    pe_c_range all = {0, length};
+    symbols(stream_bytes, length, section_bytes, headers, all);
+    length = stream_of(file, starts, (size_t)written, 3, stream_bytes);
+    LIST(pe_c_list_pdb_modules, pe_c_pdb_module, stream_bytes, length, &info.modules);
+}
+
 /* ---- all of it */
 
 static void make_stack(void)
@@ -1053,7 +1113,7 @@ static void make_stack(void)
 /* The texts of all results that there may be, and the number of the ABI. */
 static void texts(void)
 {
-    for (uint32_t number = 0; number < 570; number++) {
+    for (uint32_t number = 0; number < 640; number++) {
         char text[128] = {0};
         size_t length = TARGET_CALL(pe_c_text)(number, text, sizeof text);
         count(number_of_pe_c_text, length > 0);
@@ -1082,6 +1142,7 @@ void all_calls(const uint8_t *bytes, size_t length, uint8_t *room, size_t room_l
     texts();
     others(&file);
     dump(&file);
+    pdb(&file);
     for (uint32_t mode = 0; mode < 4; mode++)
         in_mode(&file, mode);
 }

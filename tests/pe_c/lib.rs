@@ -37,6 +37,8 @@ mod made;
 mod maps;
 mod memory_runs;
 mod overlay;
+mod pdb;
+mod pdb_bytes;
 mod plan;
 mod resource_edit;
 mod resource_leaves;

@@ -145,6 +145,42 @@ pub(crate) const DUMP_CONTEXT_FLAGS: u32 = 559;
 
 pub(crate) const DUMP_MACHINE: u32 = 560;
 
+pub(crate) const PDB20: u32 = 601;
+
+pub(crate) const PDB_PORTABLE: u32 = 602;
+
+pub(crate) const PDB_MAGIC: u32 = 603;
+
+pub(crate) const PDB_BLOCK_SIZE: u32 = 604;
+
+pub(crate) const PDB_FILE_SIZE: u32 = 605;
+
+pub(crate) const PDB_BLOCK_MAP: u32 = 606;
+
+pub(crate) const PDB_BLOCK: u32 = 607;
+
+pub(crate) const PDB_DIRECTORY: u32 = 608;
+
+pub(crate) const PDB_NO_STREAM: u32 = 609;
+
+pub(crate) const PDB_STREAM_SIZE: u32 = 610;
+
+pub(crate) const PDB_INFO_VERSION: u32 = 612;
+
+pub(crate) const PDB_DBI_SIGNATURE: u32 = 613;
+
+pub(crate) const PDB_DBI_VERSION: u32 = 614;
+
+pub(crate) const PDB_DBI_PARTS: u32 = 615;
+
+pub(crate) const PDB_SECTION_HEADERS: u32 = 616;
+
+pub(crate) const PDB_RECORD_SIZE: u32 = 617;
+
+pub(crate) const PDB_RECORD_TRUNCATED: u32 = 618;
+
+pub(crate) const PDB_NAME: u32 = 619;
+
 pub(crate) const X64: u16 = 0x8664;
 
 pub(crate) const ARM64: u16 = 0xAA64;

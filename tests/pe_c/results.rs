@@ -211,6 +211,14 @@ fn results_have_texts(rt: HostRuntime) {
     check_text(&rt, 558, "context smaller than its fields");
     check_text(&rt, 559, "context without control or integer registers");
     check_text(&rt, 560, "context of another machine");
+    check_text(&rt, 601, "a PDB 2.0, which has another layout");
+    check_text(&rt, 602, "a portable PDB of .NET");
+    check_text(&rt, 603, "not a PDB 7.0");
+    check_text(&rt, 604, "invalid block size of a PDB");
+    check_text(&rt, 606, "directory of a PDB larger than the file");
+    check_text(&rt, 610, "stream of a PDB has more blocks than the file");
+    check_text(&rt, 619, "name in a PDB not NUL-terminated or not UTF-8");
+    check_text(&rt, 622, "symbols of a PDB have 4 GB or more");
     for unknown in [
         39,
         99,
@@ -227,6 +235,8 @@ fn results_have_texts(rt: HostRuntime) {
         514,
         550,
         561,
+        600,
+        623,
         u32::MAX,
     ] {
         check_text(&rt, unknown, "unknown result");
@@ -244,8 +254,9 @@ fn texts_differ(rt: HostRuntime) {
             || 403 < number && number < 451
             || 474 < number && number < 501
             || 513 < number && number < 551
+            || 560 < number && number < 601
     };
-    for one in 0..=560 {
+    for one in 0..=622 {
         for other in 0..one {
             if is_other(one) || is_other(other) {
                 continue;

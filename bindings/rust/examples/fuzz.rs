@@ -132,6 +132,62 @@ fn change(input: &mut [u8], offsets: &[Range<usize>], random: &mut Random) -> Ve
     before
 }
 
+/// Makes the calls that read a PDB, on the bytes as a file and as streams of one, with wrong ranges, starts and indexes.
+fn pdb_of_lies(bytes: &[u8], random: &mut Random, number: u64) {
+    let (at, length, few) = (bytes.as_ptr(), bytes.len(), random.edge(number) as u32);
+    let range = sys::Range { offset: random.edge(number), length: random.edge(number) };
+    let sections = &bytes[..length.min(few as usize % 400) / 40 * 40];
+    let (headers, headers_length) = (sections.as_ptr(), sections.len());
+    let mut info = sys::PdbInfo::default();
+    let numbers = [random.edge(number), random.edge(number), (0x1000 << 32) + random.edge(number) % 4096];
+    let (mut starts, mut room, mut written) = ([7u64; 4], [0x77u8; 600], 9);
+    // SAFETY: the pointers and lengths are those of slices and arrays, none of which is written to and read; all are lent for each call.
+    unsafe {
+        let _ = sys::pe_c_pdb(at, length, &mut info);
+        let key = sys::Key { guid: info.guid, age: few % 2, ..sys::Key::default() };
+        let _ = sys::pe_c_is_pdb_of(&key, &info);
+        let result = sys::pe_c_pdb_starts(at, length, starts.as_mut_ptr(), starts.len(), &mut written);
+        assert!(result == sys::DONE || starts == [7; 4]);
+        let (some, count) = (numbers.as_ptr(), few as usize % 4);
+        let result =
+            sys::pe_c_pdb_stream(at, length, some, count, few % 20, room.as_mut_ptr(), room.len(), &mut written);
+        assert!(result == sys::DONE || room == [0x77; 600]);
+        for kind in 0..2 {
+            let mut index = [7u64; 4];
+            let (entries, most) = (index.as_mut_ptr(), index.len());
+            let result = sys::pe_c_pdb_index(
+                kind,
+                at,
+                length,
+                &range,
+                headers,
+                headers_length,
+                entries,
+                most,
+                &mut written,
+            );
+            assert!(result == sys::DONE || index == [7; 4]);
+            let mut found = sys::PdbSymbol::default();
+            let _ = sys::pe_c_find_pdb_symbol(kind, at, length, headers, headers_length, some, 3, few, &mut found);
+        }
+        let (mut walk, mut symbols) = (range, [sys::PdbSymbol::default(); 3]);
+        let (entries, most) = (symbols.as_mut_ptr(), symbols.len());
+        let result =
+            sys::pe_c_list_pdb_symbols(at, length, headers, headers_length, &mut walk, entries, most, &mut written);
+        assert!(result == sys::DONE || walk == sys::Range::default());
+        let (mut walk, mut modules) = (range, [sys::PdbModule::default(); 3]);
+        let result =
+            sys::pe_c_list_pdb_modules(at, length, &mut walk, modules.as_mut_ptr(), modules.len(), &mut written);
+        assert!(result == sys::DONE || walk == sys::Range::default());
+    }
+    if let Ok(pdb) = pe_c::Pdb::parse(bytes) {
+        let _ = (pdb.publics(), pdb.modules());
+        if let Ok(symbolizer) = pdb.symbolizer() {
+            let _ = symbolizer.frames(few);
+        }
+    }
+}
+
 /// Memory in pieces that are near one another, or lie: an address is that of the first piece that has it, also in runs of them.
 fn memory_of_lies(bytes: &[u8], random: &mut Random, number: u64) {
     let any = random.below(4) == 0;
@@ -608,6 +664,7 @@ fn read_by_lies(bytes: &[u8], random: &mut Random, seen: &mut Seen) {
     // SAFETY: both records are lent for the call.
     assert!([sys::DONE, sys::NOTHING].contains(&unsafe { sys::pe_c_is_image_of(&image, &module) }));
     memory_of_lies(bytes, random, number);
+    pdb_of_lies(bytes, random, number);
     let memory = call!(pe_c_dump_memory64(&range), Memory64Walk);
     walk!(pe_c_next_memory64(sys::Memory64Walk { next: index, ..memory }), DumpPiece);
     walk!(pe_c_next_debug_entry(range), DebugEntry);

@@ -1,4 +1,4 @@
-//! Writes the images of the tests to a folder, for other programs: `made FOLDER`. A TE image, an object and minidumps have names of
+//! Writes the images of the tests to a folder, for other programs: `made FOLDER`. A TE image, an object, a PDB and minidumps have names of
 //! their own, since most programs take images alone.
 
 #[path = "../tests/made/mod.rs"]
@@ -13,5 +13,6 @@ fn main() -> std::io::Result<()> {
     std::fs::write(format!("{folder}/te_image.te"), made::te_image())?;
     std::fs::write(format!("{folder}/x64.dmp"), made::full_dump(made::X64))?;
     std::fs::write(format!("{folder}/arm64.dmp"), made::full_dump(made::ARM64))?;
+    std::fs::write(format!("{folder}/t.pdb"), made::pdb())?;
     std::fs::write(format!("{folder}/object.obj"), made::object())
 }

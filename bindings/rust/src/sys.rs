@@ -2894,7 +2894,7 @@ const _: () = assert!(core::mem::size_of::<PdbModule>() == 80);
 #[derive(Clone, Copy, Debug, Default, PartialEq, Eq)]
 pub struct PdbSymbol {
     /// The record: the number of the bytes after that number, its kind, its content.
-    pub record: Range,
+    pub range: Range,
     /// UTF-8, without its final zero; of a public symbol as linkers have it, mangled; of a procedure as in the source;
     /// no bytes of other records.
     pub name: Range,
@@ -2912,7 +2912,7 @@ pub struct PdbSymbol {
     /// `S_PUB32` 0x110E; of procedures `S_LPROC32` 0x110F, `S_GPROC32` 0x1110, 0x1146, 0x1147; or another.
     pub kind: u16,
     /// [`DONE`]; [`NOTHING`] without an RVA; or the number of an error of this record alone, and then no other field
-    /// than the record and its kind is set.
+    /// than `range` and `kind` is set.
     pub result: u32,
 }
 const _: () = assert!(core::mem::size_of::<PdbSymbol>() == 56);

@@ -16,7 +16,7 @@ use Rattle.pe_c.specs.declared.results.TheConstants.{DONE, NOTHING}
 -- a record that starts at an offset, without what it says
 abbrev pub record_reported : ℕ → Symbol → ℕ → PdbSymbol
 record_reported p s result = record {
-  record = record { offset = p; length = 4 + length s.content };
+  range = record { offset = p; length = 4 + length s.content };
   name = no_bytes;
   rva = 0;
   size = 0;
@@ -38,7 +38,7 @@ with_rva sections x = rva_put x (rva_of sections x.section x.section_offset)
 -- what a public symbol says, whose name starts 14 bytes after its record
 abbrev pub public_reported : PdbSymbol → Public → PdbSymbol
 public_reported x s = record x {
-  name = record { offset = x.record.offset + 14; length = length s.name };
+  name = record { offset = x.range.offset + 14; length = length s.name };
   section_offset = s.offset;
   flags = s.flags;
   section = s.section;
@@ -47,7 +47,7 @@ public_reported x s = record x {
 -- the same of a procedure: 39 bytes after it
 abbrev pub procedure_reported : PdbSymbol → Procedure → PdbSymbol
 procedure_reported x s = record x {
-  name = record { offset = x.record.offset + 39; length = length s.name };
+  name = record { offset = x.range.offset + 39; length = length s.name };
   size = s.size;
   section_offset = s.offset;
   flags = s.flags;
@@ -83,7 +83,7 @@ symbol_step b sections r = do
 -- the walk after it: over after an error, and unchanged where nothing is left
 abbrev pub walk_by : Range → Result (Option PdbSymbol) PdbRefusal → Range
 walk_by r (Ok None) = r
-walk_by r (Ok (Some x)) = range_after r x.record.length
+walk_by r (Ok (Some x)) = range_after r x.range.length
 walk_by r (Err refusal) = no_bytes
 
 abbrev pub symbol_walk : List ℕ → List ℕ → Range → Range

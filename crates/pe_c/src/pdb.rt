@@ -186,8 +186,9 @@ fn streams_by(header: DbiHeader, numbers: &[u8]) -> DbiStreams
     DbiStreams {
         header,
         section_headers: debug_stream(numbers, DEBUG_SECTION_HEADERS).unwrap_or(NO_STREAM),
-        original_section_headers: debug_stream(numbers, DEBUG_ORIGINAL_SECTION_HEADERS)
-            .unwrap_or(NO_STREAM),
+        original_section_headers: debug_stream(numbers, DEBUG_ORIGINAL_SECTION_HEADERS).unwrap_or(
+            NO_STREAM,
+        ),
         omap_to_source: debug_stream(numbers, DEBUG_OMAP_TO_SOURCE).unwrap_or(NO_STREAM),
         omap_from_source: debug_stream(numbers, DEBUG_OMAP_FROM_SOURCE).unwrap_or(NO_STREAM),
     }

@@ -154,7 +154,7 @@ impl<'a> Module<'a> {
     }
 
     /// Where the next one starts.
-    fn end(&self) -> usize
+    pub fn end(&self) -> usize
         requires { self.now.offset + 70 + length self.now.name.now + length self.now.file.now < 2 ^ 64 }
         ensures { result ≡ module_end (module_view self.now) }
     {

@@ -33,7 +33,7 @@ const PROCEDURE_NAME: u64 = 39;
 #[derive(Clone, Copy)]
 pub struct PdbSymbol {
     /// The record, from the number of its bytes on.
-    pub record: Range,
+    pub range: Range,
     /// The name of a public symbol or procedure, without its final zero.
     pub name: Range,
     /// Its RVA.
@@ -53,12 +53,12 @@ pub struct PdbSymbol {
 }
 
 /// A record of which nothing is known.
-fn record_reported(offset: u64, record: &SymbolRecord<'_>, result: u32) -> PdbSymbol
+fn record_reported(offset: u64, record: &SymbolRecord<'_>, number: u32) -> PdbSymbol
     requires { offset + length record.now.content.now < 2 ^ 63 }
-    ensures { result ≡ record_reported offset (symbol_view record.now) result }
+    ensures { result ≡ record_reported offset (symbol_view record.now) number }
 {
     PdbSymbol {
-        record: Range {
+        range: Range {
             offset,
             length: SIZE_OF_PREFIX + record.content.len() as u64,
         },
@@ -69,7 +69,7 @@ fn record_reported(offset: u64, record: &SymbolRecord<'_>, result: u32) -> PdbSy
         flags: 0,
         section: 0,
         kind: record.kind,
-        result,
+        result: number,
     }
 }
 
@@ -89,12 +89,12 @@ fn with_rva(symbol: PdbSymbol, sections: &SectionHeaders<'_>) -> PdbSymbol
 
 /// A public symbol as callers get it, without its RVA. `symbol` has its record alone.
 fn public_reported(symbol: PdbSymbol, public: &PublicSymbol<'_>) -> PdbSymbol
-    requires { symbol.record.offset < 2 ^ 63 }
+    requires { symbol.range.offset < 2 ^ 63 }
     ensures { result ≡ public_reported symbol (public_view public.now) }
 {
     PdbSymbol {
         name: Range {
-            offset: symbol.record.offset + PUBLIC_NAME,
+            offset: symbol.range.offset + PUBLIC_NAME,
             length: public.name.len() as u64,
         },
         section_offset: public.offset,
@@ -106,12 +106,12 @@ fn public_reported(symbol: PdbSymbol, public: &PublicSymbol<'_>) -> PdbSymbol
 
 /// The same of a procedure.
 fn procedure_reported(symbol: PdbSymbol, procedure: &ProcedureSymbol<'_>) -> PdbSymbol
-    requires { symbol.record.offset < 2 ^ 63 }
+    requires { symbol.range.offset < 2 ^ 63 }
     ensures { result ≡ procedure_reported symbol (procedure_view procedure.now) }
 {
     PdbSymbol {
         name: Range {
-            offset: symbol.record.offset + PROCEDURE_NAME,
+            offset: symbol.range.offset + PROCEDURE_NAME,
             length: procedure.name.len() as u64,
         },
         size: procedure.size,
@@ -162,7 +162,7 @@ fn first_symbol(
 ) -> pe_pdb::Result<Option<PdbSymbol>>
     requires { offset + length left.now < 2 ^ 63 }
     ensures value { pdb_answer result ≡ first_symbol sections.now.bytes.now offset left.now }
-    ensures inside { IfOk result (λ o. IfSome o (λ x. x.record.length ≤ length left.now)) }
+    ensures inside { IfOk result (λ o. IfSome o (λ x. x.range.length ≤ length left.now)) }
 {
     if left.is_empty() {
         return Ok(None);
@@ -172,11 +172,7 @@ fn first_symbol(
 }
 
 /// The next record of a walk.
-fn next_symbol(
-    bytes: &[u8],
-    sections: &[u8],
-    walk: &mut Range,
-) -> pe_pdb::Result<Option<PdbSymbol>>
+fn next_symbol(bytes: &[u8], sections: &[u8], walk: &mut Range) -> pe_pdb::Result<Option<PdbSymbol>>
     ensures symbol { pdb_answer result ≡ symbol_step bytes.now sections.now walk.old }
     ensures walk { walk.new ≡ symbol_walk bytes.now sections.now walk.old }
 {
@@ -188,8 +184,8 @@ fn next_symbol(
     match first_symbol(left, range.offset, &sections)? {
         Some(symbol) => {
             *walk = Range {
-                offset: range.offset + symbol.record.length,
-                length: range.length - symbol.record.length,
+                offset: range.offset + symbol.range.length,
+                length: range.length - symbol.range.length,
             };
             Ok(Some(symbol))
         }

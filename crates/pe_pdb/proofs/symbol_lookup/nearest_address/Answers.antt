@@ -20,8 +20,7 @@ returns c = λ up entries same.
     let n = c.partition_point-after.result in
     let some : 0 < n = omega (arith, c.if-after-eq0.false) in
     let within = c.partition_point-after.ensures.bound in
-    let cut = IsPartitionPoint-from_clause (λ a. leb (rva_in a) x) xs n c.partition_point-after.ensures.partitioned (IsPartitionedBy-leb rva_in xs x (rvas_rise xs up)) (λ a r f' k. search rules) in
-    (
+    let cut = IsPartitionPoint-from_clause (λ a. leb (rva_in a) x) xs n c.partition_point-after.ensures.partitioned (IsPartitionedBy-leb rva_in xs x (rvas_rise xs up)) (λ a r f' k. search rules) in (
       get_or xs (n - 1) 0,
       nearest_permuted entries xs x _ same (nearest_of xs x n up some within
           (λ k d low lt. let t : leb (rva_in (get_or xs k d)) x ≡ true = cut.0 k d (omega arith) low in grind (arith, nat_tests))

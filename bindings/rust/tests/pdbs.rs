@@ -1,0 +1,97 @@
+//! Program databases: the PDB that lld-link wrote for the repository's tests, by what llvm-pdbutil 14.0.6 prints of it.
+
+use super::made;
+use pe_c::{Error, Guid, Pdb, SymbolFrame, SymbolKey};
+
+const GUID: Guid = Guid(*b"\xE4\x54\xD9\x94\x4D\x79\x23\xF2\x4C\x4C\x44\x20\x50\x44\x42\x2E");
+
+/// Where the DBI stream and the stream of the module b.obj are in the file.
+const DBI: usize = 13 * 4096;
+const MODULE: usize = 11 * 4096;
+
+fn named(frames: &[SymbolFrame]) -> Vec<(&str, u32, u32, bool)> {
+    frames.iter().map(|it| (it.name.as_str(), it.function_rva, it.offset, it.is_public)).collect()
+}
+
+#[test]
+fn a_pdb_has_the_key_of_its_image() {
+    let bytes = made::pdb();
+    let pdb = Pdb::parse(&bytes).unwrap();
+    assert_eq!((pdb.info().machine, pdb.info().number_of_streams, pdb.info().age), (0x8664, 16, 1));
+    assert_eq!(pdb.dbi(), Ok(()));
+    assert!(!pdb.is_moved());
+    let key = pdb.key("t.pdb");
+    assert_eq!(key, SymbolKey::new(GUID, 1, b"t.pdb"));
+    assert_eq!(key.path().unwrap().to_string(), "t.pdb/94D954E4794DF2234C4C44205044422E1/t.pdb");
+    assert!(pdb.matches(&key));
+    assert!(!pdb.matches(&SymbolKey::new(GUID, 2, b"t.pdb")));
+    assert!(!pdb.matches(&SymbolKey::new(Guid([0; 16]), 1, b"t.pdb")));
+    assert_eq!(pdb.stream(16), Err(Error::PDB_NO_STREAM));
+    assert_eq!(pdb.stream(3).unwrap(), &bytes[DBI..DBI + 717]);
+    assert!(pdb.bytes() == bytes);
+    assert!(format!("{pdb:?}").starts_with("Pdb { info: PdbInfo { guid: "));
+}
+
+#[test]
+fn modules_and_symbols_are_listed() {
+    let bytes = made::pdb();
+    let pdb = Pdb::parse(&bytes).unwrap();
+    let modules = pdb.modules().unwrap();
+    let listed: Vec<_> = modules.iter().map(|it| (it.name.as_str(), it.file.as_str(), it.stream)).collect();
+    assert_eq!(
+        listed,
+        [("a.obj", "a.obj", Some(11)), ("b.obj", "b.obj", Some(12)), ("* Linker *", "", Some(13))]
+    );
+    assert_eq!((modules[1].symbols_size, modules[1].lines_size, modules[1].number_of_files), (328, 176, 2));
+    assert_eq!((modules[1].section, modules[1].code_offset, modules[1].code_size), (1, 80, 60));
+    let publics = pdb.publics().unwrap();
+    let publics: Vec<_> = publics.iter().map(|it| (it.name.as_str(), it.rva, it.is_function, it.kind)).collect();
+    assert_eq!(publics, [("entry", Some(0x1000), true, 0x110E), ("helper", Some(0x1050), true, 0x110E)]);
+    let procedures = pdb.procedures(&modules[1]).unwrap();
+    let procedures: Vec<_> = procedures.iter().map(|it| (it.name.as_str(), it.rva, it.size, it.kind)).collect();
+    assert_eq!(procedures, [("helper", Some(0x1050), 45, 0x1110), ("local", Some(0x1080), 12, 0x110F)]);
+    assert_eq!(pdb.procedures(&modules[2]), Ok(vec![]));
+}
+
+#[test]
+fn functions_are_named() {
+    let bytes = made::pdb();
+    let pdb = Pdb::parse(&bytes).unwrap();
+    let symbolizer = pdb.symbolizer().unwrap();
+    assert!(symbolizer.damaged().is_empty());
+    assert_eq!(named(&symbolizer.frames(0x1048)), [("entry", 0x1000, 0x48, false)]);
+    assert_eq!(named(&symbolizer.frames(0x1050)), [("helper", 0x1050, 0, false)]);
+    assert_eq!(named(&symbolizer.frames(0x108B)), [("local", 0x1080, 11, false)]);
+    // No procedure has these: the public function before them.
+    assert_eq!(named(&symbolizer.frames(0x104F)), [("entry", 0x1000, 0x4F, true)]);
+    assert_eq!(named(&symbolizer.frames(u32::MAX)), [("helper", 0x1050, u32::MAX - 0x1050, true)]);
+    assert_eq!(symbolizer.frames(0xFFF), []);
+}
+
+#[test]
+fn a_damaged_module_costs_its_names_alone() {
+    let mut bytes = made::pdb();
+    // The record of `helper` in the module has a size of 1.
+    bytes[MODULE + 72] = 1;
+    bytes[MODULE + 73] = 0;
+    let pdb = Pdb::parse(&bytes).unwrap();
+    let symbolizer = pdb.symbolizer().unwrap();
+    let [damaged] = symbolizer.damaged() else { panic!("{:?}", symbolizer.damaged()) };
+    assert_eq!((damaged.name.as_str(), damaged.error), ("b.obj", Error::PDB_RECORD_SIZE));
+    assert_eq!(named(&symbolizer.frames(0x1048)), [("entry", 0x1000, 0x48, false)]);
+    assert_eq!(named(&symbolizer.frames(0x108B)), [("helper", 0x1050, 0x3B, true)]);
+}
+
+#[test]
+fn what_is_refused_has_an_error() {
+    let mut bytes = made::pdb();
+    assert_eq!(Pdb::parse(b"MZ").unwrap_err(), Error::SHORT);
+    assert_eq!(Pdb::parse(&bytes[1..]).unwrap_err(), Error::PDB_MAGIC);
+    bytes[DBI] = 0;
+    let pdb = Pdb::parse(&bytes).unwrap();
+    assert_eq!(pdb.dbi(), Err(Error::PDB_DBI_SIGNATURE));
+    assert_eq!(pdb.modules(), Err(Error::PDB_DBI_SIGNATURE));
+    assert_eq!(pdb.publics(), Err(Error::PDB_DBI_SIGNATURE));
+    assert!(pdb.symbolizer().is_err());
+    assert!(!pdb.matches(&SymbolKey::new(GUID, 1, b"t.pdb")));
+}
