@@ -20,12 +20,12 @@ use crate::page::Style;
 use crate::streams::{complain, complaint};
 use crate::Status;
 pub use files::Known;
-pub use symbols::SymbolFolders;
 use pe_c::sys::{DumpException, DumpModule, DumpThread};
 use pe_c::{Dump, DumpImages, DumpMemory, Stacks};
 use std::collections::BTreeMap;
 use std::io::{self, Write};
 use std::path::Path;
+pub use symbols::SymbolFolders;
 pub use told::Told;
 use told::{Exception, Memory, Process, System, Thread, Unloaded, Written};
 

@@ -146,7 +146,14 @@ fn module_of(module: &PdbModule) -> Module {
 fn function_of(symbol: &PdbSymbol, module: Option<usize>) -> Option<Function> {
     let (name, raw_name) = both_names(Some(&symbol.name));
     let size = module.map(|_| symbol.size);
-    Some(Function { rva: symbol.rva?, size, name, raw_name, source: if module.is_some() { "procedure" } else { "public" }, module })
+    Some(Function {
+        rva: symbol.rva?,
+        size,
+        name,
+        raw_name,
+        source: if module.is_some() { "procedure" } else { "public" },
+        module,
+    })
 }
 
 /// All streams, with what is known of their contents.

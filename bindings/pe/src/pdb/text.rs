@@ -19,7 +19,9 @@ pub fn of(told: &Told, style: Style) -> String {
         page.heading("RVAs");
         page.table(&table);
     }
-    for (title, table) in [("functions", functions_of(told)), ("modules", modules_of(told)), ("streams", streams_of(told))] {
+    for (title, table) in
+        [("functions", functions_of(told)), ("modules", modules_of(told)), ("streams", streams_of(told))]
+    {
         if let Some(table) = table {
             page.heading(title);
             page.table(&table);
@@ -40,7 +42,8 @@ fn summary(told: &Told) -> Vec<Row> {
     rows.extend(head.time_stamp.map(|it| ("time stamp", format!("{it:#010x}"))));
     rows.extend(head.flags.as_ref().filter(|it| it.number != 0).map(|it| ("flags", it.to_string())));
     rows.extend(head.linker_version.iter().map(|it| ("linker", it.clone())));
-    if let (Some(size), Some(blocks), Some(streams)) = (head.block_size, head.number_of_blocks, head.number_of_streams) {
+    if let (Some(size), Some(blocks), Some(streams)) = (head.block_size, head.number_of_blocks, head.number_of_streams)
+    {
         rows.push(("blocks", format!("{blocks} of {size} bytes, {}", counted(streams as usize, "stream"))));
     }
     let counts = [
@@ -110,7 +113,8 @@ fn modules_of(told: &Told) -> Option<Table> {
 fn streams_of(told: &Told) -> Option<Table> {
     let rows = told.streams.as_ref()?.iter().map(|it| {
         let size = it.size.map_or(String::new(), |it| it.to_string());
-        let content = it.error.as_ref().map_or(it.content.as_deref().map_or(String::new(), escaped), |it| it.to_string());
+        let content =
+            it.error.as_ref().map_or(it.content.as_deref().map_or(String::new(), escaped), |it| it.to_string());
         vec![it.number.to_string(), size, content]
     });
     Some(Table::new(&[number("stream"), number("bytes"), text("content")], rows))

@@ -10,7 +10,12 @@ use pe_c::{Dump, FunctionName, NameSource, SymbolFrame};
 
 /// Puts its function to each frame that has none: by a PDB, where there are folders of them, and else by the image. The names of all
 /// frames are asked for at once: an image may have many symbols, and a dump many frames.
-pub fn put(threads: &mut [Thread], over: (&Dump<'_>, &Loaded<'_>), folders: &SymbolFolders, texts: &mut Texts<'_>) -> ToldPdbs {
+pub fn put(
+    threads: &mut [Thread],
+    over: (&Dump<'_>, &Loaded<'_>),
+    folders: &SymbolFolders,
+    texts: &mut Texts<'_>,
+) -> ToldPdbs {
     let mut frames: Vec<&mut Frame> = threads.iter_mut().flat_map(|it| &mut it.frames).collect();
     let told = if folders.is_empty() { ToldPdbs::new() } else { pdbs::put(&mut frames, over, folders, texts) };
     frames.retain(|it| it.function.is_none());

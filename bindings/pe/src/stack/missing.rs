@@ -35,7 +35,10 @@ impl Stores {
         let folders = images.iter().chain(symbols);
         let paths =
             folders.flat_map(|folder| files::below(folder).into_iter().filter_map(|it| store_path(&it, folder)));
-        Stores { paths: paths.collect(), places: Places { images: Known::below(images), symbols: SymbolFolders::none() } }
+        Stores {
+            paths: paths.collect(),
+            places: Places { images: Known::below(images), symbols: SymbolFolders::none() },
+        }
     }
 
     fn has(&self, path: &str) -> bool {

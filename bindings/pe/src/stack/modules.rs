@@ -58,7 +58,8 @@ pub fn key_of<'d>(dump: &Dump<'d>, loaded: &Loaded<'d>, index: usize) -> Option<
     let module = loaded.images.modules().get(index)?;
     let record = dump.located(&module.cv_record).ok().filter(|it| !it.is_empty() && it.len() <= PDB_RECORD);
     let of_dump = record.and_then(|it| SymbolKey::of_record(it).ok()?);
-    of_dump.or_else(|| loaded.images.image(index)?.image.symbol_key().ok()?.filter(|it| it.name_bytes.len() <= PDB_RECORD))
+    of_dump
+        .or_else(|| loaded.images.image(index)?.image.symbol_key().ok()?.filter(|it| it.name_bytes.len() <= PDB_RECORD))
 }
 
 /// The image has no headers here, but those that a symbol server asks for.

@@ -56,7 +56,12 @@ struct Group<'k> {
 }
 
 /// Puts their functions to the frames that a PDB names, and says what was found.
-pub fn put(frames: &mut [&mut Frame], over: (&Dump<'_>, &Loaded<'_>), folders: &SymbolFolders, texts: &mut Texts<'_>) -> ToldPdbs {
+pub fn put(
+    frames: &mut [&mut Frame],
+    over: (&Dump<'_>, &Loaded<'_>),
+    folders: &SymbolFolders,
+    texts: &mut Texts<'_>,
+) -> ToldPdbs {
     let mut told = ToldPdbs::new();
     let mut files = PdbFiles { folders, keys: BTreeMap::new(), left: MOST_IN_ALL };
     for group in groups_of(frames, over, &mut told) {
@@ -78,7 +83,8 @@ fn groups_of<'k>(frames: &[&mut Frame], over: (&Dump<'k>, &Loaded<'k>), told: &m
     for (index, frame) in frames.iter().enumerate() {
         let (Some(module), Some(offset)) = (frame.module_index, frame.offset) else { continue };
         let group = *of_modules.entry(module).or_insert_with(|| {
-            let Some((key, name)) = modules::key_of(dump, loaded, module).and_then(|it| Some((it, it.path()?.name()))) else {
+            let Some((key, name)) = modules::key_of(dump, loaded, module).and_then(|it| Some((it, it.path()?.name())))
+            else {
                 told.insert(module, ToldPdb { state: "not-named", ..ToldPdb::default() });
                 return None;
             };
@@ -99,7 +105,13 @@ fn groups_of<'k>(frames: &[&mut Frame], over: (&Dump<'k>, &Loaded<'k>), told: &m
 }
 
 /// Puts their functions to the frames that are in modules of this PDB, and adds to what is said of it.
-fn name_frames(frames: &mut [&mut Frame], of: (&Group<'_>, &Loaded<'_>), bytes: &[u8], said: ToldPdb, texts: &mut Texts<'_>) -> ToldPdb {
+fn name_frames(
+    frames: &mut [&mut Frame],
+    of: (&Group<'_>, &Loaded<'_>),
+    bytes: &[u8],
+    said: ToldPdb,
+    texts: &mut Texts<'_>,
+) -> ToldPdb {
     let (group, loaded) = of;
     let refused = |error: pe_c::Error| ToldPdb { state: "refused", error: Some(error.into()), ..said.clone() };
     let pdb = match Pdb::parse(bytes) {
@@ -174,7 +186,8 @@ impl PdbFiles<'_> {
     /// The bytes of a PDB with this key, or why they are not read, or no PDB with it.
     fn read(&mut self, path: &Path, key: &SymbolKey<'_>, wanted: &str) -> Result<Vec<u8>, ToldPdb> {
         let not_read = |why: String| ToldPdb { state: "not-read", reason: Some(why), ..ToldPdb::default() };
-        let another = |found: &str| ToldPdb { state: "another-build", found_key: Some(found.into()), ..ToldPdb::default() };
+        let another =
+            |found: &str| ToldPdb { state: "another-build", found_key: Some(found.into()), ..ToldPdb::default() };
         let refused = |why: &Refusal| ToldPdb { state: "refused", error: Some(why.clone()), ..ToldPdb::default() };
         match self.keys.get(path) {
             Some(Ok(found)) if found != wanted => return Err(another(found)),

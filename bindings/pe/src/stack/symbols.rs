@@ -37,7 +37,10 @@ pub enum Candidate {
 impl Candidate {
     pub fn path(&self) -> &Path {
         match self {
-            Candidate::File(path) | Candidate::Compressed(path) | Candidate::Pointer(path) | Candidate::Unread(path, _) => path,
+            Candidate::File(path)
+            | Candidate::Compressed(path)
+            | Candidate::Pointer(path)
+            | Candidate::Unread(path, _) => path,
         }
     }
 
@@ -118,7 +121,9 @@ impl SymbolFolders {
             for folder in self.named(folder, &tier, &mut found) {
                 self.by_key(&folder, (name, key), &mut found);
             }
-            found.extend(self.named(folder, name, &mut Vec::new()).into_iter().filter(|it| it.is_file()).map(Candidate::File));
+            found.extend(
+                self.named(folder, name, &mut Vec::new()).into_iter().filter(|it| it.is_file()).map(Candidate::File),
+            );
         }
         found
     }
@@ -208,7 +213,8 @@ mod tests {
     /// The forms of Microsoft's page "Symbol path for Windows debuggers".
     #[test]
     fn the_variable_has_folders_servers_and_caches() {
-        let of = |text: &'static str| text.split(';').flat_map(parts_of).filter(|it| !it.is_empty()).collect::<Vec<_>>();
+        let of =
+            |text: &'static str| text.split(';').flat_map(parts_of).filter(|it| !it.is_empty()).collect::<Vec<_>>();
         assert_eq!(of("C:\\a;/b c"), ["C:\\a", "/b c"]);
         assert_eq!(of("srv*c:\\sym*https://x/y"), ["c:\\sym", "https://x/y"]);
         assert_eq!(of("SRV**\\\\s\\t; cache*d:\\c ;cache*"), ["\\\\s\\t", "d:\\c"]);

@@ -285,7 +285,9 @@ impl Told {
         let pdbs = self.modules.entries().iter().filter_map(|it| Some((it, it.pdb.as_ref()?)));
         pdbs.flat_map(|(module, pdb)| {
             let whole = pdb.error.iter().map(|it| ("", it));
-            whole.chain(pdb.damaged.iter().map(|it| (it.module.as_str(), &it.error))).map(move |it| (module, it.0, it.1))
+            whole
+                .chain(pdb.damaged.iter().map(|it| (it.module.as_str(), &it.error)))
+                .map(move |it| (module, it.0, it.1))
         })
     }
 
