@@ -121,9 +121,7 @@ impl SymbolFolders {
             for folder in self.named(folder, &tier, &mut found) {
                 self.by_key(&folder, (name, key), &mut found);
             }
-            found.extend(
-                self.named(folder, name, &mut Vec::new()).into_iter().filter(|it| it.is_file()).map(Candidate::File),
-            );
+            found.extend(self.files(folder, name).map(Candidate::File));
         }
         found
     }
@@ -132,13 +130,17 @@ impl SymbolFolders {
     fn by_key(&self, folder: &Path, (name, key): (&str, &str), found: &mut Vec<Candidate>) {
         for of_name in self.named(folder, name, found).iter().filter(|it| it.is_dir()) {
             for of_key in self.named(of_name, key, found).iter().filter(|it| it.is_dir()) {
-                found.extend(self.named(of_key, name, &mut Vec::new()).into_iter().map(Candidate::File));
-                let compressed = self.named(of_key, &compressed(name), &mut Vec::new());
-                found.extend(compressed.into_iter().map(Candidate::Compressed));
-                let pointers = self.named(of_key, POINTER, found);
-                found.extend(pointers.into_iter().map(Candidate::Pointer));
+                self.named(of_key, name, found);
+                found.extend(self.files(of_key, name).map(Candidate::File));
+                found.extend(self.files(of_key, &compressed(name)).map(Candidate::Compressed));
+                found.extend(self.files(of_key, POINTER).map(Candidate::Pointer));
             }
         }
+    }
+
+    /// What a folder has under a name and is no folder itself. That the folder cannot be listed is found before.
+    fn files(&self, folder: &Path, name: &str) -> impl Iterator<Item = PathBuf> {
+        self.named(folder, name, &mut Vec::new()).into_iter().filter(|it| !it.is_dir())
     }
 
     /// What a folder has under a name, the same case first. Of a folder that cannot be listed nothing, and that is found.

@@ -33,9 +33,6 @@ pub fn of(told: &Told, style: Style) -> String {
         let of = if part.is_empty() { String::new() } else { format!("{} of ", escaped(part)) };
         page.warning(format_args!("{of}the PDB of {}: {refusal}; it names no frame", name_or(&module.name)));
     }
-    for it in &told.symbols_left_out {
-        page.row("left out", format_args!("of _NT_SYMBOL_PATH {}", escaped(it)));
-    }
     told.threads.entries().iter().for_each(|it| thread_of(it, &mut page));
     if let Some(modules) = told.modules.present().filter(|it| !it.entries.is_empty()) {
         page.heading("modules");
@@ -91,6 +88,7 @@ pub fn summary(told: &Told) -> Vec<Row> {
             format!("{without} without one, {lost} lost: --images FOLDER reads the images below a folder"),
         ));
     }
+    rows.extend(told.symbols_left_out.iter().map(|it| ("left out", format!("of _NT_SYMBOL_PATH {}", escaped(it)))));
     if told.threads.present().is_some_and(|it| it.is_limited) {
         rows.push(("frames", format!("the stacks have more than the {FRAMES} that are shown of a dump")));
     }
