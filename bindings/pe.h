@@ -4184,7 +4184,7 @@ typedef struct {
 typedef struct {
     pe_c_range name;                /* in the DBI stream, without its final zero: the path of the object, or "* Linker *" */
     pe_c_range file;                /* the path of the library that it is from, or of the object */
-    pe_c_range symbols;             /* a walk over its symbols, at its start, in its stream */
+    pe_c_range symbols;             /* a walk over its symbols, at its start, in its stream; no bytes without any */
     pe_c_range lines;               /* its lines in its stream */
     uint32_t code_offset;           /* where its first code is in the section */
     uint32_t code_size;             /* how many bytes that is */

@@ -2870,7 +2870,7 @@ pub struct PdbModule {
     pub name: Range,
     /// The path of the library that it is from, or of the object.
     pub file: Range,
-    /// A walk over its symbols, at its start, in its stream.
+    /// A walk over its symbols, at its start, in its stream; no bytes without any.
     pub symbols: Range,
     /// Its lines in its stream.
     pub lines: Range,

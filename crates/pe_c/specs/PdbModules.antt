@@ -1,5 +1,5 @@
 -- What calls return of the modules of a PDB.
-use Rattle.std.specs.Prelude.{◌≡◌, ℕ, ◌+◌, ◌-◌, ◌×◌, List, [], length, min, Option, Some, None, Result, Ok, Err}
+use Rattle.std.specs.Prelude.{◌≡◌, ℕ, ◌+◌, ◌-◌, ◌==◌, List, [], ◌∷◌, length, min, Option, Some, None, Result, Ok, Err, if◌then◌else◌}
 use Rattle.std.specs.Option.{option_map}
 use Rattle.pe_core.specs.Refusals.{◌>>=◌}
 use Rattle.pe_pdb.specs.Modules.{ModuleView, module_at, module_end}
@@ -10,9 +10,9 @@ use Rattle.pe_c.specs.Ranges.{no_bytes, range_after}
 use Rattle.pe_c.specs.declared.pdb.modules.PdbModule.{PdbModule}
 use Rattle.pe_c.specs.declared.ranges.Range.{Range}
 
--- the symbols of a module in its stream, after the number of 4 bytes at its start
+-- the symbols of a module in its stream, after the number of 4 bytes at its start, if it has any
 abbrev pub symbols_range : ModuleRecord → Range
-symbols_range m = record { offset = 4; length = m.symbols_size - 4 }
+symbols_range m = if m.symbols_size == 0 then no_bytes else record { offset = 4; length = m.symbols_size - 4 }
 
 -- a module as callers get it, whose record is at an offset
 abbrev pub module_reported : ℕ → ModuleView → PdbModule

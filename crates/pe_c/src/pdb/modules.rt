@@ -42,10 +42,13 @@ pub struct PdbModule {
     pub number_of_files: u16,
 }
 
-/// The range of the symbols of a module in its stream, after the 4 bytes at its start.
+/// The range of the symbols of a module in its stream, after the 4 bytes at its start; no bytes where it has none.
 fn symbols_range(header: &ModuleRecord) -> Range
     ensures { result ≡ symbols_range header.now }
 {
+    if header.symbols_size == 0 {
+        return NO_BYTES;
+    }
     let first = FIRST_SYMBOL as u64;
     Range {
         offset: first,
