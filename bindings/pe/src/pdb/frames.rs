@@ -56,7 +56,8 @@ impl ToldFrame {
     /// The function, and how far into it the address is.
     pub fn text(&self) -> String {
         let name = self.name.as_deref().map_or("?".to_string(), function_name);
-        let kind = if self.source == "public" { " (public)" } else { "" };
+        // A public symbol has no size.
+        let kind = if self.source == "public" { " (public) (nearest)" } else { "" };
         match self.is_inlined {
             true => inlined_text(&name),
             false => format!("{name}+{:#x}{kind}", self.offset),

@@ -19,6 +19,8 @@ use std::path::{Path, PathBuf};
 /// How many bytes a PDB has at most that is read, and all of a dump.
 const MOST: u64 = 2 << 30;
 const MOST_IN_ALL: u64 = 8 << 30;
+/// How many records of functions are followed to the one of the whole function.
+const MOST_CHAINED: usize = 32;
 /// What is said of a PDB whose symbols are not those of the image as it is.
 const MOVED: &str = "a tool moved the code of its image after it was linked (OMAP), which is not read";
 /// How many addresses are kept with what names them: those of a recursion come again and again.
@@ -134,21 +136,33 @@ fn name_frames(
         let found = kept.entry(rva).or_insert_with(|| symbolizer.frames(rva));
         let frame = &mut frames[index];
         let image = frame.module_index.and_then(|it| Some(&loaded.images.image(it)?.image));
-        let is_nearest = found.last().is_some_and(|it| it.is_public && !is_function_of(image, rva, it.function_rva));
+        let public = found.last().filter(|it| it.is_public);
+        let is_own = public.map_or(Some(true), |it| is_in_function(image, rva, it.function_rva));
+        if is_own == Some(false) {
+            continue;
+        }
         // The offset counts up to the address that is shown.
         let shown = rva.wrapping_add(frame.has_called.into());
-        frame.function = function_of_pdb(found, shown, texts).map(|it| Function { is_nearest, ..it });
+        frame.function = function_of_pdb(found, shown, texts).map(|it| Function { is_nearest: is_own.is_none(), ..it });
         said.frames += usize::from(frame.function.is_some());
     }
     said.damaged = damaged_of(&symbolizer);
     said
 }
 
-/// Whether the function that has the code at an RVA starts at another one at the earliest, by the function table of an image. A public
-/// symbol before it is that of another function.
-fn is_function_of(image: Option<&Image<'_>>, rva: u32, start: u32) -> bool {
-    let function = image.and_then(|it| it.functions().ok()??.find(rva).ok()?);
-    function.is_some_and(|it| it.begin <= start)
+/// Whether a public symbol is in the function that has the code at an RVA, by the function table of an image; at the start of the
+/// function where that is a part of one. None where nothing says which function it is: then it may be that of another one.
+fn is_in_function(image: Option<&Image<'_>>, rva: u32, start: u32) -> Option<bool> {
+    let functions = image?.functions().ok()??;
+    let part = functions.find(rva).ok()??;
+    let mut whole = part;
+    for _ in 0..MOST_CHAINED {
+        match functions.record(whole).ok().and_then(|it| it.chained()) {
+            Some(next) => whole = next,
+            None => break,
+        }
+    }
+    Some(part.begin <= start || whole.begin == start)
 }
 
 /// The PDB files that are read for a dump.
