@@ -492,7 +492,11 @@ enum pe_c_result {
     PE_C_PDB_NAME = 619,            /* name in a PDB not NUL-terminated or not UTF-8 */
     PE_C_PDB_MODULE_SYMBOLS = 620,  /* symbols of a module end past the end of its stream */
     PE_C_PDB_MODULE_SIGNATURE = 621, /* stream of a module does not start with 4 */
-    PE_C_PDB_SYMBOLS_SIZE = 622,    /* symbols of a PDB have 4 GB or more */
+    PE_C_PDB_SYMBOLS_SIZE = 622,    /* records of a PDB have 4 GB or more */
+    PE_C_PDB_NAMES_SIGNATURE = 623, /* names of the source files of a PDB do not start with 0xEFFEEFFE */
+    PE_C_PDB_CONTRIBUTIONS_VERSION = 624, /* unknown version of the section contributions of a PDB */
+    PE_C_PDB_CONTRIBUTIONS_SIZE = 625, /* section contributions of a PDB are not a multiple of their size */
+    PE_C_PDB_ANNOTATION = 626,      /* annotation of an inlined function truncated or not known */
 };
 
 /* Modes. PE_C_MAPPED is added to one of the others, or stands for PE_C_STRICT | PE_C_MAPPED. */
@@ -654,7 +658,11 @@ static inline const char *pe_c_message(uint32_t number)
     case PE_C_PDB_NAME: return "name in a PDB not NUL-terminated or not UTF-8";
     case PE_C_PDB_MODULE_SYMBOLS: return "symbols of a module end past the end of its stream";
     case PE_C_PDB_MODULE_SIGNATURE: return "stream of a module does not start with 4";
-    case PE_C_PDB_SYMBOLS_SIZE: return "symbols of a PDB have 4 GB or more";
+    case PE_C_PDB_SYMBOLS_SIZE: return "records of a PDB have 4 GB or more";
+    case PE_C_PDB_NAMES_SIGNATURE: return "names of the source files of a PDB do not start with 0xEFFEEFFE";
+    case PE_C_PDB_CONTRIBUTIONS_VERSION: return "unknown version of the section contributions of a PDB";
+    case PE_C_PDB_CONTRIBUTIONS_SIZE: return "section contributions of a PDB are not a multiple of their size";
+    case PE_C_PDB_ANNOTATION: return "annotation of an inlined function truncated or not known";
     default: return "unknown result";
     }
 }

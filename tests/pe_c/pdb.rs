@@ -333,7 +333,7 @@ fn symbols_are_those_that_pdbutil_lists(rt: HostRuntime) -> Result<(), Fail> {
     }
     let module = stream(rt.alloc(), &bytes, 12)?;
     let (result, entries, written) = symbols_of(&module, &sections, [4, 328]);
-    assert_eq!(rt; (result, written), (DONE, 13));
+    assert_eq!(rt; (result, written), (DONE, 15));
     assert_eq!(rt; (of_range(entries[2].range), of_range(entries[2].name)), ([72, 48], [111, 6]));
     assert_eq!(rt; numbers_of(&entries[2]), [0x1050, 45, 80, 0, 1, 0x1110, DONE]);
     assert_eq!(rt; (of_range(entries[8].range), of_range(entries[8].name)), ([208, 4], [0, 0]));

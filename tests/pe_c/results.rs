@@ -218,7 +218,9 @@ fn results_have_texts(rt: HostRuntime) {
     check_text(&rt, 606, "directory of a PDB larger than the file");
     check_text(&rt, 610, "stream of a PDB has more blocks than the file");
     check_text(&rt, 619, "name in a PDB not NUL-terminated or not UTF-8");
-    check_text(&rt, 622, "symbols of a PDB have 4 GB or more");
+    check_text(&rt, 622, "records of a PDB have 4 GB or more");
+    check_text(&rt, 624, "unknown version of the section contributions");
+    check_text(&rt, 626, "annotation of an inlined function truncated");
     for unknown in [
         39,
         99,
@@ -236,7 +238,7 @@ fn results_have_texts(rt: HostRuntime) {
         550,
         561,
         600,
-        623,
+        627,
         u32::MAX,
     ] {
         check_text(&rt, unknown, "unknown result");
@@ -256,7 +258,7 @@ fn texts_differ(rt: HostRuntime) {
             || 513 < number && number < 551
             || 560 < number && number < 601
     };
-    for one in 0..=622 {
+    for one in 0..=626 {
         for other in 0..one {
             if is_other(one) || is_other(other) {
                 continue;

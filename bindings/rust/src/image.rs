@@ -318,8 +318,10 @@ errors! {
     PDB_RECORD_TRUNCATED = 618;
     /// Name in a PDB not NUL-terminated or not UTF-8.
     PDB_NAME = 619;
-    /// Symbols of a PDB have 4 GB or more.
+    /// Records of a PDB have 4 GB or more.
     PDB_SYMBOLS_SIZE = 622;
+    /// Names of the source files of a PDB do not start with 0xEFFEEFFE.
+    PDB_NAMES_SIGNATURE = 623;
     // Of steps of a stack walk, which pe_core does not make.
     /// Eight bytes of memory are missing: [`StepError::Missing`](crate::StepError::Missing).
     MISSING = 102;

@@ -42,6 +42,7 @@ pub struct Pdb<'a> {
     bytes: &'a [u8],
     info: PdbInfo,
     starts: Vec<u64>,
+    sections: Result<Vec<u8>, Error>,
 }
 
 impl fmt::Debug for Pdb<'_> {
@@ -149,7 +150,14 @@ impl<'a> Pdb<'a> {
             let (room, entries) = (starts.as_mut_ptr(), starts.len());
             sys::pe_c_pdb_starts(bytes.as_ptr(), bytes.len(), room, entries, &mut written)
         })?;
-        Ok(Pdb { bytes, info, starts })
+        let mut pdb = Pdb { bytes, info, starts, sections: Ok(Vec::new()) };
+        pdb.sections = pdb.dbi().and_then(|()| pdb.stream_or_none(pdb.info.section_headers));
+        Ok(pdb)
+    }
+
+    /// The bytes of a stream, none without it.
+    fn stream_or_none(&self, number: u16) -> Result<Vec<u8>, Error> {
+        stream_number(number).map_or(Ok(Vec::new()), |number| self.stream(number.into()))
     }
 
     /// The bytes of the file.
@@ -252,21 +260,14 @@ impl<'a> Pdb<'a> {
     }
 
     /// The section headers of the image, no bytes without them: then no symbol has an RVA.
-    pub(crate) fn section_headers(&self) -> Result<Vec<u8>, Error> {
-        self.dbi()?;
-        match stream_number(self.info.section_headers) {
-            Some(number) => self.stream(number.into()),
-            None => Ok(Vec::new()),
-        }
+    pub(crate) fn section_headers(&self) -> Result<&[u8], Error> {
+        self.sections.as_deref().map_err(|error| *error)
     }
 
     /// The stream of symbols that all objects see, no bytes without one.
     pub(crate) fn symbol_stream(&self) -> Result<Vec<u8>, Error> {
         self.dbi()?;
-        match stream_number(self.info.symbol_stream) {
-            Some(number) => self.stream(number.into()),
-            None => Ok(Vec::new()),
-        }
+        self.stream_or_none(self.info.symbol_stream)
     }
 
     /// The public symbols, in the order of their records.
@@ -281,7 +282,8 @@ impl<'a> Pdb<'a> {
         self.symbols(&bytes, all, &[S_PUB32])
     }
 
-    /// The procedures of a module, in the order of their records. None of a module without a stream.
+    /// The procedures of a module, in the order of their records. None of a module without a stream. Each call copies that stream, and
+    /// modules of a hostile PDB may all have one that is as long as the file.
     ///
     /// # Errors
     ///

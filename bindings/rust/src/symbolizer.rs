@@ -51,7 +51,7 @@ struct Symbols {
 
 /// What names RVAs by a PDB: see [`Pdb::symbolizer`].
 pub struct Symbolizer<'p> {
-    sections: Vec<u8>,
+    sections: &'p [u8],
     publics: Symbols,
     modules: Vec<Symbols>,
     /// The starts of all procedures, each with the last of the modules that have one there.
@@ -148,7 +148,7 @@ impl Pdb<'_> {
         let sections = self.section_headers()?;
         let bytes = self.symbol_stream()?;
         let all = Range { offset: 0, length: bytes.len() as u64 };
-        let publics = Symbols::of(PUBLICS, bytes, all, &sections)?;
+        let publics = Symbols::of(PUBLICS, bytes, all, sections)?;
         let mut symbolizer = Symbolizer {
             sections,
             publics,
@@ -176,7 +176,7 @@ impl Symbolizer<'_> {
         let Some(stream) = module.stream else { return Ok(()) };
         let bytes = self.pdb.stream(stream.into())?;
         *left = left.checked_sub(bytes.len()).ok_or(Error::PDB_STREAM_SIZE)?;
-        let symbols = Symbols::of(PROCEDURES, bytes, module.symbols(), &self.sections)?;
+        let symbols = Symbols::of(PROCEDURES, bytes, module.symbols(), self.sections)?;
         let number = self.modules.len() as u32;
         self.starts.extend(symbols.index.iter().map(|entry| ((entry >> 32) as u32, number)));
         self.modules.push(symbols);
@@ -205,12 +205,12 @@ impl Symbolizer<'_> {
     fn procedure(&self, rva: u32) -> Option<SymbolFrame> {
         let after = self.starts.partition_point(|it| it.0 <= rva);
         let module = self.modules.get(self.starts.get(after.checked_sub(1)?)?.1 as usize)?;
-        let found = module.find(PROCEDURES, &self.sections, rva)?;
+        let found = module.find(PROCEDURES, self.sections, rva)?;
         module.frame(&found, rva)
     }
 
     fn public(&self, rva: u32) -> Option<SymbolFrame> {
-        let found = self.publics.find(PUBLICS, &self.sections, rva)?;
+        let found = self.publics.find(PUBLICS, self.sections, rva)?;
         Some(SymbolFrame { is_public: true, ..self.publics.frame(&found, rva)? })
     }
 }

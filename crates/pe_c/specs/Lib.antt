@@ -93,3 +93,7 @@ pub mod BoundFailures
 pub mod SymbolFailures
 pub mod UnwindFailures
 pub mod Arm64Failures
+pub mod Pdbs
+pub mod PdbModules
+pub mod PdbSymbols
+pub mod PdbIndexes

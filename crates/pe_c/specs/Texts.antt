@@ -212,7 +212,11 @@ pdb_texts =
     codes "name in a PDB not NUL-terminated or not UTF-8" ∷
     codes "symbols of a module end past the end of its stream" ∷
     codes "stream of a module does not start with 4" ∷
-    codes "symbols of a PDB have 4 GB or more" ∷
+    codes "records of a PDB have 4 GB or more" ∷
+    codes "names of the source files of a PDB do not start with 0xEFFEEFFE" ∷
+    codes "unknown version of the section contributions of a PDB" ∷
+    codes "section contributions of a PDB are not a multiple of their size" ∷
+    codes "annotation of an inlined function truncated or not known" ∷
     []
 
 -- the text of a refusal of a program database, by its number from 601 on

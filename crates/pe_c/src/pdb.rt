@@ -118,6 +118,10 @@ pub fn number_of_pdb(error: &PdbError) -> u32
         PdbError::ModuleSymbols { .. } => 620,
         PdbError::ModuleSignature(_) => 621,
         PdbError::SymbolsSize => 622,
+        PdbError::NamesSignature(_) => 623,
+        PdbError::ContributionsVersion(_) => 624,
+        PdbError::ContributionsSize(_) => 625,
+        PdbError::Annotation(_) => 626,
         PdbError::Room { .. } => ROOM,
     }
 }

@@ -252,7 +252,11 @@ fn pdb_text(number: u32) -> &'static str
         18 => "name in a PDB not NUL-terminated or not UTF-8",
         19 => "symbols of a module end past the end of its stream",
         20 => "stream of a module does not start with 4",
-        21 => "symbols of a PDB have 4 GB or more",
+        21 => "records of a PDB have 4 GB or more",
+        22 => "names of the source files of a PDB do not start with 0xEFFEEFFE",
+        23 => "unknown version of the section contributions of a PDB",
+        24 => "section contributions of a PDB are not a multiple of their size",
+        25 => "annotation of an inlined function truncated or not known",
         _ => "unknown result",
     }
 }

@@ -9,3 +9,8 @@ pub mod SymbolEntries
 pub mod NearestEntries
 pub mod EntriesOfRecords
 pub mod LineWalks
+pub mod SortedEntries
+pub mod NamedStreams
+pub mod ModuleRanges
+pub mod LineEntries
+pub mod LineOrder

@@ -9,12 +9,12 @@ use Rattle.pe_pdb.specs.Refusals.{PdbRefusal, Short, RecordTruncated}
 use Rattle.pe_pdb.proofs.RecordWalks.{passed, second_passed}
 use Rattle.pe_pdb.proofs.Walked.{EndsLater, walk_more, walk_none, walk_refused}
 
-subsection_offset : (b : List ℕ) (p : ℕ) (s : SubsectionView) → subsection_at b p ≡ Ok s → s.offset ≡ p
+pub subsection_offset : (b : List ℕ) (p : ℕ) (s : SubsectionView) → subsection_at b p ≡ Ok s → s.offset ≡ p
 unfolding subsection_at
 subsection_offset b p s is =
     sym (ap (λ (s : SubsectionView). s.offset) (passed ((holds b p 8, Short) ∷ (holds b (p + 8) (le b (p + 4) 4), RecordTruncated) ∷ []) (record { offset = p; kind = le b p 4; content = range b (p + 8) (le b (p + 4) 4) }) s is))
 
-subsection_ends : (s : SubsectionView) → s.offset < subsection_end s
+pub subsection_ends : (s : SubsectionView) → s.offset < subsection_end s
 subsection_ends s = let times = div_ceil_times (s.offset + 8 + length s.content) 4 (omega arith) in omega (arith, times)
 
 pub subsections_later : (b : List ℕ) → EndsLater subsection_end (subsection_at b)
@@ -31,7 +31,7 @@ subsections_refused b p r before is = walk_refused subsection_end (subsection_at
 
 -- ---- blocks
 
-block_is : (b : List ℕ) (p : ℕ) (s : BlockView) → block_at b p ≡ Ok s → (s.offset ≡ p) × (12 ≤ s.size)
+pub block_is : (b : List ℕ) (p : ℕ) (s : BlockView) → block_at b p ≡ Ok s → (s.offset ≡ p) × (12 ≤ s.size)
 unfolding block_at
 block_is b p s is =
     let tests : List (Bool × PdbRefusal) = (nat_le (12 + 8 * le b (p + 4) 4) (le b (p + 8) 4), RecordTruncated) ∷ (holds b p (le b (p + 8) 4), RecordTruncated) ∷ [] in

@@ -14,3 +14,10 @@ pub mod Procedures
 pub mod SymbolEntries
 pub mod SymbolIndexes
 pub mod Lines
+pub mod Checksums
+pub mod Names
+pub mod LineEntries
+pub mod LineKeys
+pub mod LineIndexes
+pub mod Contributions
+pub mod ModuleIndexes

@@ -27,6 +27,10 @@ pub data PdbRefusal : Type 0 where
   Name : PdbRefusal
   ModuleSymbols : PdbRefusal
   ModuleSignature : PdbRefusal
+  NamesSignature : PdbRefusal
+  ContributionsVersion : PdbRefusal
+  ContributionsSize : PdbRefusal
+  Annotation : PdbRefusal
   SymbolsSize : PdbRefusal
   Room : PdbRefusal
 
@@ -54,6 +58,10 @@ pdb_kind_of (errors.RecordTruncated offset needed length) = RecordTruncated
 pdb_kind_of (errors.Name offset) = Name
 pdb_kind_of (errors.ModuleSymbols size length) = ModuleSymbols
 pdb_kind_of (errors.ModuleSignature number) = ModuleSignature
+pdb_kind_of (errors.NamesSignature number) = NamesSignature
+pdb_kind_of (errors.ContributionsVersion number) = ContributionsVersion
+pdb_kind_of (errors.ContributionsSize length) = ContributionsSize
+pdb_kind_of (errors.Annotation offset) = Annotation
 pdb_kind_of errors.SymbolsSize = SymbolsSize
 pdb_kind_of (errors.Room needed length) = Room
 

@@ -102,8 +102,20 @@ pub enum PdbError {
     /// starts.
     #[error("stream of a module starts with {0:#x}")]
     ModuleSignature(u32),
-    /// Symbol records that are indexed have 4 GiB or more, as no stream has.
-    #[error("symbol records of 4 GiB or more")]
+    /// The names of source files do not start with EFFEEFFEh: the number with which they start.
+    #[error("names start with {0:#x}")]
+    NamesSignature(u32),
+    /// The version of section contributions, which is neither F12EBA2Dh nor F13151E4h.
+    #[error("section contributions of version {0:#x}")]
+    ContributionsVersion(u32),
+    /// The bytes of section contributions are not a multiple of the size of one: how many there are.
+    #[error("section contributions of {0} bytes")]
+    ContributionsSize(usize),
+    /// An annotation of an inlined function is truncated, or none that is known: its offset, or that of its operand, in the annotations.
+    #[error("invalid annotation at offset {0} of an inlined function")]
+    Annotation(usize),
+    /// Records or lines that are indexed have 4 GiB or more, as no stream has.
+    #[error("records of 4 GiB or more")]
     SymbolsSize,
     /// A room is too short for an index: how many entries the index has, and how many the room.
     #[error("index of {needed} entries in a room of {length}")]

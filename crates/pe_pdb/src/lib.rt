@@ -18,6 +18,8 @@
 //! Every call is proved to return what its definition in `specs/` says, for every byte string.
 #![tactic(auto)]
 
+mod checksum;
+mod contribution;
 mod dbi;
 mod error;
 mod file;
@@ -25,8 +27,14 @@ mod info;
 mod key;
 pub mod laws;
 mod line;
+mod line_entries;
+mod line_index;
+mod line_lookup;
 mod module;
+mod module_index;
+mod module_lookup;
 mod msf;
+mod names;
 mod procedure;
 mod public;
 mod sections;
@@ -38,6 +46,8 @@ mod symbol_entries;
 mod symbol_index;
 mod symbol_lookup;
 
+pub use checksum::FileChecksum;
+pub use contribution::{Contribution, ModuleRange, SectionContributions};
 pub use dbi::{
     DBI_STREAM, DEBUG_FPO, DEBUG_OMAP_FROM_SOURCE, DEBUG_OMAP_TO_SOURCE,
     DEBUG_ORIGINAL_SECTION_HEADERS, DEBUG_SECTION_HEADERS, Dbi, DbiHeader, NO_STREAM, debug_stream,
@@ -50,8 +60,12 @@ pub use line::{
     DEBUG_S_FILECHKSMS, DEBUG_S_LINES, FIRST_BLOCK, LineBlock, LineBlocks, LineHeader, LineRow,
     Subsection, Subsections,
 };
+pub use line_entries::{CodeLine, LineEntry};
+pub use line_index::LineIndex;
 pub use module::{FIRST_SYMBOL, Module, ModuleRecord, Modules};
+pub use module_index::ModuleIndex;
 pub use msf::SuperBlock;
+pub use names::{NAMES_STREAM, Names, named_stream};
 pub use procedure::{ProcedureSymbol, S_GPROC32, S_GPROC32_ID, S_LPROC32, S_LPROC32_ID};
 pub use public::{PublicSymbol, S_PUB32};
 pub use sections::SectionHeaders;

@@ -92,7 +92,7 @@ impl<'a> Subsection<'a> {
     }
 
     /// Where the next one starts.
-    fn end(&self) -> usize
+    pub(crate) fn end(&self) -> usize
         requires { self.now.offset + 12 + length self.now.content.now < 2 ^ 64 }
         ensures { result ≡ subsection_end (subsection_view self.now) }
     {
@@ -187,7 +187,7 @@ pub struct LineRow {
 
 /// The row with an index, which the caller knows to be there.
 #[tactic(auto, unfolding(crate::specs::Lines::line_row))]
-fn row_in(rows: &[u8], index: usize) -> LineRow
+pub(crate) fn row_in(rows: &[u8], index: usize) -> LineRow
     requires { index < length rows.now / 8 }
     ensures { result ≡ line_row rows.now (8 * index) }
 {
@@ -232,6 +232,7 @@ impl<'a> LineBlock<'a> {
     pub fn parse(content: &'a [u8], offset: usize) -> Result<LineBlock<'a>>
         ensures value { PdbReturns block_view result (block_at content.entry.now offset) }
         ensures inside { IfOk result (λ b. b.offset + b.size ≤ length content.entry.now) }
+        ensures room { IfOk result (λ b. 12 + length b.rows.now ≤ b.size) }
     {
         if content.len() < SIZE_OF_BLOCK || offset > content.len() - SIZE_OF_BLOCK {
             return Err(PdbError::Short {
@@ -287,7 +288,7 @@ impl<'a> LineBlock<'a> {
     }
 
     /// Where the next one starts.
-    fn end(&self) -> usize
+    pub(crate) fn end(&self) -> usize
         requires { self.now.offset + self.now.size < 2 ^ 64 }
         ensures { result ≡ block_end (block_view self.now) }
     {

@@ -116,7 +116,7 @@ fn first_zero(bytes: &[u8]) -> Option<usize>
 }
 
 /// The bytes from an offset up to the first zero. Error: `Name` if there is none.
-fn name_at(bytes: &[u8], offset: usize) -> Result<&[u8]>
+pub(crate) fn name_at(bytes: &[u8], offset: usize) -> Result<&[u8]>
     requires { offset ≤ length bytes.now }
     ensures value { PdbReturns (λ b. b.now) result (name_at bytes.now offset) }
     ensures inside { IfOk result (λ name. offset + length name.now + 1 ≤ length bytes.now) }

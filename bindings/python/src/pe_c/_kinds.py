@@ -272,7 +272,15 @@ class Kind(enum.IntEnum):
     PDB_MODULE_SIGNATURE = 621
     """stream of a module does not start with 4"""
     PDB_SYMBOLS_SIZE = 622
-    """symbols of a PDB have 4 GB or more"""
+    """records of a PDB have 4 GB or more"""
+    PDB_NAMES_SIGNATURE = 623
+    """names of the source files of a PDB do not start with 0xEFFEEFFE"""
+    PDB_CONTRIBUTIONS_VERSION = 624
+    """unknown version of the section contributions of a PDB"""
+    PDB_CONTRIBUTIONS_SIZE = 625
+    """section contributions of a PDB are not a multiple of their size"""
+    PDB_ANNOTATION = 626
+    """annotation of an inlined function truncated or not known"""
     OTHER = -1
     """a number that this version does not know"""
 

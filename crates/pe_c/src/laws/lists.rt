@@ -14,6 +14,9 @@ ghost use Rattle.pe_c.specs.LibraryFunctions.{StepsLibraryFunctions};
 ghost use Rattle.pe_c.specs.LibraryImports.{StepsLibraryImports};
 ghost use Rattle.pe_c.specs.Lists.{GiveLists, StepsByIndex, StepsVersionBlocks, if_there};
 ghost use Rattle.pe_c.specs.NamedSymbols.{StepsNamedSymbols};
+ghost use Rattle.pe_c.specs.PdbModules.{StepsModules};
+ghost use Rattle.pe_c.specs.PdbSymbols.{StepsPdbSymbols};
+ghost use Rattle.pe_c.specs.Pdbs.{pdb_number};
 ghost use Rattle.pe_c.specs.ResourceLeaves.{StepsLeaves, tree_number};
 ghost use Rattle.pe_c.specs.SectionNames.{long_name_by_index};
 ghost use Rattle.pe_c.specs.Unwinding.{StepsCodes, function_in};
@@ -61,6 +64,8 @@ pub fn lists_are_what_steps_return()
         GiveLists result_number (StepsByIndex (λ i. if_there (arm64_function_in b table i))) }
     ensures export_addresses { (offset : ℕ → Option ℕ) (b : List ℕ) (t : AddressTable) →
         GiveLists result_number (StepsByIndex (exported_at offset b t)) }
+    ensures pdb_modules { (b : List ℕ) → GiveLists pdb_number (StepsModules b) }
+    ensures pdb_symbols { (b sections : List ℕ) → GiveLists pdb_number (StepsPdbSymbols b sections) }
     ensures long_section_names { (b : List ℕ) (strings : Range) (sections : List SectionTable) →
         GiveLists result_number (StepsByIndex (long_name_by_index b strings sections)) }
 {}

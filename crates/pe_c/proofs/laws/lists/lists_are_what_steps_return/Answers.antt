@@ -1,3 +1,6 @@
+use Rattle.pe_c.specs.PdbModules.{StepsModules}
+use Rattle.pe_c.specs.PdbSymbols.{StepsPdbSymbols}
+use Rattle.pe_c.specs.Pdbs.{pdb_number}
 use Rattle.pe_c.proofs.ListRuns.{give_lists}
 use Rattle.pe_c.proofs.laws.lists.lists_are_what_steps_return.Goals as goal
 use Rattle.pe_c.specs.Arm64.{StepsArm64Codes, arm64_function_in}
@@ -78,3 +81,9 @@ returns-clause-export_addresses c offset b t = give_lists result_number (StepsBy
 
 pub returns-clause-long_section_names : goal.returns-clause-long_section_names
 returns-clause-long_section_names c b strings sections = give_lists result_number (StepsByIndex (long_name_by_index b strings sections))
+
+pub returns-clause-pdb_modules : goal.returns-clause-pdb_modules
+returns-clause-pdb_modules c b = give_lists pdb_number (StepsModules b)
+
+pub returns-clause-pdb_symbols : goal.returns-clause-pdb_symbols
+returns-clause-pdb_symbols c b sections = give_lists pdb_number (StepsPdbSymbols b sections)

@@ -1,0 +1,95 @@
+//! The line of an RVA: an index of the lines of a module, in a room that the caller has. It is sorted once, and each RVA is looked up
+//! by binary search. A row reaches to the next row by offset, of whatever block and subsection, at most to the end of its
+//! subsection's code; of several at one offset the last counts.
+
+ghost use Rattle.std.specs.Prelude.{◌≡◌, ◌+◌, ◌*◌, ◌^◌, List, length};
+ghost use Rattle.pe_pdb.specs.LineEntries.{count_of, module_lines};
+ghost use Rattle.pe_pdb.specs.LineIndexes.{AreEntries, IndexesLines, LastBefore, LineAt, in_room, is_line};
+ghost use Rattle.pe_pdb.specs.Refusals.{PdbReturns};
+ghost use Rattle.pe_pdb.specs.declared.line_entries.CodeLine.{CodeLine as Line};
+ghost use Rattle.std.specs.List.Sorted.{IsPermutation};
+
+use crate::error::{PdbError, Result};
+use crate::line_entries::{CodeLine, LineEntry, UNIT, put_lines};
+use crate::line_index::LineIndex;
+use crate::sections::SectionHeaders;
+
+/// The lines that stand for none: of code that a debugger steps over, or into.
+const HIDDEN: u32 = 0xF0_0F00;
+
+const STEPPED_INTO: u32 = 0xFE_EFEE;
+
+/// Whether a number is that of a line.
+fn is_line(number: u32) -> bool
+    ensures { result ≡ is_line number }
+{
+    !matches!(number, 0 | HIDDEN | STEPPED_INTO)
+}
+
+/// What entries are sorted by.
+fn key_of(rva: u32, index: u32) -> u64
+    ensures { result ≡ rva * 2 ^ 32 + index }
+{
+    u64::from(rva) * UNIT + u64::from(index)
+}
+
+impl<'r> LineIndex<'r> {
+    /// How many entries an index has of the lines of a module, the bytes of `ModuleRecord::line_bytes`: as many as a room for it has to
+    /// have. Errors, in order: `SymbolsSize`; those of the first subsection, or block of rows, that is refused.
+    pub fn count(bytes: &[u8], sections: &SectionHeaders<'_>) -> Result<usize>
+        ensures { PdbReturns (λ n. n) result (count_of (module_lines sections.now.bytes.now bytes.now)) }
+    {
+        put_lines(bytes, sections, &mut [])
+    }
+
+    /// These entries, sorted.
+    fn sorted(room: &'r mut [LineEntry]) -> LineIndex<'r>
+        ensures { IsPermutation room.old result.entries.now }
+    {
+        room.sort_unstable_by_key(|entry| key_of(entry.line.rva, entry.index));
+        LineIndex { entries: room }
+    }
+
+    /// The index of the lines of a module. A row whose offset is not below the size of its code is left out, as is one in no section. What
+    /// is in the room after the call is left open. Errors, in order: those of `count`; `Room` if the room has fewer entries than the
+    /// index.
+    pub fn new(
+        bytes: &[u8],
+        sections: &SectionHeaders<'_>,
+        room: &'r mut [LineEntry],
+    ) -> Result<LineIndex<'r>>
+        ensures { IndexesLines (in_room (length room.old) (module_lines sections.now.bytes.now bytes.now)) result }
+    {
+        let count = put_lines(bytes, sections, room)?;
+        if room.len() < count {
+            return Err(PdbError::Room {
+                needed: count,
+                length: room.len(),
+            });
+        }
+        Ok(LineIndex::sorted(&mut room[..count]))
+    }
+
+    /// The last line whose code starts at or before an RVA.
+    fn last_before(&self, rva: u32) -> Option<CodeLine>
+        ensures { (xs : List Line) → AreEntries xs self.now.entries.now → LastBefore xs rva result }
+    {
+        let after = self.entries.partition_point(|entry| entry.line.rva <= rva);
+        if after == 0 {
+            return None;
+        }
+        Some(self.entries[after - 1].line)
+    }
+
+    /// The line of an RVA, with where its code starts, its file and column. `None` where no code with lines is, and where the code is of no
+    /// line: 0, F00F00h, FEEFEEh.
+    pub fn line_at(&self, rva: u32) -> Option<CodeLine>
+        ensures { (xs : List Line) → AreEntries xs self.now.entries.now → LineAt xs rva result }
+    {
+        let found = self.last_before(rva)?;
+        if rva.saturating_sub(found.rva) < found.code_size && is_line(found.line) {
+            return Some(found);
+        }
+        None
+    }
+}
