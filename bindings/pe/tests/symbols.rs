@@ -279,6 +279,39 @@ fn a_damaged_pdb_costs_names_and_no_frame() {
     }
 }
 
+/// A module that is damaged costs its own names: public symbols serve then, which have none of a static function. The function table of
+/// the image says that `middle` is a function; `reads` calls nothing, and has no entry there.
+#[test]
+fn public_symbols_serve_where_a_module_is_damaged() {
+    let folder = folder("symbols-public");
+    let mut pdb = bytes_of(crash::PDB);
+    // The stream of the module starts with 4, and its first record is S_OBJNAME.
+    let at = pdb.windows(8).position(|it| it[..4] == [4, 0, 0, 0] && it[6..] == [1, 0x11]).unwrap();
+    pdb[at] = 5;
+    put(&folder, "syms/crash.pdb", &pdb);
+    let said = stack_in(&folder, &["--symbols", "syms"], None);
+    let found: Vec<Value> = functions_of(&said)
+        .iter()
+        .map(|it| json!([it["raw_name"], it["offset"], it["source"], it["is_nearest"]]))
+        .collect();
+    let wanted = [
+        json!(["?middle@@YAHHH@Z", 0x2F, "public", true]),
+        json!(["?middle@@YAHHH@Z", 0xE, "public", false]),
+        json!(["??$outer@H@app@@YAHH@Z", 0xE, "public", false]),
+        json!(["entry", 0xE, "public", false]),
+    ];
+    assert_eq!(found, wanted);
+    let damaged = &said["modules"][0]["pdb"]["damaged"][0];
+    assert_eq!((&damaged["module"], &damaged["error"]["name"]), (&json!("crash.obj"), &json!("PDB_MODULE_SIGNATURE")));
+    let (text, _, _) = run_in(&folder, &["stack", "crash.dmp", "--images", "images", "--symbols", "syms"], None);
+    assert!(text.contains("crash.obj of the PDB of crash.exe: "), "{text}");
+    assert!(text.contains("?middle@@YAHHH@Z+0x2f (public) (nearest)") && text.contains("read, damaged in part"), "{text}");
+    let (out, _, status) = run(&["pdb", folder.0.join("syms/crash.pdb").to_str().unwrap(), "--json", "--functions"]);
+    let said: Value = serde_json::from_str(&out).unwrap();
+    assert_eq!((&said["damaged"][0]["module"], &said["number_of_procedures"]), (&json!("crash.obj"), &json!(0)));
+    assert_eq!((&said["functions"][1]["raw_name"], status), (&json!("entry"), 1));
+}
+
 /// What a traced call opens, relative to the folder that it runs in.
 fn opened_by(line: &str) -> Option<&str> {
     let (call, rest) = line.split_once('(')?;
