@@ -314,6 +314,11 @@
  *   pe_c_list_pdb_symbols           Lists the records of symbols, and moves the walk past them
  *   pe_c_pdb_index                  Makes an index of the symbols of a kind, PE_C_PDB_PUBLICS or PE_C_PDB_PROCEDURES, by ..
  *   pe_c_find_pdb_symbol            Finds the symbol of an RVA by an index that pe_c_pdb_index made of these bytes and ..
+ *   pe_c_pdb_lines                  Makes an index of the lines of a module by their RVAs at the start of `room`, in ..
+ *   pe_c_find_pdb_line              Finds the line of an RVA by an index that pe_c_pdb_lines made
+ *   pe_c_pdb_files                  Returns the range of the source files of a module in its stream
+ *   pe_c_pdb_file_name              Returns the range of the name of a source file in `names`, the bytes of the stream ..
+ *   pe_c_pdb_named_stream           Returns the number of the stream with a name, such as "/names", by the bytes of the ..
  */
 
 #ifndef PE_C_H
@@ -4219,6 +4224,24 @@ typedef struct {
                                        and then no other field than `range` and `kind` is set */
 } pe_c_pdb_symbol;
 
+/* A line of a source file, and its code. */
+typedef struct {
+    uint32_t rva;                   /* where its code starts */
+    uint32_t code_size;             /* how many bytes of code there are from there to the end of the subsection; the line's own
+                                       may end before, at the next row */
+    uint32_t file;                  /* the source file, for pe_c_pdb_file_name */
+    uint32_t line;                  /* the line, from 1 on; in an index also 0, 0xF00F00 and 0xFEEFEE, which are none */
+    uint32_t column;                /* the column, from 1 on; 0 where there is none */
+} pe_c_pdb_line;
+
+/* An entry of an index of lines. */
+typedef struct {
+    pe_c_pdb_line line;             /* the line */
+    uint32_t index;                 /* which one it is among those of the module */
+} pe_c_pdb_line_entry;
+
+PE_C_SIZE(pe_c_pdb_line, 20);
+PE_C_SIZE(pe_c_pdb_line_entry, 24);
 PE_C_SIZE(pe_c_pdb_info, 96);
 PE_C_SIZE(pe_c_pdb_module, 80);
 PE_C_SIZE(pe_c_pdb_symbol, 56);
@@ -4283,6 +4306,38 @@ uint32_t pe_c_pdb_index(uint32_t kind, const uint8_t *bytes, size_t length, cons
 uint32_t pe_c_find_pdb_symbol(uint32_t kind, const uint8_t *bytes, size_t length, const uint8_t *sections,
                               size_t sections_length, const uint64_t *index, size_t entries, uint32_t rva, pe_c_pdb_symbol *out)
     PE_C_RESULT(9);
+
+/* Makes an index of the lines of a module by their RVAs at the start of `room`, in ascending order. `bytes` are those of the
+ * stream of the module, and `lines` is its range of them. Rows outside of the code of their subsection, and those in no section,
+ * are left out. n rows take n log n steps.
+ * Errors: PE_C_PDB_SECTION_HEADERS; PE_C_SHORT where the range is not inside the bytes; PE_C_PDB_SYMBOLS_SIZE; PE_C_SHORT and
+ * PE_C_PDB_RECORD_TRUNCATED of a subsection or a block of rows; PE_C_ROOM. */
+uint32_t pe_c_pdb_lines(const uint8_t *bytes, size_t length, const pe_c_range *lines, const uint8_t *sections,
+                        size_t sections_length, pe_c_pdb_line_entry *room, size_t entries, uint64_t *written)
+    PE_C_RESULT(3, 8);
+
+/* Finds the line of an RVA by an index that pe_c_pdb_lines made: that of the last row at or before the RVA, of several at one RVA
+ * the last of the module. PE_C_NOTHING where no row has it, and where its code is of no line. It takes log n steps. By entries
+ * that do not ascend it finds some line, or none. */
+uint32_t pe_c_find_pdb_line(const pe_c_pdb_line_entry *index, size_t entries, uint32_t rva, pe_c_pdb_line *out) PE_C_RESULT(4);
+
+/* Returns the range of the source files of a module in its stream. `lines` is its range of lines. PE_C_NOTHING without files.
+ * Errors: PE_C_SHORT where the range is not inside the bytes; PE_C_SHORT, PE_C_PDB_RECORD_TRUNCATED of a subsection before. */
+uint32_t pe_c_pdb_files(const uint8_t *bytes, size_t length, const pe_c_range *lines, pe_c_range *out) PE_C_RESULT(3, 4);
+
+/* Returns the range of the name of a source file in `names`, the bytes of the stream that pe_c_pdb_named_stream returns of
+ * "/names": the path, without its final zero. `files` is what pe_c_pdb_files returned of the stream of the module, and `file`
+ * what a line has.
+ * Errors: PE_C_SHORT where the range is not inside the bytes; PE_C_SHORT, PE_C_PDB_RECORD_TRUNCATED of the record of the file;
+ * PE_C_SHORT where there are fewer than 12 bytes of names, PE_C_PDB_NAMES_SIGNATURE, PE_C_PDB_RECORD_TRUNCATED;
+ * PE_C_PDB_NAME. */
+uint32_t pe_c_pdb_file_name(const uint8_t *bytes, size_t length, const pe_c_range *files, const uint8_t *names,
+                            size_t names_length, uint32_t file, pe_c_range *out) PE_C_RESULT(3, 7);
+
+/* Returns the number of the stream with a name, such as "/names", by the bytes of the info stream, stream 1. PE_C_NOTHING without
+ * one. Error: PE_C_SHORT or PE_C_PDB_RECORD_TRUNCATED where the names of streams pass the end of the bytes. */
+uint32_t pe_c_pdb_named_stream(const uint8_t *bytes, size_t length, const uint8_t *name, size_t name_length, uint32_t *out)
+    PE_C_RESULT(5);
 
 #ifdef __cplusplus
 }

@@ -1018,6 +1018,13 @@ test('a PDB, its streams, modules and symbols', () => {
   const index = [0n, 0n], kind = constants.PE_C_PDB_PUBLICS;
   assert.equal(symbols.call('pe_c_pdb_index', { kind, symbols: range, sections, room: index }), 2n);
   assert.equal(symbols.utf8(symbols.call('pe_c_find_pdb_symbol', { kind, sections, index, rva: 0x104F }).name), 'entry');
+  const own = library.file(stream(12)), [, { lines }] = modules, entries = Array.from({ length: 6 }, () => ({}));
+  assert.equal(own.call('pe_c_pdb_lines', { lines, sections, room: entries }), 6n);
+  const line = own.call('pe_c_find_pdb_line', { index: entries, rva: 0x1070 }), files = own.call('pe_c_pdb_files', { lines });
+  assert.deepEqual([line.rva, line.line], [0x1065, 900]);
+  const number = library.file(stream(1)).call('pe_c_pdb_named_stream', { name: new TextEncoder().encode('/names') });
+  const names = stream(number), path = own.call('pe_c_pdb_file_name', { files, names, file: line.file });
+  assert.equal(library.file(names).utf8(path), 'generated\\else.inc');
   assert.equal(refused(() => library.file(file('imports')).call('pe_c_pdb')).constant, 'PE_C_PDB_MAGIC');
 });
 

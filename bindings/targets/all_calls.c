@@ -1040,10 +1040,11 @@ static void dump(const struct file *file)
 /* How many bytes of a stream are read, and how many numbers of a room. */
 enum { STREAM = 1 << 16, NUMBERS = 256 };
 
-static uint8_t stream_bytes[STREAM], section_bytes[STREAM];
+static uint8_t stream_bytes[STREAM], section_bytes[STREAM], name_bytes[STREAM];
 
 /* What streams of a PDB say, by bytes of the section headers. */
-static void symbols(const uint8_t *bytes, size_t length, const uint8_t *headers, size_t headers_length, pe_c_range walk)
+static void pdb_symbols(const uint8_t *bytes, size_t length, const uint8_t *headers, size_t headers_length,
+                        pe_c_range walk)
 {
     for (uint32_t kind = PE_C_PDB_PUBLICS; kind <= PE_C_PDB_PROCEDURES; kind++) {
         uint64_t index[NUMBERS] = PE_C_EMPTY, written = 0;
@@ -1055,6 +1056,22 @@ static void symbols(const uint8_t *bytes, size_t length, const uint8_t *headers,
                  written < NUMBERS ? (size_t)written : NUMBERS, rva, &found);
     }
     LIST(pe_c_list_pdb_symbols, pe_c_pdb_symbol, bytes, length, headers, headers_length, &walk);
+}
+
+/* The lines and source files of a range of a stream. */
+static void pdb_lines(const uint8_t *bytes, size_t length, const pe_c_range *range, const uint8_t *headers,
+                      size_t headers_length, const uint8_t *names, size_t names_length)
+{
+    pe_c_pdb_line_entry index[NUMBERS] = PE_C_EMPTY;
+    pe_c_pdb_line line = PE_C_EMPTY;
+    pe_c_range files = PE_C_EMPTY, name = PE_C_EMPTY;
+    uint64_t written = 0;
+    CALL(pe_c_pdb_lines, index, bytes, length, range, headers, headers_length, index, NUMBERS, &written);
+    add(written);
+    for (uint32_t rva = 0xFFF; rva < 0x1100; rva += 11)
+        CALL(pe_c_find_pdb_line, line, index, written < NUMBERS ? (size_t)written : NUMBERS, rva, &line);
+    CALL(pe_c_pdb_files, files, bytes, length, range, &files);
+    CALL(pe_c_pdb_file_name, name, bytes, length, &files, names, names_length, line.file, &name);
 }
 
 static size_t stream_of(const struct file *file, const uint64_t *starts, size_t count, uint32_t index, uint8_t *room)
@@ -1073,6 +1090,8 @@ static void pdb(const struct file *file)
     pe_c_pdb_info info = PE_C_EMPTY;
     pe_c_key key = PE_C_EMPTY;
     uint64_t starts[NUMBERS] = PE_C_EMPTY, written = 0;
+    static const uint8_t name[6] = {'/', 'n', 'a', 'm', 'e', 's'};
+    uint32_t number = 0;
     int is_pdb = IS_DONE(pe_c_pdb, info, BYTES, &info);
     CALL(pe_c_pdb_starts, starts, BYTES, starts, NUMBERS, &written);
     key.age = info.dbi_age;
@@ -1082,17 +1101,28 @@ static void pdb(const struct file *file)
     if (!is_pdb) {
         /* As if the file were a stream of one. */
         pe_c_range all = {0, file->length}, walk = {0, file->length};
-        symbols(BYTES, file->bytes, file->length / 40 * 40, all);
+        pdb_symbols(BYTES, file->bytes, file->length / 40 * 40, all);
         LIST(pe_c_list_pdb_modules, pe_c_pdb_module, BYTES, &walk);
+        pdb_lines(BYTES, &all, file->bytes, file->length / 40 * 40, BYTES);
+        CALL(pe_c_pdb_named_stream, number, BYTES, name, 6, &number);
         stream_of(file, starts, NUMBERS, 1, stream_bytes);
         return;
     }
     size_t headers = stream_of(file, NULL, 0, info.section_headers, section_bytes);
     size_t length = stream_of(file, starts, (size_t)written, info.symbol_stream, stream_bytes);
     pe_c_range all = {0, length};
-    symbols(stream_bytes, length, section_bytes, headers, all);
+    pdb_symbols(stream_bytes, length, section_bytes, headers, all);
+    length = stream_of(file, starts, (size_t)written, 1, stream_bytes);
+    CALL(pe_c_pdb_named_stream, number, stream_bytes, length, name, 6, &number);
     length = stream_of(file, starts, (size_t)written, 3, stream_bytes);
+    pe_c_pdb_module module = PE_C_EMPTY;
+    pe_c_range walk = info.modules;
+    uint64_t one = 0;
+    CALL(pe_c_list_pdb_modules, module, stream_bytes, length, &walk, &module, 1, &one);
     LIST(pe_c_list_pdb_modules, pe_c_pdb_module, stream_bytes, length, &info.modules);
+    length = stream_of(file, starts, (size_t)written, module.stream, stream_bytes);
+    size_t names = stream_of(file, starts, (size_t)written, number, name_bytes);
+    pdb_lines(stream_bytes, length, &module.lines, section_bytes, headers, name_bytes, names);
 }
 
 /* ---- all of it */

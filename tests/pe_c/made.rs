@@ -181,6 +181,8 @@ pub(crate) const PDB_RECORD_TRUNCATED: u32 = 618;
 
 pub(crate) const PDB_NAME: u32 = 619;
 
+pub(crate) const PDB_NAMES_SIGNATURE: u32 = 623;
+
 pub(crate) const X64: u16 = 0x8664;
 
 pub(crate) const ARM64: u16 = 0xAA64;

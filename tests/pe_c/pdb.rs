@@ -3,19 +3,23 @@
 
 use super::made::{
     PDB_BLOCK, PDB_BLOCK_MAP, PDB_BLOCK_SIZE, PDB_DBI_PARTS, PDB_DBI_SIGNATURE, PDB_DBI_VERSION,
-    PDB_DIRECTORY, PDB_FILE_SIZE, PDB_INFO_VERSION, PDB_MAGIC, PDB_NAME, PDB_NO_STREAM,
+    PDB_DIRECTORY, PDB_FILE_SIZE, PDB_INFO_VERSION, PDB_MAGIC, PDB_NAME, PDB_NAMES_SIGNATURE, PDB_NO_STREAM,
     PDB_PORTABLE, PDB_RECORD_SIZE, PDB_RECORD_TRUNCATED, PDB_SECTION_HEADERS, PDB_STREAM_SIZE,
     PDB20, SHORT, of_range, range,
 };
 use super::pdb_bytes::{LENGTH, PIECES};
 use crate::debug_records::SymbolKey;
 use crate::pdb::index::{pe_c_find_pdb_symbol, pe_c_pdb_index};
+use crate::pdb::lines::{
+    pe_c_find_pdb_line, pe_c_pdb_file_name, pe_c_pdb_files, pe_c_pdb_lines, pe_c_pdb_named_stream,
+};
 use crate::pdb::modules::{PdbModule, pe_c_list_pdb_modules};
 use crate::pdb::symbols::{PdbSymbol, pe_c_list_pdb_symbols};
 use crate::pdb::{Pdb, pe_c_is_pdb_of, pe_c_pdb, pe_c_pdb_starts, pe_c_pdb_stream};
 use crate::ranges::NO_BYTES;
 use crate::results::{DONE, NOTHING, ROOM};
 use pe_images::{image, put};
+use pe_pdb::{CodeLine, LineEntry};
 use std::alloc::{AllocError, Global};
 use std::test::Fail;
 
@@ -470,5 +474,113 @@ fn a_pdb_is_that_of_an_image(rt: HostRuntime) -> Result<(), Fail> {
     assert_eq!(rt; pe_c_is_pdb_of(&key, &pdb), NOTHING);
     pdb.dbi_result = PDB_DBI_PARTS;
     assert_eq!(rt; pe_c_is_pdb_of(&key, &pdb), PDB_DBI_PARTS);
+    Ok(())
+}
+
+const NO_LINE: LineEntry = LineEntry {
+    line: CodeLine {
+        rva: 9,
+        code_size: 9,
+        file: 9,
+        line: 9,
+        column: 9,
+    },
+    index: 9,
+};
+
+fn numbers_of_line(line: &CodeLine) -> [u32; 5] {
+    [line.rva, line.code_size, line.file, line.line, line.column]
+}
+
+#[test]
+fn lines_are_those_that_pdbutil_lists(rt: HostRuntime) -> Result<(), Fail> {
+    let bytes = pdb(rt.alloc())?;
+    let sections = stream(rt.alloc(), &bytes, 10)?;
+    let module = stream(rt.alloc(), &bytes, 12)?;
+    let lines = range(332, 176);
+    let (mut room, mut written) = ([NO_LINE; 7], 9);
+    let few = &mut room[..5];
+    assert_eq!(rt; pe_c_pdb_lines(&module, &lines, &sections, few, &mut written), ROOM);
+    assert_eq!(rt; (written, room[0].index), (6, 9));
+    assert_eq!(rt; pe_c_pdb_lines(&module, &lines, &sections, &mut room, &mut written), DONE);
+    assert_eq!(rt; (written, room[6].index), (6, 9));
+    let listed = [
+        [0x1050, 45, 0, 4, 0],
+        [0x1058, 37, 0, 5, 0],
+        [0x1065, 24, 24, 900, 0],
+        [0x1071, 12, 0, 9, 0],
+        [0x1080, 12, 0, 1, 0],
+        [0x1085, 7, 0, 2, 0],
+    ];
+    for (index, (entry, wanted)) in (0u32..6).zip(room.iter().zip(listed)) {
+        assert_eq!(rt; (numbers_of_line(&entry.line), entry.index), (wanted, index));
+    }
+    let found = |rva: u32| {
+        let mut out = NO_LINE.line;
+        let result = pe_c_find_pdb_line(&room[..6], rva, &mut out);
+        (result, out.line)
+    };
+    for (rva, wanted) in [
+        (0x104F, (NOTHING, 9)),
+        (0x1050, (DONE, 4)),
+        (0x1064, (DONE, 5)),
+        (0x1065, (DONE, 900)),
+        (0x107C, (DONE, 9)),
+        (0x107D, (NOTHING, 9)),
+        (0x108B, (DONE, 2)),
+        (0x108C, (NOTHING, 9)),
+    ] {
+        assert_eq!(rt; found(rva), wanted);
+    }
+    written = 9;
+    for (start, headers, error) in [
+        (range(332, 175), 120, PDB_RECORD_TRUNCATED),
+        (range(332, 6), 120, SHORT),
+        (range(332, 181), 120, SHORT),
+        (range(332, 176), 119, PDB_SECTION_HEADERS),
+    ] {
+        let mut room = [NO_LINE; 7];
+        let headers = &sections[..headers];
+        let result = pe_c_pdb_lines(&module, &start, headers, &mut room, &mut written);
+        assert_eq!(rt; (result, written, room[0].index), (error, 9, 9));
+    }
+    Ok(())
+}
+
+#[test]
+fn files_have_names(rt: HostRuntime) -> Result<(), Fail> {
+    let bytes = pdb(rt.alloc())?;
+    let info = stream(rt.alloc(), &bytes, 1)?;
+    let module = stream(rt.alloc(), &bytes, 12)?;
+    let mut number = 9;
+    assert_eq!(rt; pe_c_pdb_named_stream(&info, b"/names", &mut number), DONE);
+    assert_eq!(rt; number, 14);
+    assert_eq!(rt; pe_c_pdb_named_stream(&info, b"/LinkInfo", &mut number), DONE);
+    assert_eq!(rt; number, 5);
+    assert_eq!(rt; pe_c_pdb_named_stream(&info, b"names", &mut number), NOTHING);
+    assert_eq!(rt; pe_c_pdb_named_stream(&info[..31], b"/names", &mut number), SHORT);
+    assert_eq!(rt; pe_c_pdb_named_stream(&info[..40], b"/names", &mut number), PDB_RECORD_TRUNCATED);
+    assert_eq!(rt; number, 5);
+    let mut names = stream(rt.alloc(), &bytes, 14)?;
+    let (mut files, mut name) = (range(9, 9), range(9, 9));
+    assert_eq!(rt; pe_c_pdb_files(&module, &range(332, 176), &mut files), DONE);
+    for (file, wanted) in [(0, b"b.c".as_slice()), (24, b"generated\\else.inc".as_slice())] {
+        assert_eq!(rt; pe_c_pdb_file_name(&module, &files, &names, file, &mut name), DONE);
+        let [offset, length] = of_range(name);
+        assert_eq!(rt; &names[offset as usize..(offset + length) as usize], wanted);
+    }
+    name = range(9, 9);
+    let past = files.length as u32 - 5;
+    assert_eq!(rt; pe_c_pdb_file_name(&module, &files, &names, past, &mut name), SHORT);
+    assert_eq!(rt; pe_c_pdb_file_name(&module, &range(511, 2), &names, 0, &mut name), SHORT);
+    assert_eq!(rt; pe_c_pdb_file_name(&module, &files, &names[..11], 0, &mut name), SHORT);
+    put(&mut names, &[(0, b"\0")]);
+    assert_eq!(rt; pe_c_pdb_file_name(&module, &files, &names, 0, &mut name), PDB_NAMES_SIGNATURE);
+    assert_eq!(rt; of_range(name), [9, 9]);
+    files = range(9, 9);
+    assert_eq!(rt; pe_c_pdb_files(&module, &range(332, 181), &mut files), SHORT);
+    assert_eq!(rt; pe_c_pdb_files(&module, &range(332, 0), &mut files), NOTHING);
+    assert_eq!(rt; pe_c_pdb_files(&module, &range(332, 7), &mut files), SHORT);
+    assert_eq!(rt; of_range(files), [9, 9]);
     Ok(())
 }

@@ -34,13 +34,21 @@ pub struct Asked<'a> {
 #[derive(Clone, Debug, Serialize)]
 pub struct Damaged {
     pub module: String,
+    /// Whether its lines alone are refused, and its functions have names.
+    pub has_names: bool,
     pub error: Refusal,
 }
+
+/// What stands in place of a module where the names of source files are refused.
+const FILES: &str = "names of source files";
 
 /// What the symbols of a PDB could not be read of.
 pub fn damaged_of(symbolizer: &Symbolizer<'_>) -> Vec<Damaged> {
     let damaged = symbolizer.damaged().iter();
-    damaged.map(|it| Damaged { module: it.name.clone(), error: it.error.into() }).collect()
+    let damaged =
+        damaged.map(|it| Damaged { module: it.name.clone(), has_names: it.has_names, error: it.error.into() });
+    let of_files = |error: Error| Damaged { module: FILES.to_string(), has_names: true, error: error.into() };
+    damaged.chain(symbolizer.names_error().map(of_files)).collect()
 }
 
 /// What is said of a PDB. What it does not say, or is not asked for, is null.
@@ -128,7 +136,10 @@ fn told_of(path: &Path, pdb: &Pdb<'_>, asked: Asked<'_>) -> Told {
     (told.damaged, told.symbols_error) = (lists.damaged, lists.error);
     if !asked.rvas.is_empty() && told.dbi_error.is_none() {
         match pdb.symbolizer() {
-            Ok(symbolizer) => put_frames(&symbolizer, asked.rvas, &mut told),
+            Ok(symbolizer) => {
+                put_frames(&symbolizer, asked.rvas, &mut told);
+                told.damaged.extend(damaged_of(&symbolizer).into_iter().filter(|it| it.has_names));
+            }
             Err(error) => told.symbols_error = Some(error.into()),
         }
     }

@@ -132,6 +132,28 @@ fn change(input: &mut [u8], offsets: &[Range<usize>], random: &mut Random) -> Ve
     before
 }
 
+/// Makes the calls that read lines, on the bytes as the stream of a module, with wrong ranges and indexes.
+fn lines_of_lies(bytes: &[u8], sections: &[u8], random: &mut Random, number: u64) {
+    let (at, length, few) = (bytes.as_ptr(), bytes.len(), random.edge(number) as u32);
+    let range = sys::Range { offset: random.edge(number), length: random.edge(number) };
+    let (mut index, mut written) = ([sys::PdbLineEntry::default(); 3], 9);
+    let (mut line, mut files, mut stream) = (sys::PdbLine::default(), range, 9);
+    // SAFETY: as in `pdb_of_lies`.
+    unsafe {
+        let (room, most) = (index.as_mut_ptr(), index.len());
+        let (headers, headers_length) = (sections.as_ptr(), sections.len());
+        let result = sys::pe_c_pdb_lines(at, length, &range, headers, headers_length, room, most, &mut written);
+        assert!(result == sys::DONE || index == [sys::PdbLineEntry::default(); 3]);
+        index[0].line.rva = few;
+        let _ = sys::pe_c_find_pdb_line(index.as_ptr(), index.len(), few, &mut line);
+        let _ = sys::pe_c_pdb_files(at, length, &range, &mut files);
+        let mut name = sys::Range::default();
+        let _ = sys::pe_c_pdb_file_name(at, length, &files, at, length, few, &mut name);
+        assert!(name.of(bytes).is_some());
+        let _ = sys::pe_c_pdb_named_stream(at, length, b"/names".as_ptr(), 6, &mut stream);
+    }
+}
+
 /// Makes the calls that read a PDB, on the bytes as a file and as streams of one, with wrong ranges, starts and indexes.
 fn pdb_of_lies(bytes: &[u8], random: &mut Random, number: u64) {
     let (at, length, few) = (bytes.as_ptr(), bytes.len(), random.edge(number) as u32);
@@ -180,6 +202,7 @@ fn pdb_of_lies(bytes: &[u8], random: &mut Random, number: u64) {
             sys::pe_c_list_pdb_modules(at, length, &mut walk, modules.as_mut_ptr(), modules.len(), &mut written);
         assert!(result == sys::DONE || walk == sys::Range::default());
     }
+    lines_of_lies(bytes, sections, random, number);
     if let Ok(pdb) = pe_c::Pdb::parse(bytes) {
         let _ = (pdb.publics(), pdb.modules());
         if let Ok(symbolizer) = pdb.symbolizer() {

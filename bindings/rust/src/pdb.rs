@@ -7,13 +7,15 @@
 
 use crate::coff::room_for;
 use crate::debug::SymbolKey;
-use crate::image::{bytes_of, text_of, Error};
+use crate::image::{bytes_of, returned, text_of, Error};
 use crate::symbol_server::Guid;
 use crate::sys::{self, PdbInfo, Range};
 use alloc::string::String;
 use alloc::vec::Vec;
 use core::fmt;
 
+/// The info stream.
+const INFO_STREAM: u32 = 1;
 /// The DBI stream.
 const DBI_STREAM: u32 = 3;
 /// The number of no stream.
@@ -32,7 +34,7 @@ const AT_ONCE: usize = 64;
 /// let pdb = pe_c::Pdb::parse(&bytes)?;
 /// println!("{}", pdb.key("app.pdb"));
 /// for frame in pdb.symbolizer()?.frames(0x1071) {
-///     println!("{}+{:#x}", frame.name, frame.offset);
+///     println!("{}+{:#x} {:?}:{:?}", frame.name, frame.offset, frame.file, frame.line);
 /// }
 /// # Ok(())
 /// # }
@@ -76,6 +78,8 @@ pub struct PdbModule {
     pub code_size: u32,
     #[cfg_attr(feature = "serde", serde(skip))]
     symbols: Range,
+    #[cfg_attr(feature = "serde", serde(skip))]
+    lines: Range,
 }
 
 /// A public symbol or a procedure of a PDB.
@@ -270,6 +274,19 @@ impl<'a> Pdb<'a> {
         self.stream_or_none(self.info.symbol_stream)
     }
 
+    /// The stream with the names of all source files, no bytes without one.
+    pub(crate) fn file_names(&self) -> Result<Vec<u8>, Error> {
+        let (info, name, mut number) = (self.stream(INFO_STREAM)?, b"/names", 0);
+        // SAFETY: the pointers and lengths are those of slices; the number is lent for the call.
+        let result = unsafe {
+            sys::pe_c_pdb_named_stream(info.as_ptr(), info.len(), name.as_ptr(), name.len(), &mut number)
+        };
+        match returned(result, number)? {
+            Some(number) => self.stream(number),
+            None => Ok(Vec::new()),
+        }
+    }
+
     /// The public symbols, in the order of their records.
     ///
     /// # Errors
@@ -341,6 +358,7 @@ fn module_of(module: &sys::PdbModule, dbi: &[u8]) -> Result<PdbModule, Error> {
         code_offset: module.code_offset,
         code_size: module.code_size,
         symbols: module.symbols,
+        lines: module.lines,
     })
 }
 
@@ -348,5 +366,10 @@ impl PdbModule {
     /// Where its symbols are in its stream.
     pub(crate) fn symbols(&self) -> Range {
         self.symbols
+    }
+
+    /// Where its lines are.
+    pub(crate) fn lines(&self) -> Range {
+        self.lines
     }
 }

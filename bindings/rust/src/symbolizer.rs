@@ -1,10 +1,10 @@
-//! Names of the functions at RVAs, by a PDB. The procedures of all modules are read once, and sorted; each RVA is looked up by halves. A
+//! Names and lines of the functions at RVAs, by a PDB. The procedures of all modules are read once, and sorted; each RVA is looked up by halves. A
 //! function without debug information is in no module: the public symbols name it, if the linker wrote them.
 
 use crate::coff::room_for;
-use crate::image::{text_of, Error};
+use crate::image::{returned, text_of, Error};
 use crate::pdb::{Pdb, PdbModule, PROCEDURES, PUBLICS};
-use crate::sys::{self, Range};
+use crate::sys::{self, PdbLine, PdbLineEntry as LineEntry, Range};
 use alloc::string::String;
 use alloc::vec::Vec;
 use core::fmt;
@@ -32,7 +32,7 @@ pub struct SymbolFrame {
     pub is_public: bool,
 }
 
-/// A module that is refused, of which nothing is named.
+/// A module that is refused, whole or its lines alone.
 #[derive(Clone, Debug, PartialEq, Eq)]
 #[cfg_attr(feature = "serde", derive(serde::Serialize))]
 #[non_exhaustive]
@@ -41,12 +41,17 @@ pub struct DamagedModule {
     pub name: String,
     /// Why it is refused.
     pub error: Error,
+    /// Whether its lines alone are refused, and its functions are named.
+    pub has_names: bool,
 }
 
 /// The symbols of a module, with their index.
 struct Symbols {
     bytes: Vec<u8>,
     index: Vec<u64>,
+    lines: Vec<LineEntry>,
+    /// Where its source files are.
+    files: Option<Range>,
 }
 
 /// What names RVAs by a PDB: see [`Pdb::symbolizer`].
@@ -57,6 +62,8 @@ pub struct Symbolizer<'p> {
     /// The starts of all procedures, each with the last of the modules that have one there.
     starts: Vec<(u32, u32)>,
     damaged: Vec<DamagedModule>,
+    /// The names of all source files.
+    names: Result<Vec<u8>, Error>,
     pdb: &'p Pdb<'p>,
 }
 
@@ -78,7 +85,43 @@ impl Symbols {
         }
         Error::of(number)?;
         debug_assert_eq!(needed, index.len() as u64);
-        Ok(Symbols { bytes, index })
+        Ok(Symbols { bytes, index, lines: Vec::new(), files: None })
+    }
+
+    /// Reads the lines of the module, and where its source files are.
+    fn read_lines(&mut self, lines: &Range, sections: &[u8]) -> Result<(), Error> {
+        let (at, length, mut files) = (self.bytes.as_ptr(), self.bytes.len(), Range::default());
+        // SAFETY: the pointers and lengths are those of slices; the records are lent for the call.
+        let found = returned(unsafe { sys::pe_c_pdb_files(at, length, lines, &mut files) }, ())?;
+        self.files = found.map(|()| files);
+        let mut room = Vec::new();
+        let (mut number, needed) = lines_to(&self.bytes, lines, sections, &mut room);
+        if number == sys::ROOM {
+            room = room_for(usize::try_from(needed).map_err(|_| Error::MEMORY)?, LineEntry::default())?;
+            number = lines_to(&self.bytes, lines, sections, &mut room).0;
+        }
+        Error::of(number)?;
+        self.lines = room;
+        Ok(())
+    }
+
+    /// The line of an RVA.
+    fn line(&self, rva: u32) -> Option<PdbLine> {
+        let (index, mut found) = (&self.lines, PdbLine::default());
+        // SAFETY: as above.
+        let number = unsafe { sys::pe_c_find_pdb_line(index.as_ptr(), index.len(), rva, &mut found) };
+        (number == sys::DONE).then_some(found)
+    }
+
+    /// The name of a source file. What is not UTF-8 is U+FFFD.
+    fn file(&self, file: u32, names: &[u8]) -> Option<String> {
+        let (at, length, mut name) = (self.bytes.as_ptr(), self.bytes.len(), Range::default());
+        // SAFETY: as above.
+        let number = unsafe {
+            sys::pe_c_pdb_file_name(at, length, &self.files?, names.as_ptr(), names.len(), file, &mut name)
+        };
+        let name = name.of(names).filter(|_| number == sys::DONE)?;
+        Some(String::from_utf8_lossy(name).into_owned())
     }
 
     /// The symbol of an RVA.
@@ -136,8 +179,27 @@ fn index_to(kind: u32, bytes: &[u8], symbols: &Range, sections: &[u8], room: &mu
     (number, written)
 }
 
+/// Makes an index of lines in a room, and returns the result and how many entries it has.
+fn lines_to(bytes: &[u8], lines: &Range, sections: &[u8], room: &mut [LineEntry]) -> (u32, u64) {
+    let mut written = 0;
+    // SAFETY: as above.
+    let number = unsafe {
+        sys::pe_c_pdb_lines(
+            bytes.as_ptr(),
+            bytes.len(),
+            lines,
+            sections.as_ptr(),
+            sections.len(),
+            room.as_mut_ptr(),
+            room.len(),
+            &mut written,
+        )
+    };
+    (number, written)
+}
+
 impl Pdb<'_> {
-    /// Reads what names RVAs: the public functions, and the procedures of all modules, each module once. A module that is refused
+    /// Reads what names RVAs: the public functions, and the procedures and lines of all modules, each module once. A module that is refused
     /// costs its own names alone: [`Symbolizer::damaged`] has it. So does one whose stream, with those of the modules before it, has more
     /// bytes than the file: no linker writes a block for two.
     ///
@@ -155,13 +217,16 @@ impl Pdb<'_> {
             modules: Vec::new(),
             starts: Vec::new(),
             damaged: Vec::new(),
+            names: self.file_names(),
             pdb: self,
         };
         let mut left = self.bytes().len();
         for module in self.modules()? {
             match symbolizer.read(&module, &mut left) {
-                Err(Error::MEMORY) => return Err(Error::MEMORY),
-                Err(error) => symbolizer.damaged.push(DamagedModule { name: module.name, error }),
+                Err((Error::MEMORY, _)) => return Err(Error::MEMORY),
+                Err((error, has_names)) => {
+                    symbolizer.damaged.push(DamagedModule { name: module.name, error, has_names });
+                }
                 Ok(()) => {}
             }
         }
@@ -171,16 +236,22 @@ impl Pdb<'_> {
 }
 
 impl Symbolizer<'_> {
-    /// Reads the procedures of a module, where so many bytes of streams may be kept.
-    fn read(&mut self, module: &PdbModule, left: &mut usize) -> Result<(), Error> {
+    /// Reads the procedures and lines of a module, where so many bytes of streams may be kept. An error comes with whether functions
+    /// are named all the same.
+    fn read(&mut self, module: &PdbModule, left: &mut usize) -> Result<(), (Error, bool)> {
         let Some(stream) = module.stream else { return Ok(()) };
-        let bytes = self.pdb.stream(stream.into())?;
-        *left = left.checked_sub(bytes.len()).ok_or(Error::PDB_STREAM_SIZE)?;
-        let symbols = Symbols::of(PROCEDURES, bytes, module.symbols(), self.sections)?;
+        let mut symbols = self.procedures(stream, module, left).map_err(|error| (error, false))?;
+        let lines = symbols.read_lines(&module.lines(), self.sections);
         let number = self.modules.len() as u32;
         self.starts.extend(symbols.index.iter().map(|entry| ((entry >> 32) as u32, number)));
         self.modules.push(symbols);
-        Ok(())
+        lines.map_err(|error| (error, true))
+    }
+
+    fn procedures(&self, stream: u16, module: &PdbModule, left: &mut usize) -> Result<Symbols, Error> {
+        let bytes = self.pdb.stream(stream.into())?;
+        *left = left.checked_sub(bytes.len()).ok_or(Error::PDB_STREAM_SIZE)?;
+        Symbols::of(PROCEDURES, bytes, module.symbols(), self.sections)
     }
 
     /// Sorts the starts of procedures: of several at one RVA, as a linker folds equal ones, that of the last module counts.
@@ -189,7 +260,12 @@ impl Symbolizer<'_> {
         self.starts.dedup_by_key(|it| it.0);
     }
 
-    /// The modules that are refused.
+    /// Why no source file has a name, if the stream with their names is refused.
+    pub fn names_error(&self) -> Option<Error> {
+        self.names.as_ref().err().copied()
+    }
+
+    /// The modules that are refused, or whose lines are.
     pub fn damaged(&self) -> &[DamagedModule] {
         &self.damaged
     }
@@ -206,7 +282,13 @@ impl Symbolizer<'_> {
         let after = self.starts.partition_point(|it| it.0 <= rva);
         let module = self.modules.get(self.starts.get(after.checked_sub(1)?)?.1 as usize)?;
         let found = module.find(PROCEDURES, self.sections, rva)?;
-        module.frame(&found, rva)
+        let mut frame = module.frame(&found, rva)?;
+        if let Some(line) = module.line(rva) {
+            frame.file = self.names.as_ref().ok().and_then(|names| module.file(line.file, names));
+            frame.line = Some(line.line);
+            frame.column = u16::try_from(line.column).ok().filter(|it| *it != 0);
+        }
+        Some(frame)
     }
 
     fn public(&self, rva: u32) -> Option<SymbolFrame> {

@@ -2917,6 +2917,35 @@ pub struct PdbSymbol {
 }
 const _: () = assert!(core::mem::size_of::<PdbSymbol>() == 56);
 
+/// A line of a source file, and its code.
+#[repr(C)]
+#[derive(Clone, Copy, Debug, Default, PartialEq, Eq)]
+pub struct PdbLine {
+    /// Where its code starts.
+    pub rva: u32,
+    /// How many bytes of code there are from there to the end of the subsection; the line's own may end before, at the
+    /// next row.
+    pub code_size: u32,
+    /// The source file, for [`pe_c_pdb_file_name`].
+    pub file: u32,
+    /// The line, from 1 on; in an index also 0, 0xF00F00 and 0xFEEFEE, which are none.
+    pub line: u32,
+    /// The column, from 1 on; 0 where there is none.
+    pub column: u32,
+}
+const _: () = assert!(core::mem::size_of::<PdbLine>() == 20);
+
+/// An entry of an index of lines.
+#[repr(C)]
+#[derive(Clone, Copy, Debug, Default, PartialEq, Eq)]
+pub struct PdbLineEntry {
+    /// The line.
+    pub line: PdbLine,
+    /// Which one it is among those of the module.
+    pub index: u32,
+}
+const _: () = assert!(core::mem::size_of::<PdbLineEntry>() == 24);
+
 #[rustfmt::skip]
 extern "C" {
     /// The number of the ABI is in the name of this call, and grows with each change that breaks callers.
@@ -5097,5 +5126,64 @@ extern "C" {
         entries: usize,
         rva: u32,
         out: *mut PdbSymbol,
+    ) -> u32;
+    /// Makes an index of the lines of a module by their RVAs at the start of `room`, in ascending order.
+    ///
+    /// `bytes` are those of the stream of the module, and `lines` is its range of them. Rows outside of the code of
+    /// their subsection, and those in no section, are left out. n rows take n log n steps.
+    ///
+    /// Errors: [`Error::PDB_SECTION_HEADERS`]; [`Error::SHORT`] where the range is not inside the bytes;
+    /// [`Error::PDB_SYMBOLS_SIZE`]; [`Error::SHORT`] and [`Error::PDB_RECORD_TRUNCATED`] of a subsection or a block of
+    /// rows; [`ROOM`].
+    pub fn pe_c_pdb_lines(
+        bytes: *const u8,
+        length: usize,
+        lines: *const Range,
+        sections: *const u8,
+        sections_length: usize,
+        room: *mut PdbLineEntry,
+        entries: usize,
+        written: *mut u64,
+    ) -> u32;
+    /// Finds the line of an RVA by an index that [`pe_c_pdb_lines`] made: that of the last row at or before the RVA, of
+    /// several at one RVA the last of the module.
+    ///
+    /// [`NOTHING`] where no row has it, and where its code is of no line. It takes log n steps. By entries that do not
+    /// ascend it finds some line, or none.
+    pub fn pe_c_find_pdb_line(index: *const PdbLineEntry, entries: usize, rva: u32, out: *mut PdbLine) -> u32;
+    /// Returns the range of the source files of a module in its stream.
+    ///
+    /// `lines` is its range of lines. [`NOTHING`] without files.
+    ///
+    /// Errors: [`Error::SHORT`] where the range is not inside the bytes; [`Error::SHORT`],
+    /// [`Error::PDB_RECORD_TRUNCATED`] of a subsection before.
+    pub fn pe_c_pdb_files(bytes: *const u8, length: usize, lines: *const Range, out: *mut Range) -> u32;
+    /// Returns the range of the name of a source file in `names`, the bytes of the stream that
+    /// [`pe_c_pdb_named_stream`] returns of "/names": the path, without its final zero.
+    ///
+    /// `files` is what [`pe_c_pdb_files`] returned of the stream of the module, and `file` what a line has.
+    ///
+    /// Errors: [`Error::SHORT`] where the range is not inside the bytes; [`Error::SHORT`],
+    /// [`Error::PDB_RECORD_TRUNCATED`] of the record of the file; [`Error::SHORT`] where there are fewer than 12 bytes
+    /// of names, [`Error::PDB_NAMES_SIGNATURE`], [`Error::PDB_RECORD_TRUNCATED`]; [`Error::PDB_NAME`].
+    pub fn pe_c_pdb_file_name(
+        bytes: *const u8,
+        length: usize,
+        files: *const Range,
+        names: *const u8,
+        names_length: usize,
+        file: u32,
+        out: *mut Range,
+    ) -> u32;
+    /// Returns the number of the stream with a name, such as "/names", by the bytes of the info stream, stream 1.
+    ///
+    /// [`NOTHING`] without one. Error: [`Error::SHORT`] or [`Error::PDB_RECORD_TRUNCATED`] where the names of streams
+    /// pass the end of the bytes.
+    pub fn pe_c_pdb_named_stream(
+        bytes: *const u8,
+        length: usize,
+        name: *const u8,
+        name_length: usize,
+        out: *mut u32,
     ) -> u32;
 }

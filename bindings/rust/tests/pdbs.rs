@@ -69,6 +69,44 @@ fn functions_are_named() {
 }
 
 #[test]
+fn lines_are_those_that_pdbutil_prints() {
+    let bytes = made::pdb();
+    let pdb = Pdb::parse(&bytes).unwrap();
+    let symbolizer = pdb.symbolizer().unwrap();
+    assert_eq!(symbolizer.names_error(), None);
+    let line = |rva| {
+        let [frame] = &symbolizer.frames(rva)[..] else { panic!("{rva:#x}") };
+        (frame.file.clone(), frame.line, frame.column)
+    };
+    for (rva, file, number) in [
+        (0x1000, "a.c", 2),
+        (0x1048, "a.c", 6),
+        (0x1064, "b.c", 5),
+        (0x1065, "generated\\else.inc", 900),
+        (0x107C, "b.c", 9),
+        (0x108B, "b.c", 2),
+    ] {
+        assert_eq!(line(rva), (Some(file.to_owned()), Some(number), None));
+    }
+    assert_eq!(line(0x108C), (None, None, None));
+}
+
+#[test]
+fn damaged_lines_cost_themselves_alone() {
+    let mut bytes = made::pdb();
+    // The first subsection of lines, after 332 bytes of symbols, passes the end.
+    bytes[MODULE + 332 + 6] = 1;
+    let pdb = Pdb::parse(&bytes).unwrap();
+    let symbolizer = pdb.symbolizer().unwrap();
+    let [damaged] = symbolizer.damaged() else { panic!("{:?}", symbolizer.damaged()) };
+    assert_eq!((damaged.name.as_str(), damaged.has_names), ("b.obj", true));
+    assert_eq!(damaged.error, Error::PDB_RECORD_TRUNCATED);
+    assert_eq!(named(&symbolizer.frames(0x108B)), [("local", 0x1080, 11, false)]);
+    assert_eq!(symbolizer.frames(0x108B)[0].line, None);
+    assert_eq!(symbolizer.frames(0x1048)[0].line, Some(6));
+}
+
+#[test]
 fn a_damaged_module_costs_its_names_alone() {
     let mut bytes = made::pdb();
     // The record of `helper` in the module has a size of 1.
@@ -78,6 +116,7 @@ fn a_damaged_module_costs_its_names_alone() {
     let symbolizer = pdb.symbolizer().unwrap();
     let [damaged] = symbolizer.damaged() else { panic!("{:?}", symbolizer.damaged()) };
     assert_eq!((damaged.name.as_str(), damaged.error), ("b.obj", Error::PDB_RECORD_SIZE));
+    assert!(!damaged.has_names);
     assert_eq!(named(&symbolizer.frames(0x1048)), [("entry", 0x1000, 0x48, false)]);
     assert_eq!(named(&symbolizer.frames(0x108B)), [("helper", 0x1050, 0x3B, true)]);
 }

@@ -97,3 +97,4 @@ pub mod Pdbs
 pub mod PdbModules
 pub mod PdbSymbols
 pub mod PdbIndexes
+pub mod PdbLines

@@ -62,6 +62,12 @@ abbrev pub PdbHandsOut : {Y : Type 0} → ℕ → Y → Y → Result Y PdbRefusa
 PdbHandsOut number old new (Ok value) = (number ≡ DONE) × (new ≡ value)
 PdbHandsOut number old new (Err refusal) = (number ≡ pdb_number refusal) × (new ≡ old)
 
+-- the same of a value that may be absent: then the number is NOTHING
+abbrev pub PdbHandsOutIf : {Y : Type 0} → ℕ → Y → Y → Result (Option Y) PdbRefusal → Type 0
+PdbHandsOutIf number old new (Ok (Some value)) = (number ≡ DONE) × (new ≡ value)
+PdbHandsOutIf number old new (Ok None) = (number ≡ NOTHING) × (new ≡ old)
+PdbHandsOutIf number old new (Err refusal) = (number ≡ pdb_number refusal) × (new ≡ old)
+
 -- the bytes of a range, which has to be inside
 abbrev pub part_of : List ℕ → Range → Result (List ℕ) PdbRefusal
 part_of b r = outcome ((holds b r.offset r.length, Short) ∷ []) (range b r.offset r.length)

@@ -5,6 +5,7 @@
 //! https://llvm.org/docs/PDB/
 
 pub mod index;
+pub mod lines;
 pub mod modules;
 pub mod symbols;
 
@@ -13,7 +14,7 @@ ghost use Rattle.pe_pdb.specs.Msf.{msf_view};
 ghost use Rattle.pe_pdb.specs.Refusals.{PdbReturns, pdb_kind_of};
 ghost use Rattle.pe_pdb.specs.Streams.{stream_view};
 ghost use Rattle.pe_c.specs.Lists.{by_number};
-ghost use Rattle.pe_c.specs.Pdbs.{HandsOutStarts, IsPdbOf, Matches, PdbHandsOut, dbi_in, dbi_streams, head_of, info_in, part_of, pdb_answer, pdb_at, pdb_number, pdb_reported, stream_at, stream_numbered, with_dbi};
+ghost use Rattle.pe_c.specs.Pdbs.{HandsOutStarts, IsPdbOf, Matches, PdbHandsOut, PdbHandsOutIf, dbi_in, dbi_streams, head_of, info_in, part_of, pdb_answer, pdb_at, pdb_number, pdb_reported, stream_at, stream_numbered, with_dbi};
 ghost use Rattle.pe_c.specs.WrittenFiles.{HandsOutFile};
 
 use crate::debug_records::SymbolKey;
@@ -135,6 +136,20 @@ pub fn hand_out_pdb<T: Copy>(given: Result<T>, out: &mut T) -> u32
             *out = value;
             DONE
         }
+        Err(error) => number_of_pdb(&error),
+    }
+}
+
+/// The same of what may be absent: then returns `NOTHING`.
+pub fn hand_out_pdb_if<T: Copy>(given: Result<Option<T>>, out: &mut T) -> u32
+    ensures { PdbHandsOutIf result out.old out.new (pdb_answer given) }
+{
+    match given {
+        Ok(Some(value)) => {
+            *out = value;
+            DONE
+        }
+        Ok(None) => NOTHING,
         Err(error) => number_of_pdb(&error),
     }
 }

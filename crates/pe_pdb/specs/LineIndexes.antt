@@ -1,9 +1,10 @@
 -- An index of the lines of a module by their RVAs, and the line of an RVA.
-use Rattle.std.specs.Prelude.{◌≡◌, ℕ, ◌+◌, ◌-◌, ◌*◌, ◌^◌, ◌<◌, ◌≤◌, ◌==◌, ◌&&◌, ◌||◌, not, Bool, List, [], ◌∷◌, length, nat_le, nat_lt, slice_index_or, Option, Some, None, Result, Ok, Err, if◌then◌else◌}
+use Rattle.std.specs.Prelude.{◌≡◌, ℕ, ◌+◌, ◌-◌, ◌*◌, ◌^◌, ◌<◌, ◌≤◌, ◌==◌, ◌&&◌, ◌||◌, not, Bool, List, [], ◌∷◌, drop, length, take, nat_le, nat_lt, slice_index_or, Option, Some, None, Result, Ok, Err, if◌then◌else◌}
 use Rattle.std.specs.List.{All}
-use Rattle.std.specs.List.Sorted.{IsPermutation}
+use Rattle.std.specs.List.Sorted.{IsNonDecreasingBy, IsPermutation}
 use Rattle.pe_core.specs.Refusals.{outcome, ◌>>=◌}
 use Rattle.pe_pdb.specs.LineEntries.{entries_from}
+use Rattle.pe_pdb.specs.LineKeys.{line_key}
 use Rattle.pe_pdb.specs.Refusals.{PdbRefusal, Room, pdb_kind_of}
 use Rattle.pe_pdb.specs.declared.error.PdbError.{PdbError}
 use Rattle.pe_pdb.specs.declared.line_entries.CodeLine.{CodeLine}
@@ -22,6 +23,20 @@ AreEntries xs entries = (length xs ≤ 2 ^ 32) × IsPermutation (entries_from 0 
 abbrev pub IndexesLines : Result (List CodeLine) PdbRefusal → Result LineIndex PdbError → Type 0
 IndexesLines defined (Ok index) = (xs : List CodeLine) × (defined ≡ Ok xs) × AreEntries xs index.entries.now
 IndexesLines defined (Err e) = defined ≡ Err (pdb_kind_of e)
+
+-- the entries, sorted, at the start of a room, whose rest is unchanged; where there is no room for them, and after a refusal, nothing
+-- changes
+abbrev pub PutsLineIndex : Result (List CodeLine) PdbRefusal → List LineEntry → List LineEntry → Result (Result ℕ ℕ) PdbError → Type 0
+PutsLineIndex defined old new (Ok (Ok n)) =
+    (xs : List CodeLine) × (defined ≡ Ok xs) × (n ≡ length xs) × AreEntries xs (take n new) × IsNonDecreasingBy line_key (take n new)
+    × (length new ≡ length old) × (drop n new ≡ drop n old)
+PutsLineIndex defined old new (Ok (Err n)) = (xs : List CodeLine) × (defined ≡ Ok xs) × (n ≡ length xs) × (length old < n) × (new ≡ old)
+PutsLineIndex defined old new (Err e) = (defined ≡ Err (pdb_kind_of e)) × (new ≡ old)
+
+-- the same of a room of as many entries
+abbrev pub PutsSortedLines : Result (List CodeLine) PdbRefusal → List LineEntry → List LineEntry → Type 0
+PutsSortedLines defined old new =
+    (xs : List CodeLine) × (defined ≡ Ok xs) × AreEntries xs new × IsNonDecreasingBy line_key new × (length new ≡ length old)
 
 -- of these lines the one with an index is the last by RVA at or before an RVA, and of those at one RVA the last in order
 pub record IsLastBefore (xs : List CodeLine) (rva i : ℕ) : Type 0 where

@@ -62,6 +62,7 @@ pub use line::{
 };
 pub use line_entries::{CodeLine, LineEntry};
 pub use line_index::LineIndex;
+pub use line_lookup::{line_in, put_line_index};
 pub use module::{FIRST_SYMBOL, Module, ModuleRecord, Modules};
 pub use module_index::ModuleIndex;
 pub use msf::SuperBlock;

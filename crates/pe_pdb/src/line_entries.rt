@@ -26,7 +26,7 @@ pub struct CodeLine {
     /// The line, of 24 bits, from 1 on.
     pub line: u32,
     /// The column, from 1 on. 0 where there is none.
-    pub column: u16,
+    pub column: u32,
 }
 
 /// An entry of an index of lines.
@@ -76,7 +76,7 @@ fn code_line(code: &Code<'_>, block: &LineBlock<'_>, index: usize) -> Option<Cod
         code_size: code.header.size - row.offset,
         file: block.file,
         line: row.line,
-        column: column_of(code, block, index),
+        column: u32::from(column_of(code, block, index)),
     })
 }
 

@@ -4,10 +4,10 @@
 
 ghost use Rattle.std.specs.Prelude.{◌≡◌, ◌+◌, ◌*◌, ◌^◌, List, length};
 ghost use Rattle.pe_pdb.specs.LineEntries.{count_of, module_lines};
-ghost use Rattle.pe_pdb.specs.LineIndexes.{AreEntries, IndexesLines, LastBefore, LineAt, in_room, is_line};
+ghost use Rattle.pe_pdb.specs.LineIndexes.{AreEntries, IndexesLines, LastBefore, LineAt, PutsLineIndex, PutsSortedLines, in_room, is_line};
 ghost use Rattle.pe_pdb.specs.Refusals.{PdbReturns};
 ghost use Rattle.pe_pdb.specs.declared.line_entries.CodeLine.{CodeLine as Line};
-ghost use Rattle.std.specs.List.Sorted.{IsPermutation};
+ghost use Rattle.std.specs.List.Sorted.{IsNonDecreasingBy, IsPermutation};
 
 use crate::error::{PdbError, Result};
 use crate::line_entries::{CodeLine, LineEntry, UNIT, put_lines};
@@ -70,26 +70,61 @@ impl<'r> LineIndex<'r> {
         Ok(LineIndex::sorted(&mut room[..count]))
     }
 
-    /// The last line whose code starts at or before an RVA.
-    fn last_before(&self, rva: u32) -> Option<CodeLine>
-        ensures { (xs : List Line) → AreEntries xs self.now.entries.now → LastBefore xs rva result }
-    {
-        let after = self.entries.partition_point(|entry| entry.line.rva <= rva);
-        if after == 0 {
-            return None;
-        }
-        Some(self.entries[after - 1].line)
-    }
-
     /// The line of an RVA, with where its code starts, its file and column. `None` where no code with lines is, and where the code is of no
     /// line: 0, F00F00h, FEEFEEh.
     pub fn line_at(&self, rva: u32) -> Option<CodeLine>
         ensures { (xs : List Line) → AreEntries xs self.now.entries.now → LineAt xs rva result }
     {
-        let found = self.last_before(rva)?;
-        if rva.saturating_sub(found.rva) < found.code_size && is_line(found.line) {
-            return Some(found);
-        }
-        None
+        line_in(self.entries, rva)
     }
+}
+
+/// Writes the entries of an index, sorted, to the start of a room, and returns how many there are; the rest of the room is unchanged. `Err`
+/// of that number where the room has fewer; then nothing changes. Errors, which change nothing: those of `LineIndex::count`.
+pub fn put_line_index(
+    bytes: &[u8],
+    sections: &SectionHeaders<'_>,
+    room: &mut [LineEntry],
+) -> Result<std::result::Result<usize, usize>>
+    ensures { PutsLineIndex (module_lines sections.now.bytes.now bytes.now) room.old room.new result }
+{
+    let count = LineIndex::count(bytes, sections)?;
+    if room.len() < count {
+        return Ok(Err(count));
+    }
+    put_sorted(bytes, sections, room.split_at_mut(count).0);
+    Ok(Ok(count))
+}
+
+/// Writes them to a room of as many entries.
+fn put_sorted(bytes: &[u8], sections: &SectionHeaders<'_>, room: &mut [LineEntry])
+    requires { count_of (module_lines sections.now.bytes.now bytes.now) ≡ Ok (length room.old) }
+    ensures { PutsSortedLines (module_lines sections.now.bytes.now bytes.now) room.old room.new }
+{
+    if let Ok(_) = put_lines(bytes, sections, room) {
+        room.sort_unstable_by_key(|entry| key_of(entry.line.rva, entry.index));
+    }
+}
+
+/// The last line whose code starts at or before an RVA.
+fn last_before(entries: &[LineEntry], rva: u32) -> Option<CodeLine>
+    ensures { IsNonDecreasingBy line_key entries.now → (xs : List Line) → AreEntries xs entries.now → LastBefore xs rva result }
+{
+    let after = entries.partition_point(|entry| entry.line.rva <= rva);
+    if after == 0 {
+        return None;
+    }
+    Some(entries[after - 1].line)
+}
+
+/// What `LineIndex::line_at` finds in the entries of an index. Where entries do not ascend, which those of an index do, what is found is
+/// left open.
+pub fn line_in(entries: &[LineEntry], rva: u32) -> Option<CodeLine>
+    ensures { IsNonDecreasingBy line_key entries.now → (xs : List Line) → AreEntries xs entries.now → LineAt xs rva result }
+{
+    let found = last_before(entries, rva)?;
+    if rva.saturating_sub(found.rva) < found.code_size && is_line(found.line) {
+        return Some(found);
+    }
+    None
 }

@@ -112,7 +112,7 @@ impl Lists {
                     self.put_errors(&found, &module.name);
                     functions.extend(found.iter().filter_map(|it| function_of(it, Some(index))));
                 }
-                Err(error) => self.damaged.push(Damaged { module: module.name.clone(), error: error.into() }),
+                Err(error) => self.damaged.push(Damaged { module: module.name.clone(), has_names: false, error: error.into() }),
             }
         }
         self.number_of_procedures = Some(procedures);
@@ -133,7 +133,7 @@ impl Lists {
     /// Tells the first record that is refused, of a module.
     fn put_errors(&mut self, symbols: &[PdbSymbol], module: &str) {
         let error = symbols.iter().find_map(|it| it.error);
-        self.damaged.extend(error.map(|it| Damaged { module: module.to_string(), error: it.into() }));
+        self.damaged.extend(error.map(|it| Damaged { module: module.to_string(), has_names: true, error: it.into() }));
     }
 }
 

@@ -29,9 +29,10 @@ pub fn of(told: &Told, style: Style) -> String {
     for (module, part, refusal) in told.damaged_names() {
         page.warning(format_args!("{part} of {}: {refusal}; they name no frame", name_or(&module.name)));
     }
-    for (module, part, refusal) in told.damaged_pdbs() {
+    for (module, part, has_names, refusal) in told.damaged_pdbs() {
+        let what = if has_names { "lines" } else { "names" };
         let of = if part.is_empty() { String::new() } else { format!("{} of ", escaped(part)) };
-        page.warning(format_args!("{of}the PDB of {}: {refusal}; it names no frame", name_or(&module.name)));
+        page.warning(format_args!("{of}the PDB of {}: {refusal}; it has no {what}", name_or(&module.name)));
     }
     told.threads.entries().iter().for_each(|it| thread_of(it, &mut page));
     if let Some(modules) = told.modules.present().filter(|it| !it.entries.is_empty()) {

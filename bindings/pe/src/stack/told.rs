@@ -280,14 +280,14 @@ impl Told {
         })
     }
 
-    /// The modules whose PDB files are refused, or a part of them: which part, and why. That refuses nothing of the dump.
-    pub fn damaged_pdbs(&self) -> impl Iterator<Item = (&Module, &str, &Refusal)> {
+    /// The modules whose PDB files are refused, or a part of them: which part, whether it still has names, and why. That refuses nothing
+    /// of the dump.
+    pub fn damaged_pdbs(&self) -> impl Iterator<Item = (&Module, &str, bool, &Refusal)> {
         let pdbs = self.modules.entries().iter().filter_map(|it| Some((it, it.pdb.as_ref()?)));
         pdbs.flat_map(|(module, pdb)| {
-            let whole = pdb.error.iter().map(|it| ("", it));
-            whole
-                .chain(pdb.damaged.iter().map(|it| (it.module.as_str(), &it.error)))
-                .map(move |it| (module, it.0, it.1))
+            let whole = pdb.error.iter().map(|it| ("", false, it));
+            let parts = pdb.damaged.iter().map(|it| (it.module.as_str(), it.has_names, &it.error));
+            whole.chain(parts).map(move |it| (module, it.0, it.1, it.2))
         })
     }
 
