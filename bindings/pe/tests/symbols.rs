@@ -298,7 +298,10 @@ fn public_symbols_serve_where_a_module_is_damaged() {
     assert_eq!((&damaged["module"], &damaged["error"]["name"]), (&json!("crash.obj"), &json!("PDB_MODULE_SIGNATURE")));
     let (text, _, _) = run_in(&folder, &["stack", "crash.dmp", "--images", "images", "--symbols", "syms"], None);
     assert!(text.contains("crash.obj of the PDB of crash.exe: "), "{text}");
-    assert!(text.contains("?middle@@YAHHH@Z+0x2f (public) (nearest)") && text.contains("read, damaged in part"), "{text}");
+    assert!(
+        text.contains("?middle@@YAHHH@Z+0x2f (public) (nearest)") && text.contains("read, damaged in part"),
+        "{text}"
+    );
     let (out, _, status) = run(&["pdb", folder.0.join("syms/crash.pdb").to_str().unwrap(), "--json", "--functions"]);
     let said: Value = serde_json::from_str(&out).unwrap();
     assert_eq!((&said["damaged"][0]["module"], &said["number_of_procedures"]), (&json!("crash.obj"), &json!(0)));

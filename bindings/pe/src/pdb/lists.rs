@@ -112,7 +112,9 @@ impl Lists {
                     self.put_errors(&found, &module.name);
                     functions.extend(found.iter().filter_map(|it| function_of(it, Some(index))));
                 }
-                Err(error) => self.damaged.push(Damaged { module: module.name.clone(), has_names: false, error: error.into() }),
+                Err(error) => {
+                    self.damaged.push(Damaged { module: module.name.clone(), has_names: false, error: error.into() })
+                }
             }
         }
         self.number_of_procedures = Some(procedures);
