@@ -300,7 +300,7 @@ pub enum Command {
     Pdb {
         /// The PDB, or - for standard input.
         file: PathBuf,
-        /// RVAs of code, in hexadecimal, with or without 0x: the functions there, the inlined ones first, and their lines.
+        /// RVAs of code, in hexadecimal, with or without 0x: the function there, and its line.
         #[arg(value_name = "RVA", value_parser = rva)]
         rvas: Vec<u32>,
         /// The functions: procedures of modules, and public symbols where none of these starts.

@@ -75,7 +75,7 @@ pub struct SymbolFolders {
 impl SymbolFolders {
     /// These folders, and after them those of the variable.
     pub fn new(named: &[PathBuf]) -> SymbolFolders {
-        SymbolFolders::with_variable(named, &env::var(VARIABLE).unwrap_or_default())
+        SymbolFolders::with_variable(named, &env::var_os(VARIABLE).unwrap_or_default().to_string_lossy())
     }
 
     /// Nowhere.
