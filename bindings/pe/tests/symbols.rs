@@ -278,9 +278,9 @@ fn a_damaged_pdb_costs_names_and_no_frame() {
 fn public_symbols_serve_where_a_module_is_damaged() {
     let folder = folder("symbols-public");
     let mut pdb = bytes_of(crash::PDB);
-    // The stream of the module starts with 4, and its first record is S_OBJNAME.
-    let at = pdb.windows(8).position(|it| it[..4] == [4, 0, 0, 0] && it[6..] == [1, 0x11]).unwrap();
-    pdb[at] = 5;
+    // The stream of the module starts with 4, and its first record is S_OBJNAME: here of no bytes.
+    let at = pdb.windows(8).position(|it| *it == [4, 0, 0, 0, 10, 0, 1, 0x11]).unwrap();
+    pdb[at + 4] = 0;
     put(&folder, "syms/crash.pdb", &pdb);
     let said = stack_in(&folder, &["--symbols", "syms"], None);
     let found: Vec<Value> = functions_of(&said)
@@ -295,7 +295,7 @@ fn public_symbols_serve_where_a_module_is_damaged() {
     ];
     assert_eq!(found, wanted);
     let damaged = &said["modules"][0]["pdb"]["damaged"][0];
-    assert_eq!((&damaged["module"], &damaged["error"]["name"]), (&json!("crash.obj"), &json!("PDB_MODULE_SIGNATURE")));
+    assert_eq!((&damaged["module"], &damaged["error"]["name"]), (&json!("crash.obj"), &json!("PDB_RECORD_SIZE")));
     let (text, _, _) = run_in(&folder, &["stack", "crash.dmp", "--images", "images", "--symbols", "syms"], None);
     assert!(text.contains("crash.obj of the PDB of crash.exe: "), "{text}");
     assert!(
