@@ -177,17 +177,8 @@ fn pdb_of_lies(bytes: &[u8], random: &mut Random, number: u64) {
         for kind in 0..2 {
             let mut index = [7u64; 4];
             let (entries, most) = (index.as_mut_ptr(), index.len());
-            let result = sys::pe_c_pdb_index(
-                kind,
-                at,
-                length,
-                &range,
-                headers,
-                headers_length,
-                entries,
-                most,
-                &mut written,
-            );
+            let result =
+                sys::pe_c_pdb_index(kind, at, length, &range, headers, headers_length, entries, most, &mut written);
             assert!(result == sys::DONE || index == [7; 4]);
             let mut found = sys::PdbSymbol::default();
             let _ = sys::pe_c_find_pdb_symbol(kind, at, length, headers, headers_length, some, 3, few, &mut found);

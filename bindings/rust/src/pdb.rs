@@ -222,16 +222,7 @@ impl<'a> Pdb<'a> {
         let result = unsafe {
             let (bytes, length) = (self.bytes.as_ptr(), self.bytes.len());
             let (room, room_length) = (room.as_mut_ptr(), room.len());
-            sys::pe_c_pdb_stream(
-                bytes,
-                length,
-                starts.as_ptr(),
-                starts.len(),
-                number,
-                room,
-                room_length,
-                &mut written,
-            )
+            sys::pe_c_pdb_stream(bytes, length, starts.as_ptr(), starts.len(), number, room, room_length, &mut written)
         };
         (result, written)
     }
@@ -278,9 +269,8 @@ impl<'a> Pdb<'a> {
     pub(crate) fn file_names(&self) -> Result<Vec<u8>, Error> {
         let (info, name, mut number) = (self.stream(INFO_STREAM)?, b"/names", 0);
         // SAFETY: the pointers and lengths are those of slices; the number is lent for the call.
-        let result = unsafe {
-            sys::pe_c_pdb_named_stream(info.as_ptr(), info.len(), name.as_ptr(), name.len(), &mut number)
-        };
+        let result =
+            unsafe { sys::pe_c_pdb_named_stream(info.as_ptr(), info.len(), name.as_ptr(), name.len(), &mut number) };
         match returned(result, number)? {
             Some(number) => self.stream(number),
             None => Ok(Vec::new()),

@@ -117,9 +117,8 @@ impl Symbols {
     fn file(&self, file: u32, names: &[u8]) -> Option<String> {
         let (at, length, mut name) = (self.bytes.as_ptr(), self.bytes.len(), Range::default());
         // SAFETY: as above.
-        let number = unsafe {
-            sys::pe_c_pdb_file_name(at, length, &self.files?, names.as_ptr(), names.len(), file, &mut name)
-        };
+        let number =
+            unsafe { sys::pe_c_pdb_file_name(at, length, &self.files?, names.as_ptr(), names.len(), file, &mut name) };
         let name = name.of(names).filter(|_| number == sys::DONE)?;
         Some(String::from_utf8_lossy(name).into_owned())
     }

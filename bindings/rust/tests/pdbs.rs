@@ -38,10 +38,7 @@ fn modules_and_symbols_are_listed() {
     let pdb = Pdb::parse(&bytes).unwrap();
     let modules = pdb.modules().unwrap();
     let listed: Vec<_> = modules.iter().map(|it| (it.name.as_str(), it.file.as_str(), it.stream)).collect();
-    assert_eq!(
-        listed,
-        [("a.obj", "a.obj", Some(11)), ("b.obj", "b.obj", Some(12)), ("* Linker *", "", Some(13))]
-    );
+    assert_eq!(listed, [("a.obj", "a.obj", Some(11)), ("b.obj", "b.obj", Some(12)), ("* Linker *", "", Some(13))]);
     assert_eq!((modules[1].symbols_size, modules[1].lines_size, modules[1].number_of_files), (328, 176, 2));
     assert_eq!((modules[1].section, modules[1].code_offset, modules[1].code_size), (1, 80, 60));
     let publics = pdb.publics().unwrap();

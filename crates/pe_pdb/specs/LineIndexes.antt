@@ -28,7 +28,8 @@ IndexesLines defined (Err e) = defined ≡ Err (pdb_kind_of e)
 -- changes
 abbrev pub PutsLineIndex : Result (List CodeLine) PdbRefusal → List LineEntry → List LineEntry → Result (Result ℕ ℕ) PdbError → Type 0
 PutsLineIndex defined old new (Ok (Ok n)) =
-    (xs : List CodeLine) × (defined ≡ Ok xs) × (n ≡ length xs) × AreEntries xs (take n new) × IsNonDecreasingBy line_key (take n new)
+    (xs : List CodeLine) × (defined ≡ Ok xs) × (n ≡ length xs) × (n ≤ length old) × AreEntries xs (take n new)
+    × IsNonDecreasingBy line_key (take n new)
     × (length new ≡ length old) × (drop n new ≡ drop n old)
 PutsLineIndex defined old new (Ok (Err n)) = (xs : List CodeLine) × (defined ≡ Ok xs) × (n ≡ length xs) × (length old < n) × (new ≡ old)
 PutsLineIndex defined old new (Err e) = (defined ≡ Err (pdb_kind_of e)) × (new ≡ old)

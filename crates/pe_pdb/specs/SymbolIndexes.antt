@@ -24,7 +24,7 @@ Indexes defined (Err e) = defined ≡ Err (pdb_kind_of e)
 -- changes
 abbrev pub PutsIndex : Result (List ℕ) PdbRefusal → List ℕ → List ℕ → Result (Result ℕ ℕ) PdbError → Type 0
 PutsIndex defined old new (Ok (Ok n)) =
-    (xs : List ℕ) × (defined ≡ Ok xs) × (n ≡ length xs) × IsPermutation xs (take n new) × IsNonDecreasing (take n new)
+    (xs : List ℕ) × (defined ≡ Ok xs) × (n ≡ length xs) × (n ≤ length old) × IsPermutation xs (take n new) × IsNonDecreasing (take n new)
     × (length new ≡ length old) × (drop n new ≡ drop n old)
 PutsIndex defined old new (Ok (Err n)) = (xs : List ℕ) × (defined ≡ Ok xs) × (n ≡ length xs) × (length old < n) × (new ≡ old)
 PutsIndex defined old new (Err e) = (defined ≡ Err (pdb_kind_of e)) × (new ≡ old)
