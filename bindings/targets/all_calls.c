@@ -1085,44 +1085,53 @@ static size_t stream_of(const struct file *file, const uint64_t *starts, size_t 
     return (size_t)written;
 }
 
+/* As if a file were a stream of a PDB. */
+static void pdb_stream(const struct file *file, const uint64_t *starts)
+{
+    pe_c_range all = {0, file->length}, walk = all;
+    pdb_symbols(BYTES, file->bytes, file->length / 40 * 40, all);
+    LIST(pe_c_list_pdb_modules, pe_c_pdb_module, BYTES, &walk);
+    pdb_lines(BYTES, &all, file->bytes, file->length / 40 * 40, BYTES);
+    stream_of(file, starts, NUMBERS, 1, stream_bytes);
+}
+
+/* The streams of a PDB. */
+static void pdb_streams(const struct file *file, const pe_c_pdb_info *info, const uint64_t *starts, size_t count)
+{
+    static const uint8_t name[6] = {'/', 'n', 'a', 'm', 'e', 's'};
+    pe_c_pdb_module module = PE_C_EMPTY;
+    pe_c_range walk = info->modules;
+    uint32_t number = 0;
+    uint64_t one = 0;
+    size_t headers = stream_of(file, NULL, 0, info->section_headers, section_bytes);
+    size_t length = stream_of(file, starts, count, info->symbol_stream, stream_bytes);
+    pe_c_range all = {0, length};
+    pdb_symbols(stream_bytes, length, section_bytes, headers, all);
+    length = stream_of(file, starts, count, 1, stream_bytes);
+    CALL(pe_c_pdb_named_stream, number, stream_bytes, length, name, sizeof name, &number);
+    length = stream_of(file, starts, count, 3, stream_bytes);
+    CALL(pe_c_list_pdb_modules, module, stream_bytes, length, &walk, &module, 1, &one);
+    LIST(pe_c_list_pdb_modules, pe_c_pdb_module, stream_bytes, length, &walk);
+    length = stream_of(file, starts, count, module.stream, stream_bytes);
+    size_t names = stream_of(file, starts, count, number, name_bytes);
+    pdb_lines(stream_bytes, length, &module.lines, section_bytes, headers, name_bytes, names);
+}
+
 static void pdb(const struct file *file)
 {
     pe_c_pdb_info info = PE_C_EMPTY;
     pe_c_key key = PE_C_EMPTY;
     uint64_t starts[NUMBERS] = PE_C_EMPTY, written = 0;
-    static const uint8_t name[6] = {'/', 'n', 'a', 'm', 'e', 's'};
-    uint32_t number = 0;
     int is_pdb = IS_DONE(pe_c_pdb, info, BYTES, &info);
     CALL(pe_c_pdb_starts, starts, BYTES, starts, NUMBERS, &written);
     key.age = info.dbi_age;
     for (int i = 0; i < 16; i++)
         key.guid[i] = info.guid[i];
     CALL(pe_c_is_pdb_of, key, &key, &info);
-    if (!is_pdb) {
-        /* As if the file were a stream of one. */
-        pe_c_range all = {0, file->length}, walk = {0, file->length};
-        pdb_symbols(BYTES, file->bytes, file->length / 40 * 40, all);
-        LIST(pe_c_list_pdb_modules, pe_c_pdb_module, BYTES, &walk);
-        pdb_lines(BYTES, &all, file->bytes, file->length / 40 * 40, BYTES);
-        CALL(pe_c_pdb_named_stream, number, BYTES, name, 6, &number);
-        stream_of(file, starts, NUMBERS, 1, stream_bytes);
-        return;
-    }
-    size_t headers = stream_of(file, NULL, 0, info.section_headers, section_bytes);
-    size_t length = stream_of(file, starts, (size_t)written, info.symbol_stream, stream_bytes);
-    pe_c_range all = {0, length};
-    pdb_symbols(stream_bytes, length, section_bytes, headers, all);
-    length = stream_of(file, starts, (size_t)written, 1, stream_bytes);
-    CALL(pe_c_pdb_named_stream, number, stream_bytes, length, name, 6, &number);
-    length = stream_of(file, starts, (size_t)written, 3, stream_bytes);
-    pe_c_pdb_module module = PE_C_EMPTY;
-    pe_c_range walk = info.modules;
-    uint64_t one = 0;
-    CALL(pe_c_list_pdb_modules, module, stream_bytes, length, &walk, &module, 1, &one);
-    LIST(pe_c_list_pdb_modules, pe_c_pdb_module, stream_bytes, length, &info.modules);
-    length = stream_of(file, starts, (size_t)written, module.stream, stream_bytes);
-    size_t names = stream_of(file, starts, (size_t)written, number, name_bytes);
-    pdb_lines(stream_bytes, length, &module.lines, section_bytes, headers, name_bytes, names);
+    if (is_pdb)
+        pdb_streams(file, &info, starts, written < NUMBERS ? (size_t)written : NUMBERS);
+    else
+        pdb_stream(file, starts);
 }
 
 /* ---- all of it */

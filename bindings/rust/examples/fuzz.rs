@@ -157,48 +157,55 @@ fn lines_of_lies(bytes: &[u8], sections: &[u8], random: &mut Random, number: u64
 /// Makes the calls that read a PDB, on the bytes as a file and as streams of one, with wrong ranges, starts and indexes.
 fn pdb_of_lies(bytes: &[u8], random: &mut Random, number: u64) {
     let (at, length, few) = (bytes.as_ptr(), bytes.len(), random.edge(number) as u32);
-    let range = sys::Range { offset: random.edge(number), length: random.edge(number) };
-    let sections = &bytes[..length.min(few as usize % 400) / 40 * 40];
-    let (headers, headers_length) = (sections.as_ptr(), sections.len());
-    let mut info = sys::PdbInfo::default();
-    let numbers = [random.edge(number), random.edge(number), (0x1000 << 32) + random.edge(number) % 4096];
-    let (mut starts, mut room, mut written) = ([7u64; 4], [0x77u8; 600], 9);
+    let starts = [random.edge(number), random.edge(number), random.edge(number)];
+    let (mut info, mut own, mut room, mut written) = (sys::PdbInfo::default(), [7u64; 4], [0x77u8; 600], 9);
     // SAFETY: the pointers and lengths are those of slices and arrays, none of which is written to and read; all are lent for each call.
     unsafe {
         let _ = sys::pe_c_pdb(at, length, &mut info);
         let key = sys::Key { guid: info.guid, age: few % 2, ..sys::Key::default() };
         let _ = sys::pe_c_is_pdb_of(&key, &info);
-        let result = sys::pe_c_pdb_starts(at, length, starts.as_mut_ptr(), starts.len(), &mut written);
-        assert!(result == sys::DONE || starts == [7; 4]);
-        let (some, count) = (numbers.as_ptr(), few as usize % 4);
-        let result =
-            sys::pe_c_pdb_stream(at, length, some, count, few % 20, room.as_mut_ptr(), room.len(), &mut written);
+        let result = sys::pe_c_pdb_starts(at, length, own.as_mut_ptr(), own.len(), &mut written);
+        assert!(result == sys::DONE || own == [7; 4]);
+        let (some, count, to) = (starts.as_ptr(), few as usize % 4, room.as_mut_ptr());
+        let result = sys::pe_c_pdb_stream(at, length, some, count, few % 20, to, room.len(), &mut written);
         assert!(result == sys::DONE || room == [0x77; 600]);
-        for kind in 0..2 {
-            let mut index = [7u64; 4];
-            let (entries, most) = (index.as_mut_ptr(), index.len());
-            let result =
-                sys::pe_c_pdb_index(kind, at, length, &range, headers, headers_length, entries, most, &mut written);
-            assert!(result == sys::DONE || index == [7; 4]);
-            let mut found = sys::PdbSymbol::default();
-            let _ = sys::pe_c_find_pdb_symbol(kind, at, length, headers, headers_length, some, 3, few, &mut found);
-        }
-        let (mut walk, mut symbols) = (range, [sys::PdbSymbol::default(); 3]);
-        let (entries, most) = (symbols.as_mut_ptr(), symbols.len());
-        let result =
-            sys::pe_c_list_pdb_symbols(at, length, headers, headers_length, &mut walk, entries, most, &mut written);
-        assert!(result == sys::DONE || walk == sys::Range::default());
-        let (mut walk, mut modules) = (range, [sys::PdbModule::default(); 3]);
-        let result =
-            sys::pe_c_list_pdb_modules(at, length, &mut walk, modules.as_mut_ptr(), modules.len(), &mut written);
-        assert!(result == sys::DONE || walk == sys::Range::default());
     }
+    let sections = &bytes[..length.min(few as usize % 400) / 40 * 40];
+    symbols_of_lies(bytes, sections, random, number);
     lines_of_lies(bytes, sections, random, number);
     if let Ok(pdb) = pe_c::Pdb::parse(bytes) {
         let _ = (pdb.publics(), pdb.modules());
         if let Ok(symbolizer) = pdb.symbolizer() {
             let _ = symbolizer.frames(few);
         }
+    }
+}
+
+/// Makes the calls that read modules and symbols, on the bytes as a stream, with wrong ranges and indexes.
+fn symbols_of_lies(bytes: &[u8], sections: &[u8], random: &mut Random, number: u64) {
+    let (at, length, few, mut written) = (bytes.as_ptr(), bytes.len(), random.edge(number) as u32, 9);
+    let (headers, headers_length) = (sections.as_ptr(), sections.len());
+    let range = sys::Range { offset: random.edge(number), length: random.edge(number) };
+    let mut symbols = [sys::PdbSymbol::default(); 3];
+    let mut modules = [sys::PdbModule::default(); 3];
+    // SAFETY: as in `pdb_of_lies`.
+    unsafe {
+        for kind in 0..2 {
+            let mut index = [7u64; 4];
+            let room = index.as_mut_ptr();
+            let result = sys::pe_c_pdb_index(kind, at, length, &range, headers, headers_length, room, 4, &mut written);
+            assert!(result == sys::DONE || index == [7; 4]);
+            index[0] = (u64::from(few) << 32) + random.edge(number) % 4096;
+            let (room, found) = (index.as_ptr(), &mut symbols[0]);
+            let _ = sys::pe_c_find_pdb_symbol(kind, at, length, headers, headers_length, room, 4, few, found);
+        }
+        let (mut walk, entries) = (range, symbols.as_mut_ptr());
+        let result =
+            sys::pe_c_list_pdb_symbols(at, length, headers, headers_length, &mut walk, entries, 3, &mut written);
+        assert!(result == sys::DONE || walk == sys::Range::default());
+        let (mut walk, entries) = (range, modules.as_mut_ptr());
+        let result = sys::pe_c_list_pdb_modules(at, length, &mut walk, entries, 3, &mut written);
+        assert!(result == sys::DONE || walk == sys::Range::default());
     }
 }
 
