@@ -303,15 +303,8 @@ pub enum Command {
         /// RVAs of code, in hexadecimal, with or without 0x: the function there, and its line.
         #[arg(value_name = "RVA", value_parser = rva)]
         rvas: Vec<u32>,
-        /// The functions: procedures of modules, and public symbols where none of these starts.
-        #[arg(long)]
-        functions: bool,
-        /// The modules, which are the objects that were linked.
-        #[arg(long)]
-        modules: bool,
-        /// The streams, with their sizes.
-        #[arg(long)]
-        streams: bool,
+        #[command(flatten)]
+        lists: PdbLists,
         #[command(flatten)]
         output: Output,
     },
@@ -499,6 +492,27 @@ impl Given {
     /// Whether all of them are there; those that are not are told.
     pub fn are_there(&self) -> Status {
         are_there(&self.images).max(are_there(&self.symbols))
+    }
+}
+
+/// Which lists of a PDB are shown.
+#[derive(Args, Clone, Copy, Debug)]
+pub struct PdbLists {
+    /// The functions: procedures of modules, and public symbols where none of these starts.
+    #[arg(long)]
+    pub functions: bool,
+    /// The modules, which are the objects that were linked.
+    #[arg(long)]
+    pub modules: bool,
+    /// The streams, with their sizes.
+    #[arg(long)]
+    pub streams: bool,
+}
+
+impl PdbLists {
+    pub fn asked(self, rvas: &[u32], is_json: bool) -> crate::pdb::Asked<'_> {
+        let PdbLists { functions: has_functions, modules: has_modules, streams: has_streams } = self;
+        crate::pdb::Asked { rvas, has_functions, has_modules, has_streams, is_json }
     }
 }
 

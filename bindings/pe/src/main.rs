@@ -166,14 +166,8 @@ fn run_command(command: &Command, out: &mut dyn Write) -> io::Result<Status> {
             let status = files::one(dump, out, |bytes, out| stack::write(dump, bytes, &places, asked, out))?;
             Ok(if there == Status::Done { status } else { there })
         }
-        Command::Pdb { file, rvas, functions, modules, streams, output } => {
-            let asked = pdb::Asked {
-                rvas,
-                has_functions: *functions,
-                has_modules: *modules,
-                has_streams: *streams,
-                is_json: output.json,
-            };
+        Command::Pdb { file, rvas, lists, output } => {
+            let asked = lists.asked(rvas, output.json);
             files::each(&Files::one(file), out, |path, bytes| pdb::report(path, bytes, asked))
         }
         Command::Unwind { words, all, walk, reading, output } => {
