@@ -283,3 +283,58 @@ fn difference(wanted: &str, found: &str) -> String {
         _ => format!("GUID and age {found}, wanted {wanted}"),
     }
 }
+
+#[cfg(test)]
+mod tests {
+    use super::*;
+    use crate::pdb::frames::Line;
+    use crate::stack::told::{Function, Inlined};
+
+    /// A frame in a function that another one is inlined in.
+    fn frame() -> Frame {
+        let line = |file: &str, line| Line { file: Some(file.to_string()), line: Some(line), column: None };
+        let inlined = Inlined { name: Some("geo::clamp".to_string()), raw_name: None, line: line("a\u{1b}.h", 6) };
+        let function = Function {
+            name: Some("helper".to_string()),
+            raw_name: None,
+            offset: 1,
+            source: "procedure",
+            is_nearest: false,
+            line: line("a.cpp", 5),
+            inlined: vec![inlined],
+        };
+        Frame {
+            ip_va: 0x1071,
+            sp_va: 0,
+            module: Some("app.exe".to_string()),
+            offset: Some(0x1071),
+            module_index: Some(0),
+            function: Some(function),
+            way: "top",
+            has_called: false,
+            is_guess: false,
+            registers: None,
+        }
+    }
+
+    #[test]
+    fn inlined_functions_stand_above_the_one_that_has_the_code() {
+        let thread = |frames: Vec<Frame>| Thread {
+            id: 1,
+            name: None,
+            is_crashed: false,
+            frames,
+            end: Some("bottom"),
+            end_error: None,
+        };
+        let table = frames_of(&thread(vec![frame()]));
+        let rows = [
+            ["0", "0x0000000000001071", "app.exe+0x1071", "  geo::clamp [inlined]", "a\\x1b.h:6", "top"],
+            ["", "", "", "helper+0x1", "a.cpp:5", ""],
+        ];
+        assert_eq!(table.rows, rows);
+        // A recursion is folded frame by frame, not row by row.
+        let table = frames_of(&thread((0..9).map(|_| frame()).collect()));
+        assert_eq!((table.rows.len(), table.rows[2][2].as_str()), (3, ".. 8 more like it"));
+    }
+}
