@@ -1,5 +1,5 @@
 -- What calls return of the modules of a PDB.
-use Rattle.std.specs.Prelude.{◌≡◌, ℕ, ◌+◌, ◌-◌, ◌==◌, List, [], ◌∷◌, length, min, Option, Some, None, Result, Ok, Err, if◌then◌else◌}
+use Rattle.std.specs.Prelude.{◌≡◌, ℕ, ◌+◌, ◌-◌, ◌==◌, List, length, min, Option, Some, None, Result, Ok, Err, if◌then◌else◌}
 use Rattle.std.specs.Option.{option_map}
 use Rattle.pe_core.specs.Refusals.{◌>>=◌}
 use Rattle.pe_pdb.specs.Modules.{ModuleView, module_at, module_end}
@@ -33,9 +33,8 @@ module_reported p m = record {
 abbrev pub first_of : ℕ → List ℕ → ModuleView → PdbModule × ℕ
 first_of p left m = (module_reported p m, min (module_end m) (length left))
 
-unfoldable pub first_module : ℕ → List ℕ → Result (Option (PdbModule × ℕ)) PdbRefusal
-first_module p [] = Ok None
-first_module p (c ∷ cs) = module_at (c ∷ cs) 0 >>= λ m. Ok (Some (first_of p (c ∷ cs) m))
+abbrev pub first_module : ℕ → List ℕ → Result (Option (PdbModule × ℕ)) PdbRefusal
+first_module p left = if length left == 0 then Ok None else (module_at left 0 >>= λ m. Ok (Some (first_of p left m)))
 
 abbrev pub first_at : List ℕ → Range → Result (Option (PdbModule × ℕ)) PdbRefusal
 first_at b r = part_of b r >>= first_module r.offset

@@ -1,5 +1,5 @@
 -- What calls return of the records of symbols of a PDB.
-use Rattle.std.specs.Prelude.{◌≡◌, ℕ, ◌+◌, ◌==◌, List, [], ◌∷◌, length, Option, Some, None, Result, Ok, Err, if◌then◌else◌}
+use Rattle.std.specs.Prelude.{◌≡◌, ℕ, ◌+◌, ◌==◌, List, length, Option, Some, None, Result, Ok, Err, if◌then◌else◌}
 use Rattle.pe_core.specs.Refusals.{◌>>=◌}
 use Rattle.pe_pdb.specs.Procedures.{Procedure, is_procedure, procedure_of}
 use Rattle.pe_pdb.specs.Publics.{Public, public_of}
@@ -69,9 +69,8 @@ symbol_reported sections p s =
     else (if is_procedure s.kind then of_procedure sections p s (procedure_of s.content) else record_reported p s NOTHING)
 
 -- the record that stands first in what is left; none where nothing is left
-unfoldable pub first_symbol : List ℕ → ℕ → List ℕ → Result (Option PdbSymbol) PdbRefusal
-first_symbol sections p [] = Ok None
-first_symbol sections p (c ∷ cs) = symbol_at (c ∷ cs) 0 >>= λ s. Ok (Some (symbol_reported sections p s))
+abbrev pub first_symbol : List ℕ → ℕ → List ℕ → Result (Option PdbSymbol) PdbRefusal
+first_symbol sections p left = if length left == 0 then Ok None else (symbol_at left 0 >>= λ s. Ok (Some (symbol_reported sections p s)))
 
 -- what a step returns
 abbrev pub symbol_step : List ℕ → List ℕ → Range → Result (Option PdbSymbol) PdbRefusal

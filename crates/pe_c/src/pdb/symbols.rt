@@ -130,6 +130,7 @@ fn is_procedure(kind: u16) -> bool
 }
 
 /// The record of a symbol as callers get it, which starts at an offset.
+#[tactic(auto, unfolding(crate::specs::PdbSymbols::symbol_reported))]
 pub fn symbol_reported(
     offset: u64,
     record: &SymbolRecord<'_>,
