@@ -78,6 +78,8 @@ GROUPS = {
     "build-windows-x64": by_hand("a build for windows-x64", **WINDOWS),
     "clippy": by_hand("cargo clippy", **{"cargo-clippy": "rust-clippy"}),
     "page": by_hand("the page in Chromium", **{"node": "nodejs", "chromium": "chromium", "rustc 1.81": RUSTC}),
+    "pdb": by_hand("names and lines of pe by PDB files", **{"clang": "clang", "lld-link": "lld", "llvm-pdbutil": "llvm",
+                                                             "llvm-symbolizer": "llvm"}),
     "notebook": by_hand("notebooks", **{"chromium": "chromium", "jupyter-nbconvert": "jupyter-nbconvert",
                                         "module ipykernel": "python3-ipykernel"}),
     "chromium": by_hand("the library in a page", **TRIAL, **WASM, **{"node": "nodejs", "clang": "clang", "chromium": "chromium"}),

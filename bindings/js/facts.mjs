@@ -542,6 +542,9 @@ export function kindOf(bytes) {
   if (starts('!<arch>\n')) return 'an archive of objects';
   if (starts('PK\x03\x04')) return 'a ZIP archive';
   if (starts('MDMP')) return 'a minidump, which pe stack shows';
+  if (starts('Microsoft C/C++ MSF 7.00\r\n\x1aDS\0\0\0')) return 'a PDB, which pe pdb shows';
+  if (starts('Microsoft C/C++ program database 2.00\r\n')) return 'a PDB of version 2.0';
+  if (starts('BSJB')) return 'a portable PDB, or other metadata of .NET';
   return null;
 }
 

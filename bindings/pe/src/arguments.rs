@@ -2,7 +2,10 @@
 
 use crate::extract::{ExtractedPart, Which};
 use crate::facts::Topic;
+use crate::files::are_there;
 use crate::new_file::Target;
+use crate::stack::{Known, Places, SymbolFolders};
+use crate::Status;
 use clap::{Args, Parser, Subcommand, ValueEnum};
 use clap_complete::Shell;
 use pe_c::{Layout, Mode};
@@ -17,6 +20,8 @@ pub const EXAMPLES: &str = "  pe program.exe                        what it is, 
   pe diff old.dll new.dll               what came, went and changed
   pe unwind program.exe 1a2b            how the function at an RVA is unwound
   pe stack crash.dmp --images C:/App    why a process crashed, and the stacks of its threads
+  pe stack crash.dmp --symbols C:/Sym   with functions and lines by PDB files
+  pe pdb program.pdb 1a2b               which function and line is at an RVA
   pe key program.exe                    where a symbol server has its PDB and itself
   pe key --missing crash.dmp            which of these its modules lack
   pe digest program.exe                 what its signature signs, as SHA-256
@@ -284,12 +289,22 @@ pub enum Command {
     Stack {
         /// The minidump, or - for standard input.
         dump: PathBuf,
-        /// A folder below which the images of modules are, or a file. An image is taken if its time stamp and its size are those
-        /// of a module. No path that stands in the dump is opened.
-        #[arg(long, value_name = "FOLDER")]
-        images: Vec<PathBuf>,
+        #[command(flatten)]
+        given: Given,
         #[command(flatten)]
         stacks: Stacks,
+        #[command(flatten)]
+        output: Output,
+    },
+    /// Show what a PDB is, what it has, and the functions and lines at RVAs.
+    Pdb {
+        /// The PDB, or - for standard input.
+        file: PathBuf,
+        /// RVAs of code, in hexadecimal, with or without 0x: the function there, and its line.
+        #[arg(value_name = "RVA", value_parser = rva)]
+        rvas: Vec<u32>,
+        #[command(flatten)]
+        lists: PdbLists,
         #[command(flatten)]
         output: Output,
     },
@@ -424,9 +439,8 @@ pub enum Command {
         file: PathBuf,
         #[command(flatten)]
         to: Target,
-        /// Of a minidump: a folder below which the images of modules are, or a file, as of `pe stack`.
-        #[arg(long, value_name = "FOLDER")]
-        images: Vec<PathBuf>,
+        #[command(flatten)]
+        given: Given,
         #[command(flatten)]
         stacks: Stacks,
         #[command(flatten)]
@@ -455,6 +469,51 @@ pub struct Missing {
     /// A folder that is laid out as a symbol server is, with PDB files and images as NAME/KEY/NAME.
     #[arg(long, value_name = "FOLDER", requires = "missing")]
     pub symbols: Vec<PathBuf>,
+}
+
+/// Where the files of a minidump's modules are looked for.
+#[derive(Args, Clone, Debug)]
+pub struct Given {
+    /// Of a minidump: a folder below which the images of modules are, or a file. An image is taken if its time stamp and its size
+    /// are those of a module. No path that stands in the dump is opened.
+    #[arg(long, value_name = "FOLDER")]
+    pub images: Vec<PathBuf>,
+    /// Of a minidump: a folder with PDB files, as NAME/KEY/NAME or as NAME alone, or a PDB. One is read if its GUID and its age are those
+    /// that a module names. The folders of the variable _NT_SYMBOL_PATH come after these; nothing is fetched.
+    #[arg(long, value_name = "FOLDER")]
+    pub symbols: Vec<PathBuf>,
+}
+
+impl Given {
+    pub fn places(&self) -> Places {
+        Places { images: Known::below(&self.images), symbols: SymbolFolders::new(&self.symbols) }
+    }
+
+    /// Whether all of them are there; those that are not are told.
+    pub fn are_there(&self) -> Status {
+        are_there(&self.images).max(are_there(&self.symbols))
+    }
+}
+
+/// Which lists of a PDB are shown.
+#[derive(Args, Clone, Copy, Debug)]
+pub struct PdbLists {
+    /// The functions: procedures of modules, and public symbols where none of these starts.
+    #[arg(long)]
+    pub functions: bool,
+    /// The modules, which are the objects that were linked.
+    #[arg(long)]
+    pub modules: bool,
+    /// The streams, with their sizes.
+    #[arg(long)]
+    pub streams: bool,
+}
+
+impl PdbLists {
+    pub fn asked(self, rvas: &[u32], is_json: bool) -> crate::pdb::Asked<'_> {
+        let PdbLists { functions: has_functions, modules: has_modules, streams: has_streams } = self;
+        crate::pdb::Asked { rvas, has_functions, has_modules, has_streams, is_json }
+    }
 }
 
 /// Which stacks are shown, and how much of them.
@@ -563,9 +622,14 @@ pub fn files_and_parts(words: &[PathBuf], walk: Walk) -> (Files, Vec<Topic>) {
 /// The words of `unwind` without `--all`: files, and an RVA last.
 pub fn files_and_rva(words: &[PathBuf], walk: Walk) -> Option<(Files, u32)> {
     let (last, files) = words.split_last().filter(|(_, files)| !files.is_empty())?;
-    let digits = last.to_str()?;
-    let rva = u32::from_str_radix(digits.strip_prefix("0x").unwrap_or(digits), 16).ok()?;
-    Some((Files { files: files.to_vec(), walk }, rva))
+    Some((Files { files: files.to_vec(), walk }, rva(last.to_str()?).ok()?))
+}
+
+/// An RVA in hexadecimal.
+fn rva(text: &str) -> Result<u32, String> {
+    let digits = text.strip_prefix("0x").unwrap_or(text);
+    let number = u32::from_str_radix(digits, 16).ok().filter(|_| digits.starts_with(|it: char| it.is_ascii_hexdigit()));
+    number.ok_or_else(|| "an RVA is a number of 32 bits in hexadecimal, as 0x1071".into())
 }
 
 #[cfg(test)]

@@ -35,6 +35,12 @@ pub fn demangled(name: &str) -> Option<String> {
     Some(text.0)
 }
 
+/// A name as its source has it, where it is mangled, and as the file has it.
+pub fn both_names(name: Option<&str>) -> (Option<String>, Option<String>) {
+    let raw_name = name.map(str::to_string);
+    (raw_name.as_deref().map(|it| demangled(it).unwrap_or_else(|| it.to_string())), raw_name)
+}
+
 #[cfg(test)]
 mod tests {
     use super::*;

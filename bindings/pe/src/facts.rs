@@ -146,6 +146,9 @@ pub fn kind_of(bytes: &[u8]) -> Option<&'static str> {
         [0, 0, 0xFF, 0xFF, ..] => Some("an object of a short import or of large format"),
         [low, high, ..] if is_machine(*low, *high) => Some(OBJECT_AS_IT_SEEMS),
         _ if bytes.starts_with(b"MDMP") => Some("a minidump, which pe stack shows"),
+        _ if bytes.starts_with(b"Microsoft C/C++ MSF 7.00\r\n\x1ADS\0\0\0") => Some("a PDB, which pe pdb shows"),
+        _ if bytes.starts_with(b"Microsoft C/C++ program database 2.00\r\n") => Some("a PDB of version 2.0"),
+        _ if bytes.starts_with(b"BSJB") => Some("a portable PDB, or other metadata of .NET"),
         _ if bytes.starts_with(b"MZ") => None,
         _ if bytes.iter().take(512).all(|it| matches!(it, b'\t' | b'\n' | b'\r' | 0x20..=0x7E)) => Some("a text"),
         _ => overlay::kind_by_start(bytes),
@@ -375,9 +378,9 @@ impl Budget {
         Budget { left: bytes.len().saturating_mul(READINGS), sections: 0, refused: bytes.len() / REFUSED }
     }
 
-    /// The same, and at most so many bytes.
-    pub fn at_most(self, most: usize) -> Budget {
-        Budget { left: self.left.min(most), ..self }
+    /// Adds what so many bytes of another file allow.
+    pub fn add(&mut self, bytes: usize) {
+        self.left = self.left.saturating_add(bytes.saturating_mul(READINGS));
     }
 
     /// A list inside of an entry. One that is refused is paid for: a name in it may have been read to the end of the file, and entries

@@ -162,7 +162,7 @@ impl Iterator for Below<'_> {
 }
 
 /// What stands in a folder. All of it or none: a part would be taken for the whole.
-fn paths_in(folder: &Path) -> io::Result<Vec<PathBuf>> {
+pub fn paths_in(folder: &Path) -> io::Result<Vec<PathBuf>> {
     fs::read_dir(folder)?.map(|entry| entry.map(|entry| entry.path())).collect()
 }
 

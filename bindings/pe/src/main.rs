@@ -20,6 +20,7 @@ mod man;
 mod names;
 mod new_file;
 mod page;
+mod pdb;
 mod show;
 mod sign;
 mod stack;
@@ -160,11 +161,14 @@ fn run_command(command: &Command, out: &mut dyn Write) -> io::Result<Status> {
                 of_image(bytes, reading, |image| verify::report(path, image, &given, output.json))
             })
         }
-        Command::Stack { dump, images, stacks, output } => {
-            let (there, known, asked) =
-                (files::are_there(images), stack::Known::below(images), stacks.asked(output.json));
-            let status = files::one(dump, out, |bytes, out| stack::write(dump, bytes, &known, asked, out))?;
+        Command::Stack { dump, given, stacks, output } => {
+            let (there, places, asked) = (given.are_there(), given.places(), stacks.asked(output.json));
+            let status = files::one(dump, out, |bytes, out| stack::write(dump, bytes, &places, asked, out))?;
             Ok(if there == Status::Done { status } else { there })
+        }
+        Command::Pdb { file, rvas, lists, output } => {
+            let asked = lists.asked(rvas, output.json);
+            files::each(&Files::one(file), out, |path, bytes| pdb::report(path, bytes, asked))
         }
         Command::Unwind { words, all, walk, reading, output } => {
             unwind_functions((words, *walk), *all, How::without_hashes(reading, output), out)
@@ -293,11 +297,11 @@ fn write_file(command: &Command, out: &mut dyn Write) -> io::Result<Status> {
                 None => of_image(bytes, reading, |image| sign::checksum(path, image, output.json)),
             })
         }
-        Command::Report { file, to, images, stacks, reading, hashing } => {
+        Command::Report { file, to, given, stacks, reading, hashing } => {
             let wanted = Wanted::parts(&[], hashing.has_hashes());
-            let there = files::are_there(images);
+            let there = given.are_there();
             let status = files::each(&Files::one(file), out, |path, bytes| match stack::is_dump(bytes) {
-                true => html::dump::write_to((path, bytes), &stack::Known::below(images), stacks.asked(false), to),
+                true => html::dump::write_to((path, bytes), &given.places(), stacks.asked(false), to),
                 false => html::write_to((path, bytes), parsed(bytes, reading), &wanted, to),
             })?;
             Ok(status.max(there))

@@ -4,6 +4,9 @@
 /// A number and its name.
 pub type Names = [(u32, &'static str)];
 
+/// Bits of the DBI stream of a PDB.
+pub const PDB_FLAGS: &Names = &[(1, "INCREMENTAL"), (2, "STRIPPED"), (4, "CONFLICTING_TYPES")];
+
 /// `IMAGE_FILE_MACHINE_`
 pub const MACHINES: &Names = &[
     (0x14C, "x86"),

@@ -9,6 +9,8 @@ mod functions;
 pub mod missing;
 mod modules;
 mod outside;
+mod pdbs;
+mod symbols;
 pub mod text;
 mod told;
 
@@ -23,6 +25,7 @@ use pe_c::{Dump, DumpImages, DumpMemory, Stacks};
 use std::collections::BTreeMap;
 use std::io::{self, Write};
 use std::path::Path;
+pub use symbols::SymbolFolders;
 pub use told::Told;
 use told::{Exception, Memory, Process, System, Thread, Unloaded, Written};
 
@@ -58,9 +61,15 @@ pub struct Asked {
     pub is_json: bool,
 }
 
-/// Writes what is said of a dump, as text or JSON. The images of its modules come from its memory, or from these files.
-pub fn write(path: &Path, bytes: &[u8], known: &Known, asked: Asked, out: &mut dyn Write) -> io::Result<Status> {
-    let told = told(path, bytes, known, asked);
+/// Where the files of a dump's modules are looked for.
+pub struct Places {
+    pub images: Known,
+    pub symbols: SymbolFolders,
+}
+
+/// Writes what is said of a dump, as text or JSON. The images of its modules come from its memory, or from these places.
+pub fn write(path: &Path, bytes: &[u8], places: &Places, asked: Asked, out: &mut dyn Write) -> io::Result<Status> {
+    let told = told(path, bytes, places, asked);
     if asked.is_json {
         serde_json::to_writer(&mut *out, &told)?;
         out.write_all(b"\n")?;
@@ -75,9 +84,9 @@ pub fn write(path: &Path, bytes: &[u8], known: &Known, asked: Asked, out: &mut d
 }
 
 /// What is said of a dump, as records.
-pub fn told(path: &Path, bytes: &[u8], known: &Known, asked: Asked) -> Told {
+pub fn told(path: &Path, bytes: &[u8], places: &Places, asked: Asked) -> Told {
     match Dump::parse(bytes) {
-        Ok(dump) => told_of(&dump, path, known, asked),
+        Ok(dump) => told_of(&dump, path, places, asked),
         Err(error) => Told::refused(path, error),
     }
 }
@@ -91,6 +100,8 @@ pub fn is_dump(bytes: &[u8]) -> bool {
 struct Texts<'d> {
     dump: &'d Dump<'d>,
     budget: Budget,
+    /// How many bytes of them are left, whatever the sizes of files.
+    left: usize,
     /// Whether a text was past the bound: none is read after it.
     is_over: bool,
 }
@@ -98,8 +109,14 @@ struct Texts<'d> {
 impl Texts<'_> {
     /// Takes so many bytes for a text that is shown, if they are left.
     fn takes(&mut self, count: usize) -> bool {
-        self.is_over = self.is_over || !self.budget.takes(count);
+        self.is_over = self.is_over || self.left < count || !self.budget.takes(count);
+        self.left = self.left.saturating_sub(count);
         !self.is_over
+    }
+
+    /// Makes room for the texts of another file, which has so many bytes.
+    fn add(&mut self, bytes: usize) {
+        self.budget.add(bytes);
     }
 
     /// The text at an offset. Null of one that is empty, cannot be read, or is past the bound.
@@ -142,12 +159,12 @@ impl Loaded<'_> {
     }
 }
 
-fn told_of(dump: &Dump<'_>, path: &Path, known: &Known, asked: Asked) -> Told {
-    let mut texts = Texts { dump, budget: Budget::without_rvas(dump.bytes()).at_most(TEXTS), is_over: false };
+fn told_of(dump: &Dump<'_>, path: &Path, places: &Places, asked: Asked) -> Told {
+    let mut texts = Texts { dump, budget: Budget::without_rvas(dump.bytes()), left: TEXTS, is_over: false };
     let modules: Vec<DumpModule> = dump.modules().into_iter().flatten().flatten().collect();
     let paths: Vec<Option<String>> = modules.iter().map(|it| texts.shown(it.module_name_rva.into(), TIMES)).collect();
     let names = paths.iter().map(|it| it.as_deref().map_or("", name_of));
-    let files = known.read(modules.into_iter().zip(names));
+    let files = places.images.read(modules.into_iter().zip(names));
     let images = DumpImages::new(dump, |module| files.bytes_of(module));
     let loaded = images.as_ref().map(|images| Loaded { images, paths: &paths });
     let loaded = loaded.as_ref();
@@ -155,7 +172,13 @@ fn told_of(dump: &Dump<'_>, path: &Path, known: &Known, asked: Asked) -> Told {
     let system = system_of(dump, &mut texts);
     let exception: Part<Exception> =
         dump.exception().map(|it| it.map(|it| exception_of(dump, &it, loaded.ok()))).into();
-    let threads = threads_of(dump, loaded.ok(), asked, &mut texts);
+    let mut threads = threads_of(dump, loaded.ok(), asked, &mut texts);
+    let pdbs = match (&mut threads, loaded) {
+        (Part::Present(list), Ok(loaded)) => {
+            functions::put(&mut list.entries, (dump, loaded), &places.symbols, &mut texts)
+        }
+        _ => Default::default(),
+    };
     // Without the registers of the crash its frames may be of the code that wrote the dump.
     let has_registers = exception.present().is_some_and(|it| it.registers_error.is_none());
     let first = has_registers.then(|| outside::first_of(threads.entries(), &paths));
@@ -171,10 +194,11 @@ fn told_of(dump: &Dump<'_>, path: &Path, known: &Known, asked: Asked) -> Told {
         unloaded_modules: unloaded_of(dump, &mut texts),
         modules: match loaded {
             Ok(_) if !matches!(dump.modules(), Ok(Some(_))) => Part::Absent,
-            Ok(loaded) => Part::Present(modules::of(dump, loaded, &files)),
+            Ok(loaded) => Part::Present(modules::of(dump, loaded, &files, pdbs)),
             Err(error) => Part::Refused((**error).into()),
         },
         memory: Some(memory),
+        symbols_left_out: places.symbols.left_out().to_vec(),
         texts_is_limited: false,
         error: None,
     };
@@ -259,10 +283,7 @@ fn threads_of(dump: &Dump<'_>, loaded: Option<&Loaded<'_>>, asked: Asked, texts:
         is_crashed: Some(thread.thread_id) == crashed,
         ..frames::of(dump, thread, stacks.as_mut().zip(loaded), asked)
     });
-    let mut entries: Vec<Thread> = told.collect();
-    if let Some(loaded) = loaded {
-        functions::put(&mut entries, loaded, texts);
-    }
+    let entries: Vec<Thread> = told.collect();
     // A walk that ended before the bound of its own was cut by that of all.
     let is_limited = entries.iter().any(|it| it.end == Some("bound") && it.frames.len() < asked.frames);
     Part::Present(List { entries, error: None, is_limited })

@@ -417,7 +417,7 @@ fn each_image_has_its_text() {
     let mut found: Vec<String> =
         entries.filter_map(|it| Some(it.to_str()?.strip_suffix(".txt")?.to_string())).collect();
     // The tests of commands that take no image have one of these.
-    let of_commands = ["dump_page", "stack", "verify"];
+    let of_commands = ["dump_page", "stack", "symbols", "verify"];
     let mut sorted: Vec<String> = wanted.iter().chain(&of_commands).map(|it| it.to_string()).collect();
     found.sort();
     sorted.sort();

@@ -6,21 +6,21 @@ use crate::escape::escaped;
 use crate::facts::counted;
 use crate::files::{self, Report};
 use crate::new_file::Target;
-use crate::stack::{self, Asked, Known, Told};
+use crate::stack::{self, Asked, Places, Told};
 use crate::tables::Table;
 use crate::Status;
 use std::io::{self, Write};
 use std::path::Path;
 
 /// The columns of frames in their order here: the place before the address, since a narrow screen shows the first ones.
-const ORDER: [usize; 4] = [0, 2, 1, 3];
+const ORDER: [usize; 6] = [0, 2, 1, 3, 4, 5];
 /// How many frames are on the page: a browser takes more only slowly.
 const FRAMES: usize = 20_000;
 
 /// Writes the page of a dump. One of a file that is no dump says why.
-pub fn write_to(file: (&Path, &[u8]), known: &Known, asked: Asked, to: &Target) -> Report {
+pub fn write_to(file: (&Path, &[u8]), places: &Places, asked: Asked, to: &Target) -> Report {
     let (path, bytes) = file;
-    let told = stack::told(path, bytes, known, asked);
+    let told = stack::told(path, bytes, places, asked);
     let status = if told.is_refused() { Status::Refused } else { Status::Done };
     files::deliver_written(to, status, &mut |out| write_page(&told, bytes.len(), out))
 }
@@ -33,6 +33,7 @@ fn write_page(told: &Told, size: usize, out: &mut dyn Write) -> io::Result<()> {
     html.markup(" bytes</p><p class=path>").text(escaped(&told.origin.file)).markup("</p></header>");
     let mut refused = told.refusals();
     refused.extend(told.damaged_tables().map(|(_, it)| ("function table of a module", it)));
+    refused.extend(told.damaged_pdbs().map(|(.., it)| ("PDB of a module", it)));
     warnings(&refused, &[], &mut html);
     filter(&mut html);
     // The list of the parts stands before them, so they are made twice, and only one is in memory.
@@ -52,6 +53,9 @@ fn parts(told: &Told, html: &mut Html<'_>) {
     threads(told, html);
     if let Some(modules) = told.modules.present() {
         table("modules", "Modules", &stack::text::modules_of(&modules.entries), html);
+    }
+    if let Some(symbols) = stack::text::symbols_of(told) {
+        table("symbols", "Symbols", &symbols, html);
     }
     if let Some(unloaded) = told.unloaded_modules.present() {
         table("unloaded", "Unloaded modules", &stack::text::unloaded_of(&unloaded.entries), html);

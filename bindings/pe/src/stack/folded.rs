@@ -1,6 +1,6 @@
 //! Frames of a recursion, shown once: a run of frames that comes again and again, as of functions that call one another in turn.
 
-use crate::tables::Table;
+use crate::tables::{Column, Table};
 use std::cmp::Reverse;
 use std::collections::BTreeMap;
 
@@ -32,25 +32,26 @@ fn run_at(frames: &[usize]) -> Option<Run> {
     runs.max_by_key(|it| (it.left_out(), Reverse(it.length)))
 }
 
-/// Of each row a number, the same for those that differ in the number of their frame alone.
-fn alike(rows: &[Vec<String>]) -> Vec<usize> {
+/// Of each frame a number, the same for those that differ in their own number alone.
+fn alike(frames: &[Vec<Vec<String>>]) -> Vec<usize> {
     let mut numbers = BTreeMap::new();
-    rows.iter()
-        .map(|row| {
-            let next = numbers.len();
-            *numbers.entry(&row[1..]).or_insert(next)
-        })
-        .collect()
+    let of = |frame: &'_ Vec<Vec<String>>| {
+        let next = numbers.len();
+        let cells: Vec<String> = frame.iter().flatten().skip(1).cloned().collect();
+        *numbers.entry(cells).or_insert(next)
+    };
+    frames.iter().map(of).collect()
 }
 
-/// A table of frames in which each run stands once, and in a line after it how often it comes again.
-pub fn folded(table: Table) -> Table {
-    let (frames, mut rows, mut at) = (alike(&table.rows), Vec::new(), 0);
+/// A table of frames, each with the rows of what is inlined in it, in which each run stands once, and in a line after it how often it
+/// comes again.
+pub fn folded(columns: &[Column], frames: Vec<Vec<Vec<String>>>) -> Table {
+    let (numbers, mut rows, mut at) = (alike(&frames), Vec::new(), 0);
     while at < frames.len() {
-        let run = run_at(&frames[at..]).unwrap_or(Run { length: 1, more: 0 });
-        rows.extend_from_slice(&table.rows[at..at + run.length]);
+        let run = run_at(&numbers[at..]).unwrap_or(Run { length: 1, more: 0 });
+        rows.extend(frames[at..at + run.length].iter().flatten().cloned());
         if run.more > 0 {
-            let mut row = vec![String::new(); table.columns.len()];
+            let mut row = vec![String::new(); columns.len()];
             row[PLACE] = match run.length {
                 1 => format!(".. {} more like it", run.more),
                 length => format!(".. {} times more: frames {at} to {}", run.more, at + length - 1),
@@ -59,5 +60,5 @@ pub fn folded(table: Table) -> Table {
         }
         at += run.length + run.left_out();
     }
-    Table { rows, ..table }
+    Table::new(columns, rows.into_iter())
 }

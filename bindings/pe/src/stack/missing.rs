@@ -3,7 +3,7 @@
 //! what stands in the dump is compared with the lists: no path of it is opened.
 
 use super::told::Module;
-use super::{told, Asked, Known};
+use super::{told, Asked, Known, Places, SymbolFolders};
 use crate::escape::escaped;
 use crate::facts::{counted, entry, List, Origin, Part, Refusal};
 use crate::files;
@@ -25,7 +25,7 @@ const WITHOUT_PATH: [(&str, &str, &str); 2] = [
 
 /// What is below the folders that the user names.
 pub struct Stores {
-    images: Known,
+    places: Places,
     /// The paths NAME/KEY/NAME, in lower case.
     paths: BTreeSet<String>,
 }
@@ -35,7 +35,10 @@ impl Stores {
         let folders = images.iter().chain(symbols);
         let paths =
             folders.flat_map(|folder| files::below(folder).into_iter().filter_map(|it| store_path(&it, folder)));
-        Stores { paths: paths.collect(), images: Known::below(images) }
+        Stores {
+            paths: paths.collect(),
+            places: Places { images: Known::below(images), symbols: SymbolFolders::none() },
+        }
     }
 
     fn has(&self, path: &str) -> bool {
@@ -93,7 +96,7 @@ fn needs_of(module: &Module, stores: &Stores) -> Vec<Wanted> {
 
 fn missing_of(path: &Path, bytes: &[u8], stores: &Stores) -> Missing {
     let asked = Asked { thread: None, frames: 0, has_registers: false, is_json: true };
-    let dump = told(path, bytes, &stores.images, asked);
+    let dump = told(path, bytes, &stores.places, asked);
     let mut seen = BTreeSet::new();
     let needs = dump.modules.entries().iter().flat_map(|it| needs_of(it, stores));
     let entries = needs

@@ -1,6 +1,7 @@
 //! The modules of a dump.
 
 use super::files::Images;
+use super::pdbs::ToldPdbs;
 use super::told::Module;
 use super::{name_of, Loaded, PDB_RECORD};
 use crate::facts::{List, Refusal, Stamp};
@@ -10,7 +11,7 @@ use pe_c::{DirectoryIndex, Dump, Image, ImageSource, NameTable, SymbolKey};
 /// `VS_FFI_SIGNATURE`: a module has a version.
 const FIXED_VERSION: u32 = 0xFEEF_04BD;
 
-pub fn of(dump: &Dump<'_>, loaded: &Loaded<'_>, files: &Images<'_>) -> List<Module> {
+pub fn of<'d>(dump: &Dump<'d>, loaded: &Loaded<'d>, files: &Images<'_>, mut pdbs: ToldPdbs) -> List<Module> {
     let modules = loaded.images.modules().iter().zip(loaded.paths).enumerate();
     let told = modules.map(|(index, (module, path))| {
         let source = loaded.images.image(index).map(|it| it.source);
@@ -27,10 +28,11 @@ pub fn of(dump: &Dump<'_>, loaded: &Loaded<'_>, files: &Images<'_>) -> List<Modu
             checksum: module.check_sum,
             time: Stamp::of(module.time_date_stamp),
             version: version_of(&module.version_info),
-            pdb_symbol_server_path: pdb_of(dump, module),
+            pdb_symbol_server_path: key_of(dump, loaded, index).and_then(|it| Some(it.path()?.to_string())),
             symbol_server_path: path.as_deref().and_then(|it| own_path_of(module, it)),
             image: source.map(source_of),
             image_file: files.path_of(module).filter(|_| is_file).map(|it| it.to_string_lossy().into_owned()),
+            pdb: pdbs.remove(&index),
             symbols_error: refused(NameTable::Symbols),
             strings_error: refused(NameTable::Strings),
             exports_error: refused(NameTable::Exports),
@@ -51,9 +53,13 @@ fn version_of(version: &DumpVersion) -> Option<String> {
     (version.signature == FIXED_VERSION).then(|| format!("{}.{}.{}.{}", ms >> 16, ms & 0xFFFF, ls >> 16, ls & 0xFFFF))
 }
 
-fn pdb_of(dump: &Dump<'_>, module: &DumpModule) -> Option<String> {
-    let record = dump.located(&module.cv_record).ok().filter(|it| !it.is_empty() && it.len() <= PDB_RECORD)?;
-    SymbolKey::of_record(record).ok()??.path().map(|it| it.to_string())
+/// The key of a module's PDB: the one that the dump has, or else its image.
+pub fn key_of<'d>(dump: &Dump<'d>, loaded: &Loaded<'d>, index: usize) -> Option<SymbolKey<'d>> {
+    let module = loaded.images.modules().get(index)?;
+    let record = dump.located(&module.cv_record).ok().filter(|it| !it.is_empty() && it.len() <= PDB_RECORD);
+    let of_dump = record.and_then(|it| SymbolKey::of_record(it).ok()?);
+    of_dump
+        .or_else(|| loaded.images.image(index)?.image.symbol_key().ok()?.filter(|it| it.name_bytes.len() <= PDB_RECORD))
 }
 
 /// The image has no headers here, but those that a symbol server asks for.

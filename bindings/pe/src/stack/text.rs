@@ -1,16 +1,18 @@
 //! What is said of a minidump, as text.
 
 use super::folded::folded;
+use super::pdbs::ToldPdb;
 use super::told::{Exception, Frame, Memory, Module, System, Thread, Told, Unloaded};
 use super::FRAMES;
 use crate::escape::escaped;
 use crate::facts::{counted, Named};
 use crate::page::{Page, Style};
+use crate::pdb::frames::{function_name, inlined_text};
 use crate::show::time_of;
 use crate::tables::{number, text, Column, Row, Table};
 
-/// How many characters of the name of a function are shown.
-const FUNCTION: usize = 120;
+/// How many digits of a key are those of the GUID.
+const GUID_DIGITS: usize = 32;
 
 pub fn of(told: &Told, style: Style) -> String {
     let mut page = Page::new(style);
@@ -27,10 +29,19 @@ pub fn of(told: &Told, style: Style) -> String {
     for (module, part, refusal) in told.damaged_names() {
         page.warning(format_args!("{part} of {}: {refusal}; they name no frame", name_or(&module.name)));
     }
+    for (module, part, has_names, refusal) in told.damaged_pdbs() {
+        let what = if has_names { "lines" } else { "names" };
+        let of = if part.is_empty() { String::new() } else { format!("{} of ", escaped(part)) };
+        page.warning(format_args!("{of}the PDB of {}: {refusal}; it has no {what}", name_or(&module.name)));
+    }
     told.threads.entries().iter().for_each(|it| thread_of(it, &mut page));
     if let Some(modules) = told.modules.present().filter(|it| !it.entries.is_empty()) {
         page.heading("modules");
         page.table(&modules_of(&modules.entries));
+    }
+    if let Some(symbols) = symbols_of(told) {
+        page.heading("symbols");
+        page.table(&symbols);
     }
     if let Some(unloaded) = told.unloaded_modules.present().filter(|it| !it.entries.is_empty()) {
         page.heading("unloaded modules");
@@ -78,6 +89,7 @@ pub fn summary(told: &Told) -> Vec<Row> {
             format!("{without} without one, {lost} lost: --images FOLDER reads the images below a folder"),
         ));
     }
+    rows.extend(told.symbols_left_out.iter().map(|it| ("left out", format!("of _NT_SYMBOL_PATH {}", escaped(it)))));
     if told.threads.present().is_some_and(|it| it.is_limited) {
         rows.push(("frames", format!("the stacks have more than the {FRAMES} that are shown of a dump")));
     }
@@ -94,10 +106,12 @@ fn outside_of(told: &Told) -> Option<String> {
     let place = place_of(&frame.module, frame.offset, frame.ip_va);
     let function = Some(frame.function_text(function_name)).filter(|it| !it.is_empty());
     let function = function.map_or(String::new(), |it| format!(", {it}"));
+    let line = frame.function.as_ref().map(|it| it.line.text()).filter(|it| !it.is_empty());
+    let line = line.map_or(String::new(), |it| format!(" at {it}"));
     let guess = if frame.is_guess { ", a guess" } else { "" };
     let (thread, folder) = (found.thread_id, escaped(&found.windows_directory));
     let which = format!("the first of thread {thread} in a module that is not below {folder}");
-    Some(format!("frame {}: {place}{function}{guess}; {which}", found.frame))
+    Some(format!("frame {}: {place}{function}{line}{guess}; {which}", found.frame))
 }
 
 fn reason_of(raised: &Exception) -> String {
@@ -141,27 +155,39 @@ pub fn title_of(thread: &Thread) -> String {
     format!("thread {}{name}{crashed}", thread.id)
 }
 
-/// A name of a function, cut where it is long: JSON has it whole.
-fn function_name(name: &str) -> String {
-    match name.char_indices().nth(FUNCTION) {
-        Some((end, _)) => format!("{}..", escaped(&name[..end])),
-        None => escaped(name),
-    }
+/// The rows of a frame: the innermost function in the row of its number, and those that it is inlined in below.
+fn rows_of(index: usize, frame: &Frame, has: (bool, bool)) -> Vec<Vec<String>> {
+    let (has_functions, has_lines) = has;
+    let function = frame.function.as_ref();
+    let inlined = function.iter().flat_map(|it| &it.inlined).map(|it| {
+        let name = it.name.as_deref().map_or("?".to_string(), function_name);
+        (inlined_text(&name), it.line.text())
+    });
+    let own = (frame.function_text(function_name), function.map_or(String::new(), |it| it.line.text()));
+    let guess = if frame.is_guess { ", a guess" } else { "" };
+    let rows = inlined.chain([own]).enumerate().map(|(depth, (function, line))| {
+        let of_frame = |text: String| if depth == 0 { text } else { String::new() };
+        let number = of_frame(index.to_string());
+        let address = of_frame(format!("{:#018x}", frame.ip_va));
+        let place = of_frame(place_of(&frame.module, frame.offset, frame.ip_va));
+        let named = has_functions.then_some(function).into_iter().chain(has_lines.then_some(line));
+        let way = of_frame(format!("{}{guess}", frame.way));
+        [number, address, place].into_iter().chain(named).chain([way]).collect()
+    });
+    rows.collect()
 }
 
-/// The frames of a thread, of which runs that are repeated stand once. What names them has a column where anything does.
+/// The frames of a thread, of which runs that are repeated stand once. What names them has a column where anything does, and so have
+/// lines of sources.
 pub fn frames_of(thread: &Thread) -> Table {
-    let is_named = thread.frames.iter().any(|it| it.function.is_some());
-    let rows = thread.frames.iter().enumerate().map(|(index, it)| {
-        let function = is_named.then(|| it.function_text(function_name));
-        let place = place_of(&it.module, it.offset, it.ip_va);
-        let way = if it.is_guess { format!("{}, a guess", it.way) } else { it.way.to_string() };
-        [index.to_string(), format!("{:#018x}", it.ip_va), place].into_iter().chain(function).chain([way]).collect()
-    });
-    let function = is_named.then(|| text("function"));
-    let heads = [number("frame"), number("address"), text("place")].into_iter().chain(function);
+    let functions = || thread.frames.iter().filter_map(|it| it.function.as_ref());
+    let has_lines = functions().any(|it| it.line.file.is_some() || it.inlined.iter().any(|it| it.line.file.is_some()));
+    let has = (functions().next().is_some(), has_lines);
+    let frames = thread.frames.iter().enumerate().map(|(index, it)| rows_of(index, it, has));
+    let named = has.0.then(|| text("function")).into_iter().chain(has.1.then(|| text("line")));
+    let heads = [number("frame"), number("address"), text("place")].into_iter().chain(named);
     let heads: Vec<Column> = heads.chain([text("found by")]).collect();
-    folded(Table::new(&heads, rows))
+    folded(&heads, frames.collect())
 }
 
 fn thread_of(thread: &Thread, page: &mut Page) {
@@ -221,4 +247,94 @@ pub fn unloaded_of(unloaded: &[Unloaded]) -> Table {
     let rows = unloaded.iter();
     let rows = rows.map(|it| vec![format!("{:#x}", it.base_va), it.size.to_string(), name_or(&it.name)]);
     Table::new(&[number("base"), number("bytes"), text("module")], rows)
+}
+
+/// What the PDB files were of the modules that have frames. None where none was looked for.
+pub fn symbols_of(told: &Told) -> Option<Table> {
+    let pdbs = told.modules.entries().iter().filter_map(|it| Some((it, it.pdb.as_ref()?)));
+    let rows = pdbs.map(|(module, pdb)| {
+        let path = pdb.file.as_ref().or(module.pdb_symbol_server_path.as_ref());
+        vec![name_or(&module.name), pdb.frames.to_string(), state_of(pdb), path.map_or(String::new(), |it| escaped(it))]
+    });
+    let table = Table::new(&[text("module"), number("frames"), text("state"), text("PDB")], rows);
+    (!table.rows.is_empty()).then_some(table)
+}
+
+/// What became of a PDB, in words.
+fn state_of(pdb: &ToldPdb) -> String {
+    let (wanted, found) = (pdb.wanted_key.as_deref().unwrap_or("?"), pdb.found_key.as_deref().unwrap_or("?"));
+    match pdb.state {
+        "read" if !pdb.damaged.is_empty() => "read, damaged in part".to_string(),
+        "read" => "read".to_string(),
+        "missing" => "not found".to_string(),
+        "another-build" => format!("of another build, not read: {}", difference(wanted, found)),
+        "refused" => pdb.error.as_ref().map_or("refused".to_string(), |it| format!("refused: {it}")),
+        "not-read" => pdb.reason.as_ref().map_or("not read".to_string(), |it| format!("not read: {}", escaped(it))),
+        _ => "the dump names no PDB of version 7.0 with a file's name".to_string(),
+    }
+}
+
+/// What differs between two keys: the GUID, or the age after its 32 digits.
+fn difference(wanted: &str, found: &str) -> String {
+    match (wanted.split_at_checked(GUID_DIGITS), found.split_at_checked(GUID_DIGITS)) {
+        (Some((wanted_guid, wanted)), Some((found_guid, found))) if wanted_guid == found_guid => {
+            format!("age {found} (hexadecimal), wanted {wanted}")
+        }
+        _ => format!("GUID and age {found}, wanted {wanted}"),
+    }
+}
+
+#[cfg(test)]
+mod tests {
+    use super::*;
+    use crate::pdb::frames::Line;
+    use crate::stack::told::{Function, Inlined};
+
+    /// A frame in a function that another one is inlined in.
+    fn frame() -> Frame {
+        let line = |file: &str, line| Line { file: Some(file.to_string()), line: Some(line), column: None };
+        let inlined = Inlined { name: Some("geo::clamp".to_string()), raw_name: None, line: line("a\u{1b}.h", 6) };
+        let function = Function {
+            name: Some("helper".to_string()),
+            raw_name: None,
+            offset: 1,
+            source: "procedure",
+            is_nearest: false,
+            line: line("a.cpp", 5),
+            inlined: vec![inlined],
+        };
+        Frame {
+            ip_va: 0x1071,
+            sp_va: 0,
+            module: Some("app.exe".to_string()),
+            offset: Some(0x1071),
+            module_index: Some(0),
+            function: Some(function),
+            way: "top",
+            has_called: false,
+            is_guess: false,
+            registers: None,
+        }
+    }
+
+    #[test]
+    fn inlined_functions_stand_above_the_one_that_has_the_code() {
+        let thread = |frames: Vec<Frame>| Thread {
+            id: 1,
+            name: None,
+            is_crashed: false,
+            frames,
+            end: Some("bottom"),
+            end_error: None,
+        };
+        let table = frames_of(&thread(vec![frame()]));
+        let rows = [
+            ["0", "0x0000000000001071", "app.exe+0x1071", "  geo::clamp [inlined]", "a\\x1b.h:6", "top"],
+            ["", "", "", "helper+0x1", "a.cpp:5", ""],
+        ];
+        assert_eq!(table.rows, rows);
+        // A recursion is folded frame by frame, not row by row.
+        let table = frames_of(&thread((0..9).map(|_| frame()).collect()));
+        assert_eq!((table.rows.len(), table.rows[2][2].as_str()), (3, ".. 8 more like it"));
+    }
 }

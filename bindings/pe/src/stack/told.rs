@@ -1,6 +1,8 @@
 //! What is said of a minidump, as records: JSON is made of them as they are, and text by `text`.
 
+use super::pdbs::ToldPdb;
 use crate::facts::{entry, field, List, Named, Origin, Part, Refusal, Stamp};
+use crate::pdb::frames::Line;
 use crate::Status;
 use pe_c::Error;
 use serde::ser::SerializeMap;
@@ -47,6 +49,8 @@ pub struct Told {
     #[serde(flatten)]
     pub unloaded_modules: Part<List<Unloaded>>,
     pub memory: Option<Memory>,
+    /// What is left out of the places where PDB files are looked for, each with why.
+    pub symbols_left_out: Vec<String>,
     /// Whether there are more names and paths than are shown: those after the last are null.
     pub texts_is_limited: bool,
     /// Why it is refused whole.
@@ -145,7 +149,7 @@ pub struct Frame {
     pub registers: Option<BTreeMap<String, u64>>,
 }
 
-/// What names a frame: a COFF symbol in its function, or the export that starts it.
+/// What names a frame: a procedure or a public symbol of a PDB, a COFF symbol in its function, or the export that starts it.
 #[derive(Debug, Serialize)]
 pub struct Function {
     /// As its source has it, of C++ and Rust; else as the image has it. Null where it is not text, or is longer than 4,095 bytes.
@@ -154,10 +158,25 @@ pub struct Function {
     pub raw_name: Option<String>,
     /// How far after its start the address is.
     pub offset: u32,
-    /// `symbol`, `export`.
+    /// `procedure`, `public`, `symbol`, `export`.
     pub source: &'static str,
-    /// Whether it is only the last name before the address, in an image without a function table.
+    /// Whether it is only the last name before the address: a public symbol, or in an image without a function table.
     pub is_nearest: bool,
+    /// The line of the code.
+    #[serde(flatten)]
+    pub line: Line,
+    /// The functions whose code stands there in place of a call of them, the innermost first.
+    pub inlined: Vec<Inlined>,
+}
+
+/// A function that is inlined.
+#[derive(Debug, Serialize)]
+pub struct Inlined {
+    pub name: Option<String>,
+    pub raw_name: Option<String>,
+    /// Where the code is in it; of the function that it is inlined in that is where its call stands.
+    #[serde(flatten)]
+    pub line: Line,
 }
 
 #[derive(Debug, Serialize)]
@@ -177,6 +196,8 @@ pub struct Module {
     /// Where its image comes from: `memory`, `memory in part`, `file`, or null where there is none.
     pub image: Option<&'static str>,
     pub image_file: Option<String>,
+    /// What is said of its PDB. Null where it has no frame, or no folder is looked in.
+    pub pdb: Option<ToldPdb>,
     /// Why the function table of its image is refused: walks then take the whole entries that are there.
     pub function_table_error: Option<Refusal>,
     /// Why its symbols, the strings with their longer names, or its exports are refused: they then name no frame.
@@ -221,6 +242,7 @@ impl Told {
             modules: Part::Absent,
             unloaded_modules: Part::Absent,
             memory: None,
+            symbols_left_out: Vec::new(),
             texts_is_limited: false,
             error: Some(error.into()),
         }
@@ -255,6 +277,17 @@ impl Told {
             let errors =
                 [("symbols", &it.symbols_error), ("strings", &it.strings_error), ("exports", &it.exports_error)];
             errors.into_iter().filter_map(move |(part, error)| Some((it, part, error.as_ref()?)))
+        })
+    }
+
+    /// The modules whose PDB files are refused, or a part of them: which part, whether it still has names, and why. That refuses nothing
+    /// of the dump.
+    pub fn damaged_pdbs(&self) -> impl Iterator<Item = (&Module, &str, bool, &Refusal)> {
+        let pdbs = self.modules.entries().iter().filter_map(|it| Some((it, it.pdb.as_ref()?)));
+        pdbs.flat_map(|(module, pdb)| {
+            let whole = pdb.error.iter().map(|it| ("", false, it));
+            let parts = pdb.damaged.iter().map(|it| (it.module.as_str(), it.has_names, &it.error));
+            whole.chain(parts).map(move |it| (module, it.0, it.1, it.2))
         })
     }
 

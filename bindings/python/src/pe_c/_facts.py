@@ -751,6 +751,9 @@ def kind_of(data: bytes) -> str | None:
         (data[:8] == b"!<thin>\n", "a thin archive of objects"),
         (data[:4] == b"\0\0\xff\xff", "an object of a short import or of large format"),
         (is_machine(data[:2]), OBJECT_AS_IT_SEEMS), (data[:4] == b"MDMP", "a minidump, which pe stack shows"),
+        (data[:32] == b"Microsoft C/C++ MSF 7.00\r\n\x1aDS\0\0\0", "a PDB, which pe pdb shows"),
+        (data[:39] == b"Microsoft C/C++ program database 2.00\r\n", "a PDB of version 2.0"),
+        (data[:4] == b"BSJB", "a portable PDB, or other metadata of .NET"),
         (data[:2] == b"MZ", None), (all(it in b"\t\n\r" or 0x20 <= it <= 0x7E for it in data[:512]), "a text"),
         (True, kind_by_start(data)))
     return next((what for holds, what in starts if holds), None)

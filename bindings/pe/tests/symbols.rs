@@ -1,0 +1,448 @@
+//! Names and lines by PDB files: `pe stack --symbols` over the dump of a crash of a program of known lines (`crash/`), and `pe pdb`.
+//! What is expected are the lines of the sources, and what llvm-pdbutil 14.0.6 prints of the PDB.
+
+#[path = "crash/made.rs"]
+mod crash;
+
+mod running;
+
+use running::{run, Folder};
+use serde_json::{json, Value};
+use std::fs;
+use std::path::Path;
+use std::process::Command;
+
+/// The key that the program names, and where its age is in the DBI stream, which is stream 3, and its GUID in stream 1: by `llvm-pdbutil
+/// dump -streams -stream-blocks`.
+const KEY: &str = "C4AAF6DE03F43CF24C4C44205044422E1";
+
+/// The bytes of a file that is made of pieces.
+fn bytes_of((length, pieces): crash::Bytes) -> Vec<u8> {
+    let mut bytes = vec![0; length];
+    for (at, piece) in pieces {
+        bytes[*at..*at + piece.len()].copy_from_slice(piece);
+    }
+    bytes
+}
+
+/// A folder with the dump, and the program in `images`.
+fn folder(test: &str) -> Folder {
+    let folder = Folder::new(test);
+    fs::create_dir_all(folder.0.join("images")).unwrap();
+    fs::create_dir_all(folder.0.join("syms")).unwrap();
+    folder.file("crash.dmp", &bytes_of(crash::DUMP));
+    folder.file("images/crash.exe", &bytes_of(crash::EXE));
+    folder
+}
+
+/// Puts a file below a folder, with the folders that it is in.
+fn put(folder: &Folder, path: &str, bytes: &[u8]) {
+    let path = folder.0.join(path);
+    fs::create_dir_all(path.parent().unwrap()).unwrap();
+    fs::write(path, bytes).unwrap();
+}
+
+/// A run in the folder, without the variable that names folders, or with it.
+fn run_in(folder: &Folder, words: &[&str], variable: Option<&str>) -> (String, String, Option<i32>) {
+    let mut command = Command::new(env!("CARGO_BIN_EXE_pe"));
+    command.args(words).current_dir(&folder.0).env_remove("_NT_SYMBOL_PATH").env_remove("COLUMNS");
+    variable.map(|it| command.env("_NT_SYMBOL_PATH", it));
+    let ran = command.output().unwrap();
+    (String::from_utf8(ran.stdout).unwrap(), String::from_utf8(ran.stderr).unwrap(), ran.status.code())
+}
+
+/// What `pe stack --json` says of the dump in the folder.
+fn stack_in(folder: &Folder, words: &[&str], variable: Option<&str>) -> Value {
+    let words = [&["stack", "crash.dmp", "--images", "images", "--json"], words].concat();
+    let (out, complaints, status) = run_in(folder, &words, variable);
+    assert_eq!((complaints.as_str(), status), ("", Some(0)), "{out}");
+    serde_json::from_str(&out).unwrap()
+}
+
+/// The functions of the frames of the first thread.
+fn functions_of(said: &Value) -> Vec<&Value> {
+    said["threads"][0]["frames"].as_array().unwrap().iter().map(|it| &it["function"]).collect()
+}
+
+/// A name, with the file and the line.
+fn line_of(it: &Value) -> Value {
+    json!([it["name"], it["file"], it["line"]])
+}
+
+/// The crash is in a function that is inlined twice, whose line is that of the call of it; a call in another file within a function, one
+/// in an inlined function, and one of a template: each line is that of the call in the sources.
+#[test]
+fn frames_have_the_functions_and_lines_of_the_sources() {
+    let folder = folder("symbols-lines");
+    put(&folder, "syms/crash.pdb", &bytes_of(crash::PDB));
+    let said = stack_in(&folder, &["--symbols", "syms"], None);
+    let functions = functions_of(&said);
+    let own: Vec<Value> = functions.iter().map(|it| line_of(it)).collect();
+    let wanted = [
+        json!(["reads", "crash.cpp", 8]),
+        json!(["middle", "generated\\else.inc", 900]),
+        json!(["app::outer<int>", "crash.cpp", 25]),
+        json!(["entry", "crash.cpp", 31]),
+    ];
+    assert_eq!(own, wanted);
+    let (text, _, _) = run_in(&folder, &["stack", "crash.dmp", "--images", "images", "--symbols", "syms"], None);
+    assert!(text.contains("middle+0xe           generated\\else.inc:900  leaf\n"), "{text}");
+}
+
+/// By the procedures of `llvm-pdbutil dump -symbols`, and the offsets of the frames.
+#[test]
+fn frames_have_the_functions_of_a_pdb() {
+    let folder = folder("symbols-functions");
+    put(&folder, "syms/crash.pdb", &bytes_of(crash::PDB));
+    let said = stack_in(&folder, &["--symbols", "syms"], None);
+    let found: Vec<Value> = functions_of(&said)
+        .iter()
+        .map(|it| json!([it["name"], it["offset"], it["source"], it["is_nearest"]]))
+        .collect();
+    let wanted = [
+        json!(["reads", 0xF, "procedure", false]),
+        json!(["middle", 0xE, "procedure", false]),
+        json!(["app::outer<int>", 0xE, "procedure", false]),
+        json!(["entry", 0xE, "procedure", false]),
+    ];
+    assert_eq!(found, wanted);
+    let pdb = &said["modules"][0]["pdb"];
+    assert_eq!((&pdb["state"], &pdb["file"], &pdb["frames"]), (&json!("read"), &json!("syms/crash.pdb"), &json!(4)));
+    // Without a folder no PDB is looked for.
+    let said = stack_in(&folder, &[], None);
+    assert_eq!((functions_of(&said)[0], &said["modules"][0]["pdb"]), (&json!(null), &json!(null)));
+}
+
+/// Where a PDB of the program is found: as symbol servers have it, in either case, in two tiers, in a folder, by the variable, or named.
+#[test]
+fn a_pdb_is_found_as_symbol_servers_have_it() {
+    let lower = KEY.to_lowercase();
+    let paths = [
+        format!("syms/crash.pdb/{KEY}/crash.pdb"),
+        format!("syms/CRASH.PDB/{lower}/Crash.pdb"),
+        format!("syms/cr/crash.pdb/{KEY}/crash.pdb"),
+        "syms/Crash.PDB".to_string(),
+    ];
+    for (index, path) in paths.iter().enumerate() {
+        let folder = folder(&format!("symbols-found-{index}"));
+        put(&folder, path, &bytes_of(crash::PDB));
+        let found = |words: &[&str], variable| stack_in(&folder, words, variable)["modules"][0]["pdb"]["file"].clone();
+        assert_eq!(found(&["--symbols", "syms"], None), json!(path));
+        assert_eq!(found(&["--symbols", "images", "--symbols", "syms"], None), json!(path));
+        assert_eq!(found(&[], Some("srv*syms*https://example.com/symbols")), json!(path));
+        assert_eq!(found(&[], Some("nowhere;cache*syms")), json!(path));
+        assert_eq!(found(&["--symbols", path], None), json!(path));
+    }
+}
+
+#[test]
+fn what_is_not_fetched_is_said() {
+    let folder = folder("symbols-left-out");
+    let variable = Some("srv*syms*https://example.com/symbols;nowhere");
+    let said = stack_in(&folder, &[], variable);
+    let wanted = json!(["https://example.com/symbols (no network is used)", "nowhere (it is not there)"]);
+    assert_eq!((&said["symbols_left_out"], &said["modules"][0]["pdb"]["state"]), (&wanted, &json!("missing")));
+    let (text, _, _) = run_in(&folder, &["stack", "crash.dmp", "--images", "images"], variable);
+    assert!(text.contains("of _NT_SYMBOL_PATH https://example.com/symbols (no network is used)\n"), "{text}");
+    assert!(
+        text.contains("  crash.exe  0       not found  crash.pdb/C4AAF6DE03F43CF24C4C44205044422E1/crash.pdb\n"),
+        "{text}"
+    );
+    let (_, complaints, status) = run_in(&folder, &["stack", "crash.dmp", "--symbols", "nowhere"], None);
+    assert!(complaints.contains("nowhere: No such file or directory") && status == Some(3), "{complaints}");
+}
+
+/// The first place of some bytes.
+fn place_of(bytes: &[u8], part: &[u8]) -> usize {
+    bytes.windows(part.len()).position(|it| it == part).unwrap()
+}
+
+/// The bytes of the GUID, and the start of the header of the DBI stream: -1 and its version. The age follows it.
+const GUID: [u8; 16] = [0xDE, 0xF6, 0xAA, 0xC4, 0xF4, 0x03, 0xF2, 0x3C, 0x4C, 0x4C, 0x44, 0x20, 0x50, 0x44, 0x42, 0x2E];
+const DBI: [u8; 8] = [0xFF, 0xFF, 0xFF, 0xFF, 0x77, 0x09, 0x31, 0x01];
+
+#[test]
+fn no_name_is_read_of_another_build() {
+    let pdb = bytes_of(crash::PDB);
+    let (mut age, mut guid) = (pdb.clone(), pdb.clone());
+    age[place_of(&pdb, &DBI) + 8] = 0x1F;
+    guid[place_of(&pdb, &GUID)] = 0xDF;
+    let cases = [
+        (age, "C4AAF6DE03F43CF24C4C44205044422E1F", "age 1F (hexadecimal), wanted 1"),
+        (guid, "C4AAF6DF03F43CF24C4C44205044422E1", "GUID and age C4AAF6DF03F43CF24C4C44205044422E1, wanted"),
+    ];
+    for (bytes, key, words) in cases {
+        let folder = folder(&format!("symbols-other-{}", key.len()));
+        put(&folder, "syms/crash.pdb", &bytes);
+        let said = stack_in(&folder, &["--symbols", "syms"], None);
+        let pdb = &said["modules"][0]["pdb"];
+        assert_eq!(
+            (&pdb["state"], &pdb["found_key"], &pdb["wanted_key"]),
+            (&json!("another-build"), &json!(key), &json!(KEY))
+        );
+        assert!(functions_of(&said).iter().all(|it| it.is_null()), "{said}");
+        let (text, _, status) =
+            run_in(&folder, &["stack", "crash.dmp", "--images", "images", "--symbols", "syms"], None);
+        assert!(text.contains(&format!("of another build, not read: {words}")) && status == Some(0), "{text}");
+        // The right one is found after it.
+        put(&folder, "more/crash.pdb", &bytes_of(crash::PDB));
+        let said = stack_in(&folder, &["--symbols", "syms", "--symbols", "more"], None);
+        assert_eq!(said["modules"][0]["pdb"]["file"], "more/crash.pdb");
+    }
+}
+
+#[test]
+fn what_is_no_pdb_that_is_read_is_told() {
+    let cases: [(&str, &[u8], &str, &str); 6] = [
+        ("syms/crash.pdb", b"Microsoft C/C++ program database 2.00\r\n\x1AJG\0\0.................", "refused", "PDB20"),
+        ("syms/crash.pdb", &[b"BSJB".as_slice(), &[0; 60]].concat(), "refused", "PDB_PORTABLE"),
+        ("syms/crash.pdb", &[b'x'; 100], "refused", "PDB_MAGIC"),
+        ("syms/crash.pdb", b"short", "refused", "SHORT"),
+        ("syms/crash.pdb/KEY/crash.pd_", b"MSCF", "not-read", "compressed: `cabextract` makes the PDB of it"),
+        ("syms/crash.pdb/KEY/file.ptr", b"PATH:\\\\a\\b", "not-read", "leads to another file, which is not followed"),
+    ];
+    for (index, (path, bytes, state, words)) in cases.into_iter().enumerate() {
+        let folder = folder(&format!("symbols-none-{index}"));
+        put(&folder, &path.replace("KEY", KEY), bytes);
+        let said = stack_in(&folder, &["--symbols", "syms"], None);
+        let pdb = &said["modules"][0]["pdb"];
+        assert_eq!(pdb["state"], state, "{said}");
+        assert!(pdb["error"]["name"] == words || pdb["reason"] == words, "{pdb}");
+        assert_eq!(functions_of(&said).len(), 4);
+        let (text, _, _) = run_in(&folder, &["stack", "crash.dmp", "--images", "images", "--symbols", "syms"], None);
+        assert!(text.contains(words), "{text}");
+    }
+}
+
+/// The dump with another name of the PDB, of as many bytes at most.
+fn naming(name: &[u8]) -> Vec<u8> {
+    let mut dump = bytes_of(crash::DUMP);
+    let at = place_of(&dump, b"crash.pdb\0");
+    dump[at..at + 10].fill(0);
+    dump[at..at + name.len()].copy_from_slice(name);
+    dump
+}
+
+/// Of a path in a dump the last component counts alone, and one that is no name of a file is none. The module's own image names the PDB
+/// where the dump does not.
+#[test]
+fn the_name_in_a_dump_is_one_component() {
+    let cases: [(&[u8], &str, &str); 6] = [
+        (b"..\\c.pdb", "missing", "syms/crash.pdb"),
+        (b"../../c.p", "read", "syms/c.p"),
+        (b"C:\\c.pdb", "read", "syms/c.pdb"),
+        (b"C:c.pdb", "not-named", "syms/c.pdb"),
+        (b"a/..", "not-named", "syms/crash.pdb"),
+        (b"c.pdb\0x", "read", "syms/c.pdb"),
+    ];
+    for (index, (name, state, path)) in cases.into_iter().enumerate() {
+        let folder = folder(&format!("symbols-name-{index}"));
+        folder.file("crash.dmp", &naming(name));
+        put(&folder, path, &bytes_of(crash::PDB));
+        let said = stack_in(&folder, &["--symbols", "syms"], None);
+        assert_eq!(said["modules"][0]["pdb"]["state"], state, "{said}");
+    }
+    let folder = folder("symbols-by-image");
+    let mut dump = bytes_of(crash::DUMP);
+    let at = place_of(&dump, b"RSDS");
+    dump[at] = b'X';
+    folder.file("crash.dmp", &dump);
+    put(&folder, "syms/crash.pdb", &bytes_of(crash::PDB));
+    let said = stack_in(&folder, &["--symbols", "syms"], None);
+    assert_eq!(said["modules"][0]["pdb"]["state"], "read");
+    assert_eq!(said["modules"][0]["pdb_symbol_server_path"], json!(format!("crash.pdb/{KEY}/crash.pdb")));
+}
+
+/// Names that a hostile PDB has are shown with escapes.
+#[test]
+fn a_damaged_pdb_costs_names_and_no_frame() {
+    let pdb = bytes_of(crash::PDB);
+    for (index, part) in [b"reads\0".as_slice(), b"middle\0", &DBI].into_iter().enumerate() {
+        let folder = folder(&format!("symbols-damaged-{index}"));
+        let mut bytes = pdb.clone();
+        let at = place_of(&pdb, part);
+        bytes[at] = if index == 2 { 0 } else { 0x1B };
+        put(&folder, "syms/crash.pdb", &bytes);
+        let said = stack_in(&folder, &["--symbols", "syms"], None);
+        let names: Vec<&Value> = functions_of(&said);
+        assert_eq!(names.len(), 4);
+        let (text, _, _) = run_in(&folder, &["stack", "crash.dmp", "--images", "images", "--symbols", "syms"], None);
+        assert!(!text.contains('\x1b'), "{text}");
+        assert_eq!(said["modules"][0]["pdb"]["state"], if index == 2 { "refused" } else { "read" });
+    }
+}
+
+/// A module that is damaged costs its own names: public symbols serve then, which have none of a static function. The function table of
+/// the image says that `middle` is a function; `reads` calls nothing, and has no entry there.
+#[test]
+fn public_symbols_serve_where_a_module_is_damaged() {
+    let folder = folder("symbols-public");
+    let mut pdb = bytes_of(crash::PDB);
+    // The stream of the module starts with 4, and its first record is S_OBJNAME: here of no bytes.
+    let at = pdb.windows(8).position(|it| *it == [4, 0, 0, 0, 10, 0, 1, 0x11]).unwrap();
+    pdb[at + 4] = 0;
+    put(&folder, "syms/crash.pdb", &pdb);
+    let said = stack_in(&folder, &["--symbols", "syms"], None);
+    let found: Vec<Value> = functions_of(&said)
+        .iter()
+        .map(|it| json!([it["raw_name"], it["offset"], it["source"], it["is_nearest"]]))
+        .collect();
+    let wanted = [
+        json!(["?middle@@YAHHH@Z", 0x2F, "public", true]),
+        json!(["?middle@@YAHHH@Z", 0xE, "public", false]),
+        json!(["??$outer@H@app@@YAHH@Z", 0xE, "public", false]),
+        json!(["entry", 0xE, "public", false]),
+    ];
+    assert_eq!(found, wanted);
+    let damaged = &said["modules"][0]["pdb"]["damaged"][0];
+    assert_eq!((&damaged["module"], &damaged["error"]["name"]), (&json!("crash.obj"), &json!("PDB_RECORD_SIZE")));
+    let (text, _, _) = run_in(&folder, &["stack", "crash.dmp", "--images", "images", "--symbols", "syms"], None);
+    assert!(text.contains("crash.obj of the PDB of crash.exe: "), "{text}");
+    assert!(
+        text.contains("?middle@@YAHHH@Z+0x2f (public) (nearest)") && text.contains("read, damaged in part"),
+        "{text}"
+    );
+    let (out, _, status) = run(&["pdb", folder.0.join("syms/crash.pdb").to_str().unwrap(), "--json", "--functions"]);
+    let said: Value = serde_json::from_str(&out).unwrap();
+    assert_eq!((&said["damaged"][0]["module"], &said["number_of_procedures"]), (&json!("crash.obj"), &json!(0)));
+    assert_eq!((&said["functions"][1]["raw_name"], status), (&json!("entry"), 1));
+}
+
+/// What a traced call opens, relative to the folder that it runs in.
+fn opened_by(line: &str) -> Option<&str> {
+    let (call, rest) = line.split_once('(')?;
+    let path = rest.split('"').nth(1)?;
+    (call.contains("open") && !path.starts_with('/')).then_some(path)
+}
+
+#[test]
+fn no_path_of_a_dump_is_opened() {
+    let folder = folder("symbols-opened");
+    folder.file("crash.dmp", &naming(b"../c.pdb"));
+    put(&folder, "syms/c.pdb", &bytes_of(crash::PDB));
+    put(&folder, "c.pdb", b"");
+    let words =
+        ["-f", "-qq", "-e", "trace=open,openat,openat2,connect,execve", "-o", "calls", env!("CARGO_BIN_EXE_pe")];
+    let mut traced = Command::new("strace");
+    traced.args(words).args(["stack", "crash.dmp", "--json", "--images", "images", "--symbols", "syms"]);
+    match traced.current_dir(&folder.0).env_remove("_NT_SYMBOL_PATH").output() {
+        Ok(ran) if ran.status.success() => (),
+        _ => return eprintln!("Debian's package strace is missing, or may not trace: what is opened is not tried"),
+    }
+    let calls = fs::read_to_string(folder.0.join("calls")).unwrap();
+    let mut opened: Vec<&str> = calls.lines().filter_map(opened_by).collect();
+    opened.sort_unstable();
+    assert_eq!(opened, ["crash.dmp", "images", "images/crash.exe", "images/crash.exe", "syms", "syms/c.pdb"]);
+    assert_eq!((calls.matches("execve(").count(), calls.matches("connect(").count()), (1, 0));
+}
+
+/// The page of a dump has the same.
+#[test]
+fn the_page_of_a_dump_has_functions() {
+    let folder = folder("symbols-page");
+    put(&folder, "syms/crash.pdb", &bytes_of(crash::PDB));
+    let (page, _, status) =
+        run_in(&folder, &["report", "crash.dmp", "-", "--images", "images", "--symbols", "syms"], None);
+    assert!(page.contains("<td>middle+0xe</td>") && page.contains("<td>syms/crash.pdb</td>"), "{page}");
+    assert!(page.contains("<th scope=col>found by</th>") && status == Some(0), "{page}");
+}
+
+/// What llvm-pdbutil prints: `dump -summary -streams -modules -publics -symbols`.
+#[test]
+fn pe_pdb_says_what_a_pdb_is() {
+    let folder = Folder::new("pdb");
+    let path = folder.file("crash.pdb", &bytes_of(crash::PDB));
+    let (out, complaints, status) = run(&["pdb", &path, "--json", "--functions", "--modules", "--streams"]);
+    assert_eq!((complaints.as_str(), status), ("", 0), "{out}");
+    let said: Value = serde_json::from_str(&out).unwrap();
+    assert_eq!((&said["guid"], &said["age"]), (&json!("{C4AAF6DE-03F4-3CF2-4C4C-44205044422E}"), &json!(1)));
+    assert_eq!(
+        (&said["key"], &said["symbol_server_path"]),
+        (&json!(KEY), &json!(format!("crash.pdb/{KEY}/crash.pdb")))
+    );
+    assert_eq!((&said["machine"]["name"], &said["block_size"]), (&json!("x64"), &json!(4096)));
+    assert_eq!((&said["number_of_modules"], &said["number_of_procedures"]), (&json!(2), &json!(4)));
+    let functions: Vec<Value> = said["functions"]
+        .as_array()
+        .unwrap()
+        .iter()
+        .map(|it| json!([it["rva"], it["size"], it["name"], it["source"], it["module"]]))
+        .collect();
+    let wanted = [
+        json!([0x1000, 31, "middle", "procedure", 0]),
+        json!([0x1020, 21, "reads", "procedure", 0]),
+        json!([0x1040, 25, "entry", "procedure", 0]),
+        json!([0x1060, 22, "app::outer<int>", "procedure", 0]),
+    ];
+    assert_eq!(functions, wanted);
+    assert_eq!(said["modules"][1]["name"], "* Linker *");
+    let streams = said["streams"].as_array().unwrap();
+    assert_eq!((streams.len(), &said["number_of_streams"]), (15, &json!(15)));
+    assert_eq!((&streams[3]["content"], &said["error"]), (&json!("DBI"), &json!(null)));
+}
+
+#[test]
+fn pe_pdb_says_what_is_at_rvas() {
+    let folder = Folder::new("pdb-rvas");
+    let path = folder.file("crash.pdb", &bytes_of(crash::PDB));
+    let (out, _, status) = run(&["pdb", &path, "--json", "102f", "0x1074", "5000"]);
+    let said: Value = serde_json::from_str(&out).unwrap();
+    let last = |index: usize| said["frames"][index]["functions"].as_array().unwrap().last().cloned();
+    let own = |index: usize| last(index).map(|it| json!([it["name"], it["function_rva"], it["offset"]]));
+    assert_eq!(own(0), Some(json!(["reads", 0x1020, 0xF])));
+    assert_eq!(own(1), Some(json!(["app::outer<int>", 0x1060, 0x14])));
+    assert_eq!((said["frames"][2]["rva"].as_u64(), status), (Some(0x5000), 0));
+    for words in [["pdb", &path, "xyz"].as_slice(), &["pdb", &path, "100000000"], &["pdb", &path, "-r"], &["pdb"]] {
+        assert_eq!(run(words).2, 2, "{words:?}");
+    }
+}
+
+#[test]
+fn what_is_no_pdb_is_refused() {
+    let folder = Folder::new("pdb-none");
+    let image = folder.file("a.exe", &bytes_of(crash::EXE));
+    let (out, complaints, status) = run(&["pdb", &image]);
+    assert_eq!((out.as_str(), complaints, status), ("", format!("pe: {image}: not a PDB 7.0 (PDB_MAGIC)\n"), 1));
+    let (out, _, status) = run(&["pdb", "--json", &image]);
+    let said: Value = serde_json::from_str(&out).unwrap();
+    assert_eq!((&said["error"]["name"], &said["guid"], status), (&json!("PDB_MAGIC"), &json!(null), 1));
+    let older = folder.file("b.pdb", b"Microsoft C/C++ program database 2.00\r\n\x1AJG\0\0.................");
+    let (_, complaints, _) = run(&["pdb", &older]);
+    assert!(complaints.ends_with("(PDB20); it is a PDB of version 2.0\n"), "{complaints}");
+    let (_, complaints, status) = run(&["pdb", folder.0.join("nowhere").to_str().unwrap()]);
+    assert!(complaints.contains("No such file") && status == 3, "{complaints}");
+    // And the other way round.
+    let pdb = folder.file("c.pdb", &bytes_of(crash::PDB));
+    let (out, _, status) = run(&[&pdb]);
+    assert!(out.starts_with(&format!("{pdb}: refused, a PDB, which pe pdb shows\n")) && status == 1, "{out}");
+}
+
+/// The lines of JSON that the schema is checked against, and texts: `golden/symbols.txt`, which `UPDATE_GOLDEN=1` writes anew.
+#[test]
+fn what_is_said_is_the_golden_text() {
+    let folder = folder("symbols-golden");
+    put(&folder, "syms/crash.pdb", &bytes_of(crash::PDB));
+    folder.file("crash.pdb", &bytes_of(crash::PDB));
+    let mut other = bytes_of(crash::PDB);
+    other[place_of(&bytes_of(crash::PDB), &DBI) + 8] = 2;
+    put(&folder, "other/crash.pdb", &other);
+    put(&folder, "damaged/crash.pdb", &[b'x'; 100]);
+    let said_by = |words: &[&str]| format!("$ pe {}\n{}", words.join(" "), run_in(&folder, words, None).0);
+    let stack = ["stack", "crash.dmp", "--images", "images"];
+    let said = [
+        said_by(&[&stack[..], &["--symbols", "syms"]].concat()),
+        said_by(&[&stack[..], &["--symbols", "syms", "--json"]].concat()),
+        said_by(&[&stack[..], &["--symbols", "other", "--json"]].concat()),
+        said_by(&[&stack[..], &["--symbols", "damaged"]].concat()),
+        said_by(&[&stack[..], &["--symbols", "damaged", "--json"]].concat()),
+        said_by(&["pdb", "crash.pdb", "102f", "100d", "106d", "--functions", "--modules", "--streams"]),
+        said_by(&["pdb", "crash.pdb", "102f", "100d", "106d", "--functions", "--modules", "--streams", "--json"]),
+        said_by(&["pdb", "images/crash.exe", "--json"]),
+    ]
+    .concat();
+    let path = concat!(env!("CARGO_MANIFEST_DIR"), "/tests/golden/symbols.txt");
+    if std::env::var_os("UPDATE_GOLDEN").is_some() {
+        fs::write(path, &said).unwrap();
+    }
+    assert_eq!(said, fs::read_to_string(Path::new(path)).unwrap());
+}
