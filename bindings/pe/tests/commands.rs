@@ -553,7 +553,7 @@ fn version_information_by_another_name_is_warned_of() {
         assert_eq!(status, 0, "{said}");
         let leaves = parsed(&["show", &out, "resources", "--json"])["resources"].clone();
         let of_name = |name: u32| leaves.as_array().unwrap().iter().find(|it| it["name"]["id"] == name).cloned();
-        let numbers = [1, 7].map(|it| of_name(it).map(|it| it["version"]["file_version"].clone()));
+        let numbers = [1, 7].map(|it| of_name(it).map(|it| it["version"]["fixed"]["file_version"].clone()));
         (
             said,
             run(&[&file]).0,
