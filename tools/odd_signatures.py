@@ -177,7 +177,8 @@ def revoke(name):
 
 def make_list(out, issuer="root"):
     """The path of an issuer's list of what is revoked, in PEM and, after it, in DER."""
-    run("openssl", "ca", "-config", "ca.cnf", "-cert", f"{issuer}.pem", "-keyfile", f"{issuer}.key", "-gencrl", "-crldays", "30", "-out", f"{out}.pem")
+    run("openssl", "ca", "-config", "ca.cnf", "-cert", f"{issuer}.pem", "-keyfile", f"{issuer}.key", "-gencrl", "-crldays", "30",
+        "-out", f"{out}.pem")
     run("openssl", "crl", "-in", f"{out}.pem", "-outform", "DER", "-out", f"{out}.crl")
     return f"{out}.crl"
 
