@@ -6,6 +6,7 @@ import glob
 import os
 import re
 import shutil
+import signal
 import subprocess
 import sys
 import time
@@ -302,4 +303,6 @@ def main(words):
 
 
 if __name__ == "__main__":
+    # Whoever reads the list may stop before its end, as `head` does.
+    signal.signal(signal.SIGPIPE, signal.SIG_DFL)
     sys.exit(main(sys.argv[1:]))

@@ -1,5 +1,5 @@
 """Signatures by certificates that are unlike those of `signed_images`, for try_verify: keys for other purposes, certificates of one name,
-that are not valid now or that no authority signed, certificates of a stamp that stand beside it, a signer that says another type than
+that are not valid now, that no authority signed or that are revoked, certificates of a stamp that stand beside it, a signer that says another type than
 its content has; and forgeries, whose digests fit."""
 
 import hashlib
@@ -165,6 +165,22 @@ def sign_catalog(name, members):
 
 def leads_to_root(between, last):
     return run("openssl", "verify", "-purpose", "any", "-CAfile", "root.pem", "-untrusted", between, last) == f"{last}: OK\n"
+
+
+# Lists of revoked certificates.
+
+
+def revoke(name):
+    """The root revokes a certificate from now on."""
+    run("openssl", "ca", "-config", "ca.cnf", "-cert", "root.pem", "-keyfile", "root.key", "-revoke", f"{name}.pem")
+
+
+def make_list(out, issuer="root"):
+    """The path of an issuer's list of what is revoked, in PEM and, after it, in DER."""
+    run("openssl", "ca", "-config", "ca.cnf", "-cert", f"{issuer}.pem", "-keyfile", f"{issuer}.key", "-gencrl", "-crldays", "30",
+        "-out", f"{out}.pem")
+    run("openssl", "crl", "-in", f"{out}.pem", "-outform", "DER", "-out", f"{out}.crl")
+    return f"{out}.crl"
 
 
 # A signer that says another type.

@@ -1,5 +1,6 @@
-// What differs between two images, as the program pe says it (`pe diff --json`): the same rows of sections, imports, delay
-// imports and exports, of version information the two numbers and the texts of one language, and the regions whose bytes differ.
+// What differs between two images, as the program pe says it (`pe diff --json`): the same rows of signers, sections, imports, delay
+// imports and exports, of debug data those of a PDB 7.0, of version information the two numbers and the texts of one language, and the
+// regions whose bytes differ.
 
 /** A character that stands for itself: neither a control character nor one that changes how others are laid out. */
 const PLAIN = /^[^\p{Cc}\u00ad\u061c\u180e\u200b-\u200f\u2028-\u202e\u2060-\u206f\ufeff\ufff9-\ufffb\u{e0000}-\u{e007f}]$/u;
@@ -65,7 +66,18 @@ function versions({ version: { fixed, texts } }) {
   return [...numbers, ...Object.entries(texts).map(([name, text]) => [name, escaped(text)])];
 }
 
-const PARTS = { sections, imports: (it) => functions(it.imports), delay_imports: (it) => functions(it.delay_imports),
+function debug({ debug: { pdb } }) {
+  return pdb ? [['PDB', shown(pdb)], ['GUID', `${pdb.guid}, age ${pdb.age}`], ['symbol key', pdb.key]] : [];
+}
+
+function signers({ certificates }) {
+  return (certificates ?? []).filter((it) => it.signer).map(({ signer: it }) => {
+    const number = `number ${it.serial_hex} of ${escaped(it.issuer)}`, stamp = it.time_stamp === null ? '' : `, stamped ${it.time_stamp}`;
+    return [it.subject === null ? number : escaped(it.subject), `${number}, by ${it.digest_algorithm}${stamp}`];
+  });
+}
+
+const PARTS = { debug, signers, sections, imports: (it) => functions(it.imports), delay_imports: (it) => functions(it.delay_imports),
   exports: exported, version: versions };
 
 /** The rows by their names. Of several with one name each but the first has its number. */

@@ -283,7 +283,7 @@ async function read(file) {
 
 // ---- two files
 
-const PARTS = { sections: 'Sections', imports: 'Imports', delay_imports: 'Delay imports', exports: 'Exports', version: 'Version' };
+const PARTS = { debug: 'Debug data', signers: 'Signers', sections: 'Sections', imports: 'Imports', delay_imports: 'Delay imports', exports: 'Exports', version: 'Version' };
 const SIGNS = { removed: '\u2212', added: '+', changed: '~' };
 
 /** A table for each part in which something differs, and one of the bytes, above all that is shown of the files. */

@@ -277,6 +277,10 @@ pub enum Command {
         /// Those that the system trusts, which are mostly for servers.
         #[arg(long, conflicts_with = "roots")]
         system_roots: bool,
+        /// A list of revoked certificates (CRL), in DER or PEM, once for each. A certificate that no list of its issuer has
+        /// counts as not revoked. It needs roots.
+        #[arg(long = "crl", value_name = "FILE")]
+        crls: Vec<PathBuf>,
         /// A catalog (.cat), once for each: one that lists the image is a signature of it.
         #[arg(long = "catalog", value_name = "FILE")]
         catalogs: Vec<PathBuf>,
@@ -405,14 +409,14 @@ pub enum Command {
         #[command(flatten)]
         reading: Reading,
     },
-    /// Write an image without a resource to a new file.
+    /// Write an image without a resource, or without several, to a new file.
     RemoveResource {
         /// The image.
         file: PathBuf,
         #[command(flatten)]
         to: Target,
         #[command(flatten)]
-        which: OneResource,
+        which: Resources,
         #[command(flatten)]
         strong_name: StrongName,
         #[command(flatten)]
@@ -540,7 +544,7 @@ impl Stacks {
 /// A resource.
 #[derive(Args, Clone, Debug)]
 pub struct OneResource {
-    /// Its type: a number of winuser.h, as 10 of raw data, or its name.
+    /// Its type: a number of winuser.h, as 10, or what show calls that, as "raw data", or a name of its own.
     #[arg(value_name = "TYPE")]
     pub kind: String,
     /// Its name, or its number.
@@ -548,6 +552,24 @@ pub struct OneResource {
     /// In this language alone, as 1033 or 0x409. Without it in those that it has.
     #[arg(long, value_parser = language)]
     pub language: Option<u16>,
+}
+
+/// Resources.
+#[derive(Args, Clone, Debug)]
+pub struct Resources {
+    /// Of each resource its type and its name, or their numbers.
+    #[arg(required = true, num_args = 2.., value_names = ["TYPE", "NAME"])]
+    pub words: Vec<String>,
+    /// In this language alone, as 1033 or 0x409. Without it in those that they have.
+    #[arg(long, value_parser = language)]
+    pub language: Option<u16>,
+}
+
+impl Resources {
+    /// The types and the names.
+    pub fn pairs(&self) -> impl Iterator<Item = (&str, &str)> {
+        self.words.chunks_exact(2).map(|it| (it[0].as_str(), it[1].as_str()))
+    }
 }
 
 /// What is new of version information.

@@ -1,9 +1,11 @@
 //! What differs between two images: what came, went and changed. Both are taken as rows of a name and a value for each part, and
 //! rows of one name are compared; and all their bytes, region by region (`regions`). Two files of the same bytes alone are the same.
 
+mod functions;
 mod regions;
 
 use crate::escape::escaped;
+use crate::facts::certificates::CertificateSigner;
 use crate::facts::resources::Label;
 use crate::facts::{Facts, Name, Origin, Part, Refusal};
 use crate::page::Style;
@@ -129,6 +131,24 @@ fn version_of(facts: &Facts) -> Rows {
     rows
 }
 
+/// The PDB with its key, and what other debug records say.
+fn debug_of(facts: &Facts) -> Rows {
+    Rows::of(facts.debug.as_ref().map(tables::debug_records).unwrap_or_default())
+}
+
+/// By whom each signature says to be, and when it was made.
+fn signers_of(facts: &Facts) -> Rows {
+    let mut rows = Rows::default();
+    let certificates = facts.certificates.iter().filter_map(Part::present).flat_map(|it| &it.entries);
+    for signer in certificates.filter_map(|it| it.signer.as_ref()) {
+        let CertificateSigner { issuer, serial_hex, digest_algorithm, time_stamp, .. } = signer;
+        let stamp = time_stamp.as_deref().map_or(String::new(), |it| format!(", stamped {it}"));
+        let value = format!("number {serial_hex} of {}, by {digest_algorithm}{stamp}", escaped(issuer));
+        rows.put(escaped(&signer.to_string()), value);
+    }
+    rows
+}
+
 fn headers_of(facts: &Facts) -> Rows {
     let mut rows = facts.headers.as_ref().map(tables::headers).unwrap_or_default();
     rows.extend(facts.hardening.as_ref().map(tables::hardening).unwrap_or_default());
@@ -139,8 +159,10 @@ fn headers_of(facts: &Facts) -> Rows {
 type Finder = fn(&Facts) -> Rows;
 
 /// The parts that are compared, each with its rows.
-const PARTS: [(&str, Finder); 7] = [
+const PARTS: [(&str, Finder); 9] = [
     ("headers", headers_of),
+    ("debug", debug_of),
+    ("signers", signers_of),
     ("sections", sections_of),
     ("imports", imports_of),
     ("delay_imports", delay_imports_of),
@@ -172,6 +194,8 @@ pub fn of(paths: [&Path; 2], images: [&Image<'_>; 2], [before, after]: [&Facts; 
     for (part, rows_of) in PARTS {
         compare(part, &rows_of(before), &rows_of(after), &mut differences);
     }
+    let [one, other] = functions::of(images);
+    compare("functions", &one, &other, &mut differences);
     Differences { differences, regions: regions::changed(images, [before, after]), ..Differences::none(paths) }
 }
 

@@ -1,10 +1,13 @@
 //! Images with other resources, as new files. What is written is the library's. A resource keeps the language that it has: no
 //! second one in another language is made, unless it is asked for.
 
-use crate::arguments::{NewVersion, OneResource};
+use crate::arguments::{NewVersion, OneResource, Resources};
+use crate::escape::escaped;
+use crate::facts::version::FOUND;
 use crate::facts::Refusal;
 use crate::files::{self, Report};
 use crate::icon::{self, Group, IconError, Icons};
+use crate::names::RESOURCE_TYPES;
 use crate::new_file::Target;
 use crate::streams::{complain, complaint};
 use crate::Status;
@@ -38,8 +41,8 @@ enum Failure {
     Refused(Error),
     /// A file that is given can't be read.
     File,
-    /// There is no such resource.
-    Missing,
+    /// There is no such resource, as it was called.
+    Missing(String),
     /// What is read or written for all languages together is too much.
     Languages,
     /// A file is no icon.
@@ -56,6 +59,9 @@ impl From<Error> for Failure {
 pub fn has_strong_name(image: &Image<'_>) -> bool {
     image.clr().ok().flatten().is_some_and(|it| it.header().flags & STRONG_NAME_SIGNED != 0)
 }
+
+const NONE_LEFT: &str =
+    "no resource is left; the section that had them stays, without a directory: what is set later gets a new section";
 
 /// Whether an image that has lost its last resource still has the section that they stood in.
 fn keeps_section(image: &Image<'_>, editor: &ResourceEditor<'_>, file: &[u8]) -> bool {
@@ -81,8 +87,7 @@ fn deliver(
         Ok((file, is_kept)) => {
             let mut report = files::deliver_like(Some(paths.0), &file, paths.1, Status::Done);
             if is_kept && report.status == Status::Done {
-                report.complaints +=
-                    &complaint(paths.0, "no resource is left; the section that had them stays, without a directory");
+                report.complaints += &complaint(paths.0, NONE_LEFT);
             }
             report
         }
@@ -92,7 +97,9 @@ fn deliver(
         }
         Err(Failure::Refused(error)) => Report::refused(paths.0, Refusal::from(error)),
         Err(Failure::File) => Report::of("", Status::FileError),
-        Err(Failure::Missing) => Report::refused(paths.0, "the image has no such resource"),
+        Err(Failure::Missing(which)) => {
+            Report::refused(paths.0, format_args!("the image has no such resource: {which}"))
+        }
         Err(Failure::Languages) => Report::refused(paths.0, "more than 256 MiB for all languages together"),
         Err(Failure::Icon(path, error)) => Report::refused(&path, error),
     }
@@ -180,23 +187,38 @@ fn changed(mut version: VersionInfo, language: u16, new: &NewVersion) -> Result<
     version.to_bytes()
 }
 
-/// The image with other version information.
+/// The name of version information that is there by other names alone, by which Windows does not find it.
+fn other_name_of(editor: &ResourceEditor<'_>) -> Option<ResourceKey> {
+    let names = names_of(editor, &ResourceKey::Id(VERSION));
+    names.first().filter(|_| !names.contains(&ResourceKey::Id(FOUND))).cloned()
+}
+
+/// The image with other version information, by the name 1, by which Windows finds it. Where there is some by other names alone, the
+/// new one starts from the first of that, which stays.
 pub fn set_version(paths: Paths<'_>, image: Result<Image<'_>, Error>, new: &NewVersion) -> Report {
-    deliver(paths, image, |image, editor| {
-        let kind = ResourceKey::Id(VERSION);
-        let name = names_of(editor, &kind).into_iter().next().unwrap_or(ResourceKey::Id(1));
-        let languages = languages_of(editor, &kind, &name, new.language);
+    let mut other = None;
+    let mut report = deliver(paths, image, |image, editor| {
+        let (kind, name) = (ResourceKey::Id(VERSION), ResourceKey::Id(FOUND));
+        other = other_name_of(editor);
+        let from = other.as_ref().unwrap_or(&name);
+        let languages = languages_of(editor, &kind, from, new.language);
         let strings: usize = new.all_strings().map(|(name, text)| name.len() + text.len()).sum();
         let size_of = |place| strings + editor.get(&place).map_or(0, |it| it.bytes.len());
-        require_few(languages.iter().map(|language| size_of((kind.clone(), name.clone(), *language))))?;
+        require_few(languages.iter().map(|language| size_of((kind.clone(), from.clone(), *language))))?;
         for language in languages {
-            let place = (kind.clone(), name.clone(), language);
+            let place = (kind.clone(), from.clone(), language);
             let there = editor.get(&place).map(|it| VersionInfo::of(&it.bytes)).transpose()?.flatten();
             let content = changed(there.unwrap_or_else(|| new_version(image, language)), language, new)?;
             editor.set(kind.clone(), name.clone(), language, content);
         }
         Ok(())
-    })
+    });
+    if let Some(name) = other.filter(|_| report.status == Status::Done) {
+        let name = escaped(&name.to_string_lossy());
+        let why = "stays, which Windows does not find; the new one is by the name 1";
+        report.complaints += &complaint(paths.0, format_args!("version information by the name {name} {why}"));
+    }
+    report
 }
 
 /// Sets one content in these languages.
@@ -249,10 +271,18 @@ pub fn set_icon(paths: Paths<'_>, image: Result<Image<'_>, Error>, file: &Path, 
     })
 }
 
+/// A type by what it is called: its number or its name, or else the name that a number of winuser.h has here.
+fn type_of(editor: &ResourceEditor<'_>, word: &str) -> ResourceKey {
+    let own = key_of(word, editor.resources().map(|it| &it.0 .0));
+    let is_there = editor.resources().any(|it| it.0 .0 == own);
+    let known = RESOURCE_TYPES.iter().find(|it| !is_there && it.1.eq_ignore_ascii_case(word));
+    known.and_then(|it| u16::try_from(it.0).ok()).map_or(own, ResourceKey::Id)
+}
+
 /// The keys of a resource, by what it is called.
-fn keys_of(editor: &ResourceEditor<'_>, which: &OneResource) -> (ResourceKey, ResourceKey) {
-    let kind = key_of(&which.kind, editor.resources().map(|it| &it.0 .0));
-    let name = key_of(&which.name, editor.resources().filter(|it| it.0 .0 == kind).map(|it| &it.0 .1));
+fn keys_of(editor: &ResourceEditor<'_>, (kind, name): (&str, &str)) -> (ResourceKey, ResourceKey) {
+    let kind = type_of(editor, kind);
+    let name = key_of(name, editor.resources().filter(|it| it.0 .0 == kind).map(|it| &it.0 .1));
     (kind, name)
 }
 
@@ -260,27 +290,27 @@ fn keys_of(editor: &ResourceEditor<'_>, which: &OneResource) -> (ResourceKey, Re
 pub fn set_resource(paths: Paths<'_>, image: Result<Image<'_>, Error>, which: &OneResource, content: &Path) -> Report {
     deliver(paths, image, |_, editor| {
         let content = content_of(content)?;
-        let (kind, name) = keys_of(editor, which);
+        let (kind, name) = keys_of(editor, (&which.kind, &which.name));
         let languages = languages_of(editor, &kind, &name, which.language);
         set_in(editor, (&kind, &name), &languages, &content)
     })
 }
 
-/// The image without a resource: in one language, or in all.
-pub fn remove_resource(paths: Paths<'_>, image: Result<Image<'_>, Error>, which: &OneResource) -> Report {
+/// The image without these resources: in one language, or in all. None is removed where one is not there.
+pub fn remove_resources(paths: Paths<'_>, image: Result<Image<'_>, Error>, which: &Resources) -> Report {
     deliver(paths, image, |_, editor| {
-        let (kind, name) = keys_of(editor, which);
-        let languages = match which.language {
-            Some(language) => vec![language],
-            None => editor.languages(&kind, &name),
-        };
-        let mut removed = 0;
-        for language in languages {
-            removed += usize::from(editor.remove(&(kind.clone(), name.clone(), language)).is_some());
+        let mut places = Vec::new();
+        for called in which.pairs() {
+            let (kind, name) = keys_of(editor, called);
+            let languages = which.language.map_or_else(|| editor.languages(&kind, &name), |it| vec![it]);
+            let before = places.len();
+            let all = languages.into_iter().map(|language| (kind.clone(), name.clone(), language));
+            places.extend(all.filter(|it| editor.get(it).is_some()));
+            if places.len() == before {
+                return Err(Failure::Missing(escaped(&format!("{} {}", called.0, called.1))));
+            }
         }
-        if removed == 0 {
-            return Err(Failure::Missing);
-        }
+        places.iter().for_each(|it| drop(editor.remove(it)));
         Ok(())
     })
 }

@@ -151,10 +151,14 @@ fn run_command(command: &Command, out: &mut dyn Write) -> io::Result<Status> {
                 of_image(bytes, reading, |image| digest::report(path, image, output.json))
             })
         }
-        Command::Verify { files, roots, system_roots, catalogs, reading, output } => {
+        Command::Verify { files, roots, system_roots, crls, catalogs, reading, output } => {
             refuse_mapped(reading, "a signature");
             let of_system = system_roots.then(verify::checked::roots_of_system);
-            let Some(given) = given_to_verify(roots.as_deref().or(of_system), catalogs) else {
+            let roots = roots.as_deref().or(of_system);
+            if roots.is_none() && !crls.is_empty() {
+                misused("--crl says what of the chains to --roots or --system-roots is revoked");
+            }
+            let Some(given) = given_to_verify(roots, crls, catalogs) else {
                 return Ok(Status::FileError);
             };
             files::each(files, out, |path, bytes| {
@@ -231,9 +235,12 @@ fn unwind_functions(words: (&[PathBuf], Walk), is_all: bool, how: How, out: &mut
 }
 
 /// What `pe verify` is given, which is read once. `None` where a file of it is refused, which is said.
-fn given_to_verify(roots: Option<&Path>, catalogs: &[PathBuf]) -> Option<verify::Given> {
+fn given_to_verify(roots: Option<&Path>, crls: &[PathBuf], catalogs: &[PathBuf]) -> Option<verify::Given> {
     let said = |path: &Path, why: String| complain(complaint(path, why));
-    let roots = roots.map(|path| Roots::read(path).map_err(|why| said(path, why)).ok());
+    let roots = roots.map(|path| {
+        let roots = Roots::read(path).map_err(|why| said(path, why)).ok()?;
+        crls.iter().try_fold(roots, |roots, crl| roots.without(crl).map_err(|why| said(crl, why)).ok())
+    });
     if matches!(roots, Some(None)) {
         return None;
     }
@@ -324,6 +331,9 @@ fn edit_file(command: &Command, out: &mut dyn Write) -> io::Result<Status> {
     if matches!(command, Command::SetVersion { version, .. } if version.is_empty()) {
         misused("nothing is new: --file-version, --product-version and --string say what");
     }
+    if matches!(command, Command::RemoveResource { which, .. } if which.words.len() % 2 != 0) {
+        misused("a resource has a type and a name");
+    }
     files::each(&Files::one(file), out, |path, bytes| {
         let paths = (path, to);
         of_image(bytes, reading, |image| match command {
@@ -334,7 +344,7 @@ fn edit_file(command: &Command, out: &mut dyn Write) -> io::Result<Status> {
             Command::SetManifest { manifest, language, .. } => edit::set_manifest(paths, image, manifest, *language),
             Command::SetIcon { icon, language, .. } => edit::set_icon(paths, image, icon, *language),
             Command::SetResource { which, content, .. } => edit::set_resource(paths, image, which, content),
-            Command::RemoveResource { which, .. } => edit::remove_resource(paths, image, which),
+            Command::RemoveResource { which, .. } => edit::remove_resources(paths, image, which),
             Command::SetVersion { version, .. } => edit::set_version(paths, image, version),
             _ => files::Report::of("", Status::Done),
         })

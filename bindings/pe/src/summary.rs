@@ -286,6 +286,10 @@ fn version_of(facts: &Facts, page: &mut Page) {
     if let Some(fixed) = version.fixed.present() {
         page.row("version", format_args!("{}, of the product {}", fixed.file_version, fixed.product_version));
     }
+    if let Some(name) = &version.other_name {
+        let name = name.name.as_deref().map(escaped).or(name.id.map(|it| it.to_string())).unwrap_or_default();
+        page.warning(format_args!("version information by the name {name}: Windows finds that of the name 1 alone"));
+    }
     if version.table_count() > 1 {
         page.row("languages", format_args!("{} of version information", version.table_count()));
     }

@@ -301,7 +301,7 @@ pub fn debug_records(debug: &Debug) -> Vec<Row> {
         rows.push(("symbol key", pdb.key.clone()));
     }
     if let Some(pdb) = debug.pdb20.present() {
-        rows.push(("PDB 2.0", format!("{}, {:08X}{:x}", pdb.name, pdb.stamp.seconds, pdb.age)));
+        rows.push(("PDB 2.0", format!("{}, {:08X}{:X}", pdb.name, pdb.stamp.seconds, pdb.age)));
     }
     if let Some(repro) = debug.repro.present() {
         rows.push(("Repro", repro.hash_hex.clone().unwrap_or("the time stamps are a hash".to_string())));

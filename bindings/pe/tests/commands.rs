@@ -312,8 +312,25 @@ fn manifests_and_resources_are_changed() {
     let (_, said, status) = run(&["remove-resource", &file, &path("g.exe"), "24", "1"]);
     assert_eq!(
         (said, status),
-        (format!("pe: {file}: no resource is left; the section that had them stays, without a directory\n"), 0)
+        (
+            format!(
+                "pe: {file}: no resource is left; the section that had them stays, without a directory: what is set later gets a \
+                 new section\n"
+            ),
+            0
+        )
     );
+    // Several at once, types by what show calls them, and none where one is not there.
+    let (two, three) = (path("h.exe"), path("i.exe"));
+    assert_eq!(run(&["set-resource", &more, &two, "Raw Data", "other", &manifest]).2, 0);
+    assert_eq!(run(&["extract", &two, "resource", "--type", "10", "--name", "OTHER", "-"]).0, "<new/>!");
+    let words = ["remove-resource", &two, &three, "10", "DATA", "raw data"];
+    let (_, said, status) = run(&[&words[..], &["missing"]].concat());
+    assert_eq!((said, status), (format!("pe: {two}: the image has no such resource: raw data missing\n"), 1));
+    assert_eq!(run(&words).2, 2);
+    assert!(!folder.0.join("i.exe").exists());
+    assert_eq!(run(&[&words[..], &["other"]].concat()), (String::new(), String::new(), 0));
+    assert_eq!(fs::read(&three).unwrap(), fs::read(&out).unwrap());
     // What does not fit goes to the end; what is signed is refused.
     let long = folder.file("long", &[b'x'; 0x400]);
     assert_eq!(run(&["set-manifest", &file, &path("e.exe"), &long]).2, 0);
@@ -519,6 +536,46 @@ fn new_version_information_says_what_the_file_is() {
     }
 }
 
+/// The line of JSON that a command prints.
+fn parsed(words: &[&str]) -> Value {
+    serde_json::from_str(&run(words).0).unwrap()
+}
+
+/// Windows finds it by the name 1 alone, `VS_VERSION_INFO`.
+#[test]
+fn version_information_by_another_name_is_warned_of() {
+    let folder = Folder::new("version-name");
+    let content = version_of(&[("040704B0", &[("Own", "x")])]);
+    let said_of = |leaves: &[(u32, u32, &[u8])]| {
+        let file = folder.file("a.exe", &with_leaves(leaves));
+        let out = folder.0.join("b.exe").to_str().unwrap().to_string();
+        let (_, said, status) = run(&["set-version", "--replace", &file, &out, "--file-version", "4"]);
+        assert_eq!(status, 0, "{said}");
+        let leaves = parsed(&["show", &out, "resources", "--json"])["resources"].clone();
+        let of_name = |name: u32| leaves.as_array().unwrap().iter().find(|it| it["name"]["id"] == name).cloned();
+        let numbers = [1, 7].map(|it| of_name(it).map(|it| it["version"]["fixed"]["file_version"].clone()));
+        (
+            said,
+            run(&[&file]).0,
+            run(&[&out]).0,
+            numbers,
+            parsed(&["show", &out, "version", "--json"])["version"]["strings"].clone(),
+        )
+    };
+    let warning = "version information by the name 7: Windows finds that of the name 1 alone";
+    let (said, before, after, numbers, strings) = said_of(&[(16, 7, &content)]);
+    assert!(said.contains("version information by the name 7 stays"), "{said}");
+    assert_eq!((before.contains(warning), after.contains(warning)), (true, false));
+    // The new one starts from what is there.
+    assert_eq!(
+        (&numbers[0], &numbers[1], &strings["Own"]),
+        (&Some(json!("4.0.0.0")), &Some(json!("0.0.0.0")), &json!("x"))
+    );
+    let (said, before, _, numbers, _) = said_of(&[(16, 1, &content), (16, 7, &content)]);
+    assert_eq!((said.as_str(), before.contains("by the name")), ("", false));
+    assert_eq!(numbers, [Some(json!("4.0.0.0")), Some(json!("0.0.0.0"))]);
+}
+
 #[test]
 fn signatures_and_strong_names_are_not_broken_unasked() {
     let folder = Folder::new("version-strong");
@@ -540,25 +597,33 @@ fn signatures_and_strong_names_are_not_broken_unasked() {
     assert!(!complaints_of(&["--break-strong-name"]).contains("strong name"));
 }
 
-/// A tree of resources: each a type, a name, and content, in the language 0x407.
+/// A tree of resources: each a type, a name, and content, in the language 0x407. They have a section of their own, with room for more.
 fn with_leaves(leaves: &[(u32, u32, &[u8])]) -> Vec<u8> {
     let mut made = made::Made::new(made::X64);
-    let contents: Vec<(u32, u32)> = leaves.iter().map(|it| (made.put(it.2), it.2.len() as u32)).collect();
-    let (root, count) = (made.next().next_multiple_of(4), leaves.len() as u32);
-    // The root, then for each leaf a directory of its name, one of its language, and its data entry.
+    let (root, count) = (made.next(), leaves.len() as u32);
+    // The root, then for each leaf a directory of its name, one of its language, and its data entry; then all contents.
     let first = 16 + 8 * count;
+    let mut content = root + first + 64 * count;
     let mut words = vec![0, 0, 0, count << 16];
     words.extend((0..count).flat_map(|it| [leaves[it as usize].0, 1 << 31 | (first + 64 * it)]));
-    for (index, (_, name, _)) in (0u32..).zip(leaves) {
+    for (index, (_, name, bytes)) in (0u32..).zip(leaves) {
         let at = first + 64 * index;
         words.extend([0, 0, 0, 1 << 16, *name, 1 << 31 | (at + 24)]);
         words.extend([0, 0, 0, 1 << 16, 0x407, at + 48]);
-        let (rva, size) = contents[index as usize];
-        words.extend([rva, size, 0, 0]);
+        words.extend([content, bytes.len() as u32, 0, 0]);
+        content += (bytes.len() as u32).next_multiple_of(4);
     }
     made.put_words(&words);
-    made.directory(made::RESOURCES, root, 4 * words.len() as u32);
-    made.image()
+    for (_, _, bytes) in leaves {
+        made.put(bytes);
+    }
+    made.content.resize(made.content.len().next_multiple_of(0x1000), 0);
+    made.directory(made::RESOURCES, root, content - root);
+    made.size_of_image = made.content.len() as u32 + 0x1000;
+    let mut bytes = made.image();
+    // No entry point.
+    put(&mut bytes, 0x68, &[0; 4]);
+    bytes
 }
 
 #[test]
@@ -722,6 +787,63 @@ fn differences_are_what_came_went_and_changed() {
     assert_eq!((&found["differences"], &found["regions"]), (&json!([]), &region));
     assert_eq!((&found["before_error"]["name"], &found["after_error"]), (&json!("SHORT"), &json!(null)));
     assert_eq!(run(&["diff", &one, folder.0.join("none").to_str().unwrap()]).2, 3);
+}
+
+/// What is shown of functions of images that differ in functions alone: entries of start and length, and their bytes, from 0x1000 on.
+fn functions_that_differ(before: &[(u32, &[u8])], after: &[(u32, &[u8])]) -> Vec<(String, String)> {
+    let folder = Folder::new("diff-functions");
+    let files = [("a.exe", before), ("b.exe", after)].map(|(name, functions)| {
+        let mut made = made::Made::new(made::X64);
+        let mut code = vec![0xCC; 0x80];
+        functions.iter().for_each(|it| put(&mut code, it.0 as usize, it.1));
+        let start = made.put(&code);
+        let words: Vec<u32> =
+            functions.iter().flat_map(|it| [start + it.0, start + it.0 + it.1.len() as u32, 0]).collect();
+        let table = made.put_words(&words);
+        made.directory(3, table, 4 * words.len() as u32);
+        folder.file(name, &made.image())
+    });
+    let found = parsed(&["diff", "--json", &files[0], &files[1]]);
+    let rows = found["differences"].as_array().unwrap().iter().filter(|it| it["part"] == "functions");
+    rows.map(|it| (it["change"].as_str().unwrap().to_string(), it["name"].as_str().unwrap().to_string())).collect()
+}
+
+/// A function without a name is known by its RVA, and is not shown where the other image has its bytes anywhere.
+#[test]
+fn functions_that_were_moved_are_no_difference() {
+    let rows = |rows: &[(&str, u32)]| -> Vec<_> {
+        let start = made::Made::new(made::X64).put(&[]);
+        rows.iter().map(|it| (it.0.to_string(), format!("{:#x}", start + it.1))).collect()
+    };
+    let before: &[(u32, &[u8])] = &[(0, &[1; 4]), (0x10, &[2; 4]), (0x20, &[3; 8]), (0x30, &[4; 4])];
+    let moved: &[(u32, &[u8])] = &[(8, &[1; 4]), (0x10, &[4; 4]), (0x20, &[3; 8]), (0x40, &[2; 4])];
+    assert_eq!(functions_that_differ(before, moved), rows(&[]));
+    let changed: &[(u32, &[u8])] = &[(0, &[1; 4]), (0x10, &[5; 4]), (0x20, &[3; 8]), (0x40, &[6; 4])];
+    assert_eq!(functions_that_differ(before, changed), rows(&[("changed", 0x10), ("removed", 0x30), ("added", 0x40)]));
+    // Of two that are equal one went.
+    let twice: &[(u32, &[u8])] = &[(0, &[1; 4]), (0x10, &[1; 4])];
+    assert_eq!(functions_that_differ(twice, &[(0, &[1; 4])]).len(), 1);
+    assert_eq!(functions_that_differ(&[], &[(4, &[9; 4])]), rows(&[("added", 4)]));
+}
+
+#[test]
+fn signers_and_pdb_keys_are_compared() {
+    let folder = Folder::new("diff-signers");
+    let compared = |before: &[u8], after: &[u8], part: &str| {
+        let (one, other) = (folder.file("a.exe", before), folder.file("b.exe", after));
+        let found = parsed(&["diff", "--json", &one, &other]);
+        let rows: Vec<Value> =
+            found["differences"].as_array().unwrap().iter().filter(|it| it["part"] == part).cloned().collect();
+        rows
+    };
+    let signed = made::with_signature();
+    let rows = compared(&signed, &made::with_certificates(), "signers");
+    assert_eq!((rows.len(), &rows[0]["change"]), (1, &json!("removed")));
+    let mut other = made::with_debug();
+    let at = other.windows(4).position(|it| it == b"RSDS").unwrap();
+    other[at + 20] += 1;
+    let names: Vec<_> = compared(&made::with_debug(), &other, "debug").iter().map(|it| it["name"].clone()).collect();
+    assert_eq!(names, [json!("GUID"), json!("symbol key")]);
 }
 
 /// An image with all that a file may have beside headers and sections: a stub, a Rich header, slack, padding, an overlay, certificates

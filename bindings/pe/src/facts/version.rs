@@ -13,6 +13,9 @@ pub struct Version {
     pub fixed: Part<Fixed>,
     /// The language of that resource, which need not be that of `strings`.
     pub fixed_language: Option<Label>,
+    /// The name of that resource, where none has the number 1, by which Windows finds it. In JSON `resources` has it.
+    #[serde(skip)]
+    pub other_name: Option<Label>,
     /// Why a string of the same resource is refused, where the fixed file information is not. Another reader may have no string at all.
     pub strings_error: Option<Refusal>,
     /// The language of `strings`: neutral or English (US) where there is one of these, else the first.
@@ -185,6 +188,17 @@ fn manifest_of(bytes: &[u8]) -> Manifest {
     Manifest { size: bytes.len(), requested_level: element.and_then(|it| attribute(it, "level")).map(str::to_string) }
 }
 
+/// The number by which Windows finds version information, `VS_VERSION_INFO`.
+pub const FOUND: u16 = 1;
+
+/// The name of the first version information, where none is found by its number.
+fn other_name_of(image: &Image<'_>) -> Option<Label> {
+    let mut names = leaves_of(image).flatten().filter(|it| it.resource_type == VERSION).map(|it| it.name);
+    let is_found = |name: &ResourceName<'_>| matches!(name, ResourceName::Id(FOUND));
+    let first = names.next().filter(|it| !is_found(it))?;
+    (!names.any(|it| is_found(&it))).then(|| label_of(first))
+}
+
 pub fn of(image: &Image<'_>) -> Version {
     let languages = languages_of(image);
     let (first, fixed) = (first_of(&languages), image.fixed_version());
@@ -192,6 +206,7 @@ pub fn of(image: &Image<'_>) -> Version {
         strings_error: fixed.as_ref().ok().and_then(|_| image.version().err()).map(Refusal::from),
         fixed: fixed.map(|it| it.map(fixed_of)).into(),
         fixed_language: leaves_of(image).flatten().find(|it| it.resource_type == VERSION).map(|it| named(it.language)),
+        other_name: other_name_of(image),
         language: first.map(|it| it.language.clone()),
         strings: first.map(|it| it.strings.clone()),
         languages,

@@ -2,7 +2,7 @@
 //! program that is built without the feature `openssl` nothing is checked, and that is said.
 
 use super::hashing::Hash;
-use pe_c::{Algorithm, X509};
+use pe_c::{Algorithm, Time, X509};
 use std::path::Path;
 
 #[cfg(feature = "openssl")]
@@ -46,6 +46,28 @@ impl From<Checked> for Trust {
     }
 }
 
+/// When a chain has to be good, and from when on what is revoked counts.
+#[cfg_attr(not(feature = "openssl"), allow(dead_code))]
+#[derive(Clone, Copy, Debug)]
+pub enum When {
+    Now,
+    /// At the time of a good time stamp: what is revoked after it was good then.
+    Stamped(Time),
+    /// Of a stamp, at its own time if it says one. By a key that is not to be trusted any more another time can be said.
+    OfStamp(Option<Time>),
+}
+
+impl When {
+    #[cfg_attr(not(feature = "openssl"), allow(dead_code))]
+    pub fn time(self) -> Option<Time> {
+        match self {
+            When::Now => None,
+            When::Stamped(time) => Some(time),
+            When::OfStamp(time) => time,
+        }
+    }
+}
+
 /// A signature over a message, and how it was made.
 #[cfg_attr(not(feature = "openssl"), allow(dead_code))]
 #[derive(Clone, Copy)]
@@ -78,8 +100,7 @@ pub fn roots_of_system() -> &'static Path {
 
 #[cfg(not(feature = "openssl"))]
 mod without {
-    use super::{Checked, Path, Signing, Trust, X509};
-    use pe_c::Time;
+    use super::{Checked, Path, Signing, Trust, When, X509};
 
     /// The program is built without what checks signatures.
     const WITHOUT: Checked = Checked::Not("this program is built without OpenSSL");
@@ -91,7 +112,11 @@ mod without {
             Err("roots need a program that is built with the feature openssl".to_string())
         }
 
-        pub fn lead_to(&self, _: X509<'_>, _: &mut dyn Iterator<Item = X509<'_>>, _: Option<Time>) -> Trust {
+        pub fn without(self, _: &Path) -> Result<Roots, String> {
+            Ok(self)
+        }
+
+        pub fn lead_to(&self, _: X509<'_>, _: &mut dyn Iterator<Item = X509<'_>>, _: When) -> Trust {
             WITHOUT.into()
         }
     }

@@ -2,7 +2,8 @@
 //! needed to compare it.
 
 use super::checked::{Checked, NO_CERTIFICATE};
-use pe_c::{Oid, SignatureError, X509};
+use pe_c::{Oid, SignatureError, Time, X509};
+use std::time::{SystemTime, UNIX_EPOCH};
 
 /// What a key has to be for.
 pub struct Purpose {
@@ -41,6 +42,14 @@ const MAY_SIGN: u32 = 0x80 | 0x40;
 pub fn usage_warning(certificate: Option<X509<'_>>) -> Option<&'static str> {
     let usage = certificate?.key_usage().ok()??;
     (usage & MAY_SIGN == 0).then_some("the usage of its key (keyUsage) does not have signatures")
+}
+
+/// What is warned of at a time stamp: the usage of its key, and a time that has not come.
+pub fn stamp_warnings(certificate: Option<X509<'_>>, time: Option<Time>) -> Vec<&'static str> {
+    let now = SystemTime::now().duration_since(UNIX_EPOCH).map_or(0, |it| it.as_secs());
+    let is_future = time.is_some_and(|it| it.unix() > i64::try_from(now).unwrap_or(i64::MAX));
+    let warning = is_future.then_some("its time is in the future");
+    usage_warning(certificate).into_iter().chain(warning).collect()
 }
 
 /// Whether a signer says the type that what is signed has ([RFC 5652](https://www.rfc-editor.org/rfc/rfc5652), 11.1).

@@ -4,13 +4,14 @@
 
 use super::hashing::Hash;
 use pe_c::{Algorithm, KnownOid};
+use std::ops::Range;
 
-const INTEGER: u8 = 0x02;
+pub const INTEGER: u8 = 0x02;
 pub const OCTET_STRING: u8 = 0x04;
 pub const OBJECT_IDENTIFIER: u8 = 0x06;
 pub const SEQUENCE: u8 = 0x30;
 pub const SET: u8 = 0x31;
-const BIT_STRING: u8 = 0x03;
+pub const BIT_STRING: u8 = 0x03;
 /// `[0]`, and `[1]` in place of a tag of its own.
 const EXPLICIT: u8 = 0xA0;
 const MONIKER: u8 = 0xA1;
@@ -91,6 +92,23 @@ fn pss_at(parameters: &[u8]) -> Option<Pss> {
 fn number_of(digits: &[u8]) -> Option<u16> {
     let value = |it: &[u8]| it.iter().fold(0, |number, digit| number << 8 | u16::from(*digit));
     (digits.first()? < &0x80 && digits.len() <= 2).then(|| value(digits))
+}
+
+/// The digits of a part of a text, as a number.
+pub fn number_at(text: &[u8], part: Range<usize>) -> Option<u32> {
+    let digit = |number: u32, it: &u8| it.is_ascii_digit().then(|| 10 * number + u32::from(it - b'0'));
+    text.get(part)?.iter().try_fold(0, digit)
+}
+
+/// The digest by which an algorithm signs, by its object identifier and what follows: RSA of PKCS #1 v1.5, and ECDSA.
+pub fn hash_of_signature(algorithm: &[u8]) -> Option<Hash> {
+    match content_of(algorithm, OBJECT_IDENTIFIER)?.0 {
+        [0x2A, 0x86, 0x48, 0x86, 0xF7, 0x0D, 1, 1, 5] | [0x2A, 0x86, 0x48, 0xCE, 0x3D, 4, 1] => Some(Hash::Sha1),
+        [0x2A, 0x86, 0x48, 0x86, 0xF7, 0x0D, 1, 1, 11] | [0x2A, 0x86, 0x48, 0xCE, 0x3D, 4, 3, 2] => Some(Hash::Sha256),
+        [0x2A, 0x86, 0x48, 0x86, 0xF7, 0x0D, 1, 1, 12] | [0x2A, 0x86, 0x48, 0xCE, 0x3D, 4, 3, 3] => Some(Hash::Sha384),
+        [0x2A, 0x86, 0x48, 0x86, 0xF7, 0x0D, 1, 1, 13] | [0x2A, 0x86, 0x48, 0xCE, 0x3D, 4, 3, 4] => Some(Hash::Sha512),
+        _ => None,
+    }
 }
 
 /// The digest of an algorithm's object identifier.

@@ -1,6 +1,6 @@
 //! A signer, and what of it fits: the digest of what is signed, the signature, the chain of its certificates, its time stamps.
 
-use super::checked::{self, Checked, Roots, Signing, Trust, NO_CERTIFICATE, NO_ISSUER, NO_ROOTS};
+use super::checked::{self, Checked, Roots, Signing, Trust, When, NO_CERTIFICATE, NO_ISSUER, NO_ROOTS};
 use super::claims::{self, CODE_SIGNING, TIME_STAMPING};
 use super::hashing::{weak_of, Compared, Digests, Hash};
 use super::or_refused;
@@ -152,7 +152,7 @@ impl<'a> Signed<'a> {
         let time_stamps: Vec<Stamp> = stamps.by_ref().take(STAMPS).collect();
         let is_limited = stamps.next().is_some();
         let time = time_stamps.iter().find_map(Stamp::good_time);
-        let trust = trust(&chain, &mut self.certificates.all(), roots, time);
+        let trust = trust(&chain, &mut self.certificates.all(), roots, time.map_or(When::Now, When::Stamped));
         Told {
             certificate: certificate.as_ref().map(Certificate::of),
             issuer: text_of(signer.issuer()),
@@ -204,7 +204,7 @@ impl<'a> Signed<'a> {
         let said = or_refused(stamp.message_digest(), &mut error);
         let algorithm = stamp.digest_algorithm().oid();
         let digest = said.map_or(Compared::Absent, |said| Digests::of(vec![stamped]).compared(algorithm, said));
-        let trust = trust(&self.chain(certificate), &mut self.certificates.all(), roots, time);
+        let trust = trust(&self.chain(certificate), &mut self.certificates.all(), roots, When::OfStamp(time));
         Stamp {
             kind: "PKCS #9",
             time: time.map(|it| it.to_string()),
@@ -216,7 +216,7 @@ impl<'a> Signed<'a> {
             key_purpose: claims::key_purpose(certificate, &TIME_STAMPING),
             trust: trust.checked,
             trust_error: trust.why,
-            warnings: claims::usage_warning(certificate).into_iter().collect(),
+            warnings: claims::stamp_warnings(certificate, time),
             error,
             stamped: time,
             weak_algorithms: weak_of(hashes_of(&stamp).into_iter()),
@@ -239,7 +239,7 @@ impl<'a> Signed<'a> {
         let certificate = signer.and_then(|it| signed.certificates.of_signer(&it).or(self.certificates.of_signer(&it)));
         // Some tools put the certificates of a stamp into the signature that is stamped.
         let mut others = signed.certificates.all().chain(self.certificates.all());
-        let trust = trust(&signed.chain(certificate), &mut others, roots, time);
+        let trust = trust(&signed.chain(certificate), &mut others, roots, When::OfStamp(time));
         drop(others);
         Stamp {
             kind: "RFC 3161",
@@ -255,7 +255,7 @@ impl<'a> Signed<'a> {
             key_purpose: claims::key_purpose(certificate, &TIME_STAMPING),
             trust: trust.checked,
             trust_error: trust.why,
-            warnings: claims::usage_warning(certificate).into_iter().collect(),
+            warnings: claims::stamp_warnings(certificate, time),
             weak_algorithms: weak_of(
                 signer.iter().flat_map(hashes_of).chain([said.and_then(|it| Hash::of(it.digest_algorithm().oid()))]),
             ),
@@ -266,20 +266,15 @@ impl<'a> Signed<'a> {
 }
 
 /// Whether the first certificate of a chain leads to a root, over those of the chain or over all of these: where several have one
-/// name, OpenSSL tries the first alone. At the time of a stamp, or now.
-fn trust(
-    chain: &[X509<'_>],
-    others: &mut dyn Iterator<Item = X509<'_>>,
-    roots: Option<&Roots>,
-    time: Option<Time>,
-) -> Trust {
+/// name, OpenSSL tries the first alone.
+fn trust(chain: &[X509<'_>], others: &mut dyn Iterator<Item = X509<'_>>, roots: Option<&Roots>, when: When) -> Trust {
     match (chain, roots) {
         (_, None) => NO_ROOTS.into(),
         ([], _) => NO_CERTIFICATE.into(),
         ([first, issuers @ ..], Some(roots)) => {
-            let by_chain = roots.lead_to(*first, &mut issuers.iter().copied(), time);
+            let by_chain = roots.lead_to(*first, &mut issuers.iter().copied(), when);
             let by_all =
-                if by_chain.checked == Checked::Good { None } else { Some(roots.lead_to(*first, others, time)) };
+                if by_chain.checked == Checked::Good { None } else { Some(roots.lead_to(*first, others, when)) };
             by_all.filter(|it| it.checked == Checked::Good).unwrap_or(by_chain)
         }
     }
