@@ -28,13 +28,16 @@ pub trait AddressRange {
 pub fn first_overlap<R: AddressRange>(ranges: &[R]) -> Option<usize>
     ensures { Overlaps R.start_of R.size_of ranges.now result }
 {
-    let mut end: u128 = 0;
+    // Of the one before.
+    let mut start = 0;
+    let mut size = 0;
     for (index, range) in ranges.iter().enumerate() {
-        let start = u128::from(range.start());
-        if start < end {
+        let next = range.start();
+        if next < start || next - start < size {
             return Some(index);
         }
-        end = start + u128::from(range.size());
+        start = next;
+        size = range.size();
     }
     None
 }

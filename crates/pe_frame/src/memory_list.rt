@@ -12,7 +12,7 @@ ghost use Rattle.pe_frame.specs.declared.memory_list.MemoryPiece.{MemoryPiece};
 
 use crate::address_ranges::{AddressRange, first_overlap, first_with, range_with};
 use crate::memory::{KnownBytes, Memory, SIZE_OF_WORD, known_word};
-use pe_core::{Result, slice_at, u64_at};
+use pe_core::{Result, read_u64, slice_at};
 
 /// A piece of memory: its address, and where its bytes are.
 #[repr(C)]
@@ -141,7 +141,7 @@ pub(crate) fn word_of(bytes: &[u8], piece: &MemoryPiece, address: u64) -> Option
     requires inside { IsTrue (holds bytes.now piece.now.offset piece.now.length) }
     ensures { result ≡ Some (le bytes.now (piece.now.offset + (address - piece.now.start)) 8) }
 {
-    u64_at(bytes, index_of(bytes, piece, address)).ok()
+    Some(read_u64(bytes, index_of(bytes, piece, address)))
 }
 
 impl<'a> Memory for MemoryList<'a> {
