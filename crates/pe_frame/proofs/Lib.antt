@@ -1,4 +1,5 @@
 pub mod Streams
+pub mod FrequentCodes
 pub mod Records
 pub mod OneStep
 pub mod StepsOut

@@ -13,7 +13,7 @@ use Rattle.pe_frame.specs.declared.record.Survey.{Survey}
 use Rattle.pe_frame.specs.declared.registers.Registers.{Registers}
 use Rattle.pe_frame.specs.Undoing.{has_run, ran, undone, undone_all, sets_frame_register, interrupts, any_sets_frame_register, is_interrupted}
 use Rattle.pe_frame.specs.Steps.{known_codes}
-use Rattle.pe_frame.specs.Survey.{surveyed, joined_surveys, survey_with, undone_code}
+use Rattle.pe_frame.specs.Survey.{all_undone, surveyed, joined_surveys, survey_with, undone_code}
 
 -- what the iterator gave stands before what it has left
 pub code_before : (s t : CodeStream) (code : UnwindCode) (rest : List (Result UnwindCode Error)) → ReturnsCode s (Some (Ok code)) t → AreItems t rest → AreItems s (Ok code ∷ rest)
@@ -37,7 +37,7 @@ interrupted_before : (b : Bool) (o : UnwindOperation) (os : List UnwindOperation
 interrupted_before true o os = ap (λ (x : Bool). x || is_interrupted os) (sym (or_false (interrupts o)))
 interrupted_before false o os = refl
 
-same_survey : (a b : Survey) → a.sets_frame_register ≡ b.sets_frame_register → a.has_set_frame_register ≡ b.has_set_frame_register → a.is_interrupted ≡ b.is_interrupted → a ≡ b
+pub same_survey : (a b : Survey) → a.sets_frame_register ≡ b.sets_frame_register → a.has_set_frame_register ≡ b.has_set_frame_register → a.is_interrupted ≡ b.is_interrupted → a ≡ b
 same_survey a b e h k = grind arith
 
 surveyed_before : (limit : Option ℕ) (a : Survey) (c : UnwindCode) (cs : List UnwindCode) → joined_surveys a (surveyed limit (c ∷ cs)) ≡ joined_surveys (survey_with limit a c) (surveyed limit cs)
@@ -105,10 +105,6 @@ pub undone_on : (m : ℕ → Option ℕ) (base : ℕ) (limit : Option ℕ) (c : 
     codes ≡ c ∷ rest → undone_code m base limit c g ≡ r → undone_all m base (ran limit codes) g ≡ all → (r >>= undone_all m base (ran limit rest)) ≡ all
 undone_on m base limit c rest codes g r all is e h =
     sym (rw is (undone_before m base limit c rest g ∙ ap (λ (x : Result Registers FrameError). x >>= undone_all m base (ran limit rest)) e)) ∙ h
-
--- a survey of some codes and of those that are left, and what undoing these gives
-abbrev pub all_undone : (ℕ → Option ℕ) → ℕ → Option ℕ → Survey → Result Registers FrameError → Result (List UnwindCode) FrameError → Result (Survey × Result Registers FrameError) FrameError
-all_undone m base limit a r codes = codes >>= λ cs. Ok (joined_surveys a (surveyed limit cs), r >>= undone_all m base (ran limit cs))
 
 undone_from : (m : ℕ → Option ℕ) (base : ℕ) (limit : Option ℕ) (c : UnwindCode) (cs : List UnwindCode) (r : Result Registers FrameError) →
     (r >>= undone_all m base (ran limit (c ∷ cs))) ≡ ((r >>= undone_code m base limit c) >>= undone_all m base (ran limit cs))

@@ -1,16 +1,20 @@
 -- What is known of a record's codes before the first of them is undone. Contracts of private functions alone cite it.
 use Rattle.pe_core.specs.Refusals.{◌>>=◌}
-use Rattle.std.specs.Prelude.{◌≡◌, ℕ, ◌||◌, ◌&&◌, ◌==◌, List, [], ◌∷◌, Option, None, Result, Ok, Err, if◌then◌else◌}
+use Rattle.std.specs.Prelude.{◌≡◌, ℕ, ◌<◌, ◌≤◌, ◌||◌, ◌&&◌, ◌==◌, false, List, [], ◌∷◌, length, slice_index, Option, None, Result, Ok, Err, if◌then◌else◌}
+use Rattle.pe_core.specs.declared.error.Error.{Error}
 use Rattle.pe_unwind.specs.declared.unwind_code.UnwindCode.{UnwindCode}
 use Rattle.pe_unwind.specs.UnwindRecord.{UnwindInfoView}
+use Rattle.pe_unwind.specs.declared.unwind_code.UnwindOperation.{UnwindOperation}
 use Rattle.pe_unwind.specs.declared.unwind_code.UnwindOperation.TheVariants.{SetFPRegister}
+use Rattle.pe_unwind.specs.CodeStream.{AreItems, CodeStream}
+use Rattle.pe_unwind.specs.UnwindCodes.{StartsWithCode}
 use Rattle.pe_frame.specs.declared.error.FrameError.{FrameError}
 use Rattle.pe_frame.specs.declared.error.FrameError.TheVariants.{Operation}
 use Rattle.pe_frame.specs.declared.record.Survey.{Survey}
 use Rattle.pe_frame.specs.declared.registers.Registers.{Registers}
-use Rattle.pe_frame.specs.Steps.{HasCodes}
+use Rattle.pe_frame.specs.Steps.{HasCodes, known_codes}
 use Rattle.pe_frame.specs.InPlace.{changed}
-use Rattle.pe_frame.specs.Undoing.{FrameRegister, frame_base_of, has_run, ran, undone, undone_all, any_sets_frame_register, is_interrupted}
+use Rattle.pe_frame.specs.Undoing.{FrameRegister, frame_base_of, has_run, ran, undone, undone_all, any_sets_frame_register, is_interrupted, interrupts, sets_frame_register}
 
 abbrev pub surveyed : Option ℕ → List UnwindCode → Survey
 surveyed limit codes = record {
@@ -61,3 +65,22 @@ abbrev pub IsExpectedBase : Option ℕ → FrameRegister → Registers → ℕ �
 IsExpectedBase limit f g base =
     (codes : List UnwindCode) → frame_base_of f (any_sets_frame_register (ran None codes)) (any_sets_frame_register (ran limit codes)) g
     ≡ (if any_sets_frame_register (ran limit codes) && f.register == 0 then Err (Operation SetFPRegister) else Ok base)
+
+-- a survey of some codes and of those that are left, and what undoing these gives
+abbrev pub all_undone : (ℕ → Option ℕ) → ℕ → Option ℕ → Survey → Result Registers FrameError → Result (List UnwindCode) FrameError → Result (Survey × Result Registers FrameError) FrameError
+all_undone m base limit a r codes = codes >>= λ cs. Ok (joined_surveys a (surveyed limit cs), r >>= undone_all m base (ran limit cs))
+
+-- The codes from one stream up to another, of which nothing is to be known, are undone: what undoing those that are left gives from
+-- there is what undoing all gives.
+abbrev pub UndoesFirst : (ℕ → Option ℕ) → ℕ → Option ℕ → CodeStream → CodeStream → Registers → Result Registers FrameError → Type 0
+UndoesFirst m base limit s t g r =
+    (rest : List (Result UnwindCode Error)) → AreItems t rest →
+    (all : List (Result UnwindCode Error)) × AreItems s all
+    × (all_undone m base limit nothing_known (Ok g) (known_codes all) ≡ all_undone m base limit nothing_known r (known_codes rest))
+
+-- The bytes start with a code of n bytes that undoes this, whatever the version and the frame register are, and of which nothing is
+-- to be known.
+abbrev pub IsFrequent : List ℕ → UnwindOperation → ℕ → Type 0
+IsFrequent bytes o n =
+    (n ≤ length bytes) × ((v f : ℕ) → StartsWithCode v f bytes (record { code_offset = slice_index bytes 0; operation = o }) n)
+    × (sets_frame_register o ≡ false) × (interrupts o ≡ false)

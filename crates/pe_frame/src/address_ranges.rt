@@ -28,13 +28,16 @@ pub trait AddressRange {
 pub fn first_overlap<R: AddressRange>(ranges: &[R]) -> Option<usize>
     ensures { Overlaps R.start_of R.size_of ranges.now result }
 {
-    let mut end: u128 = 0;
+    // Of the one before.
+    let mut start = 0;
+    let mut size = 0;
     for (index, range) in ranges.iter().enumerate() {
-        let start = u128::from(range.start());
-        if start < end {
+        let next = range.start();
+        if next < start || next - start < size {
             return Some(index);
         }
-        end = start + u128::from(range.size());
+        start = next;
+        size = range.size();
     }
     None
 }
@@ -44,7 +47,26 @@ fn count_up_to<R: AddressRange>(ranges: &[R], address: u64) -> usize
     requires { AreAscending R.start_of R.size_of ranges.now }
     ensures { IsCountUpTo R.start_of address ranges.now result }
 {
-    ranges.partition_point(|range| range.start() <= address)
+    if ranges.is_empty() {
+        return 0;
+    }
+    // The last that starts at or before it is one of `size` from `low` on, if there is one.
+    let mut low = 0;
+    let mut size = ranges.len();
+    while size > 1 {
+        let half = size / 2;
+        if ranges[low + half].start() <= address {
+            low += half;
+            size -= half;
+        } else {
+            size -= half;
+        }
+    }
+    if ranges[low].start() <= address {
+        low + 1
+    } else {
+        0
+    }
 }
 
 /// The range that has an address, by binary search.

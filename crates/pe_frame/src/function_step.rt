@@ -256,21 +256,24 @@ pub fn step_in_function_in_place<R: RvaMap, M: Memory>(
         (M.word memory.now) function stopped.entry.rva stopped.entry.code.now registers.old
         (answer_by (option_map (λ left. changed_with left registers.new)) result) }
 {
-    let info = match record_of(functions, function) {
-        Ok(info) => info,
-        Err(error) => return Err(error),
-    };
-    if info.chained_info.is_some() {
-        let found = FunctionInImage {
-            functions,
-            function,
-        };
-        return chained_in_place(&found, info, stopped, registers, memory);
+    let read = record_of(functions, function);
+    // A record is undone where it was read: moving it takes longer than one of its codes.
+    match read {
+        Ok(ref info) if info.chained_info.is_none() => {
+            let plan = FunctionPlan {
+                start: function.begin_address,
+                records: slice::from_ref(info),
+            };
+            let left = step_in_place(functions, plan, stopped, registers, memory);
+            Ok(Some(left))
+        }
+        Ok(info) => {
+            let found = FunctionInImage {
+                functions,
+                function,
+            };
+            chained_in_place(&found, info, stopped, registers, memory)
+        }
+        Err(error) => Err(error),
     }
-    let plan = FunctionPlan {
-        start: function.begin_address,
-        records: slice::from_ref(&info),
-    };
-    let left = step_in_place(functions, plan, stopped, registers, memory);
-    Ok(Some(left))
 }

@@ -22,6 +22,7 @@ mod chain;
 mod epilog;
 mod error;
 mod frame;
+mod frequent;
 mod function_step;
 mod jump;
 pub mod laws;

@@ -12,7 +12,7 @@ ghost use Rattle.pe_frame.specs.declared.memory_list.MemoryPiece.{MemoryPiece};
 
 use crate::address_ranges::{AddressRange, first_overlap, first_with, range_with};
 use crate::memory::{KnownBytes, Memory, SIZE_OF_WORD, known_word};
-use pe_core::{Result, slice_at, u64_at};
+use pe_core::{Result, read_u64, slice_at};
 
 /// A piece of memory: its address, and where its bytes are.
 #[repr(C)]
@@ -64,12 +64,47 @@ fn require_inside(bytes: &[u8], pieces: &[MemoryPiece]) -> Result<()>
     Ok(())
 }
 
+/// Whether a piece lies in the bytes.
+pub(crate) fn lies_in(bytes: &[u8], piece: &MemoryPiece) -> bool
+    ensures { result ≡ holds bytes.now piece.now.offset piece.now.length }
+{
+    let length = bytes.len() as u64;
+    piece.length <= length && piece.offset <= length - piece.length
+}
+
+/// Whether the pieces lie in the bytes, are in ascending order and do not overlap: so nearly all lists are, which are tested in one
+/// pass.
+fn are_in_order(bytes: &[u8], pieces: &[MemoryPiece]) -> bool
+    ensures inside { IsTrue result → IsTrue (are_inside bytes.now pieces.now) }
+    ensures ascending { IsTrue result → AreAscending (λ p. p.start) (λ p. p.length) pieces.now }
+{
+    // Of the piece before.
+    let mut start = 0;
+    let mut size = 0;
+    for piece in pieces {
+        let next = piece.start;
+        if !lies_in(bytes, piece) || next < start || next - start < size {
+            return false;
+        }
+        start = next;
+        size = piece.length;
+    }
+    true
+}
+
 impl<'a> MemoryList<'a> {
     /// Memory by a list of its pieces in these bytes. Error: `Short` if a piece does not lie in the bytes.
     pub fn new(bytes: &'a [u8], pieces: &'a [MemoryPiece]) -> Result<MemoryList<'a>>
         ensures { answer_by {Y = List ℕ × List MemoryPiece} (λ s. (s.bytes.now, s.pieces.now)) result
             ≡ memory_of bytes.entry.now pieces.entry.now }
     {
+        if are_in_order(bytes, pieces) {
+            return Ok(MemoryList {
+                bytes,
+                pieces,
+                is_ascending: true,
+            });
+        }
         require_inside(bytes, pieces)?;
         let is_ascending = first_overlap(pieces).is_none();
         Ok(MemoryList {
@@ -141,7 +176,7 @@ pub(crate) fn word_of(bytes: &[u8], piece: &MemoryPiece, address: u64) -> Option
     requires inside { IsTrue (holds bytes.now piece.now.offset piece.now.length) }
     ensures { result ≡ Some (le bytes.now (piece.now.offset + (address - piece.now.start)) 8) }
 {
-    u64_at(bytes, index_of(bytes, piece, address)).ok()
+    Some(read_u64(bytes, index_of(bytes, piece, address)))
 }
 
 impl<'a> Memory for MemoryList<'a> {

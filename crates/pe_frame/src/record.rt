@@ -1,19 +1,21 @@
 //! Undoing the codes of an unwind record.
 
 ghost use Rattle.std.specs.Prelude.{◌≡◌, List, Ok, IfSome, map};
+ghost use Rattle.pe_frame.specs.declared.registers.Registers.{Registers};
 ghost use Rattle.pe_unwind.specs.declared.unwind_code.UnwindCode.{UnwindCode};
-ghost use Rattle.pe_unwind.specs.CodeStream.{AreItems};
+ghost use Rattle.pe_unwind.specs.CodeStream.{AreItems, with_left};
 ghost use Rattle.pe_unwind.specs.UnwindRecord.{code_stream, unwind_view};
 ghost use Rattle.pe_frame.specs.Undoing.{has_run, sets_frame_register, interrupts, ran, undone_all, frame_base_of};
 ghost use Rattle.pe_frame.specs.Steps.{Enters, frame_register_in};
 ghost use Rattle.pe_frame.specs.InPlace.{changed, changed_with};
-ghost use Rattle.pe_frame.specs.Survey.{IsExpectedBase, SurveysCodes, SurveysUndone, survey_with, surveyed_changes, undone_code, undone_next};
+ghost use Rattle.pe_frame.specs.Survey.{IsExpectedBase, SurveysCodes, SurveysUndone, UndoesFirst, survey_with, surveyed_changes, undone_code, undone_next};
 
 use crate::error::FrameError;
+use crate::frequent::{FirstUndone, undo_frequent};
 use crate::memory::Memory;
 use crate::registers::{RSP, Registers};
 use crate::undo::{INTEGER_REGISTERS, undo};
-use pe_unwind::{UnwindCode, UnwindInfo, UnwindOperation};
+use pe_unwind::{UnwindCode, UnwindCodeIterator, UnwindInfo, UnwindOperation};
 
 /// Whether the instruction of a code has run: in the prolog where it ends at or before this offset, after it always.
 fn has_run(limit: Option<u32>, code: UnwindCode) -> bool
@@ -211,24 +213,30 @@ fn undo_next<M: Memory>(
     }
 }
 
-/// Makes the registers those before the codes of a record that have run, in the pass that surveys them. After one that is refused
-/// the others are surveyed alone, as an invalid code is reported first.
-fn undo_surveyed<M: Memory>(
+/// Makes the registers those before the codes of a record that have run, in the pass that surveys them, after codes that were undone
+/// before it. After one that is refused the others are surveyed alone, as an invalid code is reported first. Out of line, as few
+/// records have codes that are not frequent.
+#[inline(never)]
+fn undo_rest<M: Memory>(
     info: &UnwindInfo<'_>,
     frame: RecordFrame,
+    first: FirstUndone<'_>,
     registers: &mut Registers,
     memory: &M,
 ) -> Result<(Survey, Result<(), FrameError>), FrameError>
-    ensures { SurveysUndone (M.word memory.now) frame.base frame.limit (unwind_view info.now)
-        registers.old (surveyed_changes result registers.new) }
+    ensures { (g : Registers) → UndoesFirst (M.word memory.now) frame.base frame.limit
+        (code_stream (unwind_view info.now)) (with_left (code_stream (unwind_view info.now)) first.entry.rest.now)
+        g (changed first.entry.left registers.old) →
+        SurveysUndone (M.word memory.now) frame.base frame.limit (unwind_view info.now)
+        g (surveyed_changes result registers.new) }
 {
     let mut survey = Survey {
         sets_frame_register: false,
         has_set_frame_register: false,
         is_interrupted: false,
     };
-    let mut left = Ok(());
-    for item in info.unwind_codes() {
+    let mut left = first.left;
+    for item in UnwindCodeIterator::new(first.rest, info.version, info.frame_register) {
         match item {
             Ok(code) => {
                 survey = survey.survey_with(code, frame.limit);
@@ -238,6 +246,49 @@ fn undo_surveyed<M: Memory>(
         }
     }
     Ok((survey, left))
+}
+
+/// Makes the registers those before the codes with which a record starts, where all have run.
+fn undo_first<'a, M: Memory>(
+    info: &UnwindInfo<'a>,
+    frame: RecordFrame,
+    registers: &mut Registers,
+    memory: &M,
+) -> FirstUndone<'a>
+    ensures { UndoesFirst (M.word memory.now) frame.base frame.limit (code_stream (unwind_view info.now))
+        (with_left (code_stream (unwind_view info.now)) result.rest.now)
+        registers.old (changed result.left registers.new) }
+{
+    match frame.limit {
+        None => undo_frequent(info.code_bytes(), frame.base, registers, memory),
+        Some(_) => FirstUndone {
+            rest: info.code_bytes(),
+            left: Ok(()),
+        },
+    }
+}
+
+/// Makes the registers those before the codes of a record that have run, and surveys them: nearly all records have frequent codes
+/// alone, of which nothing is to be known.
+fn undo_surveyed<M: Memory>(
+    info: &UnwindInfo<'_>,
+    frame: RecordFrame,
+    registers: &mut Registers,
+    memory: &M,
+) -> Result<(Survey, Result<(), FrameError>), FrameError>
+    ensures { SurveysUndone (M.word memory.now) frame.base frame.limit (unwind_view info.now)
+        registers.old (surveyed_changes result registers.new) }
+{
+    let first = undo_first(info, frame, registers, memory);
+    if !first.rest.is_empty() {
+        return undo_rest(info, frame, first, registers, memory);
+    }
+    let survey = Survey {
+        sets_frame_register: false,
+        has_set_frame_register: false,
+        is_interrupted: false,
+    };
+    Ok((survey, first.left))
 }
 
 /// Makes the registers those where the code of a record was entered, by one pass over its codes.

@@ -8,12 +8,11 @@
 
 ghost use Rattle.std.specs.Prelude.{◌≡◌, ◌+◌, ◌-◌, ◌≤◌, length};
 ghost use Rattle.std.specs.Option.{option_map};
-ghost use Rattle.pe_core.specs.Bytes.{holds};
 ghost use Rattle.pe_frame.specs.SearchedMemory.{piece_shown, pieces_started, searched_byte, shows_byte};
 
 use crate::address_ranges::{has_address, started};
 use crate::memory::{KnownBytes, Memory, known_word};
-use crate::memory_list::{MemoryPiece, byte_of, has_word, word_of};
+use crate::memory_list::{MemoryPiece, byte_of, has_word, lies_in, word_of};
 
 /// Memory by a list of its pieces in some bytes, of which none was tested. The piece for an address is the last that starts at or
 /// before it, as a search by halving finds it; it counts if it has the address and lies in the bytes. Nothing is copied.
@@ -29,14 +28,6 @@ fn pieces_started(pieces: &[MemoryPiece], address: u64) -> usize
     ensures most { result ≤ length pieces.now }
 {
     started(pieces, address)
-}
-
-/// Whether a piece lies in the bytes.
-fn lies_in(bytes: &[u8], piece: &MemoryPiece) -> bool
-    ensures { result ≡ holds bytes.now piece.now.offset piece.now.length }
-{
-    let length = bytes.len() as u64;
-    piece.length <= length && piece.offset <= length - piece.length
 }
 
 /// Whether a piece has a byte at an address, and lies in the bytes.

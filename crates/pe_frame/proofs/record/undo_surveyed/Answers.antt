@@ -1,31 +1,10 @@
-use Rattle.std.proofs.Common.{[], ◌∷◌, Option, Some, Result, Ok, Err, refl, sym, ◌∙◌, subst}
-use Rattle.pe_core.specs.declared.error.Error.{Error}
-use Rattle.pe_unwind.specs.declared.unwind_code.UnwindCode.{UnwindCode}
-use Rattle.pe_unwind.specs.CodeStream.{ReturnsCode, stream_of}
+use Rattle.std.proofs.Common.{eqb-true, sym, ◌∙◌}
+use Rattle.pe_unwind.specs.UnwindRecord.{unwind_view}
 use Rattle.pe_frame.specs.InPlace.{changed}
-use Rattle.pe_frame.specs.Steps.{known_codes}
-use Rattle.pe_frame.proofs.Streams.{code_before, none_left, refusal_alone, undone_more, undone_none}
+use Rattle.pe_frame.proofs.FrequentCodes.{all_first, no_bytes}
 use Rattle.pe_frame.proofs.record.undo_surveyed.Goals as goal
-
-pub loop-item-preserved : goal.loop-item-preserved
-loop-item-preserved g c rest are =
-    let steps = subst (λ (r : Result UnwindCode Error). ReturnsCode (stream_of c.loop-item.item-iterator) (Some r) (stream_of c.next.new.self)) c.in-Ok.is c.in-Some.ensures.steps in
-    let inv = c.loop-item.invariant (Ok c.in-Ok.code ∷ rest) (code_before _ _ c.in-Ok.code rest steps are) in (
-      inv.0,
-      inv.1,
-      inv.2
-          ∙ undone_more (g.M.Memory.word c.args.memory.now) c.args.frame.base c.args.frame.limit c.loop-item.survey c.survey_with-survey.result (changed c.loop-item.left c.loop-item.registers)
-          (changed c.undo_next-left.result c.undo_next-left.new.registers) c.in-Ok.code rest c.survey_with-survey.ensures c.undo_next-left.ensures,
-    )
-
-pub returns-in-Err : goal.returns-in-Err
-returns-in-Err g c =
-    let steps = subst (λ (r : Result UnwindCode Error). ReturnsCode (stream_of c.loop-item.item-iterator) (Some r) (stream_of c.next.new.self)) c.in-Err.is c.in-Some.ensures.steps in
-    let inv = c.loop-item.invariant (Err c.in-Err.error ∷ []) (refusal_alone _ _ c.in-Err.error steps) in
-    (known_codes inv.0, (inv.0, inv.1, refl), sym inv.2)
 
 pub returns : goal.returns
 returns g c =
-    let steps = subst (λ (r : Option (Result UnwindCode Error)). ReturnsCode (stream_of c.loop-item.item-iterator) r (stream_of c.next.new.self)) c.in-None.is c.next.ensures.steps in
-    let inv = c.loop-item.invariant [] (none_left _ _ steps) in
-    (known_codes inv.0, (inv.0, inv.1, refl), sym (inv.2 ∙ undone_none (g.M.Memory.word c.args.memory.now) c.args.frame.base c.args.frame.limit c.loop-item.survey (changed c.loop-item.left c.loop-item.registers)))
+    all_first (g.M.Memory.word c.args.memory.now) c.args.frame.base c.args.frame.limit (unwind_view c.args.info.now) c.undo_first-first.result.rest.now c.args.registers.now
+    (changed c.undo_first-first.result.left c.undo_first-first.new.registers) c.undo_first-first.ensures (no_bytes c.undo_first-first.result.rest.now (eqb-true _ _ (sym c.is_empty.ensures ∙ c.if-not-is_empty.false)))

@@ -2,7 +2,7 @@ use Rattle.std.proofs.Common.{◌≡◌, ◌∙◌, rules, Bool, true, false, []
 use Rattle.std.specs.Option.{is_none}
 use Rattle.pe_core.specs.Refusals.{Short, outcome}
 use Rattle.pe_frame.specs.MemoryLists.{are_inside}
-use Rattle.pe_frame.proofs.Lookups.{ascends, decided}
+use Rattle.pe_frame.proofs.Lookups.{ascends, decided, test_passed}
 use Rattle.pe_frame.proofs.memory_list.MemoryList.new.Goals as goal
 
 passed : (t : Bool) (x : Unit {0}) → outcome ((t, Short) ∷ []) x ≡ Ok x → t ≡ true
@@ -11,6 +11,15 @@ passed false x e = absurd (cc e)
 
 pub invariant_of-result : goal.invariant_of-result
 invariant_of-result c =
+    let up = c.are_in_order.ensures.ascending c.if-are_in_order.true in
+    record {
+      ascending = λ is. up;
+      tested = sym (test_passed (λ p. p.start) (λ p. p.length) c.args.pieces.now up);
+      inside = c.are_in_order.ensures.inside c.if-are_in_order.true;
+    }
+
+pub invariant_of-result-2 : goal.invariant_of-result-2
+invariant_of-result-2 c =
     record {
       ascending = λ is.
           let none : is_none c.first_overlap.result ≡ true = search rules in

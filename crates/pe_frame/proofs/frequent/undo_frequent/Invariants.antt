@@ -1,0 +1,9 @@
+use Rattle.std.proofs.Common.{ℕ, None, Ok}
+use Rattle.pe_frame.specs.Survey.{UndoesFirst}
+use Rattle.pe_frame.proofs.frequent.undo_frequent.Given as goal
+
+-- the codes so far are undone
+abbrev pub invariant-loop : goal.invariant-loop
+invariant-loop g l =
+    (v f : ℕ) → UndoesFirst (g.M.Memory.word l.memory) l.base None (record { content = l.codes; version = v; frame = f })
+    (record { content = l.rest; version = v; frame = f }) l.fn.registers (Ok l.registers)
