@@ -7,7 +7,7 @@ use Rattle.pe_pdb.specs.Checksums.{checksum_at}
 use Rattle.pe_pdb.specs.LineEntries.{module_lines}
 use Rattle.pe_pdb.specs.LineIndexes.{AreEntries, LineAt}
 use Rattle.pe_pdb.specs.LineKeys.{line_key}
-use Rattle.pe_pdb.specs.Lines.{SubsectionView, subsections}
+use Rattle.pe_pdb.specs.Lines.{SubsectionView, first_of_kind, subsections}
 use Rattle.pe_pdb.specs.Modules.{name_at}
 use Rattle.pe_pdb.specs.Names.{names_of}
 use Rattle.pe_pdb.specs.Refusals.{PdbRefusal}
@@ -58,10 +58,8 @@ abbrev pub content_range : SubsectionView → Range
 content_range s = record { offset = s.offset + 8; length = length s.content }
 
 -- the source files of a module: the first such subsection
-unfoldable pub first_files : List (Result SubsectionView PdbRefusal) → Result (Option Range) PdbRefusal
-first_files [] = Ok None
-first_files (Ok s ∷ more) = if s.kind == DEBUG_S_FILECHKSMS then Ok (Some (content_range s)) else first_files more
-first_files (Err refusal ∷ more) = Err refusal
+abbrev pub first_files : List (Result SubsectionView PdbRefusal) → Result (Option Range) PdbRefusal
+first_files all = first_of_kind DEBUG_S_FILECHKSMS all >>= λ o. Ok (option_map content_range o)
 
 -- in the stream of the module, of which the lines are a range
 abbrev pub moved : Range → Range → Range

@@ -1,10 +1,10 @@
 -- Walks over subsections, and over blocks of lines.
-use Rattle.std.proofs.Common.{◌≡◌, ℕ, ◌+◌, ◌*◌, ◌<◌, ◌≤◌, Bool, true, List, [], ◌∷◌, length, Ok, Err, ap, sym, arith}
+use Rattle.std.proofs.Common.{◌≡◌, ℕ, ◌+◌, ◌*◌, ◌<◌, ◌≤◌, Bool, true, false, List, [], ◌∷◌, length, Some, None, Ok, Err, ap, sym, ◌∙◌, arith}
 use Rattle.std.proofs.lemmas.Bool.Decides.{nat_tests}
 use Rattle.std.proofs.lemmas.Grind.{div_ceil_times}
-use Rattle.std.specs.Prelude.{nat_le}
+use Rattle.std.specs.Prelude.{◌==◌, nat_le}
 use Rattle.pe_core.specs.Bytes.{le, range, holds}
-use Rattle.pe_pdb.specs.Lines.{BlockView, SubsectionView, block_at, block_end, blocks, subsection_at, subsection_end, subsections}
+use Rattle.pe_pdb.specs.Lines.{BlockView, SubsectionView, block_at, block_end, blocks, first_of_kind, subsection_at, subsection_end, subsections}
 use Rattle.pe_pdb.specs.Refusals.{PdbRefusal, Short, RecordTruncated}
 use Rattle.pe_pdb.proofs.RecordWalks.{passed, second_passed}
 use Rattle.pe_pdb.proofs.Walked.{EndsLater, walk_more, walk_none, walk_refused}
@@ -28,6 +28,25 @@ subsections_more b p s before is = walk_more subsection_end (subsection_at b) (s
 
 pub subsections_refused : (b : List ℕ) (p : ℕ) (r : PdbRefusal) → p < length b → subsection_at b p ≡ Err r → subsections b p ≡ Err r ∷ []
 subsections_refused b p r before is = walk_refused subsection_end (subsection_at b) (subsections_later b) (length b) p r before is
+
+-- ---- the first subsection of a kind
+
+pub kind_absent : (k : ℕ) (b : List ℕ) (p : ℕ) → length b ≤ p → first_of_kind k (subsections b p) ≡ Ok None
+unfolding first_of_kind
+kind_absent k b p past = ap (first_of_kind k) (subsections_none b p past)
+
+pub kind_here : (k : ℕ) (b : List ℕ) (p : ℕ) (s : SubsectionView) → p < length b → subsection_at b p ≡ Ok s → (s.kind == k) ≡ true → first_of_kind k (subsections b p) ≡ Ok (Some s)
+unfolding first_of_kind
+kind_here k b p s before is own = ap (first_of_kind k) (subsections_more b p s before is) ∙ rw own
+
+pub kind_later : (k : ℕ) (b : List ℕ) (p : ℕ) (s : SubsectionView) → p < length b → subsection_at b p ≡ Ok s → (s.kind == k) ≡ false
+    → first_of_kind k (subsections b p) ≡ first_of_kind k (subsections b (subsection_end s))
+unfolding first_of_kind
+kind_later k b p s before is other = ap (first_of_kind k) (subsections_more b p s before is) ∙ rw other
+
+pub kind_refused : (k : ℕ) (b : List ℕ) (p : ℕ) (r : PdbRefusal) → p < length b → subsection_at b p ≡ Err r → first_of_kind k (subsections b p) ≡ Err r
+unfolding first_of_kind
+kind_refused k b p r before is = ap (first_of_kind k) (subsections_refused b p r before is)
 
 -- ---- blocks
 

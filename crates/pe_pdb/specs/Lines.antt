@@ -1,5 +1,5 @@
 -- Lines of a module: subsections, and in those with lines blocks of rows.
-use Rattle.std.specs.Prelude.{◌≡◌, ℕ, ◌+◌, ◌*◌, ◌/◌, ◌%◌, ◌^◌, ◌<◌, ◌≤◌, List, [], ◌∷◌, length, nat_le, nat_lt, Option, Some, None, Result, if◌then◌else◌}
+use Rattle.std.specs.Prelude.{◌≡◌, ℕ, ◌+◌, ◌*◌, ◌/◌, ◌%◌, ◌^◌, ◌<◌, ◌≤◌, List, [], ◌∷◌, length, nat_le, nat_lt, Option, Some, None, Result, Ok, Err, ◌==◌, if◌then◌else◌}
 use Rattle.std.specs.Int.{div_ceil}
 use Rattle.pe_core.specs.Bytes.{le, range, holds}
 use Rattle.pe_core.specs.Refusals.{outcome}
@@ -43,6 +43,12 @@ subsection_end s = div_ceil (s.offset + 8 + length s.content) 4 * 4
 -- the subsections from an offset on
 abbrev pub subsections : List ℕ → ℕ → List (Result SubsectionView PdbRefusal)
 subsections b p = items (with_end subsection_end (subsection_at b)) (length b) p
+
+-- the first one of a kind
+unfoldable pub first_of_kind : ℕ → List (Result SubsectionView PdbRefusal) → Result (Option SubsectionView) PdbRefusal
+first_of_kind kind [] = Ok None
+first_of_kind kind (Ok s ∷ more) = if s.kind == kind then Ok (Some s) else first_of_kind kind more
+first_of_kind kind (Err refusal ∷ more) = Err refusal
 
 -- what a walk has left
 abbrev pub subsections_left : Subsections → List (Result SubsectionView PdbRefusal)

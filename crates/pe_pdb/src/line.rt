@@ -5,10 +5,10 @@
 //!
 //! A block names its file by an offset in the subsection `DEBUG_S_FILECHKSMS` of the same module.
 
-ghost use Rattle.std.specs.Prelude.{◌≡◌, ◌+◌, ◌-◌, ◌*◌, ◌/◌, ◌≤◌, ◌<◌, ◌^◌, length, IfOk};
+ghost use Rattle.std.specs.Prelude.{◌≡◌, ◌+◌, ◌-◌, ◌*◌, ◌/◌, ◌≤◌, ◌<◌, ◌^◌, length, IfOk, IfSome};
 ghost use Rattle.std.specs.Iterator.{at_most};
 ghost use Rattle.std.specs.Option.{option_map};
-ghost use Rattle.pe_pdb.specs.Lines.{RowAt, block_at, block_end, block_view, blocks, blocks_left, later_row, line_bytes_of, line_header, line_header_of, line_row, row_of, subsection_at, subsection_end, subsection_view, subsections, subsections_left};
+ghost use Rattle.pe_pdb.specs.Lines.{RowAt, block_at, block_end, block_view, blocks, blocks_left, first_of_kind, later_row, line_bytes_of, line_header, line_header_of, line_row, row_of, subsection_at, subsection_end, subsection_view, subsections, subsections_left};
 ghost use Rattle.pe_pdb.specs.Refusals.{PdbReturns};
 ghost use Rattle.pe_pdb.specs.Walks.{Takes};
 
@@ -89,6 +89,23 @@ impl<'a> Subsection<'a> {
             kind: read_u32(bytes, offset),
             content: &bytes[start..start + size],
         })
+    }
+
+    /// The first subsection of a kind, of the lines of a module. `None` without one. Errors, in order: those of `parse`, of a subsection
+    /// before it.
+    pub fn find(bytes: &'a [u8], kind: u32) -> Result<Option<Subsection<'a>>>
+        ensures value { PdbReturns (option_map subsection_view) result (first_of_kind kind (subsections bytes.entry.now 0)) }
+        ensures inside { IfOk result (λ o. IfSome o (λ s. s.offset + 8 + length s.content.now ≤ length bytes.entry.now)) }
+    {
+        let mut next = 0;
+        while next < bytes.len() {
+            let subsection = Subsection::parse(bytes, next)?;
+            if subsection.kind == kind {
+                return Ok(Some(subsection));
+            }
+            next = subsection.end();
+        }
+        Ok(None)
     }
 
     /// Where the next one starts.

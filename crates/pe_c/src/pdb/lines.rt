@@ -3,7 +3,7 @@
 //! the module; these have offsets in the names of all source files, the stream that the info stream names `/names`.
 //! https://llvm.org/docs/PDB/ModiStream.html
 
-ghost use Rattle.std.specs.Prelude.{◌≡◌};
+ghost use Rattle.std.specs.Prelude.{◌≡◌, ◌≤◌, IfOk, IfSome, length};
 ghost use Rattle.pe_c.specs.PdbLines.{FindsLine, HandsOutLines, file_name, files_at, first_files, indexed_lines};
 ghost use Rattle.pe_c.specs.Pdbs.{PdbHandsOut, PdbHandsOutIf, pdb_answer};
 ghost use Rattle.pe_pdb.specs.LineIndexes.{PutsLineIndex};
@@ -15,7 +15,7 @@ use crate::ranges::Range;
 use crate::results::{DONE, NOTHING, ROOM};
 use pe_pdb::{
     CodeLine, DEBUG_S_FILECHKSMS, FileChecksum, LineEntry, Names, Result, SectionHeaders,
-    Subsections, line_in, named_stream, put_line_index,
+    Subsection, line_in, named_stream, put_line_index,
 };
 
 /// The size of what comes before the content of a subsection in bytes.
@@ -84,24 +84,17 @@ pub extern "C" fn pe_c_find_pdb_line(index: &[LineEntry], rva: u32, out: &mut Co
 }
 
 /// The range of the source files in the lines of a module.
-#[tactic(auto, unfolding(crate::specs::PdbLines::first_files))]
 fn files_in(lines: &[u8]) -> Result<Option<Range>>
-    ensures { pdb_answer result ≡ first_files (subsections lines.now 0) }
+    ensures value { pdb_answer result ≡ first_files (subsections lines.now 0) }
+    ensures inside { IfOk result (λ o. IfSome o (λ r. r.offset ≤ length lines.now)) }
 {
-    for subsection in Subsections::new(lines) {
-        match subsection {
-            Ok(subsection) => {
-                if subsection.kind == DEBUG_S_FILECHKSMS {
-                    return Ok(Some(Range {
-                        offset: subsection.offset as u64 + SIZE_OF_PREFIX,
-                        length: subsection.content.len() as u64,
-                    }));
-                }
-            }
-            Err(error) => return Err(error),
-        }
+    match Subsection::find(lines, DEBUG_S_FILECHKSMS)? {
+        Some(files) => Ok(Some(Range {
+            offset: files.offset as u64 + SIZE_OF_PREFIX,
+            length: files.content.len() as u64,
+        })),
+        None => Ok(None),
     }
-    Ok(None)
 }
 
 fn files_at(bytes: &[u8], lines: &Range) -> Result<Option<Range>>
