@@ -180,7 +180,7 @@ pub fn part_of<'a>(bytes: &'a [u8], range: &Range) -> Result<&'a [u8]>
 }
 
 /// The first bytes of a stream, as many as there is room for.
-#[tactic(auto, using(pe_pdb::proofs::StreamBytes::length_stream, crate::proofs::PdbStreams::whole_put))]
+#[tactic(auto, using(pe_pdb::proofs::StreamBytes::length_stream))]
 fn head_of<'r>(stream: &Stream<'_>, room: &'r mut [u8]) -> Result<&'r [u8]>
     ensures { PdbReturns (λ s. s.now) result (Ok (head_of (stream_view stream.now) (length room.old))) }
 {
@@ -215,7 +215,7 @@ fn streams_by(header: DbiHeader, numbers: &[u8]) -> DbiStreams
 }
 
 /// What the header of the DBI stream and its last part say.
-#[tactic(auto, using(pe_pdb::proofs::StreamBytes::length_stream, crate::proofs::PdbStreams::whole_put))]
+#[tactic(auto, using(pe_pdb::proofs::StreamBytes::length_stream))]
 fn dbi_in(msf: &Msf<'_>) -> Result<DbiStreams>
     ensures { pdb_answer result ≡ dbi_in (msf_view msf.now) }
 {
@@ -357,7 +357,7 @@ fn stream_at<'a>(bytes: &'a [u8], starts: &[u64], index: u32) -> Result<Stream<'
 /// Errors: those of the directory of `pe_c_pdb`; `PDB_NO_STREAM`; `PDB_STREAM_SIZE`; `PDB_DIRECTORY`; `PDB_BLOCK`; `ROOM`. After an error
 /// the room is unchanged, and after others than `ROOM` `written` too.
 #[unsafe(no_mangle)]
-#[tactic(auto, using(pe_pdb::proofs::StreamBytes::length_stream, crate::proofs::PdbStreams::whole_put))]
+#[tactic(auto, using(pe_pdb::proofs::StreamBytes::length_stream))]
 pub extern "C" fn pe_c_pdb_stream(
     bytes: &[u8],
     starts: &[u64],
