@@ -296,9 +296,9 @@ fn write_file(command: &Command, out: &mut dyn Write) -> io::Result<Status> {
         Command::Report { file, to, images, stacks, reading, hashing } => {
             let wanted = Wanted::parts(&[], hashing.has_hashes());
             let there = files::are_there(images);
-            let status = files::each(&Files::one(file), out, |path, bytes| match stack::is_dump(bytes) {
-                true => html::dump::write_to((path, bytes), &stack::Known::below(images), stacks.asked(false), to),
-                false => html::write_to((path, bytes), parsed(bytes, reading), &wanted, to),
+            let status = files::one(file, out, |bytes, out| match stack::is_dump(bytes) {
+                true => html::dump::write_to((file, bytes), (images.as_slice(), stacks.asked(false)), to, out),
+                false => html::write_to((file, bytes), parsed(bytes, reading), &wanted, (to, out)),
             })?;
             Ok(status.max(there))
         }

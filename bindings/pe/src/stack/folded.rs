@@ -59,5 +59,5 @@ pub fn folded(table: Table) -> Table {
         }
         at += run.length + run.left_out();
     }
-    Table { rows, ..table }
+    Table { count: rows.len(), rows, ..table }
 }

@@ -8,11 +8,13 @@ use crate::facts::{counted, Named};
 use crate::page::{Page, Style};
 use crate::show::time_of;
 use crate::tables::{number, text, Column, Row, Table};
+use std::io::{self, Write};
 
 /// How many characters of the name of a function are shown.
 const FUNCTION: usize = 120;
 
-pub fn of(told: &Told, style: Style) -> String {
+/// Writes the text, a thread at a time.
+pub fn write(told: &Told, style: Style, out: &mut dyn Write) -> io::Result<()> {
     let mut page = Page::new(style);
     page.heading(&escaped(&told.origin.file));
     for (label, value) in summary(told) {
@@ -27,7 +29,10 @@ pub fn of(told: &Told, style: Style) -> String {
     for (module, part, refusal) in told.damaged_names() {
         page.warning(format_args!("{part} of {}: {refusal}; they name no frame", name_or(&module.name)));
     }
-    told.threads.entries().iter().for_each(|it| thread_of(it, &mut page));
+    for thread in told.threads.entries() {
+        thread_of(thread, &mut page);
+        page.put(out)?;
+    }
     if let Some(modules) = told.modules.present().filter(|it| !it.entries.is_empty()) {
         page.heading("modules");
         page.table(&modules_of(&modules.entries));
@@ -36,7 +41,7 @@ pub fn of(told: &Told, style: Style) -> String {
         page.heading("unloaded modules");
         page.table(&unloaded_of(&unloaded.entries));
     }
-    page.into_text()
+    page.put(out)
 }
 
 /// A name, which may be absent.
