@@ -22,7 +22,7 @@ PROGRAMS = {
     "c2": Program("crashes", "clang", "-O2", 36),
     **{f"kg{it}": Program("kinds", "gcc", f"-O{it}", 41) for it in FIVE},
     **{f"kc{it}": Program("kinds", "clang", f"-O{it}", 41) for it in FIVE},
-    "go": Program("go", "go", "", 11),
+    "go": Program("go", "go", "", 10),
 }
 USUAL = ("g2", "g0", "gs", "c2")
 BARE = "-fno-asynchronous-unwind-tables -fno-unwind-tables".split()

@@ -58,14 +58,6 @@ func deep()     { zero += goesDown(40) }
 func deeper()   { zero += goesDown(1000) }
 func straight() { zero += readsNowhere(7) }
 
-//go:noinline
-func divides(a int) int {
-	noted("divides")
-	return a / zero
-}
-
-func byZero() { zero = divides(7) + 1 }
-
 func inAGoroutine() {
 	done := make(chan int)
 	go func() {
@@ -126,7 +118,7 @@ func amongGoroutines() {
 
 func main() {
 	runtime.LockOSThread()
-	cases := []func(){straight, deep, deeper, byZero, inAGoroutine, inACallback, inSort, byAnInterface, asked, inAPanic, amongGoroutines}
+	cases := []func(){straight, deep, deeper, inAGoroutine, inACallback, inSort, byAnInterface, asked, inAPanic, amongGoroutines}
 	number, _ := strconv.Atoi(os.Args[2])
 	install.Call(text("writer.exe"), text(os.Args[1]))
 	cases[number]()
