@@ -1,5 +1,11 @@
 """The names of the numbers of headers, as the program pe has them. Written by tools/make_python of bindings/pe/src."""
 
+PDB_FLAGS: dict[int, str] = {
+    1: "INCREMENTAL",
+    2: "STRIPPED",
+    4: "CONFLICTING_TYPES",
+}
+
 MACHINES: dict[int, str] = {
     332: "x86",
     358: "MIPS R4000",
