@@ -576,6 +576,7 @@ fn an_index_is_refused_as_its_records(rt: HostRuntime) -> Result<(), Fail> {
     let bytes = pdb(rt.alloc())?;
     let sections = stream(rt.alloc(), &bytes, 10)?;
     let symbols = stream(rt.alloc(), &bytes, 8)?;
+    // shows: pe_c/src/pdb.rt part_of Short
     for (start, headers, error) in [
         (range(0, 107), 120, PDB_RECORD_TRUNCATED),
         (range(0, 46), 120, SHORT),
