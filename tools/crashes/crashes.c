@@ -6,7 +6,6 @@
 #include <stdlib.h>
 #include <string.h>
 
-typedef int (*callback)(int);
 __declspec(dllimport) int call_each(callback called, int count);
 __declspec(dllimport) double call_among_floats(callback called, double a, double b);
 __declspec(dllimport) int call_last(callback called);

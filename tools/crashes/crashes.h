@@ -4,8 +4,20 @@
 
 #define NOT_INLINE __attribute__((noinline))
 
+/* Where this function returns to, and the stack pointer after that. Clang's __builtin_dwarf_cfa is not exact here. */
+#define RETURN_ADDRESS __builtin_extract_return_addr(__builtin_return_address(0))
+#ifdef __clang__
+#define POINTER_AFTER ((void *)((char *)_AddressOfReturnAddress() + 8))
+#else
+#define POINTER_AFTER __builtin_dwarf_cfa()
+#endif
+
+#ifdef __cplusplus
+extern "C" {
+#endif
+
 /* At the start and the end of a function: its return address and the stack pointer after its return. A walk has to find them. */
-#define ENTER(name) enter(name, __builtin_extract_return_addr(__builtin_return_address(0)), __builtin_dwarf_cfa())
+#define ENTER(name) enter(name, RETURN_ADDRESS, POINTER_AFTER)
 #define LEAVE() leave()
 void enter(const char *name, void *return_address, void *pointer);
 void leave(void);
@@ -32,3 +44,15 @@ void write_dumps(EXCEPTION_POINTERS *exception);
 
 /* Runs a case by its number. */
 void run_case(int number);
+
+/* Functions of bare.c, without unwind data: they call back, the last of them many calls deep. `framed_` ones set up a frame pointer. */
+typedef int (*callback)(int);
+int bare_calls(callback called, int n), framed_calls(callback called, int n);
+int bare_reads_nowhere(int n), framed_reads_nowhere(int n);
+int bare_goes_down(callback called, int n), framed_goes_down(callback called, int n);
+/* One of another calling convention, which keeps ten more registers for its caller. */
+__attribute__((sysv_abi)) int bare_keeps_all(callback called, int n), framed_keeps_all(callback called, int n);
+
+#ifdef __cplusplus
+}
+#endif

@@ -138,7 +138,9 @@ static DWORD WINAPI report(void *unused)
         walk_virtually(*the_crash.exception->ContextRecord);
     fflush(stdout);
     write_outside(&the_crash);
+#ifndef AS_A_LIBRARY
     write_inside(&the_crash);
+#endif
     SetEvent(is_written);
     return 0;
 }
@@ -209,7 +211,8 @@ static int write_of(char **arguments)
     write_dump(process, id, "outside", MiniDumpNormal, known);
     if (getenv("WITH_FULL_DUMP"))
         write_dump(process, id, "full", MiniDumpWithFullMemory | MiniDumpWithHandleData | MiniDumpWithThreadInfo, known);
-    walk_threads(process, id, &crash);
+    if (!getenv("WITHOUT_WALKS"))
+        walk_threads(process, id, &crash);
     return 0;
 }
 
@@ -219,6 +222,35 @@ static LONG WINAPI on_crash(EXCEPTION_POINTERS *exception)
     TerminateProcess(GetCurrentProcess(), 77);
     return EXCEPTION_EXECUTE_HANDLER;
 }
+
+static void begin(char *started, char *named)
+{
+    program = started;
+    prefix = named;
+    setvbuf(stdout, 0, _IOFBF, 1 << 16);
+    is_crashed = CreateEventA(0, TRUE, FALSE, 0);
+    is_written = CreateEventA(0, TRUE, FALSE, 0);
+    CreateThread(0, 0, report, 0, 0, 0);
+}
+
+#ifdef AS_A_LIBRARY
+
+char after_marks[1];
+
+/* The first fault is dumped, before handlers of the program see it. */
+static LONG CALLBACK on_fault(EXCEPTION_POINTERS *exception)
+{
+    return exception->ExceptionRecord->ExceptionCode >> 28 == 0xC ? on_crash(exception) : EXCEPTION_CONTINUE_SEARCH;
+}
+
+/* For a program in another language: `started` is one of this file, which writes dumps. */
+void install(char *started, char *named)
+{
+    begin(started, named);
+    AddVectoredExceptionHandler(1, on_fault);
+}
+
+#else
 
 static void run(void *argument)
 {
@@ -232,18 +264,16 @@ int main(int count, char **arguments)
 {
     if (count < 3)
         return 2;
-    program = arguments[0];
     prefix = arguments[1];
-    setvbuf(stdout, 0, _IOFBF, 1 << 16);
     if (count == 6)
         return write_of(arguments + 3);
     int number = atoi(arguments[2]);
-    is_crashed = CreateEventA(0, TRUE, FALSE, 0);
-    is_written = CreateEventA(0, TRUE, FALSE, 0);
-    CreateThread(0, 0, report, 0, 0, 0);
+    begin(arguments[0], arguments[1]);
     SetUnhandledExceptionFilter(on_crash);
     ENTER("main");
     with_marks(run, &number);
     LEAVE();
     return sink & 1;
 }
+
+#endif

@@ -67,15 +67,23 @@ pub fn deliver_like(like: Option<&Path>, bytes: &[u8], to: &Target, status: Stat
     }
 }
 
-/// The same of what is written as it is made. For `-` it is made in memory.
-pub fn deliver_written(to: &Target, status: Status, write: &mut dyn FnMut(&mut dyn Write) -> io::Result<()>) -> Report {
-    let mut bytes = Vec::new();
-    let is_standard = to.to == Path::new("-");
-    let written = if is_standard { write(&mut bytes) } else { to.write_by(None, write) };
-    match written {
-        Ok(()) => Report::of(bytes, status),
-        Err(error) => Report::unread(&to.to, error),
+/// The same of what is written as it is made, for `-` to `out`.
+pub fn deliver_written(
+    to: &Target,
+    status: Status,
+    out: &mut dyn Write,
+    write: &mut dyn FnMut(&mut dyn Write) -> io::Result<()>,
+) -> io::Result<Status> {
+    if to.to == Path::new("-") {
+        return write(out).map(|()| status);
     }
+    to.write_by(None, write).map_or_else(|error| Ok(unwritten(&to.to, &error)), |()| Ok(status))
+}
+
+/// Says why a file cannot be written.
+fn unwritten(path: &Path, error: &io::Error) -> Status {
+    complain(complaint(path, error));
+    Status::FileError
 }
 
 /// A file, and whether it is one of those below a folder.

@@ -11,7 +11,7 @@ use crate::escape::escaped;
 use crate::facts::debug::Debug;
 use crate::facts::regions::{self, Region};
 use crate::facts::{count_of, Facts, Part, Refusal, Wanted};
-use crate::files::{self, Report};
+use crate::files;
 use crate::new_file::Target;
 use crate::summary::kind_of;
 use crate::tables::{self, Row, Table};
@@ -32,15 +32,19 @@ const OPEN_ROWS: usize = 40;
 /// How many warnings are listed.
 const WARNINGS: usize = 100;
 
-/// Writes the page of a file. One of a file that is no image says why.
-pub fn write_to(file: (&Path, &[u8]), image: Result<Image<'_>, Error>, wanted: &Wanted, to: &Target) -> Report {
-    let (path, bytes) = file;
+/// Writes the page of a file, for `-` to `out`. One of a file that is no image says why.
+pub fn write_to(
+    (path, bytes): (&Path, &[u8]),
+    image: Result<Image<'_>, Error>,
+    wanted: &Wanted,
+    (to, out): (&Target, &mut dyn Write),
+) -> io::Result<Status> {
     let facts = match &image {
         Ok(image) => Facts::of(path, image, wanted),
         Err(error) => Facts::refused(path, bytes, *error),
     };
     let status = if facts.is_refused() { Status::Refused } else { Status::Done };
-    files::deliver_written(to, status, &mut |out| write_page(&facts, image.as_ref().ok(), out))
+    files::deliver_written(to, status, out, &mut |out| write_page(&facts, image.as_ref().ok(), out))
 }
 
 fn write_page(facts: &Facts, image: Option<&Image<'_>>, out: &mut dyn Write) -> io::Result<()> {
@@ -251,14 +255,14 @@ fn table(id: &'static str, title: &'static str, table: &Table, html: &mut Html<'
         return;
     }
     html.has_part(id, title);
-    let is_open = if table.rows.len() <= OPEN_ROWS { " open" } else { "" };
+    let is_open = if table.count <= OPEN_ROWS { " open" } else { "" };
     html.markup("<details id=").markup(id).markup(is_open).markup("><summary><h2>").markup(title);
-    html.markup("</h2> <span class=count>").text(count_of(table.rows.len(), table.is_limited));
+    html.markup("</h2> <span class=count>").text(count_of(table.count, table.is_limited));
     html.markup("</span></summary>");
     if table.is_limited {
         html.markup("<p>Not shown whole: the image has more.</p>");
     }
-    if table.rows.len() > ROWS {
+    if table.count > ROWS {
         html.markup("<p>Only the first ").text(ROWS).markup(" rows are on this page.</p>");
     }
     html.markup("<div class=scroll role=region tabindex=0 aria-label=\"").markup(title).markup("\"><table><thead><tr>");

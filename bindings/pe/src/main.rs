@@ -307,9 +307,9 @@ fn write_file(command: &Command, out: &mut dyn Write) -> io::Result<Status> {
         Command::Report { file, to, given, stacks, reading, hashing } => {
             let wanted = Wanted::parts(&[], hashing.has_hashes());
             let there = given.are_there();
-            let status = files::each(&Files::one(file), out, |path, bytes| match stack::is_dump(bytes) {
-                true => html::dump::write_to((path, bytes), &given.places(), stacks.asked(false), to),
-                false => html::write_to((path, bytes), parsed(bytes, reading), &wanted, to),
+            let status = files::one(file, out, |bytes, out| match stack::is_dump(bytes) {
+                true => html::dump::write_to((file, bytes), (&given.places(), stacks.asked(false)), (to, out)),
+                false => html::write_to((file, bytes), parsed(bytes, reading), &wanted, (to, out)),
             })?;
             Ok(status.max(there))
         }

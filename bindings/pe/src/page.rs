@@ -69,20 +69,29 @@ const INDENT: usize = 4;
 pub struct Page {
     style: Style,
     text: String,
+    /// Whether some of it was put out.
+    is_begun: bool,
 }
 
 impl Page {
     pub fn new(style: Style) -> Page {
-        Page { style, text: String::new() }
+        Page { style, text: String::new(), is_begun: false }
     }
 
     pub fn into_text(self) -> String {
         self.style.fitted(self.text)
     }
 
+    /// Puts out what there is: lines that are whole.
+    pub fn put(&mut self, out: &mut dyn io::Write) -> io::Result<()> {
+        let text = std::mem::take(&mut self.text);
+        self.is_begun |= !text.is_empty();
+        out.write_all(self.style.fitted(text).as_bytes())
+    }
+
     /// The first line of an image or of a part.
     pub fn heading(&mut self, text: &str) {
-        if !self.text.is_empty() {
+        if self.is_begun || !self.text.is_empty() {
             self.text.push('\n');
         }
         self.text.push_str(&self.style.between("1", text));

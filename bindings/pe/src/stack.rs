@@ -74,7 +74,7 @@ pub fn write(path: &Path, bytes: &[u8], places: &Places, asked: Asked, out: &mut
         serde_json::to_writer(&mut *out, &told)?;
         out.write_all(b"\n")?;
     } else {
-        out.write_all(text::of(&told, Style::of_stdout()).as_bytes())?;
+        text::write(&told, Style::of_stdout(), out)?;
     }
     if let Some(thread) = asked.thread.filter(|_| told.threads.present().is_some_and(|it| it.entries.is_empty())) {
         complain(complaint(path, format_args!("no thread has the number {thread}")));

@@ -46,13 +46,16 @@ pub const fn number(head: &'static str) -> Column {
 pub struct Table {
     pub columns: Vec<Column>,
     pub rows: Vec<Vec<String>>,
+    /// How many rows there are; more than `rows` has, where only the first are asked for.
+    pub count: usize,
     /// Whether the image has more than the rows.
     pub is_limited: bool,
 }
 
 impl Table {
     pub fn new(columns: &[Column], rows: impl Iterator<Item = Vec<String>>) -> Table {
-        Table { columns: columns.to_vec(), rows: rows.collect(), is_limited: false }
+        let rows: Vec<Vec<String>> = rows.collect();
+        Table { columns: columns.to_vec(), count: rows.len(), rows, is_limited: false }
     }
 
     fn limited(self, is_limited: bool) -> Table {

@@ -406,14 +406,19 @@ fn frames_have_a_bound_in_all() {
 #[test]
 fn out_of_memory_is_an_error_of_a_file() {
     let folder = Folder::new("stack-memory");
-    let run_with_less = |bytes: &[u8]| {
-        let words = ["-c", "ulimit -v 200000; exec \"$0\" stack --json \"$1\"", env!("CARGO_BIN_EXE_pe")];
-        let ran = Command::new("sh").args(words).arg(folder.file("a.dmp", bytes)).output().unwrap();
+    let run_with_less = |words: &[&str], bytes: &[u8]| {
+        let limited = ["-c", "ulimit -v 200000; exec \"$0\" \"$@\"", env!("CARGO_BIN_EXE_pe")];
+        let dump = folder.file("a.dmp", bytes);
+        let words = words.iter().map(|it| if *it == "DUMP" { dump.as_str() } else { *it });
+        let ran = Command::new("sh").args(limited).args(words).output().unwrap();
         (ran.status.code(), String::from_utf8(ran.stderr).unwrap())
     };
-    assert_eq!(run_with_less(&made::dump()), (Some(LOST), String::new()));
-    let (status, complaints) = run_with_less(&with_modules(300_000));
-    assert!(status == Some(3) && complaints.contains("memory"), "{status:?} {complaints}");
+    let large = with_modules(300_000);
+    for (words, done) in [(["stack", "--json", "DUMP"], LOST), (["report", "DUMP", "-"], 0)] {
+        assert_eq!(run_with_less(&words, &made::dump()), (Some(done), String::new()));
+        let (status, complaints) = run_with_less(&words, &large);
+        assert!(status == Some(3) && complaints.contains("memory"), "{status:?} {complaints}");
+    }
 }
 
 #[test]

@@ -8,7 +8,7 @@
 //! walk NAME MOST RIP GENERAL*16 XMM*16
 //! ```
 //!
-//! A frame is a line: its walk, way, whether it has called, `rip`, the general and the XMM registers. So is the end of each walk.
+//! A frame is a line: its walk, way, whether it has called and is a guess, `rip`, the general and the XMM registers. So is the end of each walk.
 use pe_c::{Frames, Image, MemoryList, MemoryPiece, Mode, Module, Registers};
 use std::error::Error;
 
@@ -37,7 +37,7 @@ fn show(name: &str, most: usize, top: Registers, modules: &[Module<'_>], memory:
         let Registers { rip, general, .. } = frame.registers;
         let general: String = general.iter().map(|it| format!(" {it:x}")).collect();
         let floats: String = (0..16).map(|it| format!(" {:x}", frame.registers.xmm(it))).collect();
-        println!("frame {name} {:?} {} {rip:x}{general}{floats}", frame.way, frame.has_called);
+        println!("frame {name} {:?} {} {} {rip:x}{general}{floats}", frame.way, frame.has_called, frame.is_guess);
     }
     println!("end {name} {:?}", frames.end());
 }

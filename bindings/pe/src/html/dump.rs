@@ -1,10 +1,10 @@
 //! The page of a minidump: why the process crashed, the stacks of its threads, and its modules. It says what `pe stack` does.
 
 use super::markup::Html;
-use super::{end, filter, grouped, head, list, table, warnings, OPEN_ROWS};
+use super::{end, filter, grouped, head, list, table, warnings, OPEN_ROWS, ROWS};
 use crate::escape::escaped;
 use crate::facts::counted;
-use crate::files::{self, Report};
+use crate::files;
 use crate::new_file::Target;
 use crate::stack::{self, Asked, Places, Told};
 use crate::tables::Table;
@@ -17,12 +17,15 @@ const ORDER: [usize; 6] = [0, 2, 1, 3, 4, 5];
 /// How many frames are on the page: a browser takes more only slowly.
 const FRAMES: usize = 20_000;
 
-/// Writes the page of a dump. One of a file that is no dump says why.
-pub fn write_to(file: (&Path, &[u8]), places: &Places, asked: Asked, to: &Target) -> Report {
-    let (path, bytes) = file;
+/// Writes the page of a dump, for `-` to `out`. One of a file that is no dump says why.
+pub fn write_to(
+    (path, bytes): (&Path, &[u8]),
+    (places, asked): (&Places, Asked),
+    (to, out): (&Target, &mut dyn Write),
+) -> io::Result<Status> {
     let told = stack::told(path, bytes, places, asked);
     let status = if told.is_refused() { Status::Refused } else { Status::Done };
-    files::deliver_written(to, status, &mut |out| write_page(&told, bytes.len(), out))
+    files::deliver_written(to, status, out, &mut |out| write_page(&told, bytes.len(), out))
 }
 
 fn write_page(told: &Told, size: usize, out: &mut dyn Write) -> io::Result<()> {
@@ -52,14 +55,19 @@ fn parts(told: &Told, html: &mut Html<'_>) {
     list("crash", "Crash", stack::text::summary(told), html);
     threads(told, html);
     if let Some(modules) = told.modules.present() {
-        table("modules", "Modules", &stack::text::modules_of(&modules.entries), html);
+        table("modules", "Modules", &first_of(&modules.entries, stack::text::modules_of), html);
     }
     if let Some(symbols) = stack::text::symbols_of(told) {
         table("symbols", "Symbols", &symbols, html);
     }
     if let Some(unloaded) = told.unloaded_modules.present() {
-        table("unloaded", "Unloaded modules", &stack::text::unloaded_of(&unloaded.entries), html);
+        table("unloaded", "Unloaded modules", &first_of(&unloaded.entries, stack::text::unloaded_of), html);
     }
+}
+
+/// The table of the entries that the page has of a list.
+fn first_of<T>(entries: &[T], table_of: impl FnOnce(&[T]) -> Table) -> Table {
+    Table { count: entries.len(), ..table_of(&entries[..entries.len().min(ROWS)]) }
 }
 
 /// Links to all parts that are on the page.

@@ -10,16 +10,40 @@ use crate::page::{Page, Style};
 use crate::pdb::frames::{function_name, inlined_text};
 use crate::show::time_of;
 use crate::tables::{number, text, Column, Row, Table};
+use std::io::{self, Write};
 
 /// How many digits of a key are those of the GUID.
 const GUID_DIGITS: usize = 32;
 
-pub fn of(told: &Told, style: Style) -> String {
+/// Writes the text, a thread at a time.
+pub fn write(told: &Told, style: Style, out: &mut dyn Write) -> io::Result<()> {
     let mut page = Page::new(style);
     page.heading(&escaped(&told.origin.file));
     for (label, value) in summary(told) {
         page.row(label, value);
     }
+    warnings(told, &mut page);
+    for thread in told.threads.entries() {
+        thread_of(thread, &mut page);
+        page.put(out)?;
+    }
+    if let Some(modules) = told.modules.present().filter(|it| !it.entries.is_empty()) {
+        page.heading("modules");
+        page.table(&modules_of(&modules.entries));
+    }
+    if let Some(symbols) = symbols_of(told) {
+        page.heading("symbols");
+        page.table(&symbols);
+    }
+    if let Some(unloaded) = told.unloaded_modules.present().filter(|it| !it.entries.is_empty()) {
+        page.heading("unloaded modules");
+        page.table(&unloaded_of(&unloaded.entries));
+    }
+    page.put(out)
+}
+
+/// What is refused of the dump and of its modules, each in a line.
+fn warnings(told: &Told, page: &mut Page) {
     for (part, refusal) in told.refusals() {
         page.warning(format_args!("{part}: {refusal}"));
     }
@@ -34,20 +58,6 @@ pub fn of(told: &Told, style: Style) -> String {
         let of = if part.is_empty() { String::new() } else { format!("{} of ", escaped(part)) };
         page.warning(format_args!("{of}the PDB of {}: {refusal}; it has no {what}", name_or(&module.name)));
     }
-    told.threads.entries().iter().for_each(|it| thread_of(it, &mut page));
-    if let Some(modules) = told.modules.present().filter(|it| !it.entries.is_empty()) {
-        page.heading("modules");
-        page.table(&modules_of(&modules.entries));
-    }
-    if let Some(symbols) = symbols_of(told) {
-        page.heading("symbols");
-        page.table(&symbols);
-    }
-    if let Some(unloaded) = told.unloaded_modules.present().filter(|it| !it.entries.is_empty()) {
-        page.heading("unloaded modules");
-        page.table(&unloaded_of(&unloaded.entries));
-    }
-    page.into_text()
 }
 
 /// A name, which may be absent.
