@@ -24,6 +24,6 @@ returns c = λ up xs are.
     let rise = rvas_rise es (index_small xs es are) up in
     let cut = IsPartitionPoint-from_clause (λ (e : LineEntry). leb e.line.rva x) es n c.partition_point-after.ensures.partitioned (IsPartitionedBy-leb (λ (e : LineEntry). e.line.rva) es x rise) (λ a r f' k. search rules) in
     last_permuted xs es x _ are (nearest_of es x n up some within
-        (λ k d low lt. let t : leb (get_or es k d).line.rva x ≡ true = cut.0 k d (omega arith) low in grind (arith, nat_tests))
-        (λ k d high lt. let t : leb (get_or es k d).line.rva x ≡ false = cut.1 k d high lt in grind (arith, nat_tests))
-        _ (λ d. get_or_default es (n - 1) d _ (omega (arith, within, some))))
+    (λ k d low lt. let t : leb (get_or es k d).line.rva x ≡ true = cut.0 k d (omega arith) low in grind (arith, nat_tests))
+    (λ k d high lt. let t : leb (get_or es k d).line.rva x ≡ false = cut.1 k d high lt in grind (arith, nat_tests))
+    _ (λ d. get_or_default es (n - 1) d _ (omega (arith, within, some))))

@@ -24,8 +24,7 @@ returns-in-Ok c =
     let size : length (entries_from 0 xs) ≡ length xs = length_entries 0 xs in
     let first : take c.in-Ok.field-0 c.put_lines.new.room ≡ c.put_lines.new.room = take_all c.in-Ok.field-0 c.put_lines.new.room (omega (arith, len, count, has.counted)) in
     let second : take (length c.put_lines.new.room) (entries_from 0 xs) ≡ entries_from 0 xs = take_all (length c.put_lines.new.room) (entries_from 0 xs) (omega (arith, len, count, size)) in
-    let same : c.put_lines.new.room ≡ entries_from 0 xs = sym first ∙ has.written ∙ second in
-    (
+    let same : c.put_lines.new.room ≡ entries_from 0 xs = sym first ∙ has.written ∙ second in (
       xs,
       puts.1,
       (omega (arith, few, has.counted), subst (λ (l : List LineEntry). IsPermutation l c.sort_unstable_by_key.new.self) same c.sort_unstable_by_key.ensures.permutation),

@@ -8,8 +8,7 @@ use Rattle.pe_pdb.proofs.symbol_lookup.put_sorted.Goals as goal
 pub returns-in-Ok : goal.returns-in-Ok
 returns-in-Ok c =
     let puts = c.in-Ok.ensures.puts in
-    let same = filled (addresses c.args.class c.args.bytes.now c.args.start c.args.sections.now.bytes.now) puts.0 c.put_addresses.new.room (length c.args.room.now) c.requires puts.1 c.in-Ok.ensures.len puts.2 puts.3 in
-    (
+    let same = filled (addresses c.args.class c.args.bytes.now c.args.start c.args.sections.now.bytes.now) puts.0 c.put_addresses.new.room (length c.args.room.now) c.requires puts.1 c.in-Ok.ensures.len puts.2 puts.3 in (
       puts.0,
       puts.1,
       subst (λ (l : List ℕ). IsPermutation l c.sort_unstable.new.self) same c.sort_unstable.ensures.permutation,
