@@ -200,13 +200,18 @@ fn damaged_files_are_refused(rt: HostRuntime) -> Result<(), Fail> {
 fn damaged_directories_are_refused(rt: HostRuntime) -> Result<(), Fail> {
     let good = of_blocks(rt.alloc(), 6, 12)?;
     // shows: pe_pdb/src/msf.rt with_directory BlockMap
+    // A directory of all blocks of the file is read, and one of more is not.
+    let mut bytes = good.clone()?;
+    put_number(&mut bytes, 44, 6 * 512 + 4);
+    assert!(rt; refused(Msf::parse(&bytes), PdbError::BlockMap(6 * 512 + 4)));
+    put_number(&mut bytes, 44, 6 * 512);
+    assert!(rt; Msf::parse(&bytes).is_ok());
     // The superblock of 512 bytes lists 115 blocks, each of which lists 128 of 512 bytes.
     let most = 115 * 128 * 512;
-    let mut bytes = good.clone()?;
-    put_number(&mut bytes, 44, most + 4);
+    let mut bytes = of_blocks(rt.alloc(), 115 * 128 + 1, most + 4)?;
     assert!(rt; refused(Msf::parse(&bytes), PdbError::BlockMap(most as u32 + 4)));
     put_number(&mut bytes, 44, most);
-    assert!(rt; refused(Msf::parse(&bytes), PdbError::Block(6)));
+    assert!(rt; refused(Msf::parse(&bytes), PdbError::Block(115 * 128 + 1)));
     let mut bytes = good.clone()?;
     put_number(&mut bytes, 52, 6);
     assert!(rt; refused(Msf::parse(&bytes), PdbError::Block(6)));
