@@ -25,7 +25,7 @@ PROOF_LEFT_OUT = "pub left_out {ℓ} : {A : Type ℓ} → A\nleft_out = ?\n"
 HOLE = "HoleOfWhatIsLeftOut"
 ANSWERS = ("Answers.antt", "Invariants.antt")
 HEAD = re.compile(r"^[ \t]*(?:pub(?:\([a-z ]+\))? )?(?:const )?(?:unsafe )?(?:extern \"C\" )?fn (\w+)", re.M)
-IMPL = re.compile(r"^impl(?:<[^{]*?>)? (?:(?:\w+::)*(?P<trait>\w+)(?:<(?P<of>\w+).*?>)? for )?(?P<ref>&'\w+ )?(?P<type>\w+)(?P<args><(?:[^<>{]|<[^<>{]*>)*>)?", re.M)
+IMPL = re.compile(r"^impl(?:<[^{]*?>)? (?:(?:\w+::)*(?P<trait>\w+)(?:<(?P<of>\w[^{]*?)>)? for )?(?P<ref>&'\w+ )?(?P<type>\w+)(?P<args><(?:[^<>{]|<[^<>{]*>)*>)?", re.M)
 TYPE = re.compile(r"^(?:pub(?:\([a-z ]+\))? )?(?:struct|enum|trait) (\w+)", re.M)
 OPENS_A_CLAUSE = re.compile(r"(?:requires|ensures|ghost)\*?(?:\s+\w+)?:?\s*\Z")
 SAID = re.compile(r"^fn (\S+): (.*)$", re.M)
@@ -45,9 +45,10 @@ class Unusable(Exception):
 
 
 def trait_of(impl):
-    """How a check names the trait of an impl: From<u16> is FromU16, and '' stands for none."""
-    of = impl["of"] or ""
-    return (impl["trait"] or "") + of[:1].upper() + of[1:]
+    """How a check names the trait of an impl: From<u16> is FromU16, Steps<Kept<'a, Range>, Import> is StepsKeptRangeImport; '' stands
+    for none."""
+    names = re.findall(r"\w+", re.sub(r"'\w+", "", impl["of"] or ""))
+    return (impl["trait"] or "") + "".join(it[:1].upper() + it[1:] for it in names)
 
 
 def type_of(impl):
