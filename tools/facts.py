@@ -9,7 +9,7 @@ from targets import BINDINGS
 
 GOLDEN = os.path.join(BINDINGS, "pe", "tests", "golden")
 # An image of two bytes that no other program makes, files that are none, and commands and a page that it has not.
-NOT_MADE = {"short", "object", "te_image", "stack", "verify", "dump_page"}
+NOT_MADE = {"short", "object", "te_image", "stack", "symbols", "verify", "dump_page"}
 
 
 def golden():
