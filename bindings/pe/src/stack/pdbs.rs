@@ -77,7 +77,7 @@ pub fn put(
     told
 }
 
-/// The PDB files that frames need, in the order of the frames. Of modules that name none that is told.
+/// The PDB files that frames need, in the order of the frames. Modules that name none are reported as such.
 fn groups_of<'k>(frames: &[&mut Frame], over: (&Dump<'k>, &Loaded<'k>), told: &mut ToldPdbs) -> Vec<Group<'k>> {
     let (dump, loaded) = over;
     let mut groups: Vec<Group<'k>> = Vec::new();
@@ -175,7 +175,7 @@ struct PdbFiles<'f> {
 }
 
 impl PdbFiles<'_> {
-    /// The PDB of modules, and what is said of it. Of several files that are none the first is told.
+    /// The PDB of modules, and what is reported of it: of several files that are none, the first.
     fn find(&mut self, group: &Group<'_>) -> (ToldPdb, Option<Vec<u8>>) {
         let wanted = group.key.to_string();
         let mut told = ToldPdb { state: "missing", wanted_key: Some(wanted.clone()), ..ToldPdb::default() };
