@@ -8,7 +8,6 @@ use Rattle.std.proofs.lemmas.Bool.Decides.{nat_tests}
 use Rattle.pe_core.specs.SectionMap.{covers, first, offset_of, raw_start, reach}
 use Rattle.pe_core.specs.declared.section_table.SectionTable.{SectionTable}
 use Rattle.pe_frame.specs.SectionIndexes.{numbered}
-use Rattle.pe_c.proofs.IndexMaps.{both_tests}
 use Rattle.pe_c.proofs.NearMaps.{all_sections}
 use Rattle.pe_c.specs.Images.{map_of_image}
 use Rattle.pe_c.specs.KeptSections.{ChangeNothing, HasAll, IsAlone, keeps_sections, map_kept, sections_kept}
@@ -20,6 +19,7 @@ use Rattle.pe_c.specs.declared.image.Image.{Image}
 use Rattle.pe_c.specs.declared.kept_sections.KeptSections.{KeptSections}
 use Rattle.pe_c.specs.declared.near_map.Window.{Window}
 use Rattle.pe_c.specs.declared.view.View.{View}
+use Rattle.pe_core.proofs.Equality.{both}
 
 -- ---- sections before others
 
@@ -131,7 +131,7 @@ pub alone : (image : Image) (sections : List SectionTable) (i rva : ℕ) (none :
 alone image sections i rva none w searched h all inside = record {
   maps = λ x p maps.
       let s = slice_index_or sections i none in
-      let tests = both_tests (resolves image.mode) (is_power_of_two image.file_alignment) searched in
+      let tests = both (resolves image.mode) (is_power_of_two image.file_alignment) searched in
       in_all image.file_alignment x p (map_of_image image sections) s rva w h all
       (covered image.file_alignment x p s tests.1
       (ap (λ (r : Bool). offset_of r image.file_alignment (s ∷ []) x) (sym tests.0)
@@ -147,7 +147,7 @@ one_more v old n keeps is_alone h x = by_number (map_of_image v.image.now (numbe
   new = record { first = n; second = old.first }
 
   no_index : (length v.index.now == 0) ≡ true
-  no_index = (both_tests (nat_lt 32 (length v.sections.now)) (length v.index.now == 0) keeps).1
+  no_index = (both (nat_lt 32 (length v.sections.now)) (length v.index.now == 0) keeps).1
 
   by_old : (o : Option ℕ) → map_of_image v.image.now (numbered v.sections.now n) x ≡ None → map_of_image v.image.now (numbered v.sections.now old.first) x ≡ o → map_kept v new x ≡ map_of v x
   by_old (Some q) none_n e = by_second v new x q none_n e ∙ sym (by_first v old x q e) ∙ h x
@@ -185,7 +185,7 @@ resolved_none false alignment x on e = absurd cc
 pub none_alone : (image : Image) (sections : List SectionTable) (n : ℕ) → is_searched image ≡ true → length sections < n → IsAlone image sections n
 none_alone image sections n searched past = record {
   maps = λ x p maps.
-      let tests = both_tests (resolves image.mode) (is_power_of_two image.file_alignment) searched in
+      let tests = both (resolves image.mode) (is_power_of_two image.file_alignment) searched in
       let nothing : map_of_image image (numbered sections n) x ≡ None =
       ap (λ (l : List SectionTable). map_of_image image l x) (none_numbered sections n past) ∙ resolved_none (resolves image.mode) image.file_alignment x tests.0 tests.1 in
       absurd cc;

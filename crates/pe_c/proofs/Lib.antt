@@ -83,7 +83,6 @@ pub mod IndexMaps
 pub mod IndexedCalls
 pub mod RecordCodes
 pub mod CodeBytes
-pub mod SplitRooms
 mod TextRuns
 pub mod ImageFields
 pub mod ImageDirectories

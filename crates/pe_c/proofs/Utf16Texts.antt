@@ -14,16 +14,9 @@ use Rattle.pe_core.specs.Bytes.{le, splice}
 use Rattle.pe_resource.proofs.Units.{unit_at}
 use Rattle.pe_resource.specs.VersionStrings.{units}
 use Rattle.pe_c.specs.EndedTexts.{truncated_text, ended, second_of, utf16_text}
+use Rattle.pe_edit.proofs.Units.{front}
 
 -- ---- code units
-
-front : (b : List ℕ) → 2 ≤ length b → units b ≡ le b 0 2 ∷ units (drop 2 b)
-unfolding le
-front [] h = absurd (omega arith)
-front (x ∷ []) h = absurd (omega arith)
-front (x ∷ y ∷ b) h =
-    let e : x + 256 * y ≡ 0 + x * 1 + y * 256 = omega arith in
-    ap (λ (n : ℕ). n ∷ units b) e
 
 second_unit : (b : List ℕ) → 4 ≤ length b → get_or (units (drop 2 b)) 0 0 ≡ le b 2 2
 second_unit b h =

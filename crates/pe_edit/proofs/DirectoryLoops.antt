@@ -14,6 +14,7 @@ use Rattle.pe_edit.proofs.Entries.{total_from}
 use Rattle.pe_edit.proofs.RunsAt.{no_runs_at}
 use Rattle.pe_edit.proofs.Tables.{both_kinds, length-directory_to}
 use Rattle.pe_edit.proofs.Writing.{Written, all_written, more_written, nothing_written, room_for}
+use Rattle.pe_edit.proofs.Levels.{total_16, total_no_names}
 
 -- the head of a directory and its entries, one after the other
 directory_bytes : (level : Level) (b b1 b2 b3 b4 : List ℕ) (p s q m n : ℕ) (rs : List (Leaf × List Leaf)) → p ≤ length b →
@@ -168,22 +169,12 @@ directory_map s p xs =
 language_directory : (p : ℕ) (xs : List Leaf) → directory_to (key_at levels.Languages) (size_at levels.Languages) 0 p (runs_of levels.Languages xs) ≡ directory_to language_key entry_size 0 p xs
 language_directory p xs = ap (directory_to (key_at levels.Languages) (size_at levels.Languages) 0 p) (alone xs) ∙ directory_map 0 p xs
 
-total_of_languages : (xs : List Leaf) → total (λ x. name_size (language_key x)) xs ≡ 0
-unfolding total
-total_of_languages [] = refl
-total_of_languages (x ∷ xs) = omega (arith, total_of_languages xs)
-
-total_of_entries : (xs : List Leaf) → total entry_size xs ≡ 16 * length xs
-unfolding total
-total_of_entries [] = refl
-total_of_entries (x ∷ xs) = omega (arith, total_of_entries xs)
-
 pub no_language_names : (xs : List Leaf) → names_total levels.Languages (runs_of levels.Languages xs) ≡ 0
 no_language_names xs =
-    ap (names_total levels.Languages) (alone xs) ∙ total_map (λ r. name_size (key_at levels.Languages r)) (λ x. (x, [])) xs ∙ total_of_languages xs
+    ap (names_total levels.Languages) (alone xs) ∙ total_map (λ r. name_size (key_at levels.Languages r)) (λ x. (x, [])) xs ∙ total_no_names xs
 
 pub language_parts : (xs : List Leaf) → parts_total levels.Languages (runs_of levels.Languages xs) ≡ 16 * length xs
-language_parts xs = ap (parts_total levels.Languages) (alone xs) ∙ total_map (size_at levels.Languages) (λ x. (x, [])) xs ∙ total_of_entries xs
+language_parts xs = ap (parts_total levels.Languages) (alone xs) ∙ total_map (size_at levels.Languages) (λ x. (x, [])) xs ∙ total_16 xs
 
 pub resource_tables_are : (s p : ℕ) (ns : List (Leaf × List Leaf)) → s ≡ 0 → directories_at levels.Languages s p ns ≡ resource_tables p ns
 unfolding directories_at resource_tables

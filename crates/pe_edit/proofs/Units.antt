@@ -8,7 +8,7 @@ use Rattle.pe_core.proofs.EntryItems.{le_after}
 use Rattle.pe_resource.specs.VersionStrings.{units}
 use Rattle.pe_edit.specs.Sorted.{units_before}
 
-front : (b : List ℕ) → 2 ≤ length b → units b ≡ le b 0 2 ∷ units (drop 2 b)
+pub front : (b : List ℕ) → 2 ≤ length b → units b ≡ le b 0 2 ∷ units (drop 2 b)
 unfolding le
 front [] h = absurd (omega (arith, h))
 front (x ∷ []) h = absurd (omega (arith, h))
@@ -16,13 +16,13 @@ front (x ∷ y ∷ b) h =
     let e : x + 256 * y ≡ 0 + x * 1 + y * 256 = omega arith in
     ap (λ (n : ℕ). n ∷ units b) e
 
-short : (b : List ℕ) → length b < 2 → units b ≡ []
+pub short : (b : List ℕ) → length b < 2 → units b ≡ []
 short [] h = refl
 short (x ∷ []) h = refl
 short (x ∷ y ∷ b) h = absurd (omega (arith, h))
 
 -- the code unit at an offset, and those after it
-units_at : (b : List ℕ) (i : ℕ) → i + 2 ≤ length b → units (drop i b) ≡ le b i 2 ∷ units (drop (i + 2) b)
+pub units_at : (b : List ℕ) (i : ℕ) → i + 2 ≤ length b → units (drop i b) ≡ le b i 2 ∷ units (drop (i + 2) b)
 units_at b i h =
     front (drop i b) (omega (arith, h, length-drop i b))
     ∙ ap (λ (n : ℕ). n ∷ units (drop 2 (drop i b))) (le_after b i 0 i 2 (omega arith))

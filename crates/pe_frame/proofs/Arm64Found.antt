@@ -29,7 +29,7 @@ use Rattle.pe_frame.specs.declared.walk.Way.{Way}
 use Rattle.pe_frame.specs.declared.walk.Way.TheVariants.{Records, Leaf, Interrupt, Scanned, FramePointer}
 use Rattle.pe_frame.specs.declared.walk.WalkEnd.{WalkEnd}
 use Rattle.pe_frame.specs.declared.walk.WalkEnd.TheVariants as ends
-use Rattle.pe_frame.proofs.Found.{not_both}
+use Rattle.pe_frame.proofs.Found.{none_of, not_both, or_false, or_true}
 use Rattle.pe_frame.proofs.FrameWalks.{frames_keep, sure_frames}
 
 -- ---- a frame, and that before it
@@ -111,10 +111,6 @@ chain_if modules g (Some r) t false is =
 made_chain : (memory : ℕ → Option ℕ) (modules : List Module) (s t : Arm64StackFrame) → chained memory modules s ≡ Some t → IsByWords modules t
 made_chain memory modules s t is =
     chain_if modules s.registers (record_of memory modules s.registers) t (not s.has_called && is_leaf_return modules s.registers) is
-
-or_true : (a b : Bool) → a ≡ true → (a || b) ≡ true
-or_true true b is = refl
-or_true false b is = absurd (cc is)
 
 leaf_when : (modules : List Module) (guess other : Bool) (g : Arm64Registers) (t : Arm64StackFrame) (b : Bool) → cond b (Some (frame_of modules Leaf (guess || other) (after_leaf g))) None ≡ Some t → IsLed modules guess t
 leaf_when modules guess other g t true is =
@@ -330,11 +326,6 @@ rises_after_calls p s t h called by = (next p s t h).rises by called
 
 -- ---- the caller of a leaf function whose call is in code
 
-or_false : (a b : Bool) → b ≡ true → (a || not b) ≡ a
-or_false true true is = refl
-or_false false true is = refl
-or_false a false is = absurd (cc is)
-
 call_of_code : (o : Option Module) (a : ℕ) → is_code_return_arm64_of o a ≡ true → is_after_call_arm64_of o a ≡ true
 call_of_code None a is = is
 call_of_code (Some m) a is = (both (is_executable m.sections.now (a - m.base - 1)) (is_after_call_arm64_in m a) is).1
@@ -450,10 +441,6 @@ frame_is_packed_step p m f s t h =
     packed_of (stepped_arm64_packed p.memory f.unwind_data (place_of m f s) s.registers) t.registers out.0 out.1
 
 -- ---- the bottom
-
-none_of : {X : Type 0} (o : Option X) → is_none o ≡ true → o ≡ None
-none_of None is = refl
-none_of (Some x) is = absurd (cc is)
 
 sure_if : (guess : Bool) → ◌≡◌ {A = Result Arm64StackFrame WalkEnd} (Err ends.Bottom) (Err (end_at_0 guess)) → guess ≡ false
 sure_if true is = absurd (cc is)

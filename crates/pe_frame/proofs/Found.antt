@@ -92,7 +92,7 @@ next_led modules guess s t given waits (inl found) = next_by_words modules s t f
 next_led modules guess s t given waits (inr found) =
     next_of modules s t Leaf found.0 found.1 found.3 (inr waits) (λ by. absurd (cc by)) (λ before. found.2 (given before)) (λ by. absurd (cc by))
 
-or_true : (a b : Bool) → a ≡ true → (a || b) ≡ true
+pub or_true : (a b : Bool) → a ≡ true → (a || b) ≡ true
 or_true true b is = refl
 or_true false b is = absurd (cc is)
 
@@ -273,7 +273,7 @@ records_are_sure p g most first rest end h all =
 
 -- ---- the caller of a leaf function whose call is in code
 
-or_false : (a b : Bool) → b ≡ true → (a || not b) ≡ a
+pub or_false : (a b : Bool) → b ≡ true → (a || not b) ≡ a
 or_false true true is = refl
 or_false false true is = refl
 or_false a false is = absurd (cc is)
@@ -398,7 +398,7 @@ outside_first memory modules s u waits pops none may =
 
 -- ---- the bottom
 
-none_of : {X : Type 0} (o : Option X) → is_none o ≡ true → o ≡ None
+pub none_of : {X : Type 0} (o : Option X) → is_none o ≡ true → o ≡ None
 none_of None is = refl
 none_of (Some x) is = absurd (cc is)
 

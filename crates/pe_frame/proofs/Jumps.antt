@@ -28,6 +28,7 @@ use Rattle.pe_frame.proofs.SomeFunction.{some_function}
 use Rattle.pe_frame.proofs.SomeShortPlan.{some_short_plan}
 use Rattle.pe_frame.proofs.StepsOut.{registers_of_step}
 use Rattle.pe_frame.proofs.Tails.{then_ok, then_same}
+use Rattle.pe_frame.proofs.Undone.{base_plain}
 
 -- ---- places
 
@@ -186,13 +187,8 @@ run_jump m (i ∷ j ∷ is) a g e =
     then_same (executed m i g) (executed_all m (j ∷ is)) (λ v. executed_all m (before_last (j ∷ is)) v >>= popped m) (λ v. run_jump m (j ∷ is) a v e)
     ∙ sym (then_then (executed m i g) (executed_all m (before_last (j ∷ is))) (popped m))
 
-entry_base : (f : FrameRegister) (sets : Bool) (g : Registers) → (f.register ≡ 0) ⊎ (sets ≡ true) → frame_base_of f sets false g ≡ Ok (stack_pointer g)
-entry_base f true g h = refl
-entry_base f false g (inl e) = rw e refl
-entry_base f false g (inr e) = absurd (cc e)
-
 nothing_undone : (m : ℕ → Option ℕ) (f : FrameRegister) (limit : Option ℕ) (codes : List UnwindCode) (g : Registers) → ran limit codes ≡ [] → (f.register ≡ 0) ⊎ (any_sets_frame_register (ran None codes) ≡ true) → entered m f limit codes g ≡ Ok (g, false)
-nothing_undone m f limit codes g none framed = rw none (rw (entry_base f (any_sets_frame_register (ran None codes)) g framed) refl)
+nothing_undone m f limit codes g none framed = rw none (rw (base_plain f (any_sets_frame_register (ran None codes)) g framed) refl)
 
 same_out : (x : Result (Registers × Bool) FrameError) (u : Registers × Bool) → by_kind x ≡ by_kind (Ok u) → x ≡ Ok u
 same_out (Ok v) u e = cc

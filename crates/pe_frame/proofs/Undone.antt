@@ -351,7 +351,7 @@ is_set c f (Noop ∷ before) s b p e =
     let i = is_set c f before s b p.1 e in
     record { framed = i.framed; register = i.register; value = i.value }
 
-base_plain : (f : FrameRegister) (sets : Bool) (g : Registers) → (f.register ≡ 0) ⊎ (sets ≡ true) → frame_base_of f sets false g ≡ Ok (stack_pointer g)
+pub base_plain : (f : FrameRegister) (sets : Bool) (g : Registers) → (f.register ≡ 0) ⊎ (sets ≡ true) → frame_base_of f sets false g ≡ Ok (stack_pointer g)
 base_plain f true g h = refl
 base_plain f false g (inl e) =
     let test : eqb f.register 0 ≡ true = grind (arith, nat_tests) in

@@ -21,6 +21,7 @@ use Rattle.pe_rewrite.specs.RewriteRefusals.{RewriteRefusal, NoSection, of_leave
 use Rattle.pe_rewrite.specs.declared.place.Place.{Place}
 use Rattle.pe_rewrite.specs.declared.place.Target.{Target}
 use Rattle.pe_rewrite.proofs.Results.{first_ok, first_of, passed, second_of, value_is}
+use Rattle.pe_sign.proofs.HeadersStay.{wide}
 
 -- ---- the steps
 
@@ -199,10 +200,6 @@ debug_placed b h xs p e =
       of = target_is h t.0 t.1.0;
       apart = subst (λ (y : Place). debug_apart b h y.section (debug_entries b h t.0) ≡ true) value (debug_is_apart b h t.0 i.0 n.0 (place_at b h t.0 n.0 i.0) p i.1.1);
     }
-
-wide : (w : Bool) → 96 ≤ directories_offset w
-wide true = omega arith
-wide false = omega arith
 
 -- so the fields and the section lie one after the other
 lies_at : (b : List ℕ) (h : HeaderView) (t : Target) (n i : ℕ) → TargetIs h t → HeadersLie b h t → IndexIs b h t.rva i → SectionIs b h t.file_alignment i n → Lies h (place_at b h t n i) (length b)

@@ -23,8 +23,9 @@ use Rattle.pe_rewrite.proofs.Placed.{HeadersLie, IndexIs, SectionIs, TargetIs, i
 use Rattle.pe_rewrite.proofs.Pointers.{lie_at}
 use Rattle.pe_rewrite.proofs.Results.{first_of, first_ok, passed, second_of, value_is}
 use Rattle.pe_rewrite.proofs.RoomWrites.{changed_front, fields_fit}
-use Rattle.pe_rewrite.proofs.Roomy.{IsLast, RoomFits, lies_at, own_is_last, room_fits, wide}
+use Rattle.pe_rewrite.proofs.Roomy.{IsLast, RoomFits, lies_at, own_is_last, room_fits}
 use Rattle.pe_rewrite.proofs.Writes.{inner, length-changed, splice_over, start_of, sum_length, whole_front}
+use Rattle.pe_sign.proofs.HeadersStay.{wide}
 
 -- ---- bytes that are taken out
 

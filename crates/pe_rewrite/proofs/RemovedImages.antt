@@ -21,7 +21,7 @@ use Rattle.pe_core.proofs.Map.{positive}
 use Rattle.pe_core.proofs.Splices.{get_or-splice}
 use Rattle.pe_sign.specs.WrittenHeaders.{directories_end, directories_end_after, headers_changed}
 use Rattle.pe_sign.proofs.Digests.{range_below, range_past}
-use Rattle.pe_sign.proofs.HeadersStay.{Stays, headers_change}
+use Rattle.pe_sign.proofs.HeadersStay.{headers_change, Stays, wide}
 use Rattle.pe_rewrite.specs.Edited.{FieldsLie, GoneLies, cleared_file, cut, edited_of, gone_file, removed_of, stayed_file, sum_of}
 use Rattle.pe_rewrite.specs.Places.{header_tests, headers_end, index_of, is_outside, section_header, section_headers, target_of}
 use Rattle.pe_rewrite.specs.Removals.{emptied_of, ends_table, gone_at, gone_of, gone_tests}
@@ -41,7 +41,6 @@ use Rattle.pe_rewrite.proofs.RoomHeaders.{headers_with_room, same_by}
 use Rattle.pe_rewrite.proofs.RoomImages.{file_roomy, first_false, six_of, sum_roomy}
 use Rattle.pe_rewrite.proofs.Results.{first_of, first_ok, passed, second_of, then_is, value_is}
 use Rattle.pe_rewrite.proofs.RoomMapped.{within}
-use Rattle.pe_rewrite.proofs.Roomy.{wide}
 use Rattle.pe_rewrite.proofs.Stays.{Past, byte_past, sum_byte}
 use Rattle.pe_rewrite.proofs.WrittenHeaders.{sum_read, sum_stays}
 use Rattle.pe_rewrite.proofs.WrittenSections.{all_by, other_index, out_of, row_same}

@@ -13,7 +13,7 @@ use Rattle.pe_core.proofs.EntryItems.{length-each}
 use Rattle.pe_core.proofs.NumberBytes.{le-same}
 use Rattle.pe_sign.specs.WrittenHeaders.{directories_end, directories_end_after}
 use Rattle.pe_sign.proofs.Digests.{range_below, range_past}
-use Rattle.pe_sign.proofs.HeadersStay.{Parsed, magic_is, one_set, parsed, same_range}
+use Rattle.pe_sign.proofs.HeadersStay.{count_is, end_is, magic_is, minus, one_set, Parsed, parsed, plus, same_range, some_optional, wide}
 use Rattle.pe_sign.proofs.Tests.{passed}
 use Rattle.pe_rewrite.specs.Edited.{RoomLies, roomy_file}
 use Rattle.pe_rewrite.specs.WrittenImages.{coff_roomy, entry_of, headers_roomy, optional_roomy}
@@ -201,24 +201,12 @@ optional_32 f b q n m s r p at at_e w to =
     let table = rows_same f b q n m s r (p + 96) (kept (windows_fields_32 b (p + 28)).number_of_rva_and_sizes) (omega (arith, at)) at_e to in
     rw (magic, w, standard_same_32 f b q m.place.entry n m s r p at, fields, table) refl
 
-plus : (b : List ℕ) (q : ℕ) → is_pe32_plus b q ≡ true → q + directories_offset (is_pe32_plus b q) + 8 * kept (optional_header b q).windows_fields.number_of_rva_and_sizes ≡ q + 112 + 8 * kept (windows_fields_64 b (q + 24)).number_of_rva_and_sizes
-unfolding optional_header
-plus b q w = rw w refl
-
-minus : (b : List ℕ) (q : ℕ) → is_pe32_plus b q ≡ false → q + directories_offset (is_pe32_plus b q) + 8 * kept (optional_header b q).windows_fields.number_of_rva_and_sizes ≡ q + 96 + 8 * kept (windows_fields_32 b (q + 28)).number_of_rva_and_sizes
-unfolding optional_header
-minus b q w = rw w refl
-
 by_width : (w : Bool) (f b : List ℕ) (q n : ℕ) (m : Room) → Same f b q m.place.entry n → RoomRead f q m → (p : ℕ) → p ≡ q + 24 → is_pe32_plus b p ≡ w → m.place.entry ≡ p + directories_offset (is_pe32_plus b p) + 8 * 2 →
     n ≡ p + directories_offset (is_pe32_plus b p) + 8 * kept (optional_header b p).windows_fields.number_of_rva_and_sizes → optional_header f p ≡ optional_roomy m (optional_header b p)
 by_width true f b q n m s r p at w at_e to = optional_64 f b q n m s r p at (at_e ∙ (rw w (omega arith))) w (to ∙ plus b p w)
 by_width false f b q n m s r p at w at_e to = optional_32 f b q n m s r p at (at_e ∙ (rw w (omega arith))) w (to ∙ minus b p w)
 
 -- ---- the tests
-
-wide : (w : Bool) → 96 ≤ directories_offset w
-wide true = omega arith
-wide false = omega arith
 
 optional_accepted : (f b : List ℕ) (p : ℕ) (m : Room) → le f p 2 ≡ le b p 2 → optional_header f p ≡ optional_roomy m (optional_header b p) →
     (le b p 2 == 0x10B || is_pe32_plus b p) ≡ true → p + directories_offset (is_pe32_plus b p) + 8 * kept (optional_header b p).windows_fields.number_of_rva_and_sizes ≤ length f →
@@ -234,17 +222,6 @@ magic_tested false b q x h is e =
     let one = passed (holds b q 2) _ _ h e in
     let two = passed (le b q 2 == 0x10B || is_pe32_plus b q) _ _ h one.1 in
     two.0
-
-count_is : (b : List ℕ) (q : ℕ) → length (optional_header b q).data_directories ≡ kept (optional_header b q).windows_fields.number_of_rva_and_sizes
-unfolding optional_header
-count_is b q = length-each _ _
-
-end_is : (t : Bool) (b : List ℕ) (p : ℕ) → t ≡ false →
-    directories_end_after p (if t then None else Some (optional_header b (p + 24))) ≡ (p + 24) + directories_offset (is_pe32_plus b (p + 24)) + 8 * kept (optional_header b (p + 24)).windows_fields.number_of_rva_and_sizes
-end_is true b p e = absurd cc
-end_is false b p e =
-    ap (λ (m : ℕ). p + 24 + directories_offset (m == 0x20B) + 8 * length (optional_header b (p + 24)).data_directories) (magic_is b (p + 24))
-    ∙ ap (λ (m : ℕ). p + 24 + directories_offset (is_pe32_plus b (p + 24)) + 8 * m) (count_is b (p + 24))
 
 -- ---- the headers
 
@@ -279,10 +256,6 @@ header_is f b mode h m a some far at_e s r =
       le_is (p + 4 + 20) (length f) (omega (arith, s.sum, s.entry, s.inside)),
       optional,
     ) (accepted _)
-
-some_optional : (t : Bool) (x o : OptionalHeaderView) → (if t then None else Some x) ≡ Some o → (t ≡ false) × (x ≡ o)
-some_optional true x o e = absurd cc
-some_optional false x o e = (refl, cc)
 
 header_with : (f b : List ℕ) (mode : ParseMode) (h : HeaderView) (o : OptionalHeaderView) (m : Room) → Parsed b mode h → (header b).optional_header ≡ Some o → 64 ≤ (header b).dos_header.pe_pointer →
     m.place.entry ≡ (header b).dos_header.pe_pointer + 24 + directories_offset (o.standard_fields.magic == 0x20B) + 8 * 2 →

@@ -26,6 +26,7 @@ use Rattle.pe_rewrite.specs.declared.room.LastSection.{LastSection}
 use Rattle.pe_rewrite.specs.declared.room.Room.{Room}
 use Rattle.pe_rewrite.proofs.Placed.{HeadersLie, IndexIs, Made, TargetIs, headers_lie, index_is, made_at, target_is}
 use Rattle.pe_rewrite.proofs.Results.{first_of, first_ok, passed, second_of, value_is}
+use Rattle.pe_sign.proofs.HeadersStay.{wide}
 
 pub count_small : (b : List ℕ) (h : HeaderView) (t : Target) (i : ℕ) → has_header b h t i ≡ true → count_with h i < 65536
 count_small b h t i e =
@@ -293,10 +294,6 @@ has_debug b h xs m e =
     by_which b h xs m t.0 n.0 (target_is h t.0 t.1.0) u.1.1
 
 -- ---- what lies where
-
-pub wide : (w : Bool) → 96 ≤ directories_offset w
-wide true = omega arith
-wide false = omega arith
 
 pub lies_at : (b : List ℕ) (h : HeaderView) (t : Target) (n : ℕ) (l : LastSection) → TargetIs h t → HeadersLie b h t → IsLast b h t.file_alignment n l → RoomFits b h t n l → RoomLies h (room_at h t n l) (length b)
 lies_at b h t n l of headers is fits =

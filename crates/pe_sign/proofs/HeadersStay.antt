@@ -197,7 +197,7 @@ optional_32 f b c e n s q i entry at_c at_e w to is =
 
 -- ---- the tests
 
-wide : (w : Bool) → 96 ≤ directories_offset w
+pub wide : (w : Bool) → 96 ≤ directories_offset w
 wide true = omega arith
 wide false = omega arith
 
@@ -213,11 +213,11 @@ pub record IsAgain (f b : List ℕ) (q i sum : ℕ) (entry : DataDirectory) : Ty
   pub value : optional_header f q ≡ optional_changed i entry sum (optional_header b q)
   pub accepted : (y : HeaderView) → outcome (optional_header_tests f q) y ≡ Ok y
 
-plus : (b : List ℕ) (q : ℕ) → is_pe32_plus b q ≡ true → q + directories_offset (is_pe32_plus b q) + 8 * kept (optional_header b q).windows_fields.number_of_rva_and_sizes ≡ q + 112 + 8 * kept (windows_fields_64 b (q + 24)).number_of_rva_and_sizes
+pub plus : (b : List ℕ) (q : ℕ) → is_pe32_plus b q ≡ true → q + directories_offset (is_pe32_plus b q) + 8 * kept (optional_header b q).windows_fields.number_of_rva_and_sizes ≡ q + 112 + 8 * kept (windows_fields_64 b (q + 24)).number_of_rva_and_sizes
 unfolding optional_header
 plus b q w = rw w refl
 
-minus : (b : List ℕ) (q : ℕ) → is_pe32_plus b q ≡ false → q + directories_offset (is_pe32_plus b q) + 8 * kept (optional_header b q).windows_fields.number_of_rva_and_sizes ≡ q + 96 + 8 * kept (windows_fields_32 b (q + 28)).number_of_rva_and_sizes
+pub minus : (b : List ℕ) (q : ℕ) → is_pe32_plus b q ≡ false → q + directories_offset (is_pe32_plus b q) + 8 * kept (optional_header b q).windows_fields.number_of_rva_and_sizes ≡ q + 96 + 8 * kept (windows_fields_32 b (q + 28)).number_of_rva_and_sizes
 unfolding optional_header
 minus b q w = rw w refl
 
@@ -312,12 +312,12 @@ pub magic_is : (b : List ℕ) (q : ℕ) → (optional_header b q).standard_field
 unfolding optional_header
 magic_is b q = magic_by (is_pe32_plus b q) b q
 
-count_is : (b : List ℕ) (q : ℕ) → length (optional_header b q).data_directories ≡ kept (optional_header b q).windows_fields.number_of_rva_and_sizes
+pub count_is : (b : List ℕ) (q : ℕ) → length (optional_header b q).data_directories ≡ kept (optional_header b q).windows_fields.number_of_rva_and_sizes
 unfolding optional_header
 count_is b q = length-each _ _
 
 -- where the directories end
-end_is : (t : Bool) (b : List ℕ) (p : ℕ) → t ≡ false →
+pub end_is : (t : Bool) (b : List ℕ) (p : ℕ) → t ≡ false →
     directories_end_after p (if t then None else Some (optional_header b (p + 24))) ≡ (p + 24) + directories_offset (is_pe32_plus b (p + 24)) + 8 * kept (optional_header b (p + 24)).windows_fields.number_of_rva_and_sizes
 end_is true b p e = absurd cc
 end_is false b p e =
@@ -358,7 +358,7 @@ again_at f b mode h i at entry a some at_e s is =
     ) (optional.accepted _)
 
 -- there is an optional header
-some_optional : (t : Bool) (x o : OptionalHeaderView) → (if t then None else Some x) ≡ Some o → (t ≡ false) × (x ≡ o)
+pub some_optional : (t : Bool) (x o : OptionalHeaderView) → (if t then None else Some x) ≡ Some o → (t ≡ false) × (x ≡ o)
 some_optional true x o e = absurd cc
 some_optional false x o e = (refl, cc)
 
