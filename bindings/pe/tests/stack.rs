@@ -107,7 +107,9 @@ fn a_stack_is_whole_only_without_a_guess() {
     let outer = [0, 0, 0, 0, 0xB0, 0];
     let (scanned, called) = ([&[7, call], &outer[..]].concat(), [&[call], &outer[..]].concat());
     let chained = [&[7, 7, 0, call], &outer[..]].concat();
-    let cases: [Case; 8] = [
+    // The return address is one of code that no call precedes: what records lead on to from there is no guess.
+    let overwritten = [&[0, 0, 0, 0, 0xB0, call + 4], &outer[..]].concat();
+    let cases: [Case; 9] = [
         ("stack-whole", 12, 0x1010, &outer, json!([["top", false]]), "bottom", "the stack is whole"),
         ("stack-zero", 12, 0x1050, &[0], json!([["top", false]]), "zero", "frames may be missing or wrong"),
         ("stack-data", 12, 0x1050, &[0x30], json!([["top", false]]), "no-return-address", "no executable code"),
@@ -120,6 +122,15 @@ fn a_stack_is_whole_only_without_a_guess() {
             json!([["top", false], ["frame-pointer", true]]),
             "zero",
             "frame-pointer, a guess",
+        ),
+        (
+            "stack-overwritten",
+            12,
+            0x1010,
+            &overwritten,
+            json!([["top", false], ["records", false]]),
+            "bottom",
+            "records, after no call",
         ),
         (
             "stack-no-table",
