@@ -307,6 +307,28 @@ fn without_an_image_a_walk_is_lost() {
     );
 }
 
+/// Neither images nor a list of memory: the stack is the one that the thread names, and what a leaf function returns to is by the range
+/// of a module, as a guess.
+#[test]
+fn without_images_and_lists_a_stack_is_walked_by_ranges_of_modules() {
+    let stack: Vec<u8> = [OTHER + 0x44, 7].iter().flat_map(|it| it.to_le_bytes()).collect();
+    let data = [made::context(OTHER + 0x123, 0x2_0000), stack].concat();
+    let (kind, mut threads) = made::threads(&[(0x24, made::DUMP_DATA)]);
+    threads[28..36].copy_from_slice(&0x2_0000u64.to_le_bytes());
+    threads[36..44].copy_from_slice(&made::words(&[16, made::DUMP_DATA + 1232]));
+    let streams = [made::x64_system(), (kind, threads), made::modules(&[(OTHER, 0x1000, 9, 0, [0, 0])])];
+    let bytes = made::dump_of(&streams, &data);
+    let (said, status) = said_of("stack-ranges", &bytes, &[]);
+    let thread = &said["threads"][0];
+    let frames: Vec<_> =
+        thread["frames"].as_array().unwrap().iter().map(|it| json!([it["offset"], it["way"], it["is_guess"]])).collect();
+    assert_eq!((json!(frames), &thread["end"]), (json!([[0x123, "top", false], [0x44, "leaf", true]]), &json!("no-module")));
+    assert_eq!((status, &said["memory"]["pieces"], &said["memory"]["bytes"]), (LOST, &json!(1), &json!(16)));
+    let folder = Folder::new("stack-ranges-text");
+    let (out, _, _) = run(&["stack", &folder.file("a.dmp", &bytes)]);
+    assert!(out.contains("leaf, a guess") && out.contains("--images FOLDER"), "{out}");
+}
+
 #[test]
 fn a_folder_and_a_thread_that_are_not_there_are_said() {
     let folder = Folder::new("stack-missing");
