@@ -2050,7 +2050,8 @@ typedef struct {
     uint32_t has_returned;          /* 0 before the first call, else 1 */
     uint32_t way;                   /* PE_C_WAY_* */
     uint32_t has_called;            /* 1 where the function of the frame has called: rip is the return address. 0 where rip
-                                       is the instruction that is about to run */
+                                       is the instruction that is about to run. It is 0 by PE_C_WAY_RECORDS too where no
+                                       call precedes rip, as where a return address was overwritten */
     uint32_t end;                   /* PE_C_END_* of a walk that is over */
     uint32_t error;                 /* a result, for PE_C_END_RECORDS, _LONG_CHAIN and _STEP; else 0 */
     uint32_t is_searched;           /* 1 where a call found that the pieces of memory lie in it, ascend and do not overlap:
@@ -3813,7 +3814,8 @@ uint32_t pe_c_symbol_name_failure(const uint8_t *bytes, size_t length, const pe_
  *
  * The stack of a thread: pe_c_dump_thread_context reads the registers that count, those of the exception first. The images
  * of the modules make pe_c_module records: pe_c_is_image_of says which image is a module's. pe_c_dump_memory_at and
- * pe_c_next_memory64 return the pieces of memory, which pe_c_next_frame takes with the bytes of the dump as its memory.
+ * pe_c_next_memory64 return the pieces of memory, which pe_c_next_frame takes with the bytes of the dump as its memory. The
+ * stacks that the records of threads name are pieces after these: a dump without a list of memory has them alone.
  * pe_c_memory_runs puts them in order, for walks over many pieces, and by pe_c_memory_ranges the dump's own memory has
  * images.
  *
@@ -3862,7 +3864,7 @@ typedef struct {
 /* The memory of a stack, MINIDUMP_MEMORY_DESCRIPTOR. It may be empty: the pieces of memory have what there is of it. */
 typedef struct {
     uint64_t start_of_memory_range; /* address of the first byte */
-    pe_c_dump_location memory;      /* where its bytes are */
+    pe_c_dump_location memory;      /* where its bytes are: nowhere at offset 0, which full dumps say, where the header is */
 } pe_c_dump_stack;
 
 /* A thread, MINIDUMP_THREAD. */

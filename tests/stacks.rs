@@ -13,7 +13,7 @@ use pe_frame::{Memory, MemoryPiece, StackFrame, WalkEnd, Way};
 use pe_minidump::{Dump, DumpError, FixedFileInfo, Location, MemoryDescriptor, Module, Thread};
 use pe_stacks::{
     IndexedMemory, IndexedModules, MemoryRuns, ModuleImage, RangeEntry, Stacks, ThreadFrames,
-    is_image_of, memory_pieces, put_memory_runs, thread_context_arm64, thread_context_x64,
+    is_image_of, memory_and_stacks, memory_pieces, put_memory_runs, thread_context_arm64, thread_context_x64,
 };
 use std::alloc::{AllocError, Global};
 use std::test::Fail;
@@ -160,6 +160,36 @@ fn pieces_of_both_lists(rt: HostRuntime) -> Result<(), Fail> {
     // A list that is refused has none.
     let bytes = with_stream(alloc, 5, b"\x02\0\0\0")?;
     assert!(rt; memory_pieces(alloc, &Dump::parse(&bytes)?)?.is_empty());
+    Ok(())
+}
+
+/// The stacks that threads name come after both lists. At offset 0, which full dumps say of all stacks, there is none.
+#[test]
+fn stacks_of_threads_come_last(rt: HostRuntime) -> Result<(), Fail> {
+    let alloc = rt.alloc();
+    let mut bytes = image(
+        alloc,
+        176,
+        &[
+            (0, b"MDMP\x93\xA7\0\0\x02\0\0\0\x20\0\0\0"),
+            (32, b"\x05\0\0\0\x14\0\0\0\x38\0\0\0"),
+            (44, b"\x03\0\0\0\x64\0\0\0\x4C\0\0\0"),
+            (56, b"\x01\0\0\0\0\x10\0\0\0\0\0\0\x04\0\0\0\x20\0\0\0"),
+            (76, b"\x02"),
+            (104, b"\0\x10\0\0\0\0\0\0\x08\0\0\0\x2C\0\0\0"),
+            (152, b"\0\x20\0\0\0\0\0\0\x08\0\0\0"),
+        ],
+    )?;
+    let pieces = memory_and_stacks(alloc, &Dump::parse(&bytes)?)?;
+    assert_eq!(rt; (pieces.len(), pieces[0]), (2, piece(0x1000, 32, 4)));
+    assert_eq!(rt; pieces[1], piece(0x1000, 44, 8));
+    // Without a list of memory.
+    bytes[32] = 0;
+    let pieces = memory_and_stacks(alloc, &Dump::parse(&bytes)?)?;
+    assert_eq!(rt; (pieces.len(), pieces[0]), (1, piece(0x1000, 44, 8)));
+    // Threads that are refused name none.
+    bytes[48] = 1;
+    assert!(rt; memory_and_stacks(alloc, &Dump::parse(&bytes)?)?.is_empty());
     Ok(())
 }
 

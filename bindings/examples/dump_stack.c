@@ -45,6 +45,23 @@ static uint32_t read_memory(void)
     return result;
 }
 
+/* Adds the stacks that the records of threads name: a dump without a list has these alone. At offset 0 is the header. */
+static uint32_t read_stacks(void)
+{
+    pe_c_range stream = PE_C_EMPTY;
+    pe_c_dump_thread thread = PE_C_EMPTY;
+    uint32_t result = pe_c_dump_stream(dump, dump_length, &info.directory, PE_C_THREAD_LIST_STREAM, &stream);
+    for (uint64_t i = 0; result == PE_C_DONE && piece_count < MOST_PIECES; i++) {
+        result = pe_c_dump_thread_at(dump, dump_length, &stream, i, &thread);
+        pe_c_dump_location at = thread.stack.memory;
+        if (result == PE_C_DONE && at.rva != 0 && at.rva < dump_length) {
+            uint64_t there = at.size < dump_length - at.rva ? at.size : dump_length - at.rva;
+            pieces[piece_count++] = (pe_c_memory_piece){thread.stack.start_of_memory_range, at.rva, there};
+        }
+    }
+    return result;
+}
+
 /* Puts them in order. */
 static uint32_t order_memory(void)
 {
@@ -125,6 +142,8 @@ int main(int argc, char **argv)
     }
     if (result == PE_C_DONE)
         result = read_memory();
+    if (result == PE_C_DONE || result == PE_C_NOTHING)
+        result = read_stacks();
     if (result == PE_C_DONE || result == PE_C_NOTHING)
         result = order_memory();
     if (result == PE_C_DONE)

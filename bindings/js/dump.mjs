@@ -103,18 +103,25 @@ export class Dump extends File {
     return this.utf16(this.call('pe_c_dump_text', { rva }), { isWhole: true });
   }
 
-  /** The stacks that the records of threads name, as far as the file has them. */
+  /** The stacks that the records of threads name, as far as the file has them: at offset 0, which full dumps say of all stacks, it has
+   * its header. */
   *#stacks() {
     for (const { stack: { start_of_memory_range: start, memory } } of this.list('threads')) {
-      yield { start, offset: BigInt(memory.rva), length: BigInt(Math.max(0, Math.min(memory.size, this.length - memory.rva))) };
+      const length = BigInt(Math.max(0, Math.min(memory.size, this.length - memory.rva)));
+      if (memory.rva !== 0) yield { start, offset: BigInt(memory.rva), length };
     }
   }
 
   /** The memory of both lists, and the stacks of threads that these lack, as pieces in ascending order, apart: an address is that of the
    * first piece that has it. */
   runs() {
-    const pieces = [...this.list('pieces'), ...this.fullPieces()].map((it) => it.memory), starts = new Set(pieces.map((it) => it.start));
-    for (const it of this.#stacks()) if (!starts.has(it.start)) pieces.push(it);
+    const pieces = [], longest = new Map();
+    for (const it of [...[...this.list('pieces'), ...this.fullPieces()].map((piece) => piece.memory), ...this.#stacks()]) {
+      // No byte of a piece counts where one before it starts there too and has no fewer bytes: threads may share one stack.
+      if (longest.get(it.start) >= it.length) continue;
+      longest.set(it.start, it.length);
+      pieces.push(it);
+    }
     const room = (most) => Array.from({ length: most * pieces.length }, () => ({})), runs = room(2);
     return runs.slice(0, Number(this.call('pe_c_memory_runs', { pieces, entries: room(4), runs })));
   }

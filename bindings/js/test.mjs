@@ -941,19 +941,29 @@ test('why a process crashed, in words', () => {
   }
 });
 
-test('the stack of a thread is memory without a list', () => {
-  const bytes = Uint8Array.from(readFileSync(join(folder, 'x64.dmp'))), view = new DataView(bytes.buffer), x64 = library.openDump(bytes);
-  const [piece] = x64.runs();
+/** The memory of x64.dmp with this stack in its threads, and so many bytes of a piece in its list of memory; without lists for 0. */
+function runsWith({ start, offset, length }, listed) {
+  const bytes = Uint8Array.from(readFileSync(join(folder, 'x64.dmp'))), view = new DataView(bytes.buffer);
   for (let i = 0, entry = view.getUint32(12, true); i < 12; i++, entry += 12) {
     const kind = view.getUint32(entry, true), stream = view.getUint32(entry + 8, true);
-    if ([5, 9].includes(kind)) view.setUint32(entry, 0, true);
+    if (kind === 9 || (kind === 5 && !listed)) view.setUint32(entry, 0, true);
+    if (kind === 5) view.setUint32(stream + 12, listed, true);
     if (kind === 3) {
-      view.setBigUint64(stream + 28, piece.start, true);
-      view.setUint32(stream + 36, Number(piece.length), true);
-      view.setUint32(stream + 40, Number(piece.offset), true);
+      view.setBigUint64(stream + 28, start, true);
+      view.setUint32(stream + 36, Number(length), true);
+      view.setUint32(stream + 40, Number(offset), true);
     }
   }
-  assert.deepEqual(library.openDump(bytes).runs(), [piece]);
+  return library.openDump(bytes).runs();
+}
+
+test('the stack of a thread is memory that the lists lack', () => {
+  const [piece] = library.openDump(readFileSync(join(folder, 'x64.dmp'))).runs();
+  assert.deepEqual(runsWith(piece, 0), [piece]);
+  assert.deepEqual(runsWith(piece, 8), [piece]);
+  assert.deepEqual(runsWith({ ...piece, length: 4n }, 8), [{ ...piece, length: 8n }]);
+  // At offset 0, which full dumps say of all stacks, the file has its header.
+  assert.deepEqual([0, 8].map((it) => runsWith({ ...piece, offset: 0n }, it)), [[], [{ ...piece, length: 8n }]]);
 });
 
 test('what no file, no mode and no list is, is said', () => {

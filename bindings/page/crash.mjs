@@ -69,7 +69,8 @@ function framesOf(process, dump, thread, most, modules, said) {
     const ip = isArm64 ? it.registers.pc : it.registers.rip;
     const before = modules[lastUpTo(modules, ip, (one) => one.base_va)];
     const module = before && ip < before.base_va + BigInt(before.size) ? before : null;
-    return { ip_va: ip, module: module && module.name, offset: module && ip - module.base_va, way: WAYS[it.way], is_guess: it.is_guess === 1 };
+    return { ip_va: ip, module: module && module.name, offset: module && ip - module.base_va, way: WAYS[it.way],
+      has_called: it.has_called === 1, is_guess: it.is_guess === 1 };
   });
   return { frames, end: ENDS[walk.end] };
 }

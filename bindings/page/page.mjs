@@ -240,7 +240,7 @@ function showDump(to, { reason, address_va: address, threads, modules, refused: 
     add(to, 'h3', `Thread ${id}${isCrashed ? ', which crashed' : ''}`);
     add(to, 'p', end === null ? 'not walked' : END_WORDS[end] ?? 'LOST', 'faint');
     table(to, ['Frame', 'Place', 'Address', 'Found by'], frames.map((it, i) => [i, place(it), hex(it.ip_va),
-      `${it.way}${it.is_guess ? ', a guess' : ''}`]), [0, 2]);
+      `${it.way}${it.way === 'records' && !it.has_called ? ', after no call' : ''}${it.is_guess ? ', a guess' : ''}`]), [0, 2]);
   });
   add(to, 'h3', count(modules.length, 'module'));
   table(to, ['Name', 'Base', 'Size', 'Image from'], modules.map((it) => [shown(it), hex(it.base_va), hex(it.size), it.image ?? 'none']), [1, 2]);

@@ -237,10 +237,27 @@ static void begin(char *started, char *named)
 
 char after_marks[1];
 
+enum { MOST_OF_A_STACK = 1 << 20 };
+
+/* Says that this thread runs on the stack on which it crashed, as fibers do: dumps have no other. A goroutine's is memory of Go's own. */
+static void say_stack(char *pointer)
+{
+    NT_TIB *known = (NT_TIB *)NtCurrentTeb();
+    MEMORY_BASIC_INFORMATION region;
+    if ((pointer >= (char *)known->StackLimit && pointer < (char *)known->StackBase) || !VirtualQuery(pointer, &region, sizeof region))
+        return;
+    char *end = (char *)region.BaseAddress + region.RegionSize;
+    known->StackLimit = region.BaseAddress;
+    known->StackBase = end - pointer < MOST_OF_A_STACK ? end : pointer + MOST_OF_A_STACK;
+}
+
 /* The first fault is dumped, before handlers of the program see it. */
 static LONG CALLBACK on_fault(EXCEPTION_POINTERS *exception)
 {
-    return exception->ExceptionRecord->ExceptionCode >> 28 == 0xC ? on_crash(exception) : EXCEPTION_CONTINUE_SEARCH;
+    if (exception->ExceptionRecord->ExceptionCode >> 28 != 0xC)
+        return EXCEPTION_CONTINUE_SEARCH;
+    say_stack((char *)exception->ContextRecord->Rsp);
+    return on_crash(exception);
 }
 
 /* For a program in another language: `started` is one of this file, which writes dumps. */

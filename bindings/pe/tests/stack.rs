@@ -107,7 +107,9 @@ fn a_stack_is_whole_only_without_a_guess() {
     let outer = [0, 0, 0, 0, 0xB0, 0];
     let (scanned, called) = ([&[7, call], &outer[..]].concat(), [&[call], &outer[..]].concat());
     let chained = [&[7, 7, 0, call], &outer[..]].concat();
-    let cases: [Case; 8] = [
+    // The return address is one of code that no call precedes: what records lead on to from there is no guess.
+    let overwritten = [&[0, 0, 0, 0, 0xB0, call + 4], &outer[..]].concat();
+    let cases: [Case; 9] = [
         ("stack-whole", 12, 0x1010, &outer, json!([["top", false]]), "bottom", "the stack is whole"),
         ("stack-zero", 12, 0x1050, &[0], json!([["top", false]]), "zero", "frames may be missing or wrong"),
         ("stack-data", 12, 0x1050, &[0x30], json!([["top", false]]), "no-return-address", "no executable code"),
@@ -120,6 +122,15 @@ fn a_stack_is_whole_only_without_a_guess() {
             json!([["top", false], ["frame-pointer", true]]),
             "zero",
             "frame-pointer, a guess",
+        ),
+        (
+            "stack-overwritten",
+            12,
+            0x1010,
+            &overwritten,
+            json!([["top", false], ["records", false]]),
+            "bottom",
+            "records, after no call",
         ),
         (
             "stack-no-table",
@@ -294,6 +305,28 @@ fn without_an_image_a_walk_is_lost() {
         out.contains("1 module without one, 1 stack lost: --images FOLDER reads the images below a folder"),
         "{out}"
     );
+}
+
+/// Neither images nor a list of memory: the stack is the one that the thread names, and what a leaf function returns to is by the range
+/// of a module, as a guess.
+#[test]
+fn without_images_and_lists_a_stack_is_walked_by_ranges_of_modules() {
+    let stack: Vec<u8> = [OTHER + 0x44, 7].iter().flat_map(|it| it.to_le_bytes()).collect();
+    let data = [made::context(OTHER + 0x123, 0x2_0000), stack].concat();
+    let (kind, mut threads) = made::threads(&[(0x24, made::DUMP_DATA)]);
+    threads[28..36].copy_from_slice(&0x2_0000u64.to_le_bytes());
+    threads[36..44].copy_from_slice(&made::words(&[16, made::DUMP_DATA + 1232]));
+    let streams = [made::x64_system(), (kind, threads), made::modules(&[(OTHER, 0x1000, 9, 0, [0, 0])])];
+    let bytes = made::dump_of(&streams, &data);
+    let (said, status) = said_of("stack-ranges", &bytes, &[]);
+    let thread = &said["threads"][0];
+    let frames: Vec<_> =
+        thread["frames"].as_array().unwrap().iter().map(|it| json!([it["offset"], it["way"], it["is_guess"]])).collect();
+    assert_eq!((json!(frames), &thread["end"]), (json!([[0x123, "top", false], [0x44, "leaf", true]]), &json!("no-module")));
+    assert_eq!((status, &said["memory"]["pieces"], &said["memory"]["bytes"]), (LOST, &json!(1), &json!(16)));
+    let folder = Folder::new("stack-ranges-text");
+    let (out, _, _) = run(&["stack", &folder.file("a.dmp", &bytes)]);
+    assert!(out.contains("leaf, a guess") && out.contains("--images FOLDER"), "{out}");
 }
 
 #[test]

@@ -531,6 +531,19 @@ class Dumps(unittest.TestCase):
     def test_the_stack_of_a_thread_is_memory_without_a_list(self):
         dump, stack = self.in_pieces(0, is_listed=False)
         self.assertEqual((dump.memory_list, dump.memory64, dump.pieces), ((), (), (stack,)))
+        # At offset 0, which full dumps say of all stacks, the file has its header.
+        data, (address, offset, length) = bytearray(dump.memory), stack
+        struct.pack_into("<I", data, data.index(struct.pack("<QII", address, length, offset)) + 12, 0)
+        self.assertEqual(pe_c.Dump(bytes(data)).pieces, ())
+
+    def test_the_stack_of_a_thread_comes_after_the_lists(self):
+        """Of a list that has 8 bytes at its start the stack has what follows them."""
+        dump, (address, offset, length) = self.in_pieces(0)
+        data, directory = bytearray(dump.memory), dump.header.directory.offset
+        index, = [i for i, it in enumerate(dump.entries) if it.stream_type == 5]
+        struct.pack_into("<I", data, directory + 12 * index + 4, 20)
+        struct.pack_into("<IQII", data, dump.entries[index].location.rva, 1, address, 8, 0x20)
+        self.assertEqual(pe_c.Dump(bytes(data)).pieces, ((address, 0x20, 8), (address + 8, offset + 8, length - 8)))
 
     def test_reasons(self):
         data = bytearray(bytes_of("x64.dmp"))

@@ -100,7 +100,7 @@ pub struct Frame<R = Registers> {
     /// How they were found.
     pub way: Way,
     /// Whether its function has called. If not, `rip` or `pc` is that of the instruction that is about to run: in the top frame,
-    /// in one that an interrupt stopped, and in one that records lead to where no call ends there, which was interrupted too.
+    /// in one that an interrupt stopped, and in one that records lead to where no call ends there, which was interrupted too, or whose return address was overwritten.
     pub has_called: bool,
     /// Whether it may be wrong: nothing proves that it is the caller, or it follows a frame of which this holds. What a scan or a
     /// frame pointer finds is a guess, and so is the caller of code of which no function table says that it is a leaf function: in a module without

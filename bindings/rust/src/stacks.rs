@@ -13,7 +13,7 @@ use crate::image::{number_of, Error, Image, Layout, Mode};
 use crate::shown;
 use crate::stack_walk::{End, Frame, Frames, MachineRegisters, Module};
 use crate::sys::{self, DumpModule, DumpThread, ImageInfo, MemoryPiece, Range, RangeEntry};
-use alloc::collections::BTreeSet;
+use alloc::collections::BTreeMap;
 use alloc::vec;
 use alloc::vec::Vec;
 use core::fmt;
@@ -57,13 +57,20 @@ fn run_at(runs: &[MemoryPiece], address: u64) -> Option<&MemoryPiece> {
     runs.get(after.checked_sub(1)?).filter(|it| address - it.start < it.length)
 }
 
-/// Adds the stacks of threads that no list starts a piece with: a dump without a list of memory has these.
+/// Adds the stacks that the records of threads name, after the pieces of the lists: a dump without a list of memory has these. One is
+/// left out where a piece before it starts there too and has no fewer bytes; and at offset 0, which full dumps say of all stacks: there
+/// the file has its header.
 fn add_stacks(dump: &Dump<'_>, listed: &mut Vec<MemoryPiece>, lost: &mut u64) {
-    let starts: BTreeSet<u64> = listed.iter().map(|it| it.start).collect();
-    for thread in dump.threads().ok().flatten().into_iter().flatten() {
+    let mut longest = BTreeMap::<u64, u64>::new();
+    for it in listed.iter() {
+        let length = longest.entry(it.start).or_default();
+        *length = it.length.max(*length);
+    }
+    for thread in dump.threads().ok().flatten().into_iter().flatten().filter(|it| it.stack.memory.rva != 0) {
         let (start, at) = (thread.stack.start_of_memory_range, thread.stack.memory);
-        if !starts.contains(&start) {
-            let there = (dump.bytes().len() as u64).saturating_sub(at.rva.into()).min(at.size.into());
+        let there = (dump.bytes().len() as u64).saturating_sub(at.rva.into()).min(at.size.into());
+        if longest.get(&start).map_or(true, |it| *it < there) {
+            longest.insert(start, there);
             *lost = lost.saturating_add(u64::from(at.size) - there);
             listed.push(MemoryPiece { start, offset: at.rva.into(), length: there });
         }

@@ -1232,7 +1232,8 @@ pub struct StackWalk {
     /// `PE_C_WAY_*`.
     pub way: u32,
     /// 1 where the function of the frame has called: rip is the return address. 0 where rip is the instruction that is
-    /// about to run.
+    /// about to run. It is 0 by `PE_C_WAY_RECORDS` too where no call precedes rip, as where a return address was
+    /// overwritten.
     pub has_called: u32,
     /// `PE_C_END_*` of a walk that is over.
     pub end: u32,
@@ -2367,7 +2368,7 @@ const _: () = assert!(core::mem::size_of::<DumpEntry>() == 12);
 pub struct DumpThreadStack {
     /// Address of the first byte.
     pub start_of_memory_range: u64,
-    /// Where its bytes are.
+    /// Where its bytes are: nowhere at offset 0, which full dumps say, where the header is.
     pub memory: DumpLocation,
 }
 const _: () = assert!(core::mem::size_of::<DumpThreadStack>() == 16);

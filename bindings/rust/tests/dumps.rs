@@ -140,6 +140,21 @@ fn the_stack_of_a_thread_is_memory_without_a_list() -> Result<(), Error> {
     Ok(())
 }
 
+/// The lists keep their bytes, and a stack has those that they lack, also after a piece that starts where it does. At offset 0, which
+/// full dumps say of all stacks, the file has its header.
+#[test]
+fn the_stack_of_a_thread_comes_after_the_lists() -> Result<(), Error> {
+    let thread = |start: u32, size: u32, rva: u32| words(&[1, 0, 0, 0, 0, 0, start, 0, size, rva, 0, 0]);
+    let threads = [words(&[3]), thread(0x2_0000, 24, DUMP_DATA + 8), thread(0x2_0000, 16, DUMP_DATA), thread(0x3_0000, 64, 0)];
+    let streams = [x64_system(), pieces(&[(0x2_0000, 8, DUMP_DATA)]), (3, threads.concat())];
+    let bytes = dump_of(&streams, &(0..32).collect::<Vec<u8>>());
+    let memory = DumpMemory::new(&Dump::parse(&bytes)?);
+    let found: Vec<_> = memory.pieces().iter().map(|it| (it.start, it.offset, it.length)).collect();
+    let wanted = [(0x2_0000, 0, 8), (0x2_0008, 16, 16)].map(|it| (it.0, u64::from(DUMP_DATA) + it.1, it.2));
+    assert_eq!((found, memory.lost()), (wanted.to_vec(), 0));
+    Ok(())
+}
+
 /// The image as loaded, in one piece.
 fn loaded(file: &[u8]) -> Vec<u8> {
     let mut memory = file[..0x400].to_vec();

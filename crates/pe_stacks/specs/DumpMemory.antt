@@ -1,13 +1,15 @@
 -- The memory of a dump: the pieces of both of its lists, as walks take them.
-use Rattle.std.specs.Prelude.{◌≡◌, ℕ, ◌+◌, ◌-◌, ◌*◌, ◌/◌, ◌<◌, ◌&&◌, Bool, true, false, List, [], ◌++◌, length, map, nat_le, nat_lt, Option, Some, None, Result, Ok, Err, min}
+use Rattle.std.specs.Prelude.{◌≡◌, ℕ, ◌+◌, ◌-◌, ◌*◌, ◌/◌, ◌<◌, ◌==◌, ◌&&◌, Bool, true, false, List, [], ◌∷◌, ◌++◌, length, map, nat_le, nat_lt, Option, Some, None, Result, Ok, Err, min, if◌then◌else◌}
+use Rattle.std.specs.List.{flat_map}
 use Rattle.pe_core.specs.Bytes.{le}
 use Rattle.pe_frame.specs.declared.memory_list.MemoryPiece.{MemoryPiece}
 use Rattle.pe_minidump.specs.Dumps.{DumpView, read_stream}
 use Rattle.pe_minidump.specs.Memory64.{Listed64, memory64_of, pieces_from, size_of_first, size_of_piece}
 use Rattle.pe_minidump.specs.Pieces.{PieceView, piece}
 use Rattle.pe_minidump.specs.Refusals.{DumpRefusal}
-use Rattle.pe_minidump.specs.Streams.{memory_list}
+use Rattle.pe_minidump.specs.Streams.{memory_list, threads}
 use Rattle.pe_minidump.specs.declared.memory.MemoryDescriptor.{MemoryDescriptor}
+use Rattle.pe_minidump.specs.declared.thread.Thread.{Thread}
 
 -- a piece, and where the bytes are that the file has of it
 abbrev pub listed_piece : List ℕ → PieceView → MemoryPiece
@@ -38,6 +40,20 @@ listed_all file l = map (listed_piece file) (pieces_from file l.ranges l.base_rv
 -- the pieces of both lists, those of the memory list first
 abbrev pub pieces_of : DumpView → List MemoryPiece
 pieces_of d = elements (described_all d.bytes) (memory_list d) ++ elements (listed_all d.bytes) (read_stream memory64_of d 9)
+
+-- ---- the stacks that threads name
+
+-- the stack of a thread: none at offset 0, where the file has its header
+abbrev pub stack_of : List ℕ → Thread → List MemoryPiece
+stack_of file t = if ((t.stack).memory).rva == 0 then [] else described file t.stack ∷ []
+
+-- those of all threads
+abbrev pub stacks_of : List ℕ → List Thread → List MemoryPiece
+stacks_of file ts = flat_map (stack_of file) ts
+
+-- the pieces of both lists, and after them the stacks
+abbrev pub pieces_and_stacks_of : DumpView → List MemoryPiece
+pieces_and_stacks_of d = pieces_of d ++ elements (stacks_of d.bytes) (threads d)
 
 -- ---- a full dump's list by its numbers
 

@@ -1,8 +1,8 @@
 //! The stacks of a minidump: the frames of its threads, over the memory, the modules and the images that it leads to
 //! ([MiniDumpReadDumpStream](https://learn.microsoft.com/windows/win32/api/minidumpapiset/)).
 //!
-//! A caller reads the dump by `pe_minidump`. `memory_pieces` lists its memory, of which `IndexedMemory` is made, or `MemoryRuns`,
-//! which has it in ascending order. For each module the caller looks for an image, wherever that may be, and `ModuleImage::parse` takes
+//! A caller reads the dump by `pe_minidump`. `memory_and_stacks` lists its memory, of which `IndexedMemory` is made, or
+//! `MemoryRuns`, which has it in ascending order. For each module the caller looks for an image, wherever that may be, and `ModuleImage::parse` takes
 //! it if its time stamp and its size are those of the module; `ModuleImage::from_memory` takes it from the dump's own memory.
 //! `IndexedModules` has them in the order of the dump. `thread_context_x64` and `thread_context_arm64` return the
 //! registers with which a walk starts, those of the exception first, and `Stacks` the frames of each thread, with a bound on all
@@ -26,7 +26,7 @@ mod stacks;
 
 pub use context::{thread_context_arm64, thread_context_x64};
 pub use image::{ModuleImage, is_image_of};
-pub use memory::{IndexedMemory, memory_pieces};
+pub use memory::{IndexedMemory, memory_and_stacks, memory_pieces};
 pub use modules::IndexedModules;
 pub use names::{FunctionStart, NamedAddresses, NamedFunction, name_of};
 pub use pe_core::RangeEntry;

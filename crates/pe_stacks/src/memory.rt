@@ -11,14 +11,14 @@ ghost use Rattle.pe_frame.specs.MemoryLists.{are_inside, listed_byte, lists_byte
 ghost use Rattle.pe_frame.specs.declared.memory_list.MemoryPiece.{MemoryPiece};
 ghost use Rattle.pe_minidump.specs.Dumps.{dump_view};
 ghost use Rattle.pe_minidump.specs.Pieces.{piece_view};
-ghost use Rattle.pe_minidump.specs.Records.{memory_descriptor};
+ghost use Rattle.pe_minidump.specs.Records.{memory_descriptor, thread};
 ghost use Rattle.pe_minidump.specs.Tables.{records};
-ghost use Rattle.pe_stacks.specs.DumpMemory.{described_all, listed_all, listed_piece, pieces_of};
+ghost use Rattle.pe_stacks.specs.DumpMemory.{described_all, listed_all, listed_piece, pieces_and_stacks_of, pieces_of, stacks_of};
 
 use crate::ranges::IndexedRanges;
 use pe_core::{Result, u64_at};
 use pe_frame::{Memory, MemoryList, MemoryPiece};
-use pe_minidump::{Dump, Memory64List, MemoryDescriptor, Table};
+use pe_minidump::{Dump, Memory64List, MemoryDescriptor, Table, Thread};
 use std::alloc::{AllocError, Allocator};
 
 /// The bytes of a word.
@@ -84,6 +84,42 @@ pub fn memory_pieces<A: Allocator>(
     }
     if let Ok(Some(list)) = dump.memory64_list() {
         push_list_64(dump, &list, &mut pieces)?;
+    }
+    Ok(pieces)
+}
+
+/// Appends the stacks of threads.
+fn push_stacks<A: Allocator>(
+    dump: &Dump<'_>,
+    threads: &Table<'_, Thread>,
+    pieces: &mut Vec<MemoryPiece, A>,
+) -> std::result::Result<(), AllocError>
+    ensures pushed { OnOk result (pieces.new.items ≡ pieces.old.items
+        ++ stacks_of dump.now.bytes.now (records thread threads.now.bytes.now threads.now.stride threads.now.count)) }
+    ensures refused { OnErr result (0 < length (stacks_of dump.now.bytes.now (records thread threads.now.bytes.now threads.now.stride threads.now.count))) }
+{
+    for entry in threads.iter() {
+        if entry.stack.memory.rva != 0 {
+            let piece = dump.piece(entry.stack);
+            pieces.push(listed_piece(dump.bytes, &piece))?;
+        }
+    }
+    Ok(())
+}
+
+/// The same pieces, and after them the stacks that the records of threads name: a dump without a list of memory has these alone. At
+/// offset 0, which full dumps say of all stacks, there is none: the file has its header there. Error: memory runs out, which it does
+/// not where there are no pieces.
+pub fn memory_and_stacks<A: Allocator>(
+    alloc: A,
+    dump: &Dump<'_>,
+) -> std::result::Result<Vec<MemoryPiece, A>, AllocError>
+    ensures made { IfOk result (λ v. v.items ≡ pieces_and_stacks_of (dump_view dump.now)) }
+    ensures refused { IfErr result (λ e. 0 < length (pieces_and_stacks_of (dump_view dump.now))) }
+{
+    let mut pieces = memory_pieces(alloc, dump)?;
+    if let Ok(Some(threads)) = dump.threads() {
+        push_stacks(dump, &threads, &mut pieces)?;
     }
     Ok(pieces)
 }

@@ -165,6 +165,14 @@ pub fn title_of(thread: &Thread) -> String {
     format!("thread {}{name}{crashed}", thread.id)
 }
 
+/// How a frame was found. Records may lead to an address that no call precedes: to what an interrupt stopped, or where a return
+/// address was overwritten.
+fn found_by(frame: &Frame) -> String {
+    let call = if frame.way == "records" && !frame.has_called { ", after no call" } else { "" };
+    let guess = if frame.is_guess { ", a guess" } else { "" };
+    format!("{}{call}{guess}", frame.way)
+}
+
 /// The rows of a frame: the innermost function in the row of its number, and those that it is inlined in below.
 fn rows_of(index: usize, frame: &Frame, has: (bool, bool)) -> Vec<Vec<String>> {
     let (has_functions, has_lines) = has;
@@ -174,14 +182,13 @@ fn rows_of(index: usize, frame: &Frame, has: (bool, bool)) -> Vec<Vec<String>> {
         (inlined_text(&name), it.line.text())
     });
     let own = (frame.function_text(function_name), function.map_or(String::new(), |it| it.line.text()));
-    let guess = if frame.is_guess { ", a guess" } else { "" };
     let rows = inlined.chain([own]).enumerate().map(|(depth, (function, line))| {
         let of_frame = |text: String| if depth == 0 { text } else { String::new() };
         let number = of_frame(index.to_string());
         let address = of_frame(format!("{:#018x}", frame.ip_va));
         let place = of_frame(place_of(&frame.module, frame.offset, frame.ip_va));
         let named = has_functions.then_some(function).into_iter().chain(has_lines.then_some(line));
-        let way = of_frame(format!("{}{guess}", frame.way));
+        let way = of_frame(found_by(frame));
         [number, address, place].into_iter().chain(named).chain([way]).collect()
     });
     rows.collect()

@@ -1057,7 +1057,8 @@ static void add_piece(Image *self, Pieces *to, pe_c_memory_piece piece)
         to->all[to->count++] = piece;
 }
 
-/* Those of both lists, then the stacks of the threads. */
+/* Those of both lists, then the stacks of the threads: not at offset 0, which full dumps say of all stacks. There the file has its
+ * header. */
 static void add_pieces(Image *self, Pieces *to, const pe_c_range *list, pe_c_memory64_walk *full, const pe_c_range *threads)
 {
     pe_c_dump_piece it = PE_C_EMPTY;
@@ -1066,8 +1067,11 @@ static void add_pieces(Image *self, Pieces *to, const pe_c_range *list, pe_c_mem
         add_piece(self, to, it.memory);
     while (pe_c_next_memory64(BYTES, full, &it) == PE_C_DONE)
         add_piece(self, to, it.memory);
-    for (uint64_t i = 0; pe_c_dump_thread_at(BYTES, threads, i, &thread) == PE_C_DONE; i++)
-        add_piece(self, to, (pe_c_memory_piece){thread.stack.start_of_memory_range, thread.stack.memory.rva, thread.stack.memory.size});
+    for (uint64_t i = 0; pe_c_dump_thread_at(BYTES, threads, i, &thread) == PE_C_DONE; i++) {
+        pe_c_dump_location at = thread.stack.memory;
+        if (at.rva != 0)
+            add_piece(self, to, (pe_c_memory_piece){thread.stack.start_of_memory_range, at.rva, at.size});
+    }
 }
 
 /* The records of pe_c_memory_runs, in bytes. */

@@ -1113,7 +1113,7 @@ static PyStructSequence_Field row_stack_walk_fields[] = {
     {"registers", "inside the function of the frame"},
     {"address", "of a walk that is over, as `address` of a frame; else 0"},
     {"way", "PE_C_WAY_*"},
-    {"has_called", "1 where the function of the frame has called: rip is the return address. 0 where rip is the instruction that is about to run"},
+    {"has_called", "1 where the function of the frame has called: rip is the return address. 0 where rip is the instruction that is about to run. It is 0 by PE_C_WAY_RECORDS too where no call precedes rip, as where a return address was overwritten"},
     {"end", "PE_C_END_* of a walk that is over"},
     {"error", "a result, for PE_C_END_RECORDS, _LONG_CHAIN and _STEP; else 0"},
     {"is_guess", "1 where the frame may be wrong: nothing proves that it is the caller, or it follows a frame of which this holds"},
@@ -1929,7 +1929,7 @@ static PyObject *row_dump_entry(Image *self, Rows *rows, const pe_c_dump_entry *
 
 static PyStructSequence_Field row_dump_stack_fields[] = {
     {"start_of_memory_range", "address of the first byte"},
-    {"memory", "where its bytes are"},
+    {"memory", "where its bytes are: nowhere at offset 0, which full dumps say, where the header is"},
     {NULL, NULL}};
 
 static PyObject *row_dump_stack(Image *self, Rows *rows, const pe_c_dump_stack *it)
