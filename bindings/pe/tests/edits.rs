@@ -161,7 +161,7 @@ fn contents_that_resources_share_are_bounded() {
         let section = [words(&tree), vec![b'x'; 24_000]].concat();
         image(&[(b".rsrc", 0x1000, section.len() as u32, &section)], &[(RESOURCES, 0x1000, section.len() as u32)])
     };
-    // 16 times the bytes that there are and 1 MiB, by 24,000: 714 contents.
+    // 16 times the bytes that there are and 1 MiB, by 24,000: 715 contents.
     let written = edited(&folder, &made(700), "2", b"new");
     assert!(written.len() > 700 * 24_000, "{}", written.len());
     let bytes = made(720);
