@@ -21,7 +21,7 @@ HAZARDS = {
     "no resource directory, and a section at RVA 0": (0.12, None),
     "base relocations into the section": (0.25, None),
     "one content for many": (0.35, None),
-    "too many copies of one content": (0.03, "contents of the resources have more than 16 times"),
+    "too many copies of one content": (0.03, "contents of the resources, which share bytes, are too large"),
     "version information": (0.5, None),
     "symbols": (0.2, None),
     "an overlay": (0.5, None),
@@ -221,7 +221,7 @@ class Made:
             self.hazards -= OF_SECTION
         elif "two directories" in self.hazards:
             self.hazards.discard("two directories")
-        self.is_wide, self.alignment = chance.random() < 0.6, chance.choice([SECTOR, SECTOR, PAGE])
+        self.is_wide, self.is_dll, self.alignment = chance.random() < 0.6, chance.random() < 0.5, chance.choice([SECTOR, SECTOR, PAGE])
         self.leaves = [] if ALONE in self.hazards else leaves_of(chance, self.hazards)
         self.tree = Tree(self.leaves)
         self.own = None
@@ -326,8 +326,9 @@ class Made:
     def written(self):
         optional = self.optional_header()
         head = b"MZ".ljust(60, b"\0") + struct.pack("<I", 64)
+        flags = (0x22 if self.is_wide else 0x102) | 0x2000 * self.is_dll
         head += struct.pack("<4sHHIIIHH", b"PE", 0x8664 if self.is_wide else 0x14C, len(self.sections), 7, self.symbols, 2 * bool(self.symbols),
-                            len(optional), 0x2022 if self.is_wide else 0x2102) + optional
+                            len(optional), flags) + optional
         head += b"".join(struct.pack("<8sIIII12xI", it.name.encode(), it.size, it.rva, len(it.content), it.pointer, it.flags)
                          for it in self.sections)
         room = b"\xCC" if "headers without room" in self.hazards else b"\0"

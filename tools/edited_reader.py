@@ -60,11 +60,9 @@ class Read:
         return None
 
     def offset(self, rva):
-        """The file offset of an RVA, or nothing. The data of some sections reach further than their pages."""
+        """The file offset of an RVA, or nothing. What is in the file after the pages of a section is not in memory."""
         it = self.owner(rva)
-        if it is None or rva - it.rva >= it.raw:
-            it = next((it for it in self.sections if it.rva <= rva < it.rva + it.raw), None)
-        return it and it.pointer + rva - it.rva
+        return it.pointer + rva - it.rva if it and rva - it.rva < it.raw else None
 
     def memory(self, rva, length):
         """The bytes at an RVA once loaded, without what loading changes; nothing where they are not in one section. File offsets of debug
@@ -114,8 +112,7 @@ class Read:
     def debug_entries(self):
         rva, size = self.directories[DEBUG]
         place = self.offset(rva) if rva else None
-        return [] if place is None else [self.at("<IIHHIIII", place + 28 * index)[:4] + self.at("<IIII", place + 28 * index + 12)
-                                         for index in range(size // 28)]
+        return [] if place is None else [self.at("<IIHHIIII", place + 28 * index) for index in range(size // 28)]
 
     def relocations(self):
         """The RVA and the size of what each changes."""

@@ -169,7 +169,8 @@ fn contents_that_resources_share_are_bounded() {
     let out = folder.0.join("d.exe").to_str().unwrap().to_string();
     let (said, error, status) = run(&["set-resource", &file, &out, "10", "2", &content]);
     assert_eq!((said.as_str(), status, fs::metadata(&out).is_ok()), ("", 1, false));
-    assert!(error.contains("contents of the resources have more than 16 times the bytes that there are of them"), "{error}");
+    assert!(error.contains("contents of the resources, which share bytes, are too large"), "{error}");
+    assert!(error.ends_with("with a copy for each they have more than 16 times the bytes that there are\n"), "{error}");
 }
 
 /// A block of version information, with the zeros up to a multiple of four that blocks after it need.
