@@ -46,7 +46,18 @@ def texts_differ(ours, theirs):
     return differences(texts, {name: strings.get(name) for name in texts}, ".version.texts")
 
 
+def lacking(ours, theirs, at=""):
+    """The fields that pe has and ours have not, without the indexes of lists."""
+    if isinstance(ours, dict) and isinstance(theirs, dict):
+        return {f"{at}.{name}" for name in theirs if name not in ours} | {
+            it for name in ours if name in theirs for it in lacking(ours[name], theirs[name], f"{at}.{name}")}
+    if isinstance(ours, list) and isinstance(theirs, list):
+        return {it for pair in zip(ours, theirs) for it in lacking(*pair, f"{at}[]")}
+    return set()
+
+
 def unlike(ours, theirs):
-    """Where the facts of an image are not those of pe, whose file may have another name."""
+    """Where the facts of an image are not those of pe, whose file may have another name, or lack what is not in LEFT_OUT."""
     left = {name: value for name, value in ours.items() if name not in ("file", "file_kind")}
-    return differences(left, theirs) + texts_differ(ours, theirs)
+    more = sorted(lacking(ours, theirs) - LEFT_OUT.keys())
+    return differences(left, theirs) + texts_differ(ours, theirs) + [f"{it} is left out" for it in more]

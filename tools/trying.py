@@ -70,6 +70,16 @@ def contents_of(folder, kinds=("bin",)):
     return found
 
 
+def damaged_copies(folder, count, room):
+    """The paths of so many damaged copies of the images, TE images and objects of a folder, the same each time, in ROOM/damaged."""
+    bases, out = contents_of(folder, ("bin", "exe", "te", "obj")), os.path.join(room, "damaged")
+    os.mkdir(out)
+    for number in range(count):
+        with open(os.path.join(out, f"{number:06}.bin"), "wb") as file:
+            file.write(damaged(bases[number % len(bases)], number))
+    return [os.path.join(out, f"{number:06}.bin") for number in range(count)]
+
+
 def damaged(content, number):
     """A copy with some bytes changed, half of them in the headers, or truncated. The same file has the same damage
     each time."""

@@ -365,9 +365,10 @@ function fixedAlone(image) {
 /** The texts of the blocks as far as they can be read, of which a text may be damaged. */
 function textsOfBlocks(image) {
   const blocks = (walk) => list('blocks', image.items('pe_c_next_version_block', walk), (it) => it).blocks, found = {};
-  const below = (of, key) => of.flatMap((it) => (key === null || image.utf16(it.key) === key ? blocks({ ...it.children }) : []));
+  const isIt = (it, key) => key === null || image.utf16(it.key).toLowerCase() === key;
+  const below = (of, key) => of.flatMap((it) => (isIt(it, key) ? blocks({ ...it.children }) : []));
   const [root] = blocks(attempt(() => image.call('pe_c_version_blocks')) ?? { offset: 0n, length: 0n });
-  for (const it of below(below(root ? blocks({ ...root.children }) : [], 'StringFileInfo'), null)) {
+  for (const it of below(below(root ? blocks({ ...root.children }) : [], 'stringfileinfo'), null)) {
     const key = image.utf16(it.key);
     if (VERSION_NAMES.includes(key)) found[key] ??= image.utf16(it.value);
   }

@@ -69,6 +69,15 @@ fn keeps_section(image: &Image<'_>, editor: &ResourceEditor<'_>, file: &[u8]) ->
     is_emptied && Image::parse(file, Mode::Permissive).is_ok_and(|it| it.sections().len() == image.sections().len())
 }
 
+/// What is said of a refusal after its own text.
+fn more_of(error: Error) -> &'static str {
+    match error {
+        Error::EDIT_SIGNED => "; pe detach writes it without them",
+        Error::EDIT_CONTENTS => ": with a copy for each they have more than 16 times the bytes that there are",
+        _ => "",
+    }
+}
+
 /// The image after a change of its resources, delivered.
 fn deliver(
     paths: Paths<'_>,
@@ -91,11 +100,9 @@ fn deliver(
             }
             report
         }
-        Err(Failure::Refused(Error::EDIT_SIGNED)) => {
-            let refusal = Refusal::from(Error::EDIT_SIGNED);
-            Report::refused(paths.0, format_args!("{refusal}; pe detach writes it without them"))
+        Err(Failure::Refused(error)) => {
+            Report::refused(paths.0, format_args!("{}{}", Refusal::from(error), more_of(error)))
         }
-        Err(Failure::Refused(error)) => Report::refused(paths.0, Refusal::from(error)),
         Err(Failure::File) => Report::of("", Status::FileError),
         Err(Failure::Missing(which)) => {
             Report::refused(paths.0, format_args!("the image has no such resource: {which}"))

@@ -175,6 +175,16 @@ class Values(unittest.TestCase):
         self.assertIsNone(refused.fixed)
         self.assertTrue(refused.fixed_error and not refused.strings_error)
 
+    def test_blocks_of_strings_in_other_letters(self):
+        """Windows finds strings by the names of their blocks in any case."""
+        data = bytes_of("resources")
+        whole = pe_c.Image(data)
+        other = pe_c.Image(data.replace("StringFileInfo".encode("utf-16-le"), "STRINGfileinfo".encode("utf-16-le")))
+        self.assertNotEqual(bytes(other.memory), data)
+        self.assertEqual(other.versions[0].strings, whole.versions[0].strings)
+        self.assertTrue(whole.versions[0].strings)
+        self.assertEqual(other.facts()["version"], whole.facts()["version"])
+
     def test_no_name_has_no_imphash(self):
         data = bytearray(bytes_of("imports"))
         whole = pe_c.Image(bytes(data))

@@ -78,6 +78,15 @@ impl<'a> VersionBlock<'a> {
         VersionBlocks { bytes: self.bytes, walk: self.children }
     }
 
+    /// The bytes of these blocks; none of zeros, as a block may have up to a multiple of four.
+    pub(crate) fn inner(&self) -> &'a [u8] {
+        let inner = bytes_of(self.children, self.bytes).unwrap_or_default();
+        if inner.iter().all(|it| *it == 0) {
+            return &[];
+        }
+        inner
+    }
+
     /// The languages and code pages in the value, if the block is `Translation`.
     pub fn languages(&self) -> impl Iterator<Item = VersionLanguage> + Clone + 'a {
         self.value.chunks_exact(4).map(|pair| VersionLanguage {

@@ -32,6 +32,8 @@ struct Block {
     is_text: bool,
     value: Vec<u8>,
     children: Vec<Block>,
+    /// The bytes of the blocks in it, where these are below the levels that are read.
+    inner: Vec<u8>,
 }
 
 impl fmt::Debug for Block {
@@ -55,17 +57,20 @@ fn text_of(units: &[u8]) -> String {
 
 impl Block {
     fn new(key: &str, is_text: bool, value: Vec<u8>, children: Vec<Block>) -> Self {
-        Block { key: units_of(key), is_text, value, children }
+        Block { key: units_of(key), is_text, value, children, inner: Vec::new() }
     }
 
     fn of(block: &VersionBlock<'_>, levels: usize) -> Result<Self, Error> {
-        let mut children = Vec::new();
+        let (mut children, mut inner) = (Vec::new(), Vec::new());
         if levels > 0 {
             for child in block.children() {
                 children.push(Block::of(&child?, levels - 1)?);
             }
+        } else {
+            inner.extend(block.inner());
         }
-        Ok(Block { key: block.key.0.to_vec(), is_text: block.is_text, value: block.value.to_vec(), children })
+        let (key, value) = (block.key.0.to_vec(), block.value.to_vec());
+        Ok(Block { key, is_text: block.is_text, value, children, inner })
     }
 
     fn is(&self, key: &str) -> bool {
@@ -78,6 +83,11 @@ impl Block {
         self.key.chunks_exact(2).map(lower).eq(name.chunks_exact(2).map(lower))
     }
 
+    /// Whether it has the tables of strings, as Windows finds it.
+    fn has_tables(&self) -> bool {
+        self.is_named(&units_of("StringFileInfo"))
+    }
+
     /// Whether it has this key and no value, as a block of others.
     fn is_parent(&self, key: &str) -> bool {
         self.is(key) && self.is_text && self.value.is_empty()
@@ -85,7 +95,7 @@ impl Block {
 
     /// Its bytes, at the end of the given ones.
     fn write(&self, out: &mut Vec<u8>) -> Result<(), Error> {
-        let mut children = Vec::new();
+        let mut children = self.inner.clone();
         for child in &self.children {
             child.write(&mut children)?;
         }
@@ -191,7 +201,7 @@ impl Records {
         }
         let first = u32::try_from(self.strings.len()).ok()?;
         for string in &table.children {
-            if !string.is_text || !string.children.is_empty() {
+            if !string.is_text || !string.inner.is_empty() {
                 return None;
             }
             let record = sys::VersionString { name: self.range(&string.key), text: self.range(&string.value) };
@@ -263,8 +273,8 @@ impl VersionInfo {
         VersionInfo { root: Block::new("VS_VERSION_INFO", false, fixed, [strings, others].into()) }
     }
 
-    /// The version information in the content of a resource of type `RT_VERSION`; `None` where it has no block. What a string
-    /// contains beside its value is left out.
+    /// The version information in the content of a resource of type `RT_VERSION`; `None` where it has no block. All blocks in the first
+    /// one are kept, also those that no reader knows.
     ///
     /// # Errors
     ///
@@ -318,7 +328,7 @@ impl VersionInfo {
     }
 
     fn tables(&self) -> impl Iterator<Item = &Block> {
-        self.root.children.iter().filter(|it| it.is("StringFileInfo")).flat_map(|it| &it.children)
+        self.root.children.iter().filter(|it| it.has_tables()).flat_map(|it| &it.children)
     }
 
     /// A string, of the first table that has it. Names are compared as Windows does, in ASCII letters without regard to case.
@@ -354,7 +364,7 @@ impl VersionInfo {
         }
         let (key, mut value, mut count) = (units_of(name), units_of(text), 0);
         value.extend([0, 0]);
-        let infos = self.root.children.iter_mut().filter(|it| it.is("StringFileInfo"));
+        let infos = self.root.children.iter_mut().filter(|it| it.has_tables());
         for table in infos.flat_map(|it| &mut it.children) {
             count += 1;
             let there = table.children.iter_mut().filter(|it| it.is_named(&key));
@@ -368,7 +378,7 @@ impl VersionInfo {
     /// Adds an empty table of strings, in a language and UTF-16.
     pub fn add_table(&mut self, language: u16) {
         let table = Block::new(&alloc::format!("{language:04X}{UNICODE:04X}"), true, Vec::new(), Vec::new());
-        match self.root.children.iter_mut().find(|it| it.is("StringFileInfo")) {
+        match self.root.children.iter_mut().find(|it| it.has_tables()) {
             Some(info) => info.children.push(table),
             None => self.root.children.insert(0, Block::new("StringFileInfo", true, Vec::new(), [table].into())),
         }

@@ -120,9 +120,9 @@ pub struct SyntheticImportDirectoryEntry<'a> {
     pub import_directory_entry: ImportDirectoryEntry,
     /// The DLL's name.
     pub name: &'a str,
-    /// The imports.
+    /// The imports; none where the RVA of the lookup table is unmapped. goblin 0.10 reads the address table then.
     pub import_lookup_table: Option<ImportLookupTable<'a>>,
-    /// The slots.
+    /// The slots: until the loader has filled them, they are the entries of the lookup table.
     pub import_address_table: ImportAddressTable,
 }
 

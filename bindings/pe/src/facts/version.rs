@@ -112,7 +112,7 @@ fn put_tables(blocks: VersionBlocks<'_>, language: &Label, to: &mut Vec<StringTa
     for root in blocks.take(1) {
         for information in root?.children() {
             let information = information?;
-            if information.key.to_string_lossy() != "StringFileInfo" {
+            if !information.key.to_string_lossy().eq_ignore_ascii_case("StringFileInfo") {
                 continue;
             }
             for table in information.children().take(TABLES) {

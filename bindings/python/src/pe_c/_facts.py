@@ -548,7 +548,7 @@ def tables_in(blocks: Triple, own: Facts, to: list[Facts]) -> int:
         return number
     informations, last, _ = found[0].children
     for information in informations or ():
-        if text_to_zero(information.key) != "StringFileInfo":
+        if text_to_zero(information.key).lower() != "stringfileinfo":
             continue
         tables, inner, _ = information.children
         for table in (tables or ())[:TABLES]:

@@ -359,7 +359,7 @@ class Image(Reader):
         translations: list[tuple[int, int]] = []
         for info in (it for root in blocks for it in root.children):
             for it in info.children:
-                if info.key == "StringFileInfo":
+                if info.key.lower() == "stringfileinfo":
                     table = strings.setdefault(it.key, {})
                     for text in it.children:
                         table.setdefault(text.key, text.value if isinstance(text.value, str) else "")
