@@ -75,6 +75,12 @@ function* limited(value, name = '') {
   }
 }
 
+/** Whether a part, or an entry of one, is refused. */
+function isRefused(value) {
+  if (value === null || typeof value !== 'object') return false;
+  return Object.entries(value).some(([key, it]) => (key === 'error' || key.endsWith('_error') ? it !== null : isRefused(it)));
+}
+
 function cut(to, facts) {
   const names = [...new Set(limited(facts))].map((it) => it.replaceAll('_', ' '));
   if (names.length) add(to, 'p', `Not shown whole, since the image has more: ${names.join(', ')}`, 'bad limited');
@@ -209,6 +215,7 @@ function show(to, facts) {
     return;
   }
   overview(to, facts);
+  if (!isRefused(facts)) add(to, 'p', 'No part is damaged.', 'faint accepted');
   cut(to, facts);
   hardening(to, facts.hardening);
   sections(to, facts.sections);
