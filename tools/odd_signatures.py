@@ -249,12 +249,21 @@ def digest_of(content):
     return hashlib.sha256(content[:checksum] + content[checksum + 4:entry] + content[entry + 8:table]).digest()
 
 
+def start_of_code(content):
+    """The file offset of the entry point, or of the first section's data where there is none."""
+    pe = struct.unpack_from("<I", content, 60)[0]
+    count, optional, entry = *struct.unpack_from("<H12xH", content, pe + 6), struct.unpack_from("<I", content, pe + 40)[0]
+    sections = [struct.unpack_from("<IIII", content, pe + 24 + optional + 40 * it + 8) for it in range(count)]
+    inside = [offset + entry - start for _, start, size, offset in sections if start <= entry < start + size]
+    return inside[0] if inside else sections[0][3]
+
+
 def remade(path):
-    """A copy with another byte before its certificates, and with the digest of the image and that of the signer made anew."""
+    """A copy with another byte of code, and with the digest of the image and that of the signer made anew."""
     with open(path, "rb") as file:
         content = bytearray(file.read())
-    table, old, signature = places(content)[2], digest_of(content), signature_of(path)
-    content[table - 16] ^= 1
+    old, signature = digest_of(content), signature_of(path)
+    content[start_of_code(content)] ^= 1
     signed = children(signature, children(signature, 0)[1][2])
     said = children(signature, children(signature, signed[2][1])[1][2])
     fields = signature[said[0][2]:said[0][3]] if len(said) == 1 else signature[said[0][1]:said[-1][3]]

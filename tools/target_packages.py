@@ -7,7 +7,6 @@
 Each says in BUILD of which proof it is, what is trusted beside that of the library for Linux on x86-64, and the
 SHA-256 of what was tried: the hashes of tools/try_targets are of these very files."""
 
-import hashlib
 import os
 import shutil
 import tempfile
@@ -15,11 +14,9 @@ import zipfile
 
 import npm
 from header import Header, TOP
-from targets import BINDINGS, MINGW, SOURCES, Failed, make_portable, run
+from targets import BINDINGS, MINGW, SOURCES, Failed, files_of, make_portable, proof_lines, run, sha256_of
 from wine import Wine
 
-# What was built for a target is tried as it is; these are the files that count.
-FILES = {"linux-arm64": ["libpe_c.a"], "wasm": ["pe_c.wasm", "pe_c64.wasm"]}
 TRUSTED = {
     "linux-arm64": "the kit's own target: LLVM's compiler for AArch64, as on x86-64",
     "wasm": "the kit's own target: LLVM's compiler for WebAssembly and the kit's linker; of pe_c.wasm also binaryen's lowering of the"
@@ -34,30 +31,21 @@ PORTABLE = ("trusted of this C, beside that of pe_c.wasm: wasm2c of Debian's wab
             " arguments in and out; your C compiler\n")
 
 
-def files_of(target):
-    """The files of a target's folder that are shipped."""
-    dll = f"pe_c-{Header().abi}.dll"
-    return FILES.get(target) or [dll, "libpe_c.a", "libpe_c.dll.a", "pe_c.lib", "pe_c.def"]
+def proof_text(folder):
+    """What PROOF says of the files of a target's folder, as BUILD has it."""
+    first, *more = proof_lines(folder)
+    return "".join(f"{it}\n" for it in [f"proof {first}", *(
+        it if it.startswith("sha256 ") else f"of which in the run that compiled it: {it}" for it in more)])
 
 
 def build_text(target, folder, common):
     """The file BUILD of a package."""
-    with open(os.path.join(folder, "PROOF"), encoding="utf-8") as file:
-        proof = file.read().strip()
-    first, *more = proof.split("\n")
-    lines = [f"target {target}", f"proof {first}", *[f"of which in the run that compiled it: {it}" for it in more],
-             f"trusted beside the proof {TRUSTED[target]}"]
-    for name in files_of(target):
-        with open(os.path.join(folder, name), "rb") as file:
-            lines.append(f"sha256 {name} {hashlib.sha256(file.read()).hexdigest()}")
-    return common + "".join(f"{it}\n" for it in lines)
+    return f"{common}target {target}\ntrusted beside the proof {TRUSTED[target]}\n{proof_text(folder)}"
 
 
 def program_text(program):
     """What BUILD says of the program."""
-    with open(program, "rb") as file:
-        digest = hashlib.sha256(file.read()).hexdigest()
-    return f"sha256 pe.exe {digest}\npe.exe is a program in Rust over libpe_c.a: no proof covers it\n"
+    return f"sha256 pe.exe {sha256_of(program)}\npe.exe is a program in Rust over libpe_c.a: no proof covers it\n"
 
 
 def write(text, *path):

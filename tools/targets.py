@@ -7,14 +7,15 @@
     windows-x64     libpe_c.a, pe_c-ABI.dll, libpe_c.dll.a, pe_c.lib and pe_c.def, of the LLVM code that the kit makes
                     for Linux on x86-64, changed as retarget.py says, since Windows is no target of the kit
 
-A folder of a target has these files, and PROOF, the line of the log that says what was proved; and for windows-x64
-linux.a, the archive for Linux that the kit made of the same code.
+A folder of a target has these files, and PROOF: the line of the log that says what was proved, and the SHA-256 of each of them, so
+that nothing else counts as proved by its place; and for windows-x64 linux.a, the archive for Linux that the kit made of the same code.
 
 One proof serves all. The kit keeps what it checked of a crate in the crate's out/incremental, whatever the target: the
 first target that is built proves what has changed, and for each further one the kit says in its log that it checked no
 module, `modules loaded=N checked=0`, which stands in PROOF too."""
 
 import contextlib
+import hashlib
 import os
 import re
 import resource
@@ -36,6 +37,8 @@ TRIPLES = {"linux-x64": "x86_64-unknown-linux-gnu", "linux-arm64": "aarch64-unkn
            "wasm": "wasm64-unknown-unknown", "windows-x64": "x86_64-pc-windows-gnu"}
 # Those that have a folder beside the archive for Linux on x86-64.
 OTHERS = [it for it in TRIPLES if it != "linux-x64"]
+# The files that are shipped, of windows-x64 by the number of the ABI.
+SHIPPED = {"linux-x64": ["libpe_c.a"], "linux-arm64": ["libpe_c.a"], "wasm": ["pe_c.wasm", "pe_c64.wasm"]}
 # For every x86-64 processor.
 CPU = ["--cpu", "x86-64"]
 # From nothing, on a busy machine.
@@ -94,18 +97,37 @@ def kit_that_keeps(rt, code):
         yield os.path.join(room, "bin", "rt")
 
 
+# Runs a command whose lines come on standard error too, by the number of its copy, as they are said.
+LOUD = """set -o pipefail; heard=$1; shift
+"$@" 2>&1 | while IFS= read -r line; do printf '%s\\n' "$line"; printf '%s\\n' "$line" >&"$heard"; done"""
+
+
+def run_loud(words, seconds, **more):
+    """The output of a command of minutes, which is shown as it comes."""
+    heard = os.dup(2)
+    try:
+        return run(["bash", "-c", LOUD, "bash", str(heard), *words], seconds, pass_fds=(heard,), **more)
+    finally:
+        os.close(heard)
+
+
 def archive_of_kit(rt, out, words):
     """Proves what has changed of the crates, and writes the archive by `rt lib`. The archive for Linux on x86-64
-    stays as it is. Returns the lines of the log that say what was proved, and how much of it in this run."""
+    stays as it is, unless it is the one that is written. Returns the lines of the log that say what was proved, and how much of it in
+    this run."""
     kept = f"{BUILT}.kept"
     if os.path.exists(BUILT):
         os.replace(BUILT, kept)
     try:
-        said = run([rt, "lib", *words], SECONDS_TO_PROVE, cwd=CRATE)
+        said = run_loud([rt, "lib", *words], SECONDS_TO_PROVE, cwd=CRATE)
         proofs = re.findall(r"^logic=proved .*", said, re.M)
         if not proofs:
             raise Failed(f"no proof of pe_c: {said[-2000:]}")
-        shutil.move(BUILT, out)
+        if out == BUILT:
+            with contextlib.suppress(FileNotFoundError):
+                os.remove(kept)
+        else:
+            shutil.move(BUILT, out)
     finally:
         if os.path.exists(kept):
             os.replace(kept, BUILT)
@@ -215,9 +237,46 @@ def build(target, folder, code=None, words=()):
     else:
         archive_of_code(target, code, archive)
     FINISH[target](folder)
+    sums = (f"sha256 {name} {sha256_of(os.path.join(folder, name))}" for name in files_of(target))
     with open(os.path.join(folder, "PROOF"), "w", encoding="utf-8") as file:
-        file.write(f"{proof}\n")
+        file.writelines(f"{it}\n" for it in (proof, *sums))
     return proof
+
+
+# ---- what was proved
+
+PROVED, NOT_PROVED = "is proved to return what its definition says for every byte string", "is not proved here"
+
+
+def files_of(target):
+    """The files of a target's folder that are shipped."""
+    return SHIPPED.get(target) or [f"pe_c-{Header().abi}.dll", "libpe_c.a", "libpe_c.dll.a", "pe_c.lib", "pe_c.def"]
+
+
+def sha256_of(path):
+    with open(path, "rb") as file:
+        return hashlib.sha256(file.read()).hexdigest()
+
+
+def proof_lines(folder):
+    """The lines of PROOF in the folder of a target. It fails where a file is another than the one that they speak of."""
+    path = os.path.join(folder, "PROOF")
+    if not os.path.exists(path):
+        raise Failed(f"{path} is missing, which says what was proved: build it anew")
+    with open(path, encoding="utf-8") as file:
+        lines = file.read().strip().split("\n")
+    sums = [it.split(" ") for it in lines if it.startswith("sha256 ")]
+    for _, name, digest in sums:
+        if sha256_of(os.path.join(folder, name)) != digest:
+            raise Failed(f"{os.path.join(folder, name)} is not the file of which PROOF beside it speaks: build it anew")
+    if not sums:
+        raise Failed(f"{path} names no file: build it anew")
+    return lines
+
+
+def proof_of(folder):
+    """What is said of the proof of a target's library, by its file PROOF."""
+    return PROVED if proof_lines(folder)[0].startswith("logic=proved ") else NOT_PROVED
 
 
 # ---- plain C
@@ -225,14 +284,6 @@ def build(target, folder, code=None, words=()):
 # What the module's C needs of wasm2c. Its header stands in a folder, since portable/wasm-rt.h comes before it.
 WASM2C = {"wasm2c/wasm-rt.h": "/usr/include/wasm-rt.h", "wasm-rt-impl.c": "/usr/share/wabt/wasm2c/wasm-rt-impl.c",
           "wasm-rt-impl.h": "/usr/share/wabt/wasm2c/wasm-rt-impl.h"}
-PROVED, NOT_PROVED = "is proved to return what its definition says for every byte string", "is not proved here"
-
-
-def proof_of(folder):
-    """What is said of the proof of a target's library, by its file PROOF."""
-    with open(os.path.join(folder, "PROOF"), encoding="utf-8") as file:
-        return PROVED if file.read().startswith("logic=proved ") else NOT_PROVED
-
 
 PORTABLE = """The library pe_c, compiled to WebAssembly and translated to C by wasm2c: for systems that it is not compiled for, 64-bit
 little-endian ones with a compiler of GNU C11. Its calls are those of pe.h; pe_portable.h says what is different.

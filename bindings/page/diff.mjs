@@ -1,10 +1,11 @@
 // What differs between two images, as the program pe says it (`pe diff --json`): the same rows of signers, sections, imports, delay
-// imports and exports, of debug data those of a PDB 7.0, of version information the two numbers and the texts of one language, and the
-// regions whose bytes differ.
+// imports, exports and functions (functions.mjs), of debug data those of a PDB 7.0, of version information the two numbers and the texts
+// of one language, and the regions whose bytes differ.
 
 /** A character that stands for itself: neither a control character nor one that changes how others are laid out. */
 const PLAIN = /^[^\p{Cc}\u00ad\u061c\u180e\u200b-\u200f\u2028-\u202e\u2060-\u206f\ufeff\ufff9-\ufffb\u{e0000}-\u{e007f}]$/u;
 const digits = (number) => number.toString(16).padStart(2, '0');
+export const hex = (bytes) => Array.from(bytes, digits).join('');
 const utf8 = new TextDecoder('utf-8', { fatal: true, ignoreBOM: true });
 
 /** A text of a file as it may be shown: what would move or hide other text, by numbers. */
@@ -78,7 +79,7 @@ function signers({ certificates }) {
 }
 
 const PARTS = { debug, signers, sections, imports: (it) => functions(it.imports), delay_imports: (it) => functions(it.delay_imports),
-  exports: exported, version: versions };
+  exports: exported, version: versions, functions: (it) => it.function_rows ?? [] };
 
 /** The rows by their names. Of several with one name each but the first has its number. */
 function byName(rows) {
@@ -169,7 +170,7 @@ export async function addHashes(facts, bytes) {
     section.sha256_hex = null;
     if (own.length && own.length <= left) {
       left -= own.length;
-      section.sha256_hex = Array.from(new Uint8Array(await crypto.subtle.digest('SHA-256', own)), digits).join('');
+      section.sha256_hex = hex(new Uint8Array(await crypto.subtle.digest('SHA-256', own)));
     }
   }
 }

@@ -254,7 +254,8 @@ async function noteElements(value) {
 async function factsOf(own, value, file) {
   await choose(own, value, '#files', file);
   await noteElements(value);
-  const said = `window.facts[0] && { ...window.facts[0], page_says: document.querySelector('#found .limited')?.textContent ?? null }`;
+  const text = (name) => `document.querySelector('#found .${name}')?.textContent ?? null`;
+  const said = `window.facts[0] && { ...window.facts[0], page_says: ${text('limited')}, page_accepts: ${text('accepted')} }`;
   return value(`JSON.stringify(${said}, (_, it) => typeof it === 'bigint' ? String(it) : it)`);
 }
 

@@ -5,6 +5,7 @@ import { Library } from './library.mjs';
 import { factsOf } from './facts.mjs';
 import { dumpFacts } from './crash.mjs';
 import { addHashes, differences, escaped, regions, sectionName, shown } from './diff.mjs';
+import { functionRows } from './functions.mjs';
 import { module as encoded } from './module.mjs';
 
 const LARGEST = 2 ** 31 - 2 ** 26, ROWS = 500, PERMISSIVE = 1;
@@ -73,6 +74,12 @@ function* limited(value, name = '') {
     if (it === true && own.endsWith('is_limited')) yield own === 'is_limited' ? name : own.replace(/_is_limited$/, '');
     else yield* limited(it, own);
   }
+}
+
+/** Whether a part, or an entry of one, is refused. */
+function isRefused(value) {
+  if (value === null || typeof value !== 'object') return false;
+  return Object.entries(value).some(([key, it]) => (key === 'error' || key.endsWith('_error') ? it !== null : isRefused(it)));
 }
 
 function cut(to, facts) {
@@ -209,6 +216,7 @@ function show(to, facts) {
     return;
   }
   overview(to, facts);
+  if (!isRefused(facts)) add(to, 'p', 'No part is damaged.', 'faint accepted');
   cut(to, facts);
   hardening(to, facts.hardening);
   sections(to, facts.sections);
@@ -283,7 +291,7 @@ async function read(file) {
 
 // ---- two files
 
-const PARTS = { debug: 'Debug data', signers: 'Signers', sections: 'Sections', imports: 'Imports', delay_imports: 'Delay imports', exports: 'Exports', version: 'Version' };
+const PARTS = { debug: 'Debug data', signers: 'Signers', sections: 'Sections', imports: 'Imports', delay_imports: 'Delay imports', exports: 'Exports', version: 'Version', functions: 'Functions' };
 const SIGNS = { removed: '\u2212', added: '+', changed: '~' };
 
 /** A table for each part in which something differs, and one of the bytes, above all that is shown of the files. */
@@ -311,6 +319,9 @@ async function compare(pair) {
   try {
     for (const { file } of pair) contents.push(new Uint8Array(await file.arrayBuffer()));
     for (const [i, { facts }] of pair.entries()) await addHashes(facts, contents[i]);
+    const library = await compiled, images = contents.map((it) => library.open(it, { mode: PERMISSIVE }));
+    const rows = await functionRows(images, contents);
+    pair.forEach(({ facts }, i) => { facts.function_rows = rows[i]; });
   } catch (error) {
     add(byId('found'), 'p', `The files could not be compared: ${error.message}`, 'bad');
     return null;

@@ -4,7 +4,7 @@
 //! image, into a new section. All other bytes of the file stay, but for the headers' sizes and the checksum; what follows the data
 //! of the sections, such as an installer's data, moves, and with it the pointers to COFF symbols and of debug entries to data there.
 
-use crate::image::{Error, Image};
+use crate::image::{DirectoryIndex, Error, Image, Mode};
 use crate::resources::{ResourceLeaf, ResourceName};
 use crate::shown;
 use crate::signing::file_of;
@@ -15,6 +15,7 @@ use alloc::collections::btree_map::{BTreeMap, Entry};
 use alloc::string::String;
 use alloc::vec::Vec;
 use core::fmt;
+use core::ops::Range;
 
 /// The most leaves that a tree can be written of.
 const MOST: usize = 65_535;
@@ -144,6 +145,8 @@ pub struct ResourceEditor<'a> {
     bytes: &'a [u8],
     info: sys::ImageInfo,
     resources: BTreeMap<ResourcePlace, ResourceContent<'a>>,
+    /// RVA and size of the data that are in another section than the directory.
+    elsewhere: BTreeMap<ResourcePlace, (u32, u32)>,
 }
 
 impl fmt::Debug for ResourceEditor<'_> {
@@ -153,15 +156,45 @@ impl fmt::Debug for ResourceEditor<'_> {
     }
 }
 
-/// A leaf, with its place.
-fn placed<'a>(leaf: &ResourceLeaf<'a>) -> Result<(ResourcePlace, ResourceContent<'a>), Error> {
+fn place_of(leaf: &ResourceLeaf<'_>) -> Result<ResourcePlace, Error> {
     let ResourceName::Id(language) = leaf.language else { return Err(Error::EDIT_RECORD) };
-    let place = (ResourceKey::of(leaf.resource_type), ResourceKey::of(leaf.name), language);
-    Ok((place, ResourceContent { code_page: leaf.code_page, bytes: leaf.content()?.into() }))
+    Ok((ResourceKey::of(leaf.resource_type), ResourceKey::of(leaf.name), language))
+}
+
+/// The RVAs of the section that has the resource directory, and of all sections.
+fn ranges_of(image: &Image<'_>) -> Option<(Range<u32>, Range<u32>)> {
+    let own = image.section_at(image.info().directory(DirectoryIndex::Resource)?.virtual_address)?;
+    let end = own.virtual_address.saturating_add(own.virtual_size.max(own.size_of_raw_data));
+    let first = image.sections().iter().map(|it| it.virtual_address).min()?;
+    Some((own.virtual_address..end, first..image.info().size_of_image))
+}
+
+/// The file offsets of the data entries of a tree of three levels, in its order.
+fn data_entries(file: &[u8], start: usize) -> Option<Vec<usize>> {
+    let word = |at: usize| Some(u32::from_le_bytes(file.get(at..at.checked_add(4)?)?.try_into().ok()?));
+    let entries = |at: usize| {
+        let counts = word(at + 12)?;
+        let count = (counts & 0xFFFF) as usize + (counts >> 16) as usize;
+        let target = |it| Some(start + (word(at + 20 + 8 * it)? & 0x7FFF_FFFF) as usize);
+        (0..count).map(target).collect::<Option<Vec<_>>>()
+    };
+    let mut level = alloc::vec![start];
+    for _ in 0..3 {
+        level = level.into_iter().map(entries).collect::<Option<Vec<_>>>()?.concat();
+    }
+    Some(level)
+}
+
+fn put(file: &mut [u8], at: usize, number: u32) -> Result<(), Error> {
+    let place = file.get_mut(at..).and_then(|it| it.first_chunk_mut()).ok_or(Error::SHORT)?;
+    *place = number.to_le_bytes();
+    Ok(())
 }
 
 impl<'a> ResourceEditor<'a> {
-    /// The resources that an image has; none where it has no resource directory, though nothing can be written then.
+    /// The resources that an image has; none where it has no resource directory, though nothing can be written then. Data in another
+    /// section than the directory stay there, and the resource goes on to lead to them until it is set: a packed program, as by UPX,
+    /// unpacks them when it starts. What the file has there is no content then, and what it has not is empty.
     ///
     /// # Errors
     ///
@@ -169,13 +202,23 @@ impl<'a> ResourceEditor<'a> {
     /// name; [`Error::EDIT_ORDER`] where two leaves have the same type, name and language; [`Error::EDIT_TOO_MANY`] of more than
     /// 65,535 leaves; [`Error::EDIT_NAMES`] of names of more than 16 MiB.
     pub fn of(image: &Image<'a>) -> Result<Self, Error> {
-        let (mut resources, mut names) = (BTreeMap::new(), 0);
+        let (mut resources, mut elsewhere, mut names) = (BTreeMap::new(), BTreeMap::new(), 0);
+        let ranges = ranges_of(image);
+        let is_elsewhere =
+            |rva| ranges.as_ref().is_some_and(|(own, all)| !own.contains(&rva) && all.contains(&rva));
         for leaf in image.resource_leaves()?.into_iter().flatten() {
-            let (place, content) = placed(&leaf?)?;
+            let leaf = leaf?;
+            let place = place_of(&leaf)?;
             names += place.0.size() + place.1.size();
             if names > MOST_NAMES {
                 return Err(Error::EDIT_NAMES);
             }
+            let mut content = leaf.content();
+            if is_elsewhere(leaf.rva) {
+                elsewhere.insert(place.clone(), (leaf.rva, leaf.size));
+                content = content.or(Ok(&[]));
+            }
+            let content = ResourceContent { code_page: leaf.code_page, bytes: content?.into() };
             match resources.entry(place) {
                 Entry::Occupied(_) => return Err(Error::EDIT_ORDER),
                 Entry::Vacant(free) => free.insert(content),
@@ -184,7 +227,7 @@ impl<'a> ResourceEditor<'a> {
                 return Err(Error::EDIT_TOO_MANY);
             }
         }
-        Ok(ResourceEditor { bytes: image.bytes(), info: *image.info(), resources })
+        Ok(ResourceEditor { bytes: image.bytes(), info: *image.info(), resources, elsewhere })
     }
 
     /// All resources, in the order in which they are written.
@@ -212,19 +255,29 @@ impl<'a> ResourceEditor<'a> {
         content: impl Into<Cow<'a, [u8]>>,
     ) {
         let place = (resource_type, name, language);
+        self.elsewhere.remove(&place);
         let code_page = self.resources.get(&place).map_or(0, |it| it.code_page);
         self.resources.insert(place, ResourceContent { code_page, bytes: content.into() });
     }
 
     /// Removes a resource in one language, and returns it.
     pub fn remove(&mut self, place: &ResourcePlace) -> Option<ResourceContent<'a>> {
+        self.elsewhere.remove(place);
         self.resources.remove(place)
+    }
+
+    /// All resources with what is written as their contents: nothing of data that stay where they are.
+    fn written(&self) -> impl Iterator<Item = (&ResourcePlace, u32, &[u8])> {
+        self.resources.iter().map(|(place, it)| {
+            let bytes = if self.elsewhere.contains_key(place) { &[] } else { &*it.bytes };
+            (place, it.code_page, bytes)
+        })
     }
 
     /// Puts the contents at the end of the data, and returns where each starts. Those of an image may share bytes: they go there once,
     /// so that the library sees how often they are to be written.
     fn contents(&self, data: &mut Vec<u8>) -> Result<Vec<u64>, Error> {
-        let mut contents: Vec<(usize, &[u8])> = self.resources.values().map(|it| &*it.bytes).enumerate().collect();
+        let mut contents: Vec<(usize, &[u8])> = self.written().map(|it| it.2).enumerate().collect();
         contents.sort_by_key(|it| it.1.as_ptr());
         let mut offsets = alloc::vec![0; contents.len()];
         // What is in the data by where it was: from an address on, which is at an offset of the data, up to an end.
@@ -248,18 +301,40 @@ impl<'a> ResourceEditor<'a> {
     fn records(&self) -> Result<(Vec<sys::Resource>, Vec<u8>), Error> {
         let mut data = Vec::new();
         let offsets = self.contents(&mut data)?;
-        let record =
-            |(((resource_type, name, language), content), offset): ((&ResourcePlace, &ResourceContent<'_>), u64)| {
-                sys::Resource {
-                    resource_type: resource_type.record(&mut data),
-                    name: name.record(&mut data),
-                    content: sys::Range { offset, length: content.bytes.len() as u64 },
-                    language: u32::from(*language),
-                    code_page: content.code_page,
-                }
-            };
-        let records = self.resources.iter().zip(offsets).map(record).collect();
+        let record = |(((kind, name, language), code_page, bytes), offset): ((&ResourcePlace, u32, &[u8]), u64)| {
+            sys::Resource {
+                resource_type: kind.record(&mut data),
+                name: name.record(&mut data),
+                content: sys::Range { offset, length: bytes.len() as u64 },
+                language: u32::from(*language),
+                code_page,
+            }
+        };
+        let records = self.written().zip(offsets).map(record).collect();
         Ok((records, data))
+    }
+
+    /// Lets the data entries of what stays in other sections lead there, and mends the checksum.
+    fn lead_elsewhere(&self, file: &mut [u8]) -> Result<(), Error> {
+        if self.elsewhere.is_empty() {
+            return Ok(());
+        }
+        let image = Image::parse(file, Mode::Permissive)?;
+        let has_checksum = image.info().checksum != 0;
+        let directory = image.info().directory(DirectoryIndex::Resource).ok_or(Error::EDIT_NO_DIRECTORY)?;
+        let start = image.offset(directory.virtual_address).ok_or(Error::UNMAPPED)?;
+        let entries = usize::try_from(start).ok().and_then(|it| data_entries(file, it)).ok_or(Error::SHORT)?;
+        for (place, entry) in self.resources.keys().zip(entries) {
+            if let Some((rva, size)) = self.elsewhere.get(place) {
+                put(file, entry, *rva)?;
+                put(file, entry + 4, *size)?;
+            }
+        }
+        let checksum = Image::parse(file, Mode::Permissive)?.checksum()?;
+        if has_checksum {
+            put(file, checksum.offset as usize, checksum.value)?;
+        }
+        Ok(())
     }
 
     /// The file of the image with these resources in the place of those that it has: in their section, or at the end of the image
@@ -283,10 +358,12 @@ impl<'a> ResourceEditor<'a> {
         let (records, data) = self.records()?;
         let view = sys::View::of(self.bytes, &self.info, &[], &[]);
         let (first, count, start, length) = (records.as_ptr(), records.len(), data.as_ptr(), data.len());
-        file_of(|room, written| {
+        let mut file = file_of(|room, written| {
             // SAFETY: each pointer and length are those of one slice, the view is of what is lent for the call, and the room is apart
             // from the others.
             unsafe { sys::pe_c_edit(&view, first, count, start, length, room.as_mut_ptr(), room.len(), written) }
-        })
+        })?;
+        self.lead_elsewhere(&mut file)?;
+        Ok(file)
     }
 }

@@ -82,6 +82,60 @@ fn edits_are_refused() {
     assert_eq!(ResourceEditor::of(&strict(&elsewhere)).unwrap().write(), Err(Error::EDIT_NO_HEADER_ROOM));
 }
 
+/// An image as a packer leaves it: its first section has no raw data, and a resource of 6 bytes is there at RVA 1010h. The resources of
+/// `made::editable`, with this one more, are in the second section.
+fn packed() -> Vec<u8> {
+    let bytes = made::editable();
+    let mut editor = ResourceEditor::of(&strict(&bytes)).unwrap();
+    editor.set(10.into(), 7.into(), 0x409, &b"inside"[..]);
+    let mut bytes = editor.write().unwrap();
+    let leaves: Vec<_> = strict(&bytes).resource_leaves().unwrap().unwrap().map(|it| it.unwrap().rva).collect();
+    let mut put = |at: usize, number: u32| bytes[at..at + 4].copy_from_slice(&number.to_le_bytes());
+    // The directory, SizeOfImage and a checksum.
+    put(0xD8, 0x2000);
+    put(0x90, 0x3000);
+    put(0x98, 1);
+    for (rva, new) in leaves.iter().zip([0x1010, leaves[1] + 0x1000]) {
+        let entry = (0x400..0x800).step_by(4).find(|it| bytes[*it..*it + 4] == rva.to_le_bytes()).unwrap();
+        bytes[entry..entry + 4].copy_from_slice(&u32::to_le_bytes(new));
+    }
+    bytes[0x46] = 2;
+    bytes.copy_within(0x148..0x170, 0x170);
+    bytes[0x17C..0x180].copy_from_slice(&0x2000u32.to_le_bytes());
+    bytes[0x148..0x150].copy_from_slice(b"UPX0\0\0\0\0");
+    for (at, number) in [(0x150, 0x1000), (0x154, 0x1000), (0x158, 0), (0x15C, 0x400), (0x16C, 0xE000_0080u32)] {
+        bytes[at..at + 4].copy_from_slice(&number.to_le_bytes());
+    }
+    bytes
+}
+
+#[test]
+fn data_in_other_sections_stay_there() {
+    let bytes = packed();
+    let image = strict(&bytes);
+    let (place, kind) = ((ResourceKey::Id(10), ResourceKey::Id(7), 0x409), ResourceKey::Id(24));
+    let mut editor = ResourceEditor::of(&image).unwrap();
+    assert_eq!(editor.get(&place).unwrap().bytes, &b""[..]);
+    assert_eq!(editor.get(&(kind.clone(), 1.into(), 0x407)).unwrap().bytes, &b"<old/>"[..]);
+    // In place, and at the end of the image.
+    for length in [5, 0x1000] {
+        editor.set(kind.clone(), 1.into(), 0x407, vec![b'x'; length]);
+        let written = editor.write().unwrap();
+        let image = strict(&written);
+        assert_eq!(image.sections().len(), if length == 5 { 2 } else { 3 });
+        assert_eq!(image.info().checksum, image.checksum().unwrap().value);
+        let leaves: Vec<_> = image.resource_leaves().unwrap().unwrap().map(|it| it.unwrap()).collect();
+        assert_eq!((leaves.len(), leaves[0].rva, leaves[0].size), (2, 0x1010, 6));
+        assert_eq!(leaves[1].content().unwrap(), vec![b'x'; length]);
+    }
+    // What is set is written as any other, and what is removed is gone.
+    editor.set(10.into(), 7.into(), 0x409, &b"new"[..]);
+    assert_eq!(leaves_of(&strict(&editor.write().unwrap()))[0], row("10", "7", 0x409, b"new"));
+    let mut editor = ResourceEditor::of(&image).unwrap();
+    editor.remove(&place);
+    assert_eq!(leaves_of(&strict(&editor.write().unwrap())), [row("24", "1", 0x407, b"<old/>")]);
+}
+
 #[test]
 fn shared_contents_are_written_up_to_a_bound() {
     let bytes = made::editable();
