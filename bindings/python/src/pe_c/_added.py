@@ -75,9 +75,14 @@ def _guid(guid: bytes) -> str:
     return (guid[3::-1] + guid[5:3:-1] + guid[7:5:-1] + guid[8:]).hex().upper()
 
 
+def key_text(guid: bytes, age: int) -> str:
+    """The key of a PDB, as a symbol server's path has it."""
+    return f"{_guid(guid)}{age:X}"
+
+
 def pdb_path(name: str, guid: bytes, age: int) -> str | None:
     """Where a symbol server has a PDB of this name."""
-    return _path(name, f"{_guid(guid)}{age:X}")
+    return _path(name, key_text(guid, age))
 
 
 def image_path(name: str, time_date_stamp: int, size_of_image: int) -> str | None:

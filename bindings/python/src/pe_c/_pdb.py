@@ -41,14 +41,19 @@ class PdbFrame(typing.NamedTuple):
     """from 1 on; mostly None"""
 
 
+def _core_of(stream: bytes) -> _core.Image:
+    """What reads the bytes of a stream."""
+    core, _ = _core.image(stream, 0, False, BYTES, False)
+    assert core is not None
+    return core
+
+
 class _Symbols:
     """The symbols of a module, or the public ones: the bytes of their stream, and an index."""
 
     def __init__(self, kind: int, stream: bytes, symbols: tuple[int, int], sections: bytes) -> None:
-        core, _ = _core.image(stream, 0, False, BYTES, False)
-        assert core is not None
-        self._core, self._kind, self._range, self._sections = core, kind, symbols, sections
-        index, number, _ = core.pdb_index(kind, sections, *symbols)
+        self.core, self._kind, self._range, self._sections = _core_of(stream), kind, symbols, sections
+        index, number, _ = self.core.pdb_index(kind, sections, *symbols)
         if index is None:
             raise error_of(number, "symbols")
         self._index = index
@@ -58,20 +63,18 @@ class _Symbols:
         return (it >> 32 for it in memoryview(self._index).cast("Q"))
 
     def all(self) -> tuple[tuple[PdbSymbol, ...] | None, int, bool]:
-        return self._core.pdb_symbols(self._sections, *self._range)
+        return self.core.pdb_symbols(self._sections, *self._range)
 
     def find(self, rva: int) -> PdbSymbol | None:
         """The symbol of an RVA, if it has a name."""
-        found, _, _ = self._core.pdb_find(self._kind, self._sections, self._index, rva)
+        found, _, _ = self.core.pdb_find(self._kind, self._sections, self._index, rva)
         return found if found is not None and found.name else None
 
 
 class _Lines:
     """The lines of a module. None is found where they are refused."""
 
-    def __init__(self, stream: bytes, lines: tuple[int, int], sections: bytes, names: bytes) -> None:
-        core, _ = _core.image(stream, 0, False, BYTES, False)
-        assert core is not None
+    def __init__(self, core: _core.Image, lines: tuple[int, int], sections: bytes, names: bytes) -> None:
         self._core, self._names = core, names
         files, number, _ = core.pdb_files(*lines)
         index, other, _ = core.pdb_line_index(sections, *lines)
@@ -122,9 +125,8 @@ class _Functions:
     def lines(self, number: int) -> _Lines:
         """The lines of a module whose procedures were read, which are read when they are asked for."""
         if number not in self._lines:
-            module = self._pdb.modules[number]
-            assert module.stream is not None
-            self._lines[number] = _Lines(self._pdb.stream(module.stream), _pair(module.lines), self.sections, self._pdb._names[0])
+            core, lines = self.modules[number].core, _pair(self._pdb.modules[number].lines)
+            self._lines[number] = _Lines(core, lines, self.sections, self._pdb._names[0])
         return self._lines[number]
 
 
@@ -204,9 +206,7 @@ class Pdb(Reader):
 
     def _read_names(self) -> tuple[bytes, int]:
         try:
-            core, _ = _core.image(self.stream(INFO_STREAM), 0, False, BYTES, False)
-            assert core is not None
-            number, refused, _ = core.pdb_named_stream(b"/names")
+            number, refused, _ = _core_of(self.stream(INFO_STREAM)).pdb_named_stream(b"/names")
             return (b"" if number is None else self.stream(number)), refused
         except Error as error:
             return b"", error.number
@@ -225,11 +225,9 @@ class Pdb(Reader):
     def _read_modules(self) -> Part[PdbModule]:
         try:
             self._check_dbi()
-            core, _ = _core.image(self.stream(DBI_STREAM), 0, False, BYTES, False)
+            return self._part_of(_core_of(self.stream(DBI_STREAM)).pdb_modules(*_pair(self.info.modules)), "modules")
         except Error as error:
             return self._part_of(((), error.number, False), "modules")
-        assert core is not None
-        return self._part_of(core.pdb_modules(*_pair(self.info.modules)), "modules")
 
     @property
     def _publics(self) -> _Symbols | Error:
@@ -270,7 +268,7 @@ class Pdb(Reader):
             return Part()
         try:
             sections, names = self._section_headers, self._names[0]
-            return self._part_of(_Lines(self.stream(module.stream), _pair(module.lines), sections, names).all(), name)
+            return self._part_of(_Lines(_core_of(self.stream(module.stream)), _pair(module.lines), sections, names).all(), name)
         except Error as error:
             return self._part_of(((), error.number, False), name)
 
