@@ -11,7 +11,7 @@ from targets import BINDINGS, run
 SOURCES = os.path.join(BINDINGS, "js")
 # What of the sources is in the package; the rest makes it or tests it.
 FILES = ["index.mjs", "browser.mjs", "library.mjs", "memory.mjs", "calls.mjs", "image.mjs", "symbols.mjs", "objects.mjs",
-         "dump.mjs", "process.mjs", "resources.mjs", "signatures.mjs", "metadata.mjs", "parts.mjs", "facts.mjs",
+         "dump.mjs", "pdb.mjs", "process.mjs", "resources.mjs", "signatures.mjs", "metadata.mjs", "parts.mjs", "facts.mjs",
          "pe-js.mjs", "README.md"]
 
 

@@ -9,10 +9,11 @@ import { Image, checkMode } from './image.mjs';
 import { abi, calls, constants, records, results, version } from './layouts.mjs';
 import { Memory, PeError } from './memory.mjs';
 import { Coff, TeImage } from './objects.mjs';
+import { Pdb } from './pdb.mjs';
 import { Process } from './process.mjs';
 import { blockOf, versionOf } from './resources.mjs';
 
-export { Coff, Dump, File, Image, PeError, Process, TeImage };
+export { Coff, Dump, File, Image, Pdb, PeError, Process, TeImage };
 export { abi, calls, constants, records, results, version };
 
 /** The module, compiled once for all files. */
@@ -39,6 +40,11 @@ export class Library {
   /** Reads the header of a minidump. */
   openDump(bytes) {
     return new Dump(new Memory(this.module), bytes);
+  }
+
+  /** Reads what a PDB says of itself. */
+  openPdb(bytes) {
+    return new Pdb(new Memory(this.module), bytes);
   }
 
   /** Bytes for the calls that take nothing else, as a signature alone. */

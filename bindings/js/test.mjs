@@ -1038,6 +1038,73 @@ test('a PDB, its streams, modules and symbols', () => {
   assert.equal(refused(() => library.file(file('imports')).call('pe_c_pdb')).constant, 'PE_C_PDB_MAGIC');
 });
 
+/** The PDB of the tests, with other bytes at offsets. */
+const pdbWith = (...changes) => {
+  const bytes = new Uint8Array(readFileSync(join(folder, 't.pdb')));
+  for (const [at, byte] of changes) bytes[at] = byte;
+  return library.openPdb(bytes);
+};
+const BLOCK = 4096, DBI = 13 * BLOCK, MODULE = 11 * BLOCK;
+
+// By what llvm-pdbutil 14.0.6 prints of it, and the lines of its sources.
+test('a PDB names functions and lines', () => {
+  const pdb = pdbWith(), [, own] = pdb.modules();
+  assert.deepEqual(pdb.modules().map((it) => [it.name, it.file, it.stream]),
+    [['a.obj', 'a.obj', 11], ['b.obj', 'b.obj', 12], ['* Linker *', '', 13]]);
+  assert.deepEqual(pdb.publics().map((it) => [it.name, it.rva, it.isFunction]), [['entry', 0x1000, true], ['helper', 0x1050, true]]);
+  assert.deepEqual(pdb.procedures(own).map((it) => [it.name, it.rva, it.size, it.kind]),
+    [['helper', 0x1050, 45, 0x1110], ['local', 0x1080, 12, 0x110F]]);
+  assert.deepEqual(pdb.lines(own).map((it) => [it.rva, it.file, it.line]), [[0x1050, 'b.c', 4], [0x1058, 'b.c', 5],
+    [0x1065, 'generated\\else.inc', 900], [0x1071, 'b.c', 9], [0x1080, 'b.c', 1], [0x1085, 'b.c', 2]]);
+  const found = (rva, options) => Object.values(pdb.find(rva, options) ?? {});
+  assert.deepEqual(found(0x1048), ['entry', 0x1000, 0x48, 'procedure', 'a.c', 6, null]);
+  assert.deepEqual(found(0x1065), ['helper', 0x1050, 0x15, 'procedure', 'generated\\else.inc', 900, null]);
+  assert.deepEqual(found(0x104F), ['entry', 0x1000, 0x4F, 'public', null, null, null]);
+  assert.deepEqual(found(0x1050, { isReturn: true }), ['entry', 0x1000, 0x50, 'public', null, null, null]);
+  assert.deepEqual(found(0xFFFFFFFF).slice(0, 2), ['helper', 0x1050]);
+  assert.deepEqual([0xFFF, -1, 2 ** 32, NaN].map((it) => pdb.find(it)), [null, null, null, null]);
+  assert.deepEqual([pdb.damaged, pdb.isMoved, pdb.stream(3).length], [[], false, 717]);
+  assert.equal(refused(() => pdb.stream(16)).constant, 'PE_C_PDB_NO_STREAM');
+});
+
+test('a PDB is that of the image that names it', () => {
+  const pdb = pdbWith(), { guid, age } = pdb.key;
+  assert.deepEqual([age, pdb.matches({ guid, age }), pdb.matches({ guid, age: 2 })], [1, true, false]);
+  assert.equal(pdb.matches(opened('debug').call('pe_c_symbol_key')), false);
+});
+
+test('what is damaged of a PDB costs its own names', () => {
+  const said = (pdb) => pdb.damaged.map(({ part, error }) => [part, error.constant]);
+  const lines = pdbWith([MODULE + 332 + 6, 1]), symbols = pdbWith([MODULE + 72, 1], [MODULE + 73, 0]), dbi = pdbWith([DBI, 0]);
+  assert.deepEqual([lines.find(0x108B).name, lines.find(0x108B).line, lines.find(0x1048).line], ['local', null, 6]);
+  assert.deepEqual(said(lines), [['lines of b.obj', 'PE_C_PDB_RECORD_TRUNCATED']]);
+  assert.deepEqual([symbols.find(0x1048).name, symbols.find(0x108B).name, symbols.find(0x108B).source], ['entry', 'helper', 'public']);
+  assert.deepEqual(said(symbols), [['b.obj', 'PE_C_PDB_RECORD_SIZE']]);
+  assert.deepEqual([dbi.find(0x1000), dbi.isMoved, dbi.matches(dbi.key)], [null, false, false]);
+  assert.deepEqual(said(dbi).map(([part]) => part), ['modules', 'public symbols']);
+  assert.equal(refused(() => dbi.modules()).constant, 'PE_C_PDB_DBI_SIGNATURE');
+  assert.equal(refused(() => library.openPdb(new Uint8Array(3))).constant, 'PE_C_SHORT');
+});
+
+test('of a damaged PDB nothing but a PeError is thrown', () => {
+  const bytes = new Uint8Array(readFileSync(join(folder, 't.pdb')));
+  let seed = 83, read = 0;
+  const random = (below) => (seed = (Math.imul(seed, 1103515245) + 12345) >>> 0) % below;
+  for (let i = 0; i < 100; i++) {
+    const changed = bytes.slice();
+    for (let j = 0; j < 3; j++) changed[[random(64), MODULE + random(bytes.length - MODULE), random(bytes.length)][j]] = random(256);
+    try {
+      const pdb = library.openPdb(changed);
+      for (let rva = 0xFF0; rva < 0x10A0; rva += 7) assert(pdb.find(rva)?.name !== '');
+      read += pdb.damaged.length === 0;
+      for (const it of pdb.modules()) pdb.lines(it), pdb.procedures(it);
+    } catch (error) {
+      if (!(error instanceof PeError)) throw error;
+    }
+  }
+  assert(read > 10, `${read}`);
+});
+
 /** A minidump whose exception's stream has 4 bytes. */
 function withoutException(bytes) {
   const damaged = Uint8Array.from(bytes), view = new DataView(damaged.buffer), directory = view.getUint32(12, true);

@@ -59,7 +59,7 @@ FLAGS = ["-O2", "-g0", "-std=c11", "-fvisibility=hidden", f"-ffile-prefix-map={H
 setup(
     ext_modules=[Extension(
         "pe_c._core", ["src/pe_c/_core.c"], include_dirs=[INCLUDE], extra_objects=[ARCHIVE],
-        depends=[ARCHIVE, *(f"src/pe_c/_{it}.h" for it in ("rows", "row_kinds", "calls", "written")), os.path.join(INCLUDE, "pe.h")],
+        depends=[ARCHIVE, *(f"src/pe_c/_{it}.h" for it in ("rows", "row_kinds", "calls", "written", "pdb")), os.path.join(INCLUDE, "pe.h")],
         py_limited_api=True,
         extra_compile_args=FLAGS,
         extra_link_args=["-Wl,--exclude-libs,ALL", "-Wl,-z,relro,-z,now", "-Wl,--build-id=none", "-Wl,-s"])],

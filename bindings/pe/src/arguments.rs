@@ -22,6 +22,7 @@ pub const EXAMPLES: &str = "  pe program.exe                        what it is, 
   pe stack crash.dmp --images C:/App    why a process crashed, and the stacks of its threads
   pe stack crash.dmp --symbols C:/Sym   with functions and lines by PDB files
   pe pdb program.pdb 1a2b               which function and line is at an RVA
+  pe symbols program.exe out.sym        a symbol file for stackwalkers that read Breakpad's
   pe key program.exe                    where a symbol server has its PDB and itself
   pe key --missing crash.dmp            which of these its modules lack
   pe digest program.exe                 what its signature signs, as SHA-256
@@ -436,6 +437,19 @@ pub enum Command {
         reading: Reading,
         #[command(flatten)]
         output: Output,
+    },
+    /// Write the symbol file of an image, as Breakpad and Crashpad have it: functions and lines, and how frames are unwound.
+    Symbols {
+        /// The image; or a PDB alone, which says nothing of unwinding.
+        file: PathBuf,
+        #[command(flatten)]
+        to: Target,
+        /// The PDB of the image, which has lines. Without it functions have the names of COFF symbols and exports.
+        #[arg(long, value_name = "PDB")]
+        pdb: Option<PathBuf>,
+        /// Refuse damaged headers where Windows may accept them.
+        #[arg(long)]
+        strict: bool,
     },
     /// Write a page of HTML that shows an image, or the stacks of a minidump, to a new file.
     Report {

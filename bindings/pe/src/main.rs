@@ -26,6 +26,7 @@ mod sign;
 mod stack;
 mod streams;
 mod summary;
+mod symbols;
 mod system;
 mod tables;
 mod unwind;
@@ -39,7 +40,7 @@ use facts::others::Other;
 use facts::{Facts, Topic, Wanted};
 use files::Report;
 use page::Style;
-use pe_c::{Error, Image, Placement};
+use pe_c::{Error, Image, Mode, Placement};
 use serde::Serialize;
 use stack::missing::Stores;
 use std::io::{self, Write};
@@ -292,6 +293,10 @@ fn write_file(command: &Command, out: &mut dyn Write) -> io::Result<Status> {
             files::each(&Files::one(file), out, |path, bytes| {
                 of_image(bytes, reading, |image| sign::detach(path, image, to))
             })
+        }
+        Command::Symbols { file, pdb, to, strict } => {
+            let mode = if *strict { Mode::Strict } else { Mode::Permissive };
+            files::each(&Files::one(file), out, |path, bytes| symbols::write(path, bytes, mode, pdb.as_deref(), to))
         }
         Command::Checksum { files, fix, replace, reading, output } => {
             refuse_mapped(reading, "a checksum");

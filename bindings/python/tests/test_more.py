@@ -629,8 +629,8 @@ class Names(unittest.TestCase):
                  (0x6000, False), (-1, False), (1 << 32, True)]
         names = self.image().function_names(asked)
         self.assertEqual([tuple(it) if it else None for it in names],
-                         [("outer", 0x5000, 5, False, False), ("outer", 0x5000, 6, False, False), ("inner", 0x5006, 4, False, False),
-                          ("inner", 0x5006, 10, False, False), ("_Z5otherv", 0x5010, 0, False, False), (None, 0x5020, 1, False, False),
+                         [("outer", 0x5000, 5, "symbol", False), ("outer", 0x5000, 6, "symbol", False), ("inner", 0x5006, 4, "symbol", False),
+                          ("inner", 0x5006, 10, "symbol", False), ("_Z5otherv", 0x5010, 0, "symbol", False), (None, 0x5020, 1, "symbol", False),
                           None, None, None, None])
         self.assertEqual(self.image().function_names(iter(())), ())
         self.assertEqual(pickle.loads(pickle.dumps(names[0])), names[0])
@@ -640,8 +640,8 @@ class Names(unittest.TestCase):
         image = pe_c.Image(bytes_of("exports.bin"))
         self.assertEqual([(it.name, it.rva) for it in image.exports[:2]], [("first", 0x90000), ("second", 0x1004)])
         names = image.function_names([(0x1003, False), (0x1004, False), (0x1004, True), (0x90000, True), (0x90001, True)])
-        self.assertEqual([it and (it.name, it.offset, it.is_export, it.is_nearest) for it in names],
-                         [None, ("second", 0, True, True), None, ("second", 0x8EFFC, True, True), ("first", 1, True, True)])
+        self.assertEqual([it and (it.name, it.offset, it.source, it.is_nearest) for it in names],
+                         [None, ("second", 0, "export", True), None, ("second", 0x8EFFC, "export", True), ("first", 1, "export", True)])
 
     def test_refused_tables(self):
         self.assertEqual(self.image().refused_name_tables, {})
@@ -671,7 +671,7 @@ class Names(unittest.TestCase):
         image = self.image(((b"last", 0x5010, 0x20, 2),))
         names = _functions.Names((image._core, pe_c.Image(bytes_of("exports.bin"))._core),
                                  _functions.Places([(BASE, 0x5018), (BASE + 0x5018, 0x1004)]))
-        rows = [pe_c.StackFrame((Stacks().registers(BASE + rva, 0), 0, 0, is_return, 0, 0, False, None))
+        rows = [pe_c.StackFrame((Stacks().registers(BASE + rva, 0), 0, 0, is_return, 0, 0, False, None, None, None, None))
                 for rva, is_return in ((0x5018, True), (0x5018, False), (0x5018 + 0x1004, True), (0x5018 + 0x1004, False))]
         asked = names.unread(rows)
         self.assertEqual(asked, {0: [(0x5018, True)], 1: [(0, False), (0x1004, True)]})
@@ -686,7 +686,7 @@ class Names(unittest.TestCase):
         image = pe_c.Image(bytes(data) + struct.pack("<8sIhHBBI", b"packed", 0x4000, 1, 0x20, 2, 0, 4))
         registers = pe_c.Arm64Registers(((0,) * 31, (0,) * 8, 0x20000, BASE + 0x5004))
         top = pe_c.walk(registers, [(image, BASE)], bytes(8), [(0x20000, 0, 8)], 1)
-        self.assertEqual([tuple(it.function) for it in top.frames], [("packed", 0x5000, 4, False, False)])
+        self.assertEqual([tuple(it.function) for it in top.frames], [("packed", 0x5000, 4, "symbol", False)])
 
     def test_places(self):
         """An address is that of the first module that has it."""

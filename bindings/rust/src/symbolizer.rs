@@ -179,7 +179,7 @@ fn index_to(kind: u32, bytes: &[u8], symbols: &Range, sections: &[u8], room: &mu
 }
 
 /// Makes an index of lines in a room, and returns the result and how many entries it has.
-fn lines_to(bytes: &[u8], lines: &Range, sections: &[u8], room: &mut [LineEntry]) -> (u32, u64) {
+pub(crate) fn lines_to(bytes: &[u8], lines: &Range, sections: &[u8], room: &mut [LineEntry]) -> (u32, u64) {
     let mut written = 0;
     // SAFETY: as above.
     let number = unsafe {

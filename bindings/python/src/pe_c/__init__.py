@@ -1,4 +1,4 @@
-"""Reads Windows executables (PE images), COFF objects, TE images and minidumps by a proved library for C.
+"""Reads Windows executables (PE images), COFF objects, TE images, minidumps and PDB files by a proved library for C.
 
     import pe_c
 
@@ -16,6 +16,7 @@ from ._image import Image as Image, Mode as Mode, Unwind as Unwind, Version as V
 from ._kinds import End as End, Kind as Kind, KnownOid as KnownOid, Way as Way
 from ._objects import Coff as Coff, Te as Te
 from ._part import Error as Error, ImageWarning as ImageWarning, Part as Part, WarningKind as WarningKind
+from ._pdb import Pdb as Pdb, PdbFrame as PdbFrame
 from ._report import Report as Report
 from ._row_names import *  # noqa: F403
 from ._signature import Name as Name, Signature as Signature, Signer as Signer, TimeStamp as TimeStamp, X509 as X509

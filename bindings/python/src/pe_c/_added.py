@@ -75,6 +75,16 @@ def _guid(guid: bytes) -> str:
     return (guid[3::-1] + guid[5:3:-1] + guid[7:5:-1] + guid[8:]).hex().upper()
 
 
+def key_text(guid: bytes, age: int) -> str:
+    """The key of a PDB, as a symbol server's path has it."""
+    return f"{_guid(guid)}{age:X}"
+
+
+def pdb_path(name: str, guid: bytes, age: int) -> str | None:
+    """Where a symbol server has a PDB of this name."""
+    return _path(name, key_text(guid, age))
+
+
 def image_path(name: str, time_date_stamp: int, size_of_image: int) -> str | None:
     """Where a symbol server has an image whose file has this name."""
     return _path(name, f"{time_date_stamp:08X}{size_of_image:x}")
@@ -97,7 +107,7 @@ def _add() -> None:
             (_core.FixedVersion, "product_version", lambda it: four(it.product_version_ms, it.product_version_ls),
              "the version of the product"),
             (_core.SymbolKey, "symbol_path",
-             lambda it: _path(it.name, f"{_guid(it.guid)}{it.age:X}") if _is_text(it.raw_name) else None, of_pdb),
+             lambda it: pdb_path(it.name, it.guid, it.age) if _is_text(it.raw_name) else None, of_pdb),
             (_core.Pdb20, "symbol_path", lambda it: _path(it.name, f"{it.signature:08X}{it.age:X}"), of_pdb)):
         setattr(row, name, property(of, doc=doc))
 

@@ -20,6 +20,7 @@ ONE(fixed_version, pe_c_version, pe_c_fixed_version(VIEW, &item), ROW_OF(version
 ONE(version_content, pe_c_range, pe_c_version_blocks(VIEW, &item), view_of(self, item))
 ONE(manifest, pe_c_range, pe_c_manifest(VIEW, &item), view_of(self, item))
 ONE(dump, pe_c_dump_info, pe_c_dump(BYTES, &item), ROW_OF(dump_info))
+ONE(pdb, pe_c_pdb_info, pe_c_pdb(BYTES, &item), ROW_OF(pdb_info))
 ONE(name_tables, pe_c_name_sources, pe_c_name_tables(VIEW, &item), ROW_OF(name_sources))
 FIRST(pdb20, pe_c_pdb20, 2, pe_c_pdb20_of, ROW_OF(pdb20))
 FIRST(vc_features, pe_c_vc_features, 12, pe_c_vc_features_of, ROW_OF(vc_features))
@@ -93,6 +94,7 @@ CONTEXT(dump_context_arm64, pe_c_arm64_context, pe_c_dump_context_arm64(BYTES, &
     {"version_content", (PyCFunction)version_content, METH_NOARGS, NULL}, \
     {"manifest", (PyCFunction)manifest, METH_NOARGS, NULL}, \
     {"dump", (PyCFunction)dump, METH_NOARGS, NULL}, \
+    {"pdb", (PyCFunction)pdb, METH_NOARGS, NULL}, \
     {"name_tables", (PyCFunction)name_tables, METH_NOARGS, NULL}, \
     {"pdb20", (PyCFunction)pdb20, METH_NOARGS, NULL}, \
     {"vc_features", (PyCFunction)vc_features, METH_NOARGS, NULL}, \

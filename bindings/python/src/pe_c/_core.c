@@ -1116,6 +1116,7 @@ METHOD(dump_runs)
         return answer(rows.result == PE_C_DONE ? row : NULL, &rows); \
     }
 #include "_calls.h"
+#include "_pdb.h"
 
 /* ---- stack walks */
 
@@ -1515,6 +1516,9 @@ static PyMethodDef methods[] = {
     WITH_SOME(arm64_unwind), WITH_SOME(version_blocks), WITH_SOME(elements), WITH_SOME(name_attributes), WITH_SOME(attributes),
     WITH_SOME(frames), WITH_SOME(arm64_frames), WITH_SOME(function_names), WITH_SOME(histogram), WITH_SOME(attach), WITH_SOME(edited),
     WITH_ONE(mapped),
+    WITHOUT(pdb_starts), WITH_SOME(pdb_is_of), WITH_SOME(pdb_stream), WITH_SOME(pdb_modules), WITH_SOME(pdb_named_stream),
+    WITH_SOME(pdb_symbols), WITH_SOME(pdb_index), WITH_SOME(pdb_find), WITH_SOME(pdb_line_index), WITH_SOME(pdb_files),
+    WITH_SOME(pdb_lines), WITH_SOME(pdb_find_line),
     {NULL, NULL, 0, NULL}};
 static PyGetSetDef getters[] = {{"memory", (getter)get_memory, NULL, NULL, NULL},
                                 {"closed", (getter)get_closed, NULL, NULL, NULL}, {NULL, NULL, NULL, NULL, NULL}};

@@ -10,11 +10,13 @@ from . import _core, _names as names
 from ._core import (Arm64Context, Arm64Registers, Context, DumpEntry, DumpException, DumpHandle, DumpHeader,
                     DumpModule, DumpPiece, DumpProcess, DumpRegion, DumpSystem, DumpThread, DumpThreadInfo, DumpThreadName,
                     DumpUnloadedModule, Registers, SymbolKey)
-from ._functions import LONGEST, AnyFrame, Names, Places, refused_tables
+from ._functions import LONGEST, AnyFrame, Names, Places, address_of, refused_tables
 from ._image import Image, Mode
 from ._kinds import End, Kind
 from ._part import Error, ImageWarning, Part, WarningKind, error_of
+from ._pdb import Pdb, PdbFrame
 from ._reader import BYTES, AnyFile, Reader, content_of
+from ._symbols import AnyFolders, Folders, PdbFiles, Wanted, is_in_function, name_of
 
 if TYPE_CHECKING:
     import _typeshed
@@ -31,6 +33,8 @@ MOST_FRAMES, PACKED_A_FRAME, MODULES_A_FRAME, PIECES_A_FRAME, SECTIONS_A_FRAME =
 NAMES_A_FRAME, BYTES_A_FRAME = 100, 1024
 # How often the bytes of a dump may be read for images. Those of modules that do not overlap are all read once.
 MOST_READINGS = 2
+# How many bytes of a record that names a PDB are read.
+MOST_RECORD = 2048
 
 # Exceptions whose parameters say more, and what an access was.
 ACCESS_VIOLATION, IN_PAGE_ERROR, FAST_FAIL = 0xC0000005, 0xC0000006, 0xC0000409
@@ -65,7 +69,8 @@ class Stack(typing.NamedTuple):
     """what the error of a step speaks of"""
     warnings: tuple[ImageWarning, ...] = ()
     """of modules whose function table is damaged: of these the whole entries serve, frames of their code may be missing or wrong, and
-    have no names; and of those whose symbols, strings or exports are damaged: these name no frame"""
+    have no names; of those whose symbols, strings or exports are damaged: these name no frame; and of each PDB that is looked for and
+    not read, or is damaged"""
 
 
 def _named(number: int, table: dict[int, str]) -> str:
@@ -309,16 +314,22 @@ class Dump(Reader):
         headers = image.headers
         return (headers.time_date_stamp, headers.size_of_image) == (module.time_date_stamp, module.size_of_image)
 
-    def stack(self, thread: DumpThread, look_up: typing.Callable[[DumpModule], Image | None] | None = None, most: int = 1000) -> Stack:
+    def stack(self, thread: DumpThread, look_up: typing.Callable[[DumpModule], Image | None] | None = None, most: int = 1000,
+              symbols: AnyFolders = ()) -> Stack:
         """The stack of a thread. The image of a module is that in the dump's memory, else the one that `look_up` returns for it, if its
         time stamp and its size are the module's. `look_up` is asked once for each module as long as it is the same object. Raises Error
         where the registers of the thread can't be read.
 
-        Names of functions are read once for each address; but each time that some are read of an image, all of its symbols and exports
-        are sorted. `stacks` reads those of all threads at once."""
-        return self._with_names([self._stack(thread, look_up, most)])[0]
+        `symbols` is a folder with PDB files, or several: NAME/KEY/NAME, as symbol servers have them, or NAME. One is read if its GUID
+        and its age are those that a module names; then it names the module's frames, with their files and lines. Nothing is fetched,
+        and no path in the dump is opened.
 
-    def stacks(self, look_up: typing.Callable[[DumpModule], Image | None] | None = None, most: int = 1000) -> tuple[Stack | Error, ...]:
+        Names of functions are read once for each address; but each time that some are read of an image, all of its symbols and exports
+        are sorted, and a PDB is read each time. `stacks` reads those of all threads at once."""
+        return self._with_names([self._stack(thread, look_up, most)], symbols)[0]
+
+    def stacks(self, look_up: typing.Callable[[DumpModule], Image | None] | None = None, most: int = 1000,
+               symbols: AnyFolders = ()) -> tuple[Stack | Error, ...]:
         """The stacks of all threads, in the order of `threads`; for a thread whose registers can't be read the error."""
         found: list[Stack | Error] = []
         for thread in self.threads:
@@ -326,7 +337,7 @@ class Dump(Reader):
                 found.append(self._stack(thread, look_up, most))
             except Error as error:
                 found.append(error.with_traceback(None))
-        named = iter(self._with_names([it for it in found if not isinstance(it, Error)]))
+        named = iter(self._with_names([it for it in found if not isinstance(it, Error)], symbols))
         return tuple(it if isinstance(it, Error) else next(named) for it in found)
 
     def _stack(self, thread: DumpThread, look_up: typing.Callable[[DumpModule], Image | None] | None, most: int) -> Stack:
@@ -345,11 +356,14 @@ class Dump(Reader):
         walked.frames.is_limited = walked.frames.is_limited or is_limited
         return walked
 
-    def _with_names(self, stacks: list[Stack]) -> list[Stack]:
+    def _with_names(self, stacks: list[Stack], symbols: AnyFolders) -> list[Stack]:
         """The stacks of the modules that were packed last, with names, as long as these do not cost too much."""
+        folders = Folders(symbols)
         if "loaded" not in self._kept:
             return stacks
         names: Names = self._kept["loaded"][1].names
+        if not folders.is_empty:
+            stacks = self._with_pdbs(stacks, folders, names)
         for module, addresses in names.unread(it for stack in stacks for it in stack.frames).items():
             cost = names.room_of(module) // NAMES_A_FRAME
             if cost > max(self._left, 0):
@@ -358,6 +372,78 @@ class Dump(Reader):
             self._left -= cost
             self._left -= names.read(module, addresses, LONGEST + max(self._left, 0) * BYTES_A_FRAME) // BYTES_A_FRAME
         return [_named_by(names, it) for it in stacks]
+
+    def _with_pdbs(self, stacks: list[Stack], folders: Folders, names: Names) -> list[Stack]:
+        """The stacks with what PDB files name."""
+        frames = [it for stack in stacks for it in stack.frames]
+        groups, warnings = self._wanted(frames, names)
+        files = PdbFiles(folders)
+        for wanted in groups:
+            pdb, said = files.find(wanted)
+            warnings += said
+            if pdb is not None:
+                self._name_frames(frames, wanted, pdb, names)
+                warnings += (wanted.warning(it.kind, f"{it.part}: {it.text}", it.error, it.path) for it in pdb.warnings)
+        rest = iter(frames)
+        found = []
+        for stack in stacks:
+            part: Part[AnyFrame] = Part(next(rest) for _ in stack.frames)
+            part.is_limited = stack.frames.is_limited
+            found.append(stack._replace(frames=part, warnings=(*stack.warnings, *warnings)))
+        return found
+
+    def _wanted(self, frames: list[AnyFrame], names: Names) -> tuple[list[Wanted], list[ImageWarning]]:
+        """The PDB files that modules of frames name, in the order of the frames, and the modules that name none."""
+        groups: dict[tuple[str, str], Wanted] = {}
+        of_modules: dict[int, Wanted | None] = {}
+        warnings: list[ImageWarning] = []
+        for number, frame in enumerate(frames):
+            ip, is_return = address_of(frame), frame.has_called
+            index = self._places.at(ip - is_return)
+            if index is None:
+                continue
+            module = self.modules[index]
+            if index not in of_modules:
+                wanted = self._pdb_of(module, names.image_at(ip - is_return))
+                if wanted is None:
+                    text = "it names no PDB"
+                    warnings.append(ImageWarning(WarningKind.SYMBOLS, f"module at 0x{module.base_of_image:x}", text, None, self.path))
+                else:
+                    wanted = groups.setdefault((wanted.name.lower(), wanted.text), wanted)
+                of_modules[index] = wanted
+            wanted, rva = of_modules[index], ip - module.base_of_image
+            if wanted is not None and rva < 1 << 32:
+                wanted.frames.append((number, rva, names.image_at(ip - is_return)))
+        return [*groups.values()], warnings
+
+    def _pdb_of(self, module: DumpModule, image: _core.Image | None) -> Wanted | None:
+        """The PDB that a module names: by its record in the dump, or else in its image."""
+        key = None
+        try:
+            key = self.symbol_key(module) if module.cv_record.size <= MOST_RECORD else None
+        except Error:
+            pass
+        if key is None and image is not None:
+            key, number, _ = image.symbol_key()
+            key = None if number else key
+        path = key.symbol_path if key is not None and len(key.raw_name) <= MOST_RECORD else None
+        return None if key is None or path is None else Wanted(key, path)
+
+    def _name_frames(self, frames: list[AnyFrame], wanted: Wanted, pdb: Pdb, names: Names) -> None:
+        """Puts their functions to the frames of a PDB, each address once, as long as the names do not cost too much."""
+        known: dict[tuple[int, bool], PdbFrame | None] = {}
+        for number, rva, image in wanted.frames:
+            at = rva, frames[number].has_called
+            if at not in known:
+                if self._left <= 0:
+                    names.is_limited = True
+                    return
+                found = known[at] = pdb.find(*at)
+                self._left -= 1 + (0 if found is None else (len(found.name) + len(found.file or "")) // BYTES_A_FRAME)
+            found = known[at]
+            is_own = found and (found.source != "public" or is_in_function(image, rva - at[1], found.start))
+            if found and is_own is not False:
+                frames[number] = name_of(frames[number], found, is_own is None)
 
     @staticmethod
     def _no_frames() -> Stack:
@@ -404,8 +490,11 @@ class Dump(Reader):
             image = image if image is not None and self._is_of(image, module) else None
         return image, size
 
+    @property
+    def _places(self) -> Places:
+        return self._once("places", lambda: Places((it.base_of_image, it.size_of_image) for it in self.modules))
+
     def module_at(self, address: int) -> DumpModule | None:
         """The first module that has an address."""
-        places = self._once("places", lambda: Places((it.base_of_image, it.size_of_image) for it in self.modules))
-        index = places.at(address)
+        index = self._places.at(address)
         return None if index is None else self.modules[index]

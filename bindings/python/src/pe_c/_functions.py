@@ -21,6 +21,13 @@ TABLES = ("functions", "symbols", "strings", "exports")
 LONGEST = 4095
 
 
+def address_of(frame: AnyFrame) -> int:
+    """The instruction pointer of a frame."""
+    registers: Any = frame.registers
+    ip: int = registers.rip if isinstance(frame, StackFrame) else registers.pc
+    return ip
+
+
 class Places:
     """Modules by their addresses: an address is that of the first module that has it."""
 
@@ -74,10 +81,14 @@ class Names:
         self._read: dict[tuple[int, Address], FunctionName | None] = {}
         self.is_limited = False
 
+    def image_at(self, address: int) -> _core.Image | None:
+        """The image of the module that has an address."""
+        module = self._places.at(address)
+        return None if module is None else self._images[module]
+
     def place_of(self, frame: AnyFrame) -> tuple[int, Address] | None:
         """The module with an image that has the code of a frame, and where: of a return address the byte before it counts."""
-        registers: Any = frame.registers
-        ip, is_return = registers.rip if isinstance(frame, StackFrame) else registers.pc, frame.has_called
+        ip, is_return = address_of(frame), frame.has_called
         module = self._places.at(ip - is_return)
         if module is None or self._images[module] is None:
             return None
@@ -86,7 +97,7 @@ class Names:
     def unread(self, frames: typing.Iterable[AnyFrame]) -> dict[int, list[Address]]:
         """Of each module the addresses of frames whose names were not read yet, each once."""
         found: dict[int, dict[Address, None]] = {}
-        for place in map(self.place_of, frames):
+        for place in map(self.place_of, (it for it in frames if it.function is None)):
             if place is not None and place not in self._read:
                 found.setdefault(place[0], {})[place[1]] = None
         return {module: list(addresses) for module, addresses in found.items()}
@@ -107,8 +118,8 @@ class Names:
         return sum(len(it.name or "") for it in names if it is not None)
 
     def named(self, frames: typing.Iterable[AnyFrame]) -> typing.Iterator[AnyFrame]:
-        """The frames with what names them, of names that were read."""
+        """The frames with what names them, of names that were read. Those that a PDB names stay."""
         for frame in frames:
-            place = self.place_of(frame)
+            place = self.place_of(frame) if frame.function is None else None
             name = self._read.get(place) if place is not None else None
-            yield frame if name is None else type(frame)((*frame[:-1], name))
+            yield frame if name is None else type(frame)((*frame[:-4], name, *frame[-3:]))

@@ -50,6 +50,8 @@ class WarningKind(enum.Enum):
     """a part that has more rows than the file's bytes account for, as only hostile ones have"""
     ALIGNMENT = "alignment"
     """a file alignment below 512: other readers may find other bytes in the sections"""
+    SYMBOLS = "symbols"
+    """a PDB that names nothing: it is not found, of another build, or not read; or one of code that was moved"""
 
 
 class ImageWarning(typing.NamedTuple):

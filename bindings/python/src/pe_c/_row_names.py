@@ -22,4 +22,5 @@ from ._core import (
     DumpThreadName as DumpThreadName, DumpUnloadedModule as DumpUnloadedModule, DumpThreadInfo as DumpThreadInfo,
     DumpHandle as DumpHandle, DumpRegion as DumpRegion, DumpException as DumpException, DumpSystem as DumpSystem,
     DumpTimes as DumpTimes, DumpPower as DumpPower, DumpProcess as DumpProcess, DumpPiece as DumpPiece, Context as
-    Context, Arm64Context as Arm64Context)
+    Context, Arm64Context as Arm64Context, PdbInfo as PdbInfo, PdbModule as PdbModule, PdbSymbol as PdbSymbol, PdbLine
+    as PdbLine)

@@ -106,6 +106,10 @@ static PyObject *row_dump_process_info(Image *self, Rows *rows, const pe_c_dump_
 static PyObject *row_dump_piece(Image *self, Rows *rows, const pe_c_dump_piece *it);
 static PyObject *row_context(Image *self, Rows *rows, const pe_c_context *it);
 static PyObject *row_arm64_context(Image *self, Rows *rows, const pe_c_arm64_context *it);
+static PyObject *row_pdb_info(Image *self, Rows *rows, const pe_c_pdb_info *it);
+static PyObject *row_pdb_module(Image *self, Rows *rows, const pe_c_pdb_module *it);
+static PyObject *row_pdb_symbol(Image *self, Rows *rows, const pe_c_pdb_symbol *it);
+static PyObject *row_pdb_line(Image *self, Rows *rows, const pe_c_pdb_line *it, PyObject *file);
 
 static PyStructSequence_Field row_range_fields[] = {
     {"offset", "from the start of the bytes"},
@@ -1117,7 +1121,10 @@ static PyStructSequence_Field row_stack_walk_fields[] = {
     {"end", "PE_C_END_* of a walk that is over"},
     {"error", "a result, for PE_C_END_RECORDS, _LONG_CHAIN and _STEP; else 0"},
     {"is_guess", "1 where the frame may be wrong: nothing proves that it is the caller, or it follows a frame of which this holds"},
-    {"function", "what names its function, by the COFF symbols and the exports of the module's image; None where nothing does"},
+    {"function", "what names its function: a PDB, else the COFF symbols and the exports of the module's image; None where nothing does"},
+    {"file", "the path of the source file, as a PDB has it; None where none says it"},
+    {"line", "the line in it, from 1 on"},
+    {"column", "the column, from 1 on; mostly None"},
     {NULL, NULL}};
 
 static PyObject *row_stack_walk(Image *self, Rows *rows, const pe_c_stack_walk *it)
@@ -1133,8 +1140,11 @@ static PyObject *row_stack_walk(Image *self, Rows *rows, const pe_c_stack_walk *
         N(it->error),
         B(it->is_guess),
         Py_NewRef(Py_None),
+        Py_NewRef(Py_None),
+        Py_NewRef(Py_None),
+        Py_NewRef(Py_None),
     };
-    return filled(self, ROW_STACK_WALK, items, 8);
+    return filled(self, ROW_STACK_WALK, items, 11);
 }
 
 static PyStructSequence_Field row_arm64_function_fields[] = {
@@ -1279,7 +1289,10 @@ static PyStructSequence_Field row_arm64_stack_walk_fields[] = {
     {"end", "PE_C_END_* of a walk that is over"},
     {"error", "a result, for PE_C_END_RECORDS and _STEP; else 0"},
     {"is_guess", "as in pe_c_stack_walk"},
-    {"function", "what names its function, by the COFF symbols and the exports of the module's image; None where nothing does"},
+    {"function", "what names its function: a PDB, else the COFF symbols and the exports of the module's image; None where nothing does"},
+    {"file", "the path of the source file, as a PDB has it; None where none says it"},
+    {"line", "the line in it, from 1 on"},
+    {"column", "the column, from 1 on; mostly None"},
     {NULL, NULL}};
 
 static PyObject *row_arm64_stack_walk(Image *self, Rows *rows, const pe_c_arm64_stack_walk *it)
@@ -1295,8 +1308,11 @@ static PyObject *row_arm64_stack_walk(Image *self, Rows *rows, const pe_c_arm64_
         N(it->error),
         B(it->is_guess),
         Py_NewRef(Py_None),
+        Py_NewRef(Py_None),
+        Py_NewRef(Py_None),
+        Py_NewRef(Py_None),
     };
-    return filled(self, ROW_ARM64_STACK_WALK, items, 8);
+    return filled(self, ROW_ARM64_STACK_WALK, items, 11);
 }
 
 static PyStructSequence_Field row_address_table_fields[] = {
@@ -1401,7 +1417,7 @@ static PyStructSequence_Field row_function_name_fields[] = {
     {"name", "as the image has it: names of C++ and Rust are mangled. None where it is not text, or is longer than 4,095 bytes"},
     {"start", "RVA that has the name"},
     {"offset", "how far after it the address is"},
-    {"is_export", "whether it is an export, and not a COFF symbol"},
+    {"source", "what names it: symbol, a COFF symbol; export; by a PDB procedure, or public, which has no size"},
     {"is_nearest", "1 where it is only the last name before the address, in an image without a function table; it may be that of another function. Else 0"},
     {NULL, NULL}};
 
@@ -1413,7 +1429,7 @@ static PyObject *row_function_name(Image *self, Rows *rows, const pe_c_function_
         OPTIONAL(it->name.length, utf8(self, it->name)),
         N(it->start),
         N(it->offset),
-        B(it->source == 2),
+        PyUnicode_FromString(it->source == 2 ? "export" : "symbol"),
         B(it->is_nearest),
     };
     return filled(self, ROW_FUNCTION_NAME, items, 5);
@@ -2349,6 +2365,138 @@ static PyObject *row_arm64_context(Image *self, Rows *rows, const pe_c_arm64_con
     return filled(self, ROW_ARM64_CONTEXT, items, 3);
 }
 
+static PyStructSequence_Field row_pdb_info_fields[] = {
+    {"guid", "the GUID, as pe_c_key has it"},
+    {"modules", "a walk over the modules, at its start, in the DBI stream, stream 3"},
+    {"version", "the version of the info stream, 20000404 in what linkers write"},
+    {"time_stamp", "when the PDB was made, in seconds since 1970, or a number of the linker's"},
+    {"age", "how often the PDB was written; it may be greater than that of the image"},
+    {"dbi_age", "the age that pe_c_key of the image has"},
+    {"block_size", "the size of a block in bytes"},
+    {"number_of_blocks", "how many blocks the file has"},
+    {"number_of_streams", "how many streams it has"},
+    {"dbi_result", "PE_C_DONE, or why the DBI stream is refused: then what is read of it is 0, and streams are none"},
+    {"machine", "IMAGE_FILE_MACHINE_ of the image"},
+    {"flags", "bit 0: linked incrementally; bit 1: private symbols are stripped; bit 2: has types that contradict one another"},
+    {"build", "the version of the linker: bit 15 is set, then 7 bits and 8 bits, major and minor"},
+    {"symbol_stream", "the stream of symbols: those that are public, and global ones"},
+    {"section_headers", "the stream with the section headers of the image"},
+    {"original_section_headers", "those before a tool moved the code of the image, by which symbols count then"},
+    {"omap_to_source", "where an RVA was before that; no call reads it"},
+    {"omap_from_source", "where an RVA of that is now; no call reads it"},
+    {NULL, NULL}};
+
+static PyObject *row_pdb_info(Image *self, Rows *rows, const pe_c_pdb_info *it)
+{
+    if (!takes(rows, 0))
+        return NULL;
+    PyObject *items[] = {
+        bytes_of(it->guid, sizeof it->guid),
+        row_range(self, rows, &it->modules),
+        N(it->version),
+        N(it->time_stamp),
+        N(it->age),
+        N(it->dbi_age),
+        N(it->block_size),
+        N(it->number_of_blocks),
+        N(it->number_of_streams),
+        N(it->dbi_result),
+        N(it->machine),
+        N(it->flags),
+        N(it->build),
+        N(it->symbol_stream),
+        N(it->section_headers),
+        N(it->original_section_headers),
+        N(it->omap_to_source),
+        N(it->omap_from_source),
+    };
+    return filled(self, ROW_PDB_INFO, items, 18);
+}
+
+static PyStructSequence_Field row_pdb_module_fields[] = {
+    {"name", "in the DBI stream, without its final zero: the path of the object, or \"* Linker *\""},
+    {"file", "the path of the library that it is from, or of the object"},
+    {"symbols", "a walk over its symbols, at its start, in its stream; no bytes without any"},
+    {"lines", "its lines in its stream"},
+    {"code_offset", "where its first code is in the section"},
+    {"code_size", "how many bytes that is"},
+    {"section", "the number of that section, from 1 on"},
+    {"flags", "bit 0: written since the last link; bit 1: edit and continue"},
+    {"stream", "its stream; None without debug information"},
+    {"number_of_files", "how many source files it has"},
+    {NULL, NULL}};
+
+static PyObject *row_pdb_module(Image *self, Rows *rows, const pe_c_pdb_module *it)
+{
+    if (!takes(rows, it->name.length + it->file.length))
+        return NULL;
+    PyObject *items[] = {
+        utf8(self, it->name),
+        utf8(self, it->file),
+        row_range(self, rows, &it->symbols),
+        row_range(self, rows, &it->lines),
+        N(it->code_offset),
+        N(it->code_size),
+        N(it->section),
+        N(it->flags),
+        OPTIONAL(it->stream != 0xFFFF, N(it->stream)),
+        N(it->number_of_files),
+    };
+    return filled(self, ROW_PDB_MODULE, items, 10);
+}
+
+static PyStructSequence_Field row_pdb_symbol_fields[] = {
+    {"name", "UTF-8, without its final zero; of a public symbol as linkers have it, mangled; of a procedure as in the source; no bytes of other records"},
+    {"rva", "the RVA; None in no section of the image, as of numbers that have names"},
+    {"size", "the size of a procedure's code in bytes; else 0"},
+    {"section_offset", "the offset in its section"},
+    {"flags", "of a public symbol bit 0: code; bit 1: a function; bit 2: managed code; bit 3: MSIL; of a procedure CV_PROCFLAGS"},
+    {"section", "the number of its section, from 1 on"},
+    {"kind", "S_PUB32 0x110E; of procedures S_LPROC32 0x110F, S_GPROC32 0x1110, 0x1146, 0x1147; or another"},
+    {"error", "the number of the error of this record alone, or 0: then it has nothing but its kind"},
+    {"is_function", "whether it is a function: any procedure, and a public symbol that says so"},
+    {NULL, NULL}};
+
+static PyObject *row_pdb_symbol(Image *self, Rows *rows, const pe_c_pdb_symbol *it)
+{
+    if (!takes(rows, it->name.length))
+        return NULL;
+    PyObject *items[] = {
+        utf8(self, it->name),
+        OPTIONAL(it->result == PE_C_DONE, N(it->rva)),
+        N(it->size),
+        N(it->section_offset),
+        N(it->flags),
+        N(it->section),
+        N(it->kind),
+        N(it->result == PE_C_NOTHING ? PE_C_DONE : it->result),
+        B(it->kind != 0x110E || it->flags & 2),
+    };
+    return filled(self, ROW_PDB_SYMBOL, items, 9);
+}
+
+static PyStructSequence_Field row_pdb_line_fields[] = {
+    {"rva", "where its code starts"},
+    {"code_size", "how many bytes of code there are from there to the end of the subsection; the line's own may end before, at the next row"},
+    {"file", "the path of the source file; None where its name is refused"},
+    {"line", "the line, from 1 on; None of code that has none"},
+    {"column", "the column, from 1 on; mostly None"},
+    {NULL, NULL}};
+
+static PyObject *row_pdb_line(Image *self, Rows *rows, const pe_c_pdb_line *it, PyObject *file)
+{
+    if (!takes(rows, 0))
+        return NULL;
+    PyObject *items[] = {
+        N(it->rva),
+        N(it->code_size),
+        Py_NewRef(file),
+        OPTIONAL(it->line && it->line != 0xF00F00 && it->line != 0xFEEFEE, N(it->line)),
+        OPTIONAL(it->column, N(it->column)),
+    };
+    return filled(self, ROW_PDB_LINE, items, 5);
+}
+
 static const PyStructSequence_Desc row_kinds[] = {
     [ROW_RANGE] = {"pe_c._core.Range", "A range of the bytes of the image.", row_range_fields, 2},
     [ROW_DIRECTORY] = {"pe_c._core.Directory", "A data directory. Both fields are 0 where it is absent.", row_directory_fields, 2},
@@ -2391,14 +2539,14 @@ static const PyStructSequence_Desc row_kinds[] = {
     [ROW_RECORD] = {"pe_c._core.UnwindRecord", "An x64 unwind record, UNWIND_INFO.", row_record_fields, 9},
     [ROW_CODE] = {"pe_c._core.UnwindCode", "An x64 unwind code, UNWIND_CODE.", row_code_fields, 5},
     [ROW_REGISTERS] = {"pe_c._core.Registers", "The registers of a thread that unwinding restores.", row_registers_fields, 3},
-    [ROW_STACK_WALK] = {"pe_c._core.StackFrame", "A walk of a stack on x64, and the frame that was returned last. For a walk from the start set the registers to those of the thread, `remaining` to how many frames are wanted at most, and all else to 0.", row_stack_walk_fields, 8},
+    [ROW_STACK_WALK] = {"pe_c._core.StackFrame", "A walk of a stack on x64, and the frame that was returned last. For a walk from the start set the registers to those of the thread, `remaining` to how many frames are wanted at most, and all else to 0.", row_stack_walk_fields, 11},
     [ROW_ARM64_FUNCTION] = {"pe_c._core.Arm64Function", "An entry of the ARM64 function table.", row_arm64_function_fields, 2},
     [ROW_ARM64_PACKED] = {"pe_c._core.Arm64Packed", "Packed unwind data of an ARM64 function. The fields mean nothing unless is_packed.", row_arm64_packed_fields, 8},
     [ROW_ARM64_RECORD] = {"pe_c._core.Arm64Record", "An ARM64 unwind record (.xdata).", row_arm64_record_fields, 7},
     [ROW_ARM64_SCOPE] = {"pe_c._core.Arm64Scope", "An epilog scope: where an epilog of an ARM64 function is, and where its codes are.", row_arm64_scope_fields, 4},
     [ROW_ARM64_CODE] = {"pe_c._core.Arm64Code", "An ARM64 unwind code.", row_arm64_code_fields, 6},
     [ROW_ARM64_REGISTERS] = {"pe_c._core.Arm64Registers", "The registers of a thread on ARM64 that unwinding restores.", row_arm64_registers_fields, 4},
-    [ROW_ARM64_STACK_WALK] = {"pe_c._core.Arm64StackFrame", "A walk of a stack on ARM64, and the frame that was returned last, as pe_c_stack_walk.", row_arm64_stack_walk_fields, 8},
+    [ROW_ARM64_STACK_WALK] = {"pe_c._core.Arm64StackFrame", "A walk of a stack on ARM64, and the frame that was returned last, as pe_c_stack_walk.", row_arm64_stack_walk_fields, 11},
     [ROW_ADDRESS_TABLE] = {"pe_c._core.ExportTable", "The export directory's table of RVAs, which has all exports by their index, also those without a name.", row_address_table_fields, 4},
     [ROW_EXPORTED] = {"pe_c._core.Export", "An export by its index.", row_exported_fields, 5},
     [ROW_EXPORT_FIELDS] = {"pe_c._core.ExportDirectory", "The export directory itself, IMAGE_EXPORT_DIRECTORY.", row_export_fields_fields, 11},
@@ -2443,4 +2591,8 @@ static const PyStructSequence_Desc row_kinds[] = {
     [ROW_DUMP_PIECE] = {"pe_c._core.DumpPiece", "A piece of memory, as pe_c_next_frame takes it with the bytes of the dump as its memory.", row_dump_piece_fields, 4},
     [ROW_CONTEXT] = {"pe_c._core.Context", "The registers of a thread on x64, CONTEXT.", row_context_fields, 3},
     [ROW_ARM64_CONTEXT] = {"pe_c._core.Arm64Context", "The registers of a thread on ARM64, ARM64_NT_CONTEXT.", row_arm64_context_fields, 3},
+    [ROW_PDB_INFO] = {"pe_c._core.PdbInfo", "What a PDB says of itself. Streams are numbers for pe_c_pdb_stream, or 0xFFFF for none.", row_pdb_info_fields, 18},
+    [ROW_PDB_MODULE] = {"pe_c._core.PdbModule", "A module, an object that was linked.", row_pdb_module_fields, 10},
+    [ROW_PDB_SYMBOL] = {"pe_c._core.PdbSymbol", "The record of a symbol.", row_pdb_symbol_fields, 9},
+    [ROW_PDB_LINE] = {"pe_c._core.PdbLine", "A line of a source file, and its code.", row_pdb_line_fields, 5},
 };

@@ -1,0 +1,304 @@
+// Program databases (PDB 7.0): the names and lines of an image that was linked with debug information. Its streams are scattered over
+// blocks of the file: each that is read stands once more in the memory of the instance, and calls take that copy.
+import { File, memoryOf, ownOf, placed } from './calls.mjs';
+import { constants } from './layouts.mjs';
+import { PeError, width } from './memory.mjs';
+
+const INFO_STREAM = 1, DBI_STREAM = 3, NO_STREAM = 0xFFFF;
+const S_PUB32 = 0x110E, PROCEDURES = [0x110F, 0x1110, 0x1146, 0x1147];
+// Lines that say of code that it has none.
+const NO_LINES = [0, 0xF00F00, 0xFEEFEE];
+const utf8 = new TextDecoder('utf-8', { ignoreBOM: true });
+
+/** Writes what a call lists to room for it, by a call that says first how much that is: the address and the number of items. */
+function listed(memory, name, type, words) {
+  const count = memory.reserve(8), made = (at, most) => memory.make(name, [...words, BigInt(at), BigInt(most), BigInt(count)]);
+  const first = made(0, 0), most = Number(memory.read('uint64_t', count));
+  if (first !== constants.PE_C_ROOM) memory.isDone(name, first);
+  const at = memory.reserve(most * width(type));
+  if (first === constants.PE_C_ROOM) memory.isDone(name, made(at, most));
+  return [BigInt(at), BigInt(most)];
+}
+
+/** What `make` returns, or null with why in `errors` where it is refused. */
+function refusedIn(errors, part, make) {
+  try {
+    return make();
+  } catch (error) {
+    if (!(error instanceof PeError)) throw error;
+    errors.push({ part, error });
+    return null;
+  }
+}
+
+/** What is made by room in the memory that is free again after it. */
+function lent(memory, make) {
+  const kept = memory.free;
+  try {
+    return make();
+  } finally {
+    memory.free = kept;
+  }
+}
+
+/** The symbols of a kind in a copy of a stream, with an index of them; and the lines of a module. */
+class Symbols extends File {
+  #kind;
+  #sections;
+  #index;
+  #lines = null;
+  #files;
+  #names;
+  #last = { file: null, name: null };
+
+  constructor(memory, bytes, kind, symbols, sections) {
+    super(memory, placed(memory, bytes));
+    [this.#kind, this.#sections] = [kind, sections];
+    const own = ownOf(this);
+    this.#index = listed(memory, 'pe_c_pdb_index', 'uint64_t', [kind, own.bytes, own.length, this.#range(symbols), ...sections]);
+  }
+
+  #range(range) {
+    const at = memoryOf(this).reserve(width('pe_c_range'));
+    memoryOf(this).write('pe_c_range', at, range);
+    return BigInt(at);
+  }
+
+  /** The RVAs of its functions, in ascending order. */
+  starts() {
+    const [at, count] = this.#index, memory = memoryOf(this);
+    return memory.readAll('uint64_t', Number(at), Number(count)).map((it) => Number(it >> 32n));
+  }
+
+  /** Reads the lines, in a range of the stream, whose files have their names at an address. */
+  readLines(lines, names) {
+    const own = ownOf(this), words = [own.bytes, own.length, this.#range(lines), ...this.#sections];
+    this.#names = names;
+    this.#files = this.call('pe_c_pdb_files', { lines }) ?? {};
+    this.#lines = listed(memoryOf(this), 'pe_c_pdb_lines', 'pe_c_pdb_line_entry', words);
+  }
+
+  /** The record that a call finds of an RVA, by arrays at addresses; or null. */
+  #found(name, type, words) {
+    const memory = memoryOf(this);
+    return lent(memory, () => {
+      const at = memory.reserve(width(type));
+      return memory.make(name, [...words, BigInt(at)]) === constants.PE_C_DONE ? memory.read(type, at) : null;
+    });
+  }
+
+  /** The symbol of an RVA, if it has a name. */
+  find(rva) {
+    const own = ownOf(this), words = [this.#kind, own.bytes, own.length, ...this.#sections, ...this.#index, rva];
+    const found = this.#found('pe_c_find_pdb_symbol', 'pe_c_pdb_symbol', words);
+    return found && found.name.length ? found : null;
+  }
+
+  /** The line of an RVA, or null. */
+  line(rva) {
+    const found = this.#lines && this.#found('pe_c_find_pdb_line', 'pe_c_pdb_line', [...this.#lines, rva]);
+    return found && this.#lineOf(found);
+  }
+
+  allLines() {
+    const [at, count] = this.#lines, found = memoryOf(this).readAll('pe_c_pdb_line_entry', Number(at), Number(count));
+    return found.map((it) => this.#lineOf(it.line));
+  }
+
+  #lineOf({ rva, code_size: codeSize, file, line, column }) {
+    return { rva, codeSize, file: this.#fileName(file), line: NO_LINES.includes(line) ? null : line, column: column || null };
+  }
+
+  /** The path of a source file, or null where it is refused. Most lines have the file of the one before. */
+  #fileName(file) {
+    if (this.#last.file === file) return this.#last.name;
+    const memory = memoryOf(this), own = ownOf(this), names = this.#names;
+    const found = lent(memory, () => {
+      const words = [own.bytes, own.length, this.#range(this.#files), ...names, file];
+      return this.#found('pe_c_pdb_file_name', 'pe_c_range', words);
+    });
+    const name = found && memory.textAt(Number(names[0]) + Number(found.offset), Number(found.length), utf8);
+    this.#last = { file, name };
+    return name;
+  }
+}
+
+export class Pdb extends File {
+  #starts;
+  #sections = null;
+  #modules = null;
+  #names = null;
+  #publics;
+  #functions = null;
+  // What is refused of what was read.
+  #errors = [];
+
+  constructor(memory, bytes) {
+    super(memory, placed(memory, bytes));
+    /** pe_c_pdb_info */
+    this.info = this.call('pe_c_pdb');
+    const count = this.info.number_of_streams, own = ownOf(this), at = memory.reserve(8 * count), written = memory.reserve(8);
+    memory.isDone('pe_c_pdb_starts', memory.make('pe_c_pdb_starts', [own.bytes, own.length, BigInt(at), BigInt(count), BigInt(written)]));
+    this.#starts = [BigInt(at), BigInt(count)];
+  }
+
+  /** The GUID and the age by which an image names it: the fields of pe_c_key. */
+  get key() {
+    return { guid: this.info.guid, age: this.info.dbi_age };
+  }
+
+  /** Whether it is the PDB of an image with this key, pe_c_key. */
+  matches(key) {
+    return this.info.dbi_result === constants.PE_C_DONE && this.call('pe_c_is_pdb_of', { key, pdb: this.info }) !== null;
+  }
+
+  /** Whether a tool moved the code of the image after it was linked (OMAP): then RVAs are those before that. */
+  get isMoved() {
+    return this.info.dbi_result === constants.PE_C_DONE && this.info.omap_from_source !== NO_STREAM;
+  }
+
+  /** A copy of the stream with a number. */
+  stream(index) {
+    const memory = memoryOf(this), own = ownOf(this);
+    return lent(memory, () => {
+      const [at, length] = listed(memory, 'pe_c_pdb_stream', 'uint8_t', [own.bytes, own.length, ...this.#starts, index]);
+      return memory.bytes(Number(at), Number(length));
+    });
+  }
+
+  #streamOrNone(number) {
+    return number === NO_STREAM ? new Uint8Array() : this.stream(number);
+  }
+
+  #checkDbi() {
+    memoryOf(this).isDone('pe_c_pdb', this.info.dbi_result);
+  }
+
+  /** Where the section headers stand in the memory. */
+  #sectionHeaders() {
+    this.#checkDbi();
+    this.#sections ??= Object.values(placed(memoryOf(this), this.#streamOrNone(this.info.section_headers)));
+    return this.#sections;
+  }
+
+  /** The modules: see index.d.ts. */
+  modules() {
+    if (this.#modules) return this.#modules;
+    this.#checkDbi();
+    const memory = memoryOf(this);
+    return this.#modules = lent(memory, () => {
+      const dbi = new File(memory, placed(memory, this.stream(DBI_STREAM)));
+      return [...dbi.many('pe_c_list_pdb_modules', { ...this.info.modules })].map(({ name, file, stream, ...it }) => (
+        { ...it, name: dbi.utf8(name), file: dbi.utf8(file), stream: stream === NO_STREAM ? null : stream }));
+    });
+  }
+
+  /** The symbols of some kinds in a copy of a stream. */
+  #listedSymbols(bytes, symbols, kinds) {
+    const memory = memoryOf(this), sections = this.#streamOrNone(this.info.section_headers);
+    return lent(memory, () => {
+      const file = new File(memory, placed(memory, bytes)), found = [];
+      for (const it of file.many('pe_c_list_pdb_symbols', { ...symbols }, { given: { sections } })) {
+        if (kinds.includes(it.kind)) found.push(symbolOf(it, file));
+      }
+      return found;
+    });
+  }
+
+  /** The public symbols, functions and others. */
+  publics() {
+    this.#checkDbi();
+    const bytes = this.#streamOrNone(this.info.symbol_stream);
+    return this.#listedSymbols(bytes, { offset: 0n, length: BigInt(bytes.length) }, [S_PUB32]);
+  }
+
+  /** The procedures of a module. */
+  procedures(module) {
+    return module.stream === null ? [] : this.#listedSymbols(this.stream(module.stream), module.symbols, PROCEDURES);
+  }
+
+  /** The lines of a module, by their RVAs; of several at one RVA the last counts. */
+  lines(module) {
+    if (module.stream === null) return [];
+    const sections = this.#sectionHeaders(), names = this.#fileNames(), memory = memoryOf(this);
+    return lent(memory, () => {
+      const symbols = new Symbols(memory, this.stream(module.stream), 1, {}, sections);
+      symbols.readLines(module.lines, names);
+      return symbols.allLines();
+    });
+  }
+
+  /** Where the names of source files stand in the memory; nothing where they are refused. */
+  #fileNames() {
+    this.#names ??= placed(memoryOf(this), refusedIn(this.#errors, 'names of source files', () => this.#namesStream()) ?? new Uint8Array());
+    return Object.values(this.#names);
+  }
+
+  #namesStream() {
+    const memory = memoryOf(this), number = lent(memory, () => {
+      const info = new File(memory, placed(memory, this.stream(INFO_STREAM)));
+      return info.call('pe_c_pdb_named_stream', { name: new TextEncoder().encode('/names') });
+    });
+    return number === null ? null : this.stream(number);
+  }
+
+  /** What names RVAs: the procedures and lines of all modules, each read once. A module that is refused costs its own names alone, and
+   * so does one whose stream, with those of the modules before it, has more bytes than the file: no linker writes a block for two. */
+  #read() {
+    if (this.#functions) return this.#functions;
+    const starts = [], found = [];
+    let left = this.length;
+    for (const module of refusedIn(this.#errors, 'modules', () => this.modules()) ?? []) {
+      if (module.stream === null) continue;
+      const symbols = refusedIn(this.#errors, module.name, () => {
+        const bytes = this.stream(module.stream);
+        left -= bytes.length;
+        if (left < 0) throw this.refused('pe_c_pdb_stream', 'PE_C_PDB_STREAM_SIZE');
+        return new Symbols(memoryOf(this), bytes, 1, module.symbols, this.#sectionHeaders());
+      });
+      if (!symbols) continue;
+      for (const rva of symbols.starts()) starts.push([rva, found.length]);
+      found.push(symbols);
+      refusedIn(this.#errors, `lines of ${module.name}`, () => symbols.readLines(module.lines, this.#fileNames()));
+    }
+    // Of several at one RVA, as a linker folds equal ones, that of the last module counts.
+    starts.sort((one, other) => one[0] - other[0] || one[1] - other[1]);
+    this.#publics = refusedIn(this.#errors, 'public symbols', () => {
+      const sections = this.#sectionHeaders(), bytes = this.#streamOrNone(this.info.symbol_stream);
+      return new Symbols(memoryOf(this), bytes, 0, { offset: 0n, length: BigInt(bytes.length) }, sections);
+    });
+    return this.#functions = { starts, modules: found };
+  }
+
+  /** The parts that are refused, of those that name RVAs, each with its PeError. */
+  get damaged() {
+    this.#read();
+    return this.#errors.slice();
+  }
+
+  /** The function at an RVA and its line, or null: see index.d.ts. */
+  find(rva, { isReturn = false } = {}) {
+    const at = rva - Number(isReturn), { starts, modules } = this.#read();
+    if (!(at >= 0 && at <= 0xFFFFFFFF)) return null;
+    let low = 0, high = starts.length;
+    while (low < high) {
+      const middle = low + high >> 1;
+      if (starts[middle][0] <= at) low = middle + 1;
+      else high = middle;
+    }
+    const module = low ? modules[starts[low - 1][1]] : null, found = module?.find(at) ?? null;
+    const symbols = found ? module : this.#publics, symbol = found ?? this.#publics?.find(at);
+    if (!symbol) return null;
+    const line = found && module.line(at), none = { file: null, line: null, column: null };
+    const { file, line: number, column } = line && line.line !== null ? line : none;
+    return { name: symbols.utf8(symbol.name), start: symbol.rva, offset: rva - symbol.rva,
+      source: found ? 'procedure' : 'public', file, line: number, column };
+  }
+}
+
+/** A symbol as index.d.ts has it. */
+function symbolOf({ name, rva, size, flags, kind, section, section_offset: sectionOffset, result }, file) {
+  const isDone = result === constants.PE_C_DONE;
+  return { name: file.utf8(name), rva: isDone ? rva : null, size, kind, section, sectionOffset,
+    isFunction: kind !== S_PUB32 || (flags & 2) !== 0, error: isDone || result === constants.PE_C_NOTHING ? 0 : result };
+}

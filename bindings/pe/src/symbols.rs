@@ -1,0 +1,141 @@
+//! `pe symbols`: the symbol file of an image, as [Breakpad](https://chromium.googlesource.com/breakpad/breakpad/+/master/docs/symbol_files.md)
+//! and Crashpad have it, for stackwalkers of others: lines of text. Its functions and lines are those of a PDB, or else of the symbols and
+//! exports of the image; how frames are unwound is what the unwind records of the image say.
+
+mod functions;
+mod unwinding;
+
+use crate::escape::escaped;
+use crate::facts::{Named, Refusal};
+use crate::files::{self, Report};
+use crate::names::MACHINES;
+use crate::new_file::Target;
+use crate::streams::complaint;
+use crate::Status;
+use functions::Functions;
+use pe_c::{Error, Image, Mode, Pdb};
+use std::fmt::Write;
+use std::path::Path;
+
+/// Machines by the names of Breakpad.
+const CPUS: [(u16, &str); 4] = [(0x14C, "x86"), (0x1C4, "arm"), (0x8664, "x86_64"), (0xAA64, "arm64")];
+/// The key of an image that names no PDB.
+const NO_KEY: &str = "000000000000000000000000000000000";
+
+/// A symbol file, and what of its sources is left out.
+#[derive(Default)]
+struct SymbolFile {
+    text: String,
+    complaints: Vec<String>,
+}
+
+impl SymbolFile {
+    fn complain(&mut self, part: &str, why: impl std::fmt::Display) {
+        self.complaints.push(format!("{}: {why}", escaped(part)));
+    }
+
+    /// Writes a line.
+    fn line(&mut self, line: std::fmt::Arguments<'_>) {
+        // Writing to a text never fails.
+        let _ = writeln!(self.text, "{line}");
+    }
+}
+
+/// A name as a line has it, on which nothing else of a file may stand.
+fn in_line(name: &str) -> String {
+    escaped(name)
+}
+
+/// Writes the symbol file of an image, by its PDB where one is named; or that of a PDB alone, which says nothing of unwinding.
+pub fn write(path: &Path, bytes: &[u8], mode: Mode, pdb: Option<&Path>, to: &Target) -> Report {
+    let made = match (Pdb::parse(bytes), pdb) {
+        (Ok(own), None) => of_pdb(path, &own),
+        _ => match Image::parse(bytes, mode) {
+            Ok(image) => match pdb {
+                None => of_image(path, &image),
+                Some(pdb) => match files::whole(pdb) {
+                    Ok(bytes) => of_both(path, &image, (pdb, &bytes)),
+                    Err(error) => return Report::unread(pdb, error),
+                },
+            },
+            Err(error) => Err(complaint(path, Refusal::from(error))),
+        },
+    };
+    match made {
+        Ok(SymbolFile { text, complaints }) => {
+            let status = if complaints.is_empty() { Status::Done } else { Status::Refused };
+            let written = files::deliver(text.as_bytes(), to, status);
+            let own: String = complaints.iter().map(|it| complaint(path, it)).collect();
+            Report { complaints: own + &written.complaints, ..written }
+        }
+        Err(complaints) => Report { complaints, ..Report::of("", Status::Refused) },
+    }
+}
+
+/// The line that says of which module the file is: its machine, the key of its PDB and the name of that.
+fn put_module(file: &mut SymbolFile, machine: u16, key: &str, name: &str) {
+    let cpu = CPUS.iter().find(|it| it.0 == machine).map_or("unknown", |it| it.1);
+    if cpu == "unknown" {
+        let machine = Named::of(machine.into(), MACHINES);
+        file.complain("machine", format_args!("Breakpad has no name for {machine}"));
+    }
+    file.line(format_args!("MODULE windows {cpu} {key} {}", in_line(name)));
+}
+
+fn put_image(file: &mut SymbolFile, path: &Path, image: &Image<'_>) -> Result<(), Error> {
+    let own = path.file_name().map_or(String::new(), |it| it.to_string_lossy().into_owned());
+    let key = image.symbol_key()?;
+    match key.and_then(|it| Some((it, it.path()?))) {
+        Some((key, path)) => put_module(file, image.info().machine, &key.to_string(), path.name()),
+        None => put_module(file, image.info().machine, NO_KEY, &own),
+    }
+    if let Some(path) = image.info().symbol_path(&own) {
+        let text = path.to_string();
+        file.line(format_args!("INFO CODE_ID {} {}", text.split('/').nth(1).unwrap_or_default(), in_line(path.name())));
+    }
+    Ok(())
+}
+
+fn of_image(path: &Path, image: &Image<'_>) -> Result<SymbolFile, String> {
+    let mut file = SymbolFile::default();
+    put_image(&mut file, path, image).map_err(|error| complaint(path, Refusal::from(error)))?;
+    Functions::of_image(image, &mut file).put(&mut file);
+    unwinding::put(image, &mut file);
+    Ok(file)
+}
+
+fn of_both(path: &Path, image: &Image<'_>, (pdb_path, bytes): (&Path, &[u8])) -> Result<SymbolFile, String> {
+    let refused = |path: &Path, error: Error| complaint(path, Refusal::from(error));
+    let pdb = Pdb::parse(bytes).and_then(|it| it.dbi().map(|()| it)).map_err(|error| refused(pdb_path, error))?;
+    let key = image.symbol_key().map_err(|error| refused(path, error))?;
+    match key {
+        Some(key) if pdb.matches(&key) => (),
+        Some(key) => {
+            let found = pdb.key("");
+            return Err(complaint(pdb_path, format_args!("of another build: {found}, and the image names {key}")));
+        }
+        None => return Err(complaint(path, "it names no PDB")),
+    }
+    let mut file = SymbolFile::default();
+    put_image(&mut file, path, image).map_err(|error| refused(path, error))?;
+    put_of_pdb(&pdb, &mut file);
+    unwinding::put(image, &mut file);
+    Ok(file)
+}
+
+fn of_pdb(path: &Path, pdb: &Pdb<'_>) -> Result<SymbolFile, String> {
+    pdb.dbi().map_err(|error| complaint(path, Refusal::from(error)))?;
+    let name = path.file_name().map_or(String::new(), |it| it.to_string_lossy().into_owned());
+    let mut file = SymbolFile::default();
+    put_module(&mut file, pdb.info().machine, &pdb.key("").to_string(), &name);
+    put_of_pdb(pdb, &mut file);
+    Ok(file)
+}
+
+fn put_of_pdb(pdb: &Pdb<'_>, file: &mut SymbolFile) {
+    if pdb.is_moved() {
+        file.complain("functions", "a tool moved the code of the image after it was linked (OMAP), which is not read");
+        return;
+    }
+    Functions::of_pdb(pdb, file).put(file);
+}

@@ -1,0 +1,351 @@
+"""Program databases (PDB 7.0): the names and lines of an image that was linked with debug information."""
+from __future__ import annotations
+
+import bisect
+import typing
+from typing import TYPE_CHECKING
+
+from . import _core
+from ._added import Machine, pdb_path
+from ._core import PdbInfo, PdbLine, PdbModule, PdbSymbol, SymbolKey
+from ._image import Image
+from ._kinds import Kind
+from ._part import Error, ImageWarning, Part, WarningKind, error_of
+from ._reader import BYTES, AnyFile, Reader, content_of
+
+if TYPE_CHECKING:
+    import _typeshed
+
+INFO_STREAM, DBI_STREAM, NO_STREAM = 1, 3, 0xFFFF
+# What an index has: public functions, or procedures that have code.
+PUBLICS, PROCEDURES = 0, 1
+MOVED = "a tool moved the code of the image after it was linked (OMAP): RVAs are those before that"
+
+
+class PdbFrame(typing.NamedTuple):
+    """A function at an RVA, and where in its source."""
+
+    name: str
+    """of a procedure as in the source, of a public symbol as linkers have it: those of C++ and Rust mangled"""
+    start: int
+    """the RVA of the function"""
+    offset: int
+    """how far after it the address is"""
+    source: str
+    """procedure; or public, the last public function before an address that no procedure has, which may be another one"""
+    file: str | None
+    """the path of the source file; None where nothing says it"""
+    line: int | None
+    """from 1 on"""
+    column: int | None
+    """from 1 on; mostly None"""
+
+
+def _core_of(stream: bytes) -> _core.Image:
+    """What reads the bytes of a stream."""
+    core, _ = _core.image(stream, 0, False, BYTES, False)
+    assert core is not None
+    return core
+
+
+class _Symbols:
+    """The symbols of a module, or the public ones: the bytes of their stream, and an index."""
+
+    def __init__(self, kind: int, stream: bytes, symbols: tuple[int, int], sections: bytes) -> None:
+        self.core, self._kind, self._range, self._sections = _core_of(stream), kind, symbols, sections
+        index, number, _ = self.core.pdb_index(kind, sections, *symbols)
+        if index is None:
+            raise error_of(number, "symbols")
+        self._index = index
+
+    def starts(self) -> typing.Iterator[int]:
+        """The RVAs of its functions, in ascending order."""
+        return (it >> 32 for it in memoryview(self._index).cast("Q"))
+
+    def all(self) -> tuple[tuple[PdbSymbol, ...] | None, int, bool]:
+        return self.core.pdb_symbols(self._sections, *self._range)
+
+    def find(self, rva: int) -> PdbSymbol | None:
+        """The symbol of an RVA, if it has a name."""
+        found, _, _ = self.core.pdb_find(self._kind, self._sections, self._index, rva)
+        return found if found is not None and found.name else None
+
+
+class _Lines:
+    """The lines of a module. None is found where they are refused."""
+
+    def __init__(self, core: _core.Image, lines: tuple[int, int], sections: bytes, names: bytes) -> None:
+        self._core, self._names = core, names
+        files, number, _ = core.pdb_files(*lines)
+        index, other, _ = core.pdb_line_index(sections, *lines)
+        self.error = number or other
+        self._files, self._index = files or (0, 0), index or b""
+
+    def all(self) -> tuple[tuple[PdbLine, ...] | None, int, bool]:
+        rows, number, is_limited = self._core.pdb_lines(self._index, *self._files, self._names)
+        return rows, self.error or number, is_limited
+
+    def find(self, rva: int) -> PdbLine | None:
+        return self._core.pdb_find_line(self._index, *self._files, self._names, rva)[0]
+
+
+class _Functions:
+    """What names RVAs: the procedures of all modules, each read once. A module that is refused costs its own names alone, and so does
+    one whose stream, with those of the modules before it, has more bytes than the file: no linker writes a block for two."""
+
+    def __init__(self, pdb: Pdb) -> None:
+        self._pdb, self.sections = pdb, pdb._section_headers
+        self.refused: dict[int, int] = {}
+        self.modules: dict[int, _Symbols] = {}
+        self._lines: dict[int, _Lines] = {}
+        left = len(pdb.memory)
+        for number, module in enumerate(pdb.modules):
+            if module.stream is None:
+                continue
+            try:
+                stream = pdb.stream(module.stream)
+                left -= len(stream)
+                if left < 0:
+                    raise error_of(Kind.PDB_STREAM_SIZE, "module")
+                self.modules[number] = _Symbols(PROCEDURES, stream, _pair(module.symbols), self.sections)
+            except Error as error:
+                self.refused[number] = error.number
+        # Of several at one RVA, as a linker folds equal ones, that of the last module counts.
+        self._starts = sorted(rva << 32 | number for number, it in self.modules.items() for rva in it.starts())
+
+    def procedure(self, rva: int) -> tuple[PdbSymbol, int] | None:
+        """The procedure that has an RVA, and the number of its module."""
+        index = bisect.bisect_right(self._starts, rva << 32 | 0xFFFFFFFF) - 1
+        if index < 0:
+            return None
+        module = self._starts[index] & 0xFFFFFFFF
+        found = self.modules[module].find(rva)
+        return None if found is None else (found, module)
+
+    def lines(self, number: int) -> _Lines:
+        """The lines of a module whose procedures were read, which are read when they are asked for."""
+        if number not in self._lines:
+            core, lines = self.modules[number].core, _pair(self._pdb.modules[number].lines)
+            self._lines[number] = _Lines(core, lines, self.sections, self._pdb._names[0])
+        return self._lines[number]
+
+
+def _pair(it: _core.Range) -> tuple[int, int]:
+    return it.offset, it.length
+
+
+class Pdb(Reader):
+    """A PDB over the bytes of a file. Raises Error where it is no PDB 7.0, or the stream that says which one is refused. After that it
+    is as Image: `warnings` has what is damaged, and costs its own names alone."""
+
+    def __init__(self, data: _typeshed.ReadableBuffer, *, copy: bool = True, path: str | None = None) -> None:
+        super().__init__(data, BYTES, "PDB", copy=copy, path=path)
+        self._one("pdb")
+
+    @classmethod
+    def open(cls, path: AnyFile, *, limit: int = 1 << 32) -> Pdb:
+        """That of a file, by its path or open, which is read whole."""
+        content, name = content_of(path, limit)
+        return cls(content, path=name)
+
+    @property
+    def info(self) -> PdbInfo:
+        """What the file says of itself."""
+        info: PdbInfo = self._one("pdb")
+        return info
+
+    @property
+    def machine(self) -> Machine:
+        return Machine(self.info.machine)
+
+    @property
+    def guid(self) -> bytes:
+        """With the age that by which an image names its PDB, as `SymbolKey.guid`."""
+        return self.info.guid
+
+    @property
+    def age(self) -> int:
+        """The age that the image has. That of the PDB itself, `info.age`, may be greater."""
+        return self.info.dbi_age
+
+    def symbol_path(self, name: str) -> str | None:
+        """Where a symbol server has the PDB, NAME/KEY/NAME, under this name: a PDB does not know its own."""
+        return pdb_path(name, self.guid, self.age)
+
+    def matches(self, image: Image | SymbolKey) -> bool:
+        """Whether it is the PDB of an image, or that of a key: by the GUID and the age. False where the stream with the age is refused,
+        and for an image that names none."""
+        key = image.symbol_key if isinstance(image, Image) else image
+        return key is not None and self._read("pdb_is_of", key.guid, key.age)[0] is True
+
+    @property
+    def is_moved(self) -> bool:
+        """Whether a tool moved the code of the image after it was linked (OMAP). Then RVAs are those before that, and nothing here
+        maps them."""
+        return not self.info.dbi_result and self.info.omap_from_source != NO_STREAM
+
+    # ---- streams
+
+    def stream(self, number: int) -> bytes:
+        """A copy of the stream with a number. Raises Error."""
+        stream: bytes = self._asked("stream", "pdb_stream", self._one("pdb_starts"), number)
+        return stream
+
+    def _stream_or_none(self, number: int) -> bytes:
+        return b"" if number == NO_STREAM else self.stream(number)
+
+    @property
+    def _section_headers(self) -> bytes:
+        self._check_dbi()
+        return self._once("section headers", lambda: self._stream_or_none(self.info.section_headers))
+
+    @property
+    def _names(self) -> tuple[bytes, int]:
+        """The names of source files, and the number of why they are refused."""
+        return self._once("names", self._read_names)
+
+    def _read_names(self) -> tuple[bytes, int]:
+        try:
+            number, refused, _ = _core_of(self.stream(INFO_STREAM)).pdb_named_stream(b"/names")
+            return (b"" if number is None else self.stream(number)), refused
+        except Error as error:
+            return b"", error.number
+
+    def _check_dbi(self) -> None:
+        if self.info.dbi_result:
+            raise error_of(self.info.dbi_result, "DBI stream", self.path)
+
+    # ---- lists
+
+    @property
+    def modules(self) -> Part[PdbModule]:
+        """The modules, which are the objects that were linked. `error` says why they, or the DBI stream, are refused."""
+        return self._once("modules", self._read_modules)
+
+    def _read_modules(self) -> Part[PdbModule]:
+        try:
+            self._check_dbi()
+            return self._part_of(_core_of(self.stream(DBI_STREAM)).pdb_modules(*_pair(self.info.modules)), "modules")
+        except Error as error:
+            return self._part_of(((), error.number, False), "modules")
+
+    @property
+    def _publics(self) -> _Symbols | Error:
+        return self._once("public symbols", self._read_publics)
+
+    def _read_publics(self) -> _Symbols | Error:
+        try:
+            sections = self._section_headers
+            stream = self._stream_or_none(self.info.symbol_stream)
+            return _Symbols(PUBLICS, stream, (0, len(stream)), sections)
+        except Error as error:
+            return error_of(error.number, "public symbols", self.path)
+
+    @property
+    def publics(self) -> Part[PdbSymbol]:
+        """The public symbols, in the order of their records: functions and others."""
+        publics = self._publics
+        answer = ((), publics.number, False) if isinstance(publics, Error) else publics.all()
+        return self._once("publics", lambda: self._part_of(answer, "public symbols"))
+
+    def _symbols_of(self, module: PdbModule) -> tuple[tuple[PdbSymbol, ...] | None, int, bool]:
+        if module.stream is None:
+            return (), 0, False
+        try:
+            return _Symbols(PROCEDURES, self.stream(module.stream), _pair(module.symbols), self._section_headers).all()
+        except Error as error:
+            return (), error.number, False
+
+    def procedures(self, module: PdbModule) -> Part[PdbSymbol]:
+        """The procedures of a module. Each time its stream is read: of a hostile PDB all modules may have one that is as long as the
+        file. `functions` has those of all."""
+        return self._part_of(self._symbols_of(module), f"procedures of {module.name}")
+
+    def lines(self, module: PdbModule) -> Part[PdbLine]:
+        """The lines of a module, by their RVAs; of several at one RVA the last one counts."""
+        name = f"lines of {module.name}"
+        if module.stream is None:
+            return Part()
+        try:
+            sections, names = self._section_headers, self._names[0]
+            return self._part_of(_Lines(_core_of(self.stream(module.stream)), _pair(module.lines), sections, names).all(), name)
+        except Error as error:
+            return self._part_of(((), error.number, False), name)
+
+    @property
+    def _functions(self) -> _Functions | Error:
+        return self._once("functions", self._read_functions)
+
+    def _read_functions(self) -> _Functions | Error:
+        try:
+            return _Functions(self)
+        except Error as error:
+            return error_of(error.number, "symbols", self.path)
+
+    @property
+    def functions(self) -> Part[PdbSymbol]:
+        """The procedures of all modules, and public functions where no procedure starts, by their RVAs. Its `error` is the first of
+        the modules' and of the public symbols'; `warnings` has them all."""
+        return self._once("all functions", self._read_all)
+
+    def _read_all(self) -> Part[PdbSymbol]:
+        known = self._functions
+        if isinstance(known, Error):
+            return self._part_of(((), known.number, False), "functions")
+        numbers, is_limited, rows = [*known.refused.values()], False, []
+        for it in known.modules.values():
+            found, number, was_limited = it.all()
+            numbers, is_limited = numbers + [number], is_limited or was_limited
+            rows += [it for it in found or () if it.rva is not None]
+        starts = {it.rva for it in rows}
+        rows += [it for it in self.publics if it.rva is not None and it.is_function and it.rva not in starts]
+        numbers += [self.modules.error.number] if self.modules.error else []
+        numbers += [self.publics.error.number] if self.publics.error else []
+        rows.sort(key=lambda it: it.rva or 0)
+        number = next((it for it in numbers if it), 0)
+        return self._part_of((rows, number, is_limited or self.publics.is_limited), "functions")
+
+    # ---- addresses
+
+    def find(self, rva: int, is_return: bool = False) -> PdbFrame | None:
+        """The function at an RVA, and its line: the procedure whose code has it, else the last public function before it. Of a return
+        address the byte before it counts, as a call may be the last of its function. None where there is none."""
+        at, known = rva - is_return, self._functions
+        if not 0 <= at < 1 << 32:
+            return None
+        found = None if isinstance(known, Error) else known.procedure(at)
+        if found is not None and not isinstance(known, Error):
+            symbol, module = found
+            line = known.lines(module).find(at)
+            there = (None, None, None) if line is None or line.line is None else (line.file, line.line, line.column)
+            return PdbFrame(symbol.name, symbol.rva or 0, rva - (symbol.rva or 0), "procedure", *there)
+        publics = self._publics
+        public = None if isinstance(publics, Error) else publics.find(at)
+        if public is None or public.rva is None:
+            return None
+        return PdbFrame(public.name, public.rva, rva - public.rva, "public", None, None, None)
+
+    @property
+    def warnings(self) -> tuple[ImageWarning, ...]:
+        """What is damaged, a warning each; and that a tool moved the code. It reads the lines of all modules."""
+        found = [ImageWarning(WarningKind.SYMBOLS, "PDB", MOVED, None, self.path)] if self.is_moved else []
+        errors = [self.modules.error, self._publics if isinstance(self._publics, Error) else None]
+        known = self._functions
+        if isinstance(known, _Functions):
+            errors += self._module_errors(known)
+        if self._names[1]:
+            errors.append(error_of(self._names[1], "names of source files", self.path))
+        return tuple(found + [ImageWarning(WarningKind.DAMAGED, it.part, it.text, it, self.path) for it in errors if it])
+
+    def _module_errors(self, known: _Functions) -> list[Error]:
+        """Why the symbols or the lines of modules are refused, and the first record of each that is."""
+        errors: list[Error] = []
+        for number, module in enumerate(self.modules):
+            def add(refused: int, what: str, name: str = module.name) -> None:
+                errors.extend([error_of(refused, f"{what} of {name}", self.path)] if refused else [])
+            add(known.refused.get(number, 0), "symbols")
+            if number in known.modules:
+                rows, refused, _ = known.modules[number].all()
+                add(refused or next((it.error for it in rows or () if it.error), 0), "symbols")
+                add(known.lines(number).error, "lines")
+        return errors
