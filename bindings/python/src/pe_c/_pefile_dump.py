@@ -8,6 +8,7 @@ from __future__ import annotations
 import typing
 
 from . import pefile as _names
+from ._pefile_structures import dumped
 
 # The value of a structure in the dict.
 _Fields = dict[str, typing.Any]
@@ -32,7 +33,7 @@ def _section_flags(section: _names.SectionStructure) -> list[str]:
 
 def _text(name: bytes | None) -> str:
     """A name as a line has it."""
-    return "None" if name is None else _names._dumped("", name)
+    return "None" if name is None else dumped("", name)
 
 
 def _debug_type(number: int) -> str:

@@ -203,8 +203,9 @@ def _with_bits(fields: typing.Iterable[str]) -> tuple[list[Value], dict[str, Bit
         last = bits[-1] if bits else None
         is_next = last is not None and values[-1][0] == code and sum(it[1] for it in last) + int(count) <= 8 * sizeof_type(code)
         if last is None or not is_next:
+            last = []
             values.append((code, []))
-            bits.append(last := [])
+            bits.append(last)
         last.append((names, int(count)))
     named = [(code, names if of is None else ["~" + "".join(it[0] for it in of)]) for (code, names), of in zip(values, bits)]
     return named, {names[0]: of for (_, names), of in zip(named, bits) if of is not None}
@@ -251,6 +252,9 @@ class Structure:
     StringTable: list[Structure]
     Var: list[Structure]
     entry: dict[bytes | None, str]
+    _structure: str
+    _fields: tuple[str, ...]
+    _changed: set[str]
 
     def __init__(self, format: Format, name: str | None = None, file_offset: int | None = None) -> None:
         self._starts(name or format[0], format[0], file_offset, _values(format[1]))

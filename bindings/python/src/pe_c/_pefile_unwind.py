@@ -164,7 +164,11 @@ class UnwindInfo(StructureWithBitfields):
     """An unwind record: Version, Flags, SizeOfProlog, CountOfCodes, FrameRegister, FrameOffset; the flags by their names; UnwindCodes;
     ExceptionHandler, or FunctionEntry where the record is chained."""
 
+    Flags: int
+    CountOfCodes: int
     UnwindCodes: list[PrologEpilogOp]
+    _last: str
+    _whole: bytes
 
     def __init__(self, file_offset: int = 0) -> None:
         super().__init__(_HEADER, file_offset=file_offset)

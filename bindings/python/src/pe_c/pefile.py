@@ -37,7 +37,7 @@ from ._pefile_structures import (
     is_valid_function_name as is_valid_function_name, long as long, lru_cache as lru_cache, parse_strings as parse_strings,
     power_of_two as power_of_two, retrieve_flags as retrieve_flags, set_bitfields_format as set_bitfields_format,
     set_flags as set_flags, set_format as set_format, sizeof_type as sizeof_type)
-from ._pefile_structures import Value as _Value, dumped as _dumped
+from ._pefile_structures import Value as _Value
 from ._pefile_unwind import (
     PrologEpilogOp as PrologEpilogOp, PrologEpilogOpAllocLarge as PrologEpilogOpAllocLarge,
     PrologEpilogOpAllocSmall as PrologEpilogOpAllocSmall, PrologEpilogOpEpilogMarker as PrologEpilogOpEpilogMarker,
@@ -326,7 +326,7 @@ class ImportDescData(DataContainer):
 class _Changing(DataContainer):
     """What is written into the file when it is assigned to, and read of it when it is asked for: by the names of attributes how."""
 
-    _ways: dict[str, typing.Callable[[Any, Any], None]] = {}
+    _ways: dict[str, typing.Callable[[Any, Any], Any]] = {}
     _makes: dict[str, typing.Callable[[Any], Any]] = {}
 
     def __setattr__(self, name: str, value: Any) -> None:
@@ -372,7 +372,12 @@ class ImportData(_Changing):
 
     def _set_ordinal(self, number: int) -> None:
         flag = IMAGE_ORDINAL_FLAG64 if self.pe.PE_TYPE == OPTIONAL_HEADER_MAGIC_PE_PLUS else IMAGE_ORDINAL_FLAG
-        _set_thunk(self.struct_table, flag | number & 0xFFFF)
+        self._set_address(flag | number & 0xFFFF)
+
+    def _set_address(self, value: int) -> None:
+        # What the thunk says is read before it is another one.
+        _ = self.hint_name_table_rva, self.bound
+        _set_thunk(self.struct_table, value)
 
     def _slot(self) -> Structure | None:
         """The entry of the address table of a bound import, which is another than that of the lookup table."""
@@ -385,7 +390,7 @@ class ImportData(_Changing):
         return self.struct_table.AddressOfData & 0x7FFFFFFFFFFFFFFF if is_named else None
 
     _ways = {"name": _set_name, "ordinal": _set_ordinal, "bound": lambda it, value: _set_thunk(it.struct_iat, value),
-             "address": lambda it, value: _set_thunk(it.struct_table, value)}
+             "address": _set_address}
     _makes = {"struct_table": lambda it: _thunk(it.pe, it.thunk_offset), "struct_iat": _slot, "hint_name_table_rva": _hint_rva,
               "bound": lambda it: None if it.struct_iat is None else it.struct_iat.AddressOfData}
 
@@ -967,6 +972,12 @@ _READ = {"DIRECTORY_ENTRY_IMPORT": _read_imports, "DIRECTORY_ENTRY_DELAY_IMPORT"
          "FileInfo": _read_file_info, "VS_VERSIONINFO": _read_version_info, "VS_FIXEDFILEINFO": _read_fixed_info}
 
 
+def _format_of(name: str) -> tuple[str, tuple[str, ...]]:
+    """The format of a structure, which an image of pefile has as __NAME_format__."""
+    own = name if "OPTIONAL" in name else name.removesuffix("64")
+    return own, tuple(f"{code},{','.join(names)}" for code, names in _LAYOUTS[name])
+
+
 def _unpacked(made: Structure, data: bytes | bytearray) -> Structure | None:
     """The structure with the fields that stand in some bytes; None where these are too few."""
     try:
@@ -1046,6 +1057,8 @@ class PE:
         if name == "RICH_HEADER":
             self.RICH_HEADER = _read_rich(self)
             return self.RICH_HEADER
+        if name.startswith("__") and name[2:].removesuffix("_format__") in _LAYOUTS:
+            return _format_of(name[2:].removesuffix("_format__"))
         value = read(self) if read is not None and "_image" in self.__dict__ else None
         if not value:
             raise _missing("PE", name)
@@ -1531,11 +1544,6 @@ class PE:
         native = ("IMAGE_SUBSYSTEM_NATIVE", "IMAGE_SUBSYSTEM_NATIVE_WINDOWS")
         is_paged = any(it.Name.lower().rstrip(b"\0") in (b"page", b"paged") for it in self.sections)
         return is_paged and SUBSYSTEM_TYPE.get(self.OPTIONAL_HEADER.Subsystem) in native
-
-
-# The formats of structures, which pefile has by these names: __IMAGE_DOS_HEADER_format__ and its like.
-for _name, _fields_of in _LAYOUTS.items():
-    setattr(PE, f"__{_name}_format__", (_name, tuple(f"{code},{','.join(names)}" for code, names in _fields_of)))
 
 
 def main() -> None:
