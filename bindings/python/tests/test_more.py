@@ -4,12 +4,14 @@ What is expected stands in how the files are made (bindings/rust/tests/made), or
 what osslsigncode and openssl do."""
 import copy
 import datetime
+import enum
 import gc
 import io
 import os
 import pathlib
 import pickle
 import random
+import re
 import struct
 import subprocess
 import sys
@@ -411,6 +413,29 @@ class Files(unittest.TestCase):
             self.assertEqual(older.symbol_path.split("/")[1], f"{older.pdb20.signature:08X}{older.pdb20.age:X}")
         fixed = pe_c.Image(bytes_of("resources.bin")).versions[0].fixed
         self.assertEqual((fixed.file_version, len(fixed.product_version)), ((3, 11, 3150, 1013), 4))
+
+
+class PublicNames(unittest.TestCase):
+    """uses.py, whose types mypy checks, names all that is public, and runs."""
+
+    def public(self):
+        for name, it in vars(pe_c).items():
+            if name.startswith("_") or isinstance(it, types.ModuleType):
+                continue
+            yield name
+            is_class = isinstance(it, type) and it.__module__.startswith("pe_c")
+            if is_class and not issubclass(it, enum.Enum) and not hasattr(it, "n_sequence_fields"):
+                own = (cls for cls in it.__mro__ if cls.__module__.startswith("pe_c"))
+                yield from (f"{name}.{one}" for cls in own for one in vars(cls) if not one.startswith("_"))
+
+    def test_each_is_used(self):
+        import uses
+        with open(uses.__file__, encoding="utf-8") as file:
+            words = set(re.findall(r"\w+", file.read()))
+        names = set(self.public())
+        self.assertGreater(len(names), 250)
+        self.assertEqual([it for it in names if it.split(".")[-1] not in words], [])
+        self.assertGreater(uses.main(IMAGES), len(uses.ROWS))
 
 
 class Dumps(unittest.TestCase):

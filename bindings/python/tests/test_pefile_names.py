@@ -67,6 +67,9 @@ STRUCTURES = {
     "CV_INFO_PDB70": ("debug", lambda pe: pe.DIRECTORY_ENTRY_DEBUG[0].entry),
     "CV_INFO_PDB20": ("old_debug", lambda pe: pe.DIRECTORY_ENTRY_DEBUG[0].entry),
     "IMAGE_BASE_RELOCATION": ("relocations", lambda pe: pe.DIRECTORY_ENTRY_BASERELOC[0].struct),
+    "IMAGE_BASE_RELOCATION_ENTRY": ("relocations", lambda pe: pe.DIRECTORY_ENTRY_BASERELOC[0].entries[0].struct),
+    "IMAGE_THUNK_DATA": ("imports", lambda pe: pe.DIRECTORY_ENTRY_IMPORT[0].imports[0].struct_table),
+    "Var": ("resources", lambda _: next(it for it in with_version().FileInfo[0] if it.Key == b"VarFileInfo").Var[0]),
     "IMAGE_TLS_DIRECTORY": ("tls", lambda pe: pe.DIRECTORY_ENTRY_TLS.struct),
     "IMAGE_LOAD_CONFIG_DIRECTORY": ("guards", lambda pe: pe.DIRECTORY_ENTRY_LOAD_CONFIG.struct),
     "IMAGE_BOUND_IMPORT_DESCRIPTOR": ("bound_imports", lambda pe: pe.DIRECTORY_ENTRY_BOUND_IMPORT[0].struct),
@@ -77,6 +80,13 @@ STRUCTURES = {
 
 def opened(name):
     return ours.PE(os.path.join(IMAGES, f"{name}.bin"))
+
+
+def with_version():
+    """An image with version information that has a translation."""
+    editor = pe_c.ResourceEditor(pe_c.Image(open_bytes("editable.exe")))
+    editor.set(16, 1, 0x409, pe_c.version_info(file_version=(1, 2, 3, 4), strings={"CompanyName": "Example"}))
+    return ours.PE(data=editor.write())
 
 
 def open_bytes(name):
@@ -119,10 +129,11 @@ class Gaps(unittest.TestCase):
         for name in ("parse_imports", "has_dynamic_relocs"):
             with self.assertRaises(NotInPeC):
                 getattr(pe, name)
-        with self.assertRaises(NotInPeC):
-            ours.Dump
-        with self.assertRaises(AttributeError):
-            ours.no_such_name
+        with self.assertRaisesRegex(NotInPeC, r"^DynamicRelocationData: .*; pe_c\._pefile_gaps\.GAPS has"):
+            ours.DynamicRelocationData
+        for owner, name in ((ours, "no_such_name"), (pe, "no_such_name"), (pe.FILE_HEADER, "no_such_name")):
+            with self.assertRaisesRegex(AttributeError, r"no_such_name; pe_c\._pefile_gaps\.GAPS"):
+                getattr(owner, name)
         self.assertFalse(hasattr(pe, "DIRECTORY_ENTRY_TLS"))
 
     def test_fields_of_directories_are_written(self):
@@ -194,15 +205,151 @@ class Gaps(unittest.TestCase):
         with self.assertRaises(TypeError):
             pe.set_bytes_at_offset(0, "MZ")
 
+    def test_version_information_is_written(self):
+        """A text no longer than the one in the file, with zeros after it, and the fixed information: nothing else of the file."""
+        pe = opened("resources")
+        table, fixed, before = pe.FileInfo[0][0].StringTable[0], pe.VS_FIXEDFILEINFO[0], bytes(pe.__data__)
+        key, text = next((key, value) for key, value in table.entries.items() if len(value) > 3 and value.isascii())
+        table.entries[key], fixed.FileVersionMS = b"abc", 0x00070008
+        expected = bytearray(before)
+        at, wide = before.find(text.decode().encode("utf-16-le")), len(text) * 2
+        self.assertEqual(before.count(text.decode().encode("utf-16-le")), 1)
+        expected[at:at + wide] = "abc".encode("utf-16-le").ljust(wide, b"\0")
+        struct.pack_into("<I", expected, before.find(struct.pack("<II", 0xFEEF04BD, 0x10000)) + 8, 0x00070008)
+        self.assertEqual(bytes(pe.write()), bytes(expected))
+        again = pe_c.Image(bytes(pe.write())).versions[0]
+        self.assertEqual((again.fixed.file_version[:2], [it[key.decode()] for it in again.strings.values()]), ((7, 8), ["abc"]))
+
     def test_what_is_not_written(self):
-        for change in (lambda pe: setattr(pe.FileInfo[0][0], "Key", b"other"),
-                       lambda pe: pe.FileInfo[0][0].StringTable[0].entries.__setitem__(b"CompanyName", b"Example"),
-                       lambda pe: setattr(pe.VS_FIXEDFILEINFO[0], "FileVersionMS", 1)):
+        def entries(pe):
+            return pe.FileInfo[0][0].StringTable[0].entries
+        for change, error in ((lambda pe: entries(pe).__setitem__(b"Added", b"Example"), NotInPeC),
+                              (lambda pe: entries(pe).pop(next(iter(entries(pe)))), NotInPeC),
+                              (lambda pe: entries(pe).__setitem__(next(iter(entries(pe))), b"x" * 4096), ours.PEFormatError)):
             pe = opened("resources")
             pe.write()
             change(pe)
-            with self.assertRaises(NotInPeC):
+            with self.assertRaises(error):
                 pe.write()
+
+    def test_what_is_assigned_is_written(self):
+        """To exports, imports and relocations: at their place, and nothing else of the file."""
+        pe = opened("exports")
+        first, forwarded = pe.DIRECTORY_ENTRY_EXPORT.symbols[0], pe.DIRECTORY_ENTRY_EXPORT.symbols[2]
+        expected = bytearray(pe.__data__)
+        at = pe.get_offset_from_rva(pe.DIRECTORY_ENTRY_EXPORT.struct.AddressOfFunctions) + 4 * (first.ordinal - 5)
+        struct.pack_into("<I", expected, at, 0x1234)
+        expected[expected.find(b"first\0"):expected.find(b"first\0") + 5] = b"FIRST"
+        first.address, first.name = 0x1234, b"FIRST"
+        self.assertEqual((bytes(pe.write()), first.name), (bytes(expected), b"FIRST"))
+        with self.assertRaises(ours.PEFormatError):
+            first.name = b"a longer one"
+        self.assertFalse(hasattr(forwarded, "name_offset"))
+        with self.assertRaises(NotInPeC):
+            first.ordinal = 9
+        pe = opened("imports")
+        named = next(it for it in pe.DIRECTORY_ENTRY_IMPORT[0].imports if it.name_offset)
+        before, width = bytes(pe.__data__), named.struct_table.sizeof()
+        named.ordinal = 7
+        self.assertEqual(bytes(pe.write()), before[:named.thunk_offset] + (1 << 8 * width - 1 | 7).to_bytes(width, "little")
+                         + before[named.thunk_offset + width:])
+        name = named.name
+        named.name = b"Z"
+        self.assertEqual(bytes(pe.write()), before[:named.name_offset] + b"Z" + before[named.name_offset + 1:])
+        self.assertEqual((len(name) > 1, named.struct_table.AddressOfData), (True, named.hint_name_table_rva))
+        pe = opened("relocations")
+        block = pe.DIRECTORY_ENTRY_BASERELOC[0]
+        one, before = block.entries[0], bytes(pe.__data__)
+        one.type, one.rva = 2, block.struct.VirtualAddress + 0x123
+        at = block.struct.get_file_offset() + 8
+        self.assertEqual(bytes(pe.write()), before[:at] + b"\x23\x21" + before[at + 2:])
+
+    def test_unwind_records(self):
+        """Of functions.bin, whose records tests/pe_c makes; the codes are those of Image.unwind."""
+        pe = opened("functions")
+        image = pe_c.open(os.path.join(IMAGES, "functions.bin"))
+        for it in pe.DIRECTORY_ENTRY_EXCEPTION:
+            record = image._core.unwind_record(it.struct.UnwindData)[0]
+            if it.struct.UnwindData & 1:
+                self.assertIsNone(it.unwindinfo)
+                continue
+            info, start = it.unwindinfo, pe.get_offset_from_rva(it.struct.UnwindData)
+            self.assertEqual((info.Version, info.SizeOfProlog, info.get_file_offset()), (record.version, record.size_of_prolog, start))
+            self.assertEqual(info.Version | info.Flags << 3, pe.__data__[start])
+            self.assertEqual(bytes(info.__pack__()), bytes(pe.__data__[start:start + info.sizeof()]))
+            self.assertEqual([one.struct.CodeOffset for one in info.UnwindCodes if not isinstance(one, ours.PrologEpilogOpEpilogMarker)],
+                             [one.code_offset for one in record.codes if one.operation != 5])
+        shared = {id(it.unwindinfo) for it in pe.DIRECTORY_ENTRY_EXCEPTION if it.unwindinfo}
+        self.assertEqual(len(shared), len({it.struct.UnwindData for it in pe.DIRECTORY_ENTRY_EXCEPTION if it.unwindinfo}))
+        info = next(it.unwindinfo for it in pe.DIRECTORY_ENTRY_EXCEPTION if it.unwindinfo and it.unwindinfo.CountOfCodes)
+        info.SizeOfProlog, before = 0x7F, bytes(pe.__data__)
+        at = info.get_file_offset() + 1
+        self.assertEqual(bytes(pe.write()), before[:at] + b"\x7f" + before[at + 1:])
+        info.UNW_FLAG_CHAININFO = True
+        self.assertEqual((info.Flags & 4, info.UNW_FLAG_CHAININFO), (4, True))
+
+    def test_each_form_of_a_code(self):
+        """An unwind record of codes in each form, by hand: their texts are those of ml64's directives."""
+        from pe_c import _pefile_unwind
+        codes = bytes.fromhex("0903" "0850" "0742" "0634" "2000" "0568" "0300" "0401" "8100" "0311" "00001000" "021a" "01a2" "0035" "04001000" "0079" "08001000")
+        data = bytearray(open_bytes("functions.bin"))
+        pe = ours.PE(data=bytes(data))
+        entry = next(it for it in pe.DIRECTORY_ENTRY_EXCEPTION if it.unwindinfo)
+        where = len(data) - 64
+        section = pe.sections[-1]
+        rva = section.VirtualAddress + where - section.PointerToRawData
+        self.assertTrue(section.contains_rva(rva))
+        struct.pack_into("<4B", data, where, 1, 9, len(codes) // 2, 0x25)
+        data[where + 4:where + 4 + len(codes)] = codes
+        at = entry.struct.get_file_offset() + 8
+        struct.pack_into("<I", data, at, rva)
+        info = _pefile_unwind.read(ours.PE(data=bytes(data)), rva)
+        self.assertEqual([str(it) for it in info.UnwindCodes], [
+            ".SETFRAME RBP, 0x20", ".PUSHREG RBP", ".ALLOCSTACK 0x28", ".SAVEREG RBX, 0x100", ".SAVEXMM128 XMM6, 0x30",
+            ".ALLOCSTACK 0x408", ".ALLOCSTACK 0x100000", ".PUSHFRAME <code>", ".ALLOCSTACK 0x58",
+            ".SAVEREG RBX, 0x100004", ".SAVEXMM128 XMM7, 0x100008"])
+        self.assertEqual(b"".join(it.struct.__pack__() for it in info.UnwindCodes), codes)
+
+    def test_directories_at_another_place(self):
+        """A directory that is moved in the file is read where it is then."""
+        data = bytearray(open_bytes("exports.bin"))
+        pe = ours.PE(data=bytes(data))
+        own, section = pe.OPTIONAL_HEADER.DATA_DIRECTORY[0], pe.sections[-1]
+        at = pe.get_offset_from_rva(own.VirtualAddress)
+        moved = len(data)
+        data += data[at:at + 40]
+        rva = section.get_rva_from_offset(moved)
+        struct.pack_into("<I", data, section.get_field_absolute_offset("SizeOfRawData"), section.SizeOfRawData + 40)
+        struct.pack_into("<I", data, section.get_field_absolute_offset("Misc_VirtualSize"), section.SizeOfRawData + 40)
+        pe = ours.PE(data=bytes(data))
+        found = pe.parse_export_directory(rva, 40)
+        self.assertEqual(([it.name for it in found.symbols], found.struct.get_file_offset()), ([b"first", b"second", None], moved))
+        found.symbols[0].name = b"FIRST"
+        self.assertIn(b"FIRST", bytes(pe.__data__))
+        self.assertEqual(pe.parse_export_directory(own.VirtualAddress, own.Size).symbols, pe.DIRECTORY_ENTRY_EXPORT.symbols)
+        self.assertIsNone(pe.parse_export_directory(0x7FFFFFF0, 40))
+        self.assertEqual(bytes(opened("exports").write()), open_bytes("exports.bin"))
+
+    def test_what_needs_no_image(self):
+        bits = ours.StructureWithBitfields(("PARTS", ("B:3,Low", "B:5,High", "H,Word,Other", "H:4,A", "H:12,B", "H:8,C")), file_offset=16)
+        bits.__unpack__(b"\x29\x34\x12\x21\x43\x99\x00")
+        self.assertEqual((bits.Low, bits.High, bits.Word, bits.Other, bits.A, bits.B, bits.C), (1, 5, 0x1234, 0x1234, 1, 0x432, 0x99))
+        bits.High, bits.Other = 31, 0x1234
+        self.assertEqual((bits.__pack__(), bits.get_field_absolute_offset("B")), (b"\xf9\x34\x12\x21\x43\x99\x00", 19))
+        with self.assertRaises(ours.PEFormatError):
+            bits.__unpack__(b"\0")
+        dump = ours.Dump()
+        dump.add_header("One")
+        dump.add_lines(["a", "b"], 2)
+        dump.add_newline()
+        self.assertEqual(dump.get_text(), "----------One----------\n\n  a\n  b\n\n")
+        self.assertTrue(opened("small").dump_info(dump).startswith(dump.text[0]))
+        some = ours.AddressSet()
+        self.assertEqual(some.diff(), 0)
+        for it in (9, 5, 7):
+            some.add(it)
+        self.assertEqual((some.min, some.max, some.diff(), sorted(some)), (5, 9, 4, [5, 7, 9]))
+        self.assertEqual(str(opened("small")), opened("small").dump_info())
 
     def test_another_base(self):
         """What is written maps as the library maps the image at that base."""
@@ -291,7 +438,42 @@ class Names(unittest.TestCase):
                 continue
             image, place = STRUCTURES[structure]
             with opened(image) as pe:
-                self.assertTrue((field in place(pe).__dict__) != (gap in GAPS), full)
+                self.assertTrue(hasattr(place(pe), field) != (gap in GAPS), full)
+
+    def test_formats_and_helpers(self):
+        import pefile as theirs
+        formats = [it for it in dir(theirs.PE) if it.endswith("_format__") and it != "__format__"]
+        self.assertGreater(len(formats), 20)
+        pe = opened("small")
+        for it in formats:
+            name, fields = getattr(theirs.PE, it)
+            # pefile joins two fields of the load configuration of PE32.
+            if hasattr(pe, it) and it != "__IMAGE_LOAD_CONFIG_DIRECTORY_format__":
+                self.assertEqual(getattr(pe, it), (name, tuple(fields)), it)
+            else:
+                self.assertTrue(any(one.startswith(f"{name}.") for one in GAPS) or "DYNAMIC" in name, it)
+            bits = any(":" in one for one in fields)
+            of = [module.set_bitfields_format((name, tuple(fields))) if bits else module.set_format(tuple(fields))
+                  for module in (theirs, ours)]
+            self.assertEqual(*map(list, of), it)
+        data = bytes(range(256)) + "caf\u00e9".encode()
+        for one in range(0, 5000, 7):
+            for of in (("power_of_two", one), ("cache_adjust_FileAlignment", one, 0x1FF + one % 2), ("sizeof_type", f"{one % 9 + 1}s"),
+                       ("cache_adjust_SectionAlignment", one, one % 3 * 0x1000, 0x200), ("count_zeroes", data[:one]),
+                       ("is_valid_function_name", data[one % 256:one % 256 + 2]), ("is_valid_dos_filename", data[one % 256:one % 256 + 1]),
+                       ("is_valid_function_name", data[one % 256:one % 256 + 1], True), ("b", data[:one % 9].decode("cp1252", "ignore"))):
+                self.assertEqual(getattr(ours, of[0])(*of[1:]), getattr(theirs, of[0])(*of[1:]), of)
+        for one in (b"\1\0a\0\2\0b\0c\0\0\0", b"\1\0\0\xd8" * 4 + b"\1\0a\0", b"\xff\xff\1\0a\0", b"\1"):
+            found = {}, {}
+            for module, said in zip((theirs, ours), found):
+                module.parse_strings(one, 5, said)
+            self.assertEqual(*found)
+        for module in (theirs, ours):
+            flags = ours.DataContainer() if module is ours else theirs.DataContainer()
+            module.set_flags(flags, 5, [("A", 1), ("B", 2), ("C", 4)])
+            self.assertEqual((flags.A, flags.B, flags.C), (True, False, True))
+        for name in (it for it in dir(theirs) if it.startswith(("MAX_", "allowed_", "STRUCT_SIZEOF"))):
+            self.assertEqual(getattr(ours, name), getattr(theirs, name), name)
 
     def test_constants(self):
         import pefile as theirs

@@ -850,6 +850,7 @@ NUMBER_BY(load_config_field, pe_c_load_config_field)
         return answer(rows.result == PE_C_DONE ? row : NULL, &rows); \
     }
 FIND(find_function, pe_c_function, pe_c_function_table, pe_c_find_function(BYTES, &table, rva, &item), ROW_OF(function))
+FIND(unwind_record, pe_c_record, pe_c_function_table, pe_c_unwind_record(VIEW, &table, rva, &item), ROW_OF(record))
 FIND(find_arm64_function, pe_c_arm64_function, pe_c_arm64_table, pe_c_find_arm64_function(VIEW, &table, rva, &item),
      ROW_OF(arm64_function))
 
@@ -1511,7 +1512,7 @@ static PyMethodDef methods[] = {
     WITHOUT(function_table),
     WITHOUT(coff_header), WITHOUT(coff_strings), WITHOUT(symbols), WITHOUT(te_header), WITHOUT(te_symbol_key),
     WITHOUT(dump_memory64), WITHOUT(dump_runs), WITHOUT(checksum), WITHOUT(digest_ranges), WITHOUT(detach),
-    WITH_ONE(offset_of), WITH_ONE(load_config_field), WITH_ONE(find_function), WITH_ONE(find_arm64_function), WITH_ONE(unwind_records),
+    WITH_ONE(offset_of), WITH_ONE(load_config_field), WITH_ONE(find_function), WITH_ONE(find_arm64_function), WITH_ONE(unwind_records), WITH_ONE(unwind_record),
     WITH_ONE(resource_directory_at), WITH_ONE(resource_items),
     WITH_SOME(arm64_unwind), WITH_SOME(version_blocks), WITH_SOME(elements), WITH_SOME(name_attributes), WITH_SOME(attributes),
     WITH_SOME(frames), WITH_SOME(arm64_frames), WITH_SOME(function_names), WITH_SOME(histogram), WITH_SOME(attach), WITH_SOME(edited),

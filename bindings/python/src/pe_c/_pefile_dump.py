@@ -1,14 +1,14 @@
 """What `dump_info` and `dump_dict` of pe_c.pefile.PE write: all that was read of an image, in pefile's forms.
 
-Each part has a section of lines, and a value in the dict. Two differ from pefile's: the warnings are those of `get_warnings`, and
-under the functions of exception handling their unwind records are not listed, which a line says.
+Each part has a section of lines, and a value in the dict. Of an image that is not damaged the warnings alone differ from pefile's: they
+are those of `get_warnings`.
 """
 from __future__ import annotations
 
-import struct
 import typing
 
 from . import pefile as _names
+from ._pefile_structures import dumped
 
 # The value of a structure in the dict.
 _Fields = dict[str, typing.Any]
@@ -33,7 +33,7 @@ def _section_flags(section: _names.SectionStructure) -> list[str]:
 
 def _text(name: bytes | None) -> str:
     """A name as a line has it."""
-    return "None" if name is None else _names._dumped("", name)
+    return "None" if name is None else dumped("", name)
 
 
 def _debug_type(number: int) -> str:
@@ -41,67 +41,32 @@ def _debug_type(number: int) -> str:
     return name
 
 
-# ---- version information, whose blocks have lengths
-
-
-def _blocks(data: memoryview, at: int, end: int) -> typing.Iterator[tuple[int, int, int]]:
-    """The blocks that follow each other: where each starts, where it ends, and where what is in it starts."""
-    while at + 6 <= end:
-        length, = struct.unpack_from("<H", data, at)
-        if length < 6:
-            return
-        stop = min(at + length, end)
-        key = at + 6
-        while key + 2 <= stop and data[key:key + 2] != b"\0\0":
-            key += 2
-        yield at, stop, (key + 2 + 3) & ~3
-        at = (at + length + 3) & ~3
-
-
-def _block(name: str, data: memoryview, start: int, at: int) -> _names.Structure:
-    length, value_length, kind = struct.unpack_from("<3H", data, at)
-    return _names.Structure(name, start + at, Length=length, ValueLength=value_length, Type=kind)
-
-
-class _Version(typing.NamedTuple):
-    """Version information in one language: the structures of its blocks, and with each of the strings and translations what they say."""
-
-    own: _names.Structure
-    fixed: _names.Structure
-    parts: list[tuple[_names.Structure, list[tuple[_names.Structure, _names.Structure]]]]
-
-
-def _versions(pe: _names.PE) -> typing.Iterator[_Version]:
-    leaves = [it for it in pe._image.resources if it.type == _names.RESOURCE_TYPE["RT_VERSION"] and it.content is not None]
-    leaves = [it for it in leaves if it.name == leaves[0].name]
-    for leaf, fixed, info in zip(leaves, getattr(pe, "VS_FIXEDFILEINFO", []), getattr(pe, "FileInfo", [])):
-        data, start = memoryview(leaf.content or b""), leaf.offset or 0
-        for at, stop, inside in [*_blocks(data, 0, len(data))][:1]:
-            fields = {name: getattr(fixed, name) for name in fixed._fields}
-            placed = _names.Structure("VS_FIXEDFILEINFO", start + inside, **fields)
-            _, value_length, _ = struct.unpack_from("<3H", data, at)
-            parts = []
-            for one, (place, end, first) in zip(info, _blocks(data, (inside + value_length + 3) & ~3, stop)):
-                rows = getattr(one, "StringTable", None) or getattr(one, "Var", None) or []
-                name = "StringTable" if "StringTable" in one.__dict__ else "Var"
-                below = [(_block(name, data, start, it[0]), row) for row, it in zip(rows, _blocks(data, first, end))]
-                parts.append((_block(one.name, data, start, place), below))
-            yield _Version(_block("VS_VERSIONINFO", data, start, at), placed, parts)
-
-
 # ---- the dict
 
 
+# Version information in one language: its head, the fixed information, and what follows them.
+_Version = tuple[_names.Structure, _names.Structure, list[_names.Structure]]
+
+
+def _versions(pe: _names.PE) -> list[_Version]:
+    return list(zip(getattr(pe, "VS_VERSIONINFO", []), getattr(pe, "VS_FIXEDFILEINFO", []), getattr(pe, "FileInfo", [])))
+
+
+def _below(info: _names.Structure) -> list[_names.Structure]:
+    """The tables of strings, or the translations."""
+    found: list[_names.Structure] = info.__dict__.get("StringTable") or info.__dict__.get("Var") or []
+    return found
+
+
 def _version_dict(version: _Version) -> list[typing.Any]:
-    found: list[typing.Any] = [version.own.dump_dict(), version.fixed.dump_dict()]
+    found: list[typing.Any] = [version[0].dump_dict(), version[1].dump_dict()]
     strings: list[typing.Any] = []
-    for own, below in version.parts:
+    for own in version[2]:
         strings.append(own.dump_dict())
-        for structure, row in below:
+        for it in _below(own):
             # The names of the fields stand in the list, as pefile has them there.
-            strings.extend(structure.dump_dict())
-            is_table = structure.name == "StringTable"
-            strings.append({"LangID": row.LangID, **row.entries} if is_table else dict(row.entry))
+            strings.extend(it.dump_dict())
+            strings.append({"LangID": it.LangID, **it.entries} if it.name == "StringTable" else dict(it.entry))
     return [*found, strings] if strings else found
 
 
@@ -190,7 +155,7 @@ def dump_dict(pe: _names.PE) -> _Fields:
                  Flags=_file_flags(pe), OPTIONAL_HEADER=pe.OPTIONAL_HEADER.dump_dict(), DllCharacteristics=_dll_flags(pe))
     found["PE Sections"] = _sections_dict(pe.sections)
     found["Directories"] = [it.dump_dict() for it in pe.OPTIONAL_HEADER.DATA_DIRECTORY]
-    if versions := list(_versions(pe)):
+    if versions := _versions(pe):
         found["Version Information"] = list(map(_version_dict, versions))
     found.update((section, of(getattr(pe, name))) for name, section, of in _PARTS if hasattr(pe, name))
     return found
@@ -216,17 +181,17 @@ def _section_lines(sections: list[_names.SectionStructure]) -> typing.Iterator[s
 
 
 def _version_lines(version: _Version) -> typing.Iterator[str]:
-    yield from (*version.own.dump(), "", *version.fixed.dump(), "")
-    for own, below in version.parts:
+    yield from (*version[0].dump(), "", *version[1].dump(), "")
+    for own in version[2]:
         yield from (*own.dump(), "")
-        for structure, row in below:
-            yield from _indented(structure.dump(), 2)
-            if structure.name == "StringTable":
-                yield f"  LangID: {_text(row.LangID)}"
+        for it in _below(own):
+            yield from _indented(it.dump(), 2)
+            if it.name == "StringTable":
+                yield f"  LangID: {_text(it.LangID)}"
                 yield ""
-                yield from (f"    {_string(key)}: {_string(value)}" for key, value in sorted(row.entries.items()))
+                yield from (f"    {_string(key)}: {_string(value)}" for key, value in sorted(it.entries.items()))
             else:
-                yield from (f"    {_string(key)}: {value}" for key, value in row.entry.items())
+                yield from (f"    {_string(key)}: {value}" for key, value in it.entry.items())
         yield ""
 
 
@@ -319,7 +284,7 @@ def _relocations_lines(blocks: list[_names.BaseRelocationData]) -> typing.Iterat
 def _functions_lines(functions: list[_names.ExceptionsDirEntryData]) -> typing.Iterator[str]:
     for it in functions:
         yield from it.struct.dump()
-    yield from ("pe_c lists no unwind records here: Image.unwind() has them", "")
+        yield from _indented(it.unwindinfo.dump(), 4) if it.unwindinfo is not None else ()
 
 
 _LINES: list[tuple[str, str, typing.Any]] = [
@@ -342,7 +307,7 @@ def _all_lines(pe: _names.PE) -> typing.Iterator[tuple[str, list[str]]]:
     yield "OPTIONAL_HEADER", [*pe.OPTIONAL_HEADER.dump(), f"DllCharacteristics: {', '.join(sorted(_dll_flags(pe)))}", ""]
     yield "PE Sections", list(_section_lines(pe.sections))
     yield "Directories", [line for it in pe.OPTIONAL_HEADER.DATA_DIRECTORY for line in it.dump()] + [""]
-    if versions := list(_versions(pe)):
+    if versions := _versions(pe):
         yield "Version Information", [line for it in versions for line in _version_lines(it)]
     for name, section, of in _LINES:
         if hasattr(pe, name):

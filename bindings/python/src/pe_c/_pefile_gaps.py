@@ -1,20 +1,14 @@
 """What of pefile's names is not in pe_c.pefile, and why: one table. A name is NAME of the module, CLASS.NAME or
 STRUCTURE.FIELD.
 
-Such a name is an attribute that is missing: hasattr() is False, and the error says which name it is and why."""
+Such a name is an attribute that is missing: hasattr() is False, and the error says which name it is and why, and names this table."""
 from __future__ import annotations
 
-EXPORT = "the module has no offsets of the parts of an export"
-LENGTHS = "the library for C returns version blocks without their lengths and offsets"
+EXPORT = "the library for C does not return which entry of the table of names an export has"
 CONFIG = "pefile joins the names of two fields of PE32; each has its own here"
 DYNAMIC = "the library for C does not read dynamic relocations"
-WRITER = "the module writes certificates and resources alone: Image.attach, Image.detach, ResourceEditor"
-DUMP = "pe_c.Image.to_dict() has all values"
-PARTS = "each directory is read when its attribute is asked for"
-UNWIND = "pe_c.Image.unwind() has the records and codes"
+PARTS = "the library for C reads such a part as one of its directory; PE has parse_.._directory for each"
 INSIDE = "it is a part of how pefile reads"
-BOUND = "the library for C does not compare the two tables"
-NAMES = "the library for C resolves the name, and does not return where it stands"
 MISC = "the library for C does not read this record"
 
 
@@ -23,20 +17,11 @@ def _all(reason: str, names: str, of: str = "") -> dict[str, str]:
 
 
 GAPS: dict[str, str] = {
-    **_all(EXPORT, "ordinal_offset address_offset name_offset forwarder_offset", "ExportData."),
-    **_all(LENGTHS, "Length ValueLength Type", "VS_VERSIONINFO."),
-    **_all(LENGTHS, "Length ValueLength Type", "StringFileInfo."),
-    **_all(LENGTHS, "Length ValueLength Type entries_offsets", "StringTable."),
-    **_all(LENGTHS, "Length ValueLength Type", "String."),
-    **_all(LENGTHS, "Length ValueLength Type", "Var."),
-    **_all(BOUND, "bound struct_iat struct_table", "ImportData."),
-    **_all(BOUND, "ForwarderString Function Ordinal AddressOfData", "IMAGE_THUNK_DATA."),
-    **_all(NAMES, "hint_name_table_rva ordinal_offset", "ImportData."),
-    **_all(INSIDE, "Data", "IMAGE_BASE_RELOCATION_ENTRY."),
-    **_all(INSIDE, "struct", "RelocationData."),
+    **_all(EXPORT, "ordinal_offset", "ExportData."),
+    **_all(INSIDE, "Length ValueLength Type", "String."),
     **_all(CONFIG, "GuardRFVerifyStackPointerFunctionPointerI", "IMAGE_LOAD_CONFIG_DIRECTORY."),
     **_all(DYNAMIC, "dynamic_relocations", "LoadConfigData."),
-    **_all(DYNAMIC, "has_dynamic_relocs parse_dynamic_relocations", "PE."),
+    **_all(DYNAMIC, "has_dynamic_relocs parse_dynamic_relocations dynamic_relocation_format_by_symbol", "PE."),
     **_all(DYNAMIC, "PageRelativeOffset IndirectCall IATIndex", "IMAGE_IMPORT_CONTROL_TRANSFER_DYNAMIC_RELOCATION."),
     **_all(DYNAMIC, "PageRelativeOffset IndirectCall RexWPrefix CfgCheck Reserved",
            "IMAGE_INDIR_CONTROL_TRANSFER_DYNAMIC_RELOCATION."),
@@ -46,39 +31,34 @@ GAPS: dict[str, str] = {
     **_all(DYNAMIC, "Symbol BaseRelocSize", "IMAGE_DYNAMIC_RELOCATION64."),
     **_all(DYNAMIC, "HeaderSize FixupInfoSize Symbol SymbolGroup Flags", "IMAGE_DYNAMIC_RELOCATION_V2."),
     **_all(DYNAMIC, "HeaderSize FixupInfoSize Symbol SymbolGroup Flags", "IMAGE_DYNAMIC_RELOCATION64_V2."),
-    **_all(UNWIND, "unwindinfo", "ExceptionsDirEntryData."),
-    **_all(UNWIND, "UnwindInfo PrologEpilogOp PrologEpilogOpPushReg PrologEpilogOpAllocLarge PrologEpilogOpAllocSmall "
-                   "PrologEpilogOpSetFP PrologEpilogOpSaveReg PrologEpilogOpSaveRegFar PrologEpilogOpSaveXMM "
-                   "PrologEpilogOpSaveXMMFar PrologEpilogOpPushFrame PrologEpilogOpEpilogMarker PrologEpilogOpsFactory"),
+    **_all(INSIDE, "PrologEpilogOpsFactory"),
+    **_all(INSIDE, "unpack_in_stages set_chained_function_entry", "UnwindInfo."),
+    **_all(INSIDE, "initialize", "PrologEpilogOp."),
+    **_all(INSIDE, "initialize", "PrologEpilogOpSetFP."),
+    **_all(INSIDE, "initialize", "PrologEpilogOpEpilogMarker."),
     **_all(MISC, "DataType Length Unicode Reserved1 Reserved2 Data", "IMAGE_DEBUG_MISC."),
-    **_all(WRITER, "AddressSet set_flags set_format set_bitfields_format"),
-    **_all(DUMP, "dump dump_dict", "StructureWithBitfields."),
-    **_all(DUMP, "Dump main"),
-    **_all(PARTS, "parse_sections parse_exceptions_directory parse_directory_bound_imports parse_directory_tls "
-                  "parse_directory_load_config parse_relocations_directory parse_image_base_relocation_list parse_relocations "
-                  "parse_relocations_with_format parse_debug_directory parse_resources_directory parse_resource_data_entry "
-                  "parse_resource_entry parse_version_information parse_export_directory parse_delay_import_directory "
-                  "parse_import_directory parse_imports get_import_table", "PE."),
-    **_all(INSIDE, "dword_align normalize_import_va", "PE."),
-    **_all(INSIDE, "lru_cache cache_adjust_FileAlignment cache_adjust_SectionAlignment count_zeroes long "
-                   "MAX_STRING_LENGTH MAX_IMPORT_SYMBOLS MAX_IMPORT_NAME_LENGTH MAX_DLL_LENGTH MAX_SYMBOL_NAME_LENGTH "
-                   "MAX_SECTIONS MAX_RESOURCE_ENTRIES MAX_RESOURCE_DEPTH MAX_SYMBOL_EXPORT_COUNT STRUCT_SIZEOF_TYPES "
-                   "sizeof_type StructureWithBitfields DynamicRelocationData allowed_filename is_valid_dos_filename "
-                   "allowed_function_name is_valid_function_name parse_strings b"),
-    **_all(INSIDE, "invalidate render_pascal_16 get_pascal_16_length ask_unicode_16 render_unicode_16 get_rva",
+    **_all(PARTS, "parse_sections parse_image_base_relocation_list parse_relocations parse_relocations_with_format "
+                  "parse_version_information parse_imports get_import_table", "PE."),
+    **_all(INSIDE, "DynamicRelocationData sublang_name sublang_value"),
+    **_all(INSIDE, "FileAlignment_Warning SectionAlignment_Warning fileno", "PE."),
+    **_all(INSIDE, "section_min_addr section_max_addr PointerToRawData_adj VirtualAddress_adj", "IMAGE_SECTION_HEADER."),
+    **_all(INSIDE, "invalidate render_pascal_16 get_pascal_16_length ask_unicode_16 render_unicode_16 get_rva rva_ptr string",
            "UnicodeStringWrapperPostProcessor."),
 }
+
+
+TABLE = "pe_c._pefile_gaps.GAPS has all names of pefile that are not here"
 
 
 class NotInPeC(AttributeError):
     """A name of pefile that pe_c.pefile does not have. `reason` says why."""
 
     def __init__(self, name: str, reason: str) -> None:
-        super().__init__(f"{name}: {reason}")
+        super().__init__(f"{name}: {reason}; {TABLE}")
         self.reason = reason
 
 
 def missing(owner: str, name: str) -> AttributeError:
     """The error of an attribute that is not there."""
     full = f"{owner}.{name}" if owner else name
-    return NotInPeC(full, GAPS[full]) if full in GAPS else AttributeError(f"there is no {full}")
+    return NotInPeC(full, GAPS[full]) if full in GAPS else AttributeError(f"there is no {full}; {TABLE}")

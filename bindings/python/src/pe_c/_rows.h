@@ -1338,6 +1338,7 @@ static PyObject *row_address_table(Image *self, Rows *rows, const pe_c_address_t
 static PyStructSequence_Field row_exported_fields[] = {
     {"name", NULL},
     {"offset", NULL},
+    {"name_offset", NULL},
     {"forwarder", "the forwarder's text, \"DLL.NAME\" or \"DLL.#ORDINAL\": UTF-8, without its final zero; empty unless is_forwarder, and where no text is there"},
     {"ordinal", "its index plus ordinal_base"},
     {"rva", "RVA of what is exported, or of the forwarder's text; 0 for an unused ordinal"},
@@ -1350,11 +1351,12 @@ static PyObject *row_exported(Image *self, Rows *rows, const pe_c_exported *it, 
     PyObject *items[] = {
         OPTIONAL(named, utf8(self, named->name)),
         OPTIONAL(named && named->has_offset, N(named->offset)),
+        OPTIONAL(named, N(named->name.offset)),
         OPTIONAL(it->is_forwarder, utf8(self, it->forwarder)),
         N(it->ordinal),
         N(it->rva),
     };
-    return filled(self, ROW_EXPORTED, items, 5);
+    return filled(self, ROW_EXPORTED, items, 6);
 }
 
 static PyStructSequence_Field row_export_fields_fields[] = {
@@ -1620,6 +1622,8 @@ static PyObject *row_version(Image *self, Rows *rows, const pe_c_version *it)
 static PyStructSequence_Field row_version_block_fields[] = {
     {"key", "UTF-16 code units, little-endian, without the zero that ends them"},
     {"value", "a text in UTF-16, which ends at the first zero, or binary data"},
+    {"key_offset", "a text in UTF-16, which ends at the first zero, or binary data"},
+    {"value_offset", "a text in UTF-16, which ends at the first zero, or binary data"},
     {"children", "a walk over the blocks that it contains"},
     {"language", "the language identifier that the first four digits are; else 0"},
     {"code_page", "the code page that the last four digits are; else 0"},
@@ -1632,11 +1636,13 @@ static PyObject *row_version_block(Image *self, Rows *rows, const pe_c_version_b
     PyObject *items[] = {
         utf16(self, it->key),
         it->value_type ? utf16_to_zero(self, it->value) : raw(self, it->value),
+        N(it->key.offset),
+        N(it->value.offset),
         version_children(self, rows, it),
         OPTIONAL(it->has_language, N(it->language)),
         OPTIONAL(it->has_language, N(it->code_page)),
     };
-    return filled(self, ROW_VERSION_BLOCK, items, 5);
+    return filled(self, ROW_VERSION_BLOCK, items, 7);
 }
 
 static PyStructSequence_Field row_resource_leaf_fields[] = {
@@ -2548,7 +2554,7 @@ static const PyStructSequence_Desc row_kinds[] = {
     [ROW_ARM64_REGISTERS] = {"pe_c._core.Arm64Registers", "The registers of a thread on ARM64 that unwinding restores.", row_arm64_registers_fields, 4},
     [ROW_ARM64_STACK_WALK] = {"pe_c._core.Arm64StackFrame", "A walk of a stack on ARM64, and the frame that was returned last, as pe_c_stack_walk.", row_arm64_stack_walk_fields, 11},
     [ROW_ADDRESS_TABLE] = {"pe_c._core.ExportTable", "The export directory's table of RVAs, which has all exports by their index, also those without a name.", row_address_table_fields, 4},
-    [ROW_EXPORTED] = {"pe_c._core.Export", "An export by its index.", row_exported_fields, 5},
+    [ROW_EXPORTED] = {"pe_c._core.Export", "An export by its index.", row_exported_fields, 6},
     [ROW_EXPORT_FIELDS] = {"pe_c._core.ExportDirectory", "The export directory itself, IMAGE_EXPORT_DIRECTORY.", row_export_fields_fields, 11},
     [ROW_NAME_SOURCES] = {"pe_c._core.NameTables", "The tables of an image of which names are read, each by itself, and the result of each: PE_C_DONE, PE_C_NOTHING where the image has none, or the error. One that is not there is empty.", row_name_sources_fields, 5},
     [ROW_FUNCTION_NAME] = {"pe_c._core.FunctionName", "What names an address.", row_function_name_fields, 5},
@@ -2560,7 +2566,7 @@ static const PyStructSequence_Desc row_kinds[] = {
     [ROW_BOUND_IMPORT] = {"pe_c._core.BoundLibrary", "A bound import, IMAGE_BOUND_IMPORT_DESCRIPTOR.", row_bound_import_fields, 3},
     [ROW_BOUND_FORWARDER] = {"pe_c._core.BoundForwarder", "A DLL that another one forwards to, IMAGE_BOUND_FORWARDER_REF.", row_bound_forwarder_fields, 2},
     [ROW_VERSION] = {"pe_c._core.FixedVersion", "The fixed file information, VS_FIXEDFILEINFO.", row_version_fields, 13},
-    [ROW_VERSION_BLOCK] = {"pe_c._core.VersionBlock", "A block of version information, which is a tree of them. The first block, VS_VERSION_INFO, is all of it; its value is the fixed file information. It contains StringFileInfo, with a string table for each language, whose blocks are strings with any key; and VarFileInfo, with Translation, whose value is a language and a code page, uint16_t each, for each language of the file.", row_version_block_fields, 5},
+    [ROW_VERSION_BLOCK] = {"pe_c._core.VersionBlock", "A block of version information, which is a tree of them. The first block, VS_VERSION_INFO, is all of it; its value is the fixed file information. It contains StringFileInfo, with a string table for each language, whose blocks are strings with any key; and VarFileInfo, with Translation, whose value is a language and a code page, uint16_t each, for each language of the file.", row_version_block_fields, 7},
     [ROW_RESOURCE_LEAF] = {"pe_c._core.Resource", "A leaf of a resource tree.", row_resource_leaf_fields, 9},
     [ROW_RESOURCE_DIRECTORY] = {"pe_c._core.ResourceDirectory", "A directory of the tree, IMAGE_RESOURCE_DIRECTORY.", row_resource_directory_fields, 6},
     [ROW_TLS_DIRECTORY] = {"pe_c._core.Tls", "The TLS directory, IMAGE_TLS_DIRECTORY.", row_tls_directory_fields, 7},

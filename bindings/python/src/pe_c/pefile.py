@@ -11,11 +11,10 @@ attribute raises but AttributeError. """
 from __future__ import annotations
 
 import collections
+import copy as _copies
 import hashlib
 import os
-import string
 import struct
-import time
 import typing
 from typing import Any, TypeVar
 
@@ -25,6 +24,27 @@ from ._names import LOAD_CONFIG_FIELDS
 from ._ordinals import ORDINALS
 from ._part import Error, Part, entropy_of
 from ._pefile_gaps import NotInPeC as NotInPeC, missing as _missing
+from ._pefile_structures import (
+    AddressSet as AddressSet, Dump as Dump, MAX_DLL_LENGTH as MAX_DLL_LENGTH, MAX_IMPORT_NAME_LENGTH as MAX_IMPORT_NAME_LENGTH,
+    MAX_IMPORT_SYMBOLS as MAX_IMPORT_SYMBOLS, MAX_RESOURCE_DEPTH as MAX_RESOURCE_DEPTH,
+    MAX_RESOURCE_ENTRIES as MAX_RESOURCE_ENTRIES, MAX_SECTIONS as MAX_SECTIONS, MAX_STRING_LENGTH as MAX_STRING_LENGTH,
+    MAX_SYMBOL_EXPORT_COUNT as MAX_SYMBOL_EXPORT_COUNT, MAX_SYMBOL_NAME_LENGTH as MAX_SYMBOL_NAME_LENGTH,
+    FILE_ALIGNMENT_HARDCODED_VALUE as FILE_ALIGNMENT_HARDCODED_VALUE, PEFormatError as PEFormatError,
+    STRUCT_SIZEOF_TYPES as STRUCT_SIZEOF_TYPES, Structure as Structure, StructureWithBitfields as StructureWithBitfields,
+    allowed_filename as allowed_filename, allowed_function_name as allowed_function_name, b as b,
+    cache_adjust_FileAlignment as cache_adjust_FileAlignment, cache_adjust_SectionAlignment as cache_adjust_SectionAlignment,
+    count_zeroes as count_zeroes, is_valid_dos_filename as is_valid_dos_filename,
+    is_valid_function_name as is_valid_function_name, long as long, lru_cache as lru_cache, parse_strings as parse_strings,
+    power_of_two as power_of_two, retrieve_flags as retrieve_flags, set_bitfields_format as set_bitfields_format,
+    set_flags as set_flags, set_format as set_format, sizeof_type as sizeof_type)
+from ._pefile_structures import Value as _Value
+from ._pefile_unwind import (
+    PrologEpilogOp as PrologEpilogOp, PrologEpilogOpAllocLarge as PrologEpilogOpAllocLarge,
+    PrologEpilogOpAllocSmall as PrologEpilogOpAllocSmall, PrologEpilogOpEpilogMarker as PrologEpilogOpEpilogMarker,
+    PrologEpilogOpPushFrame as PrologEpilogOpPushFrame, PrologEpilogOpPushReg as PrologEpilogOpPushReg,
+    PrologEpilogOpSaveReg as PrologEpilogOpSaveReg, PrologEpilogOpSaveRegFar as PrologEpilogOpSaveRegFar,
+    PrologEpilogOpSaveXMM as PrologEpilogOpSaveXMM, PrologEpilogOpSaveXMMFar as PrologEpilogOpSaveXMMFar,
+    PrologEpilogOpSetFP as PrologEpilogOpSetFP, UnwindInfo as UnwindInfo, read as _read_unwind)
 
 T = TypeVar("T")
 __author__ = "Lovandezh"
@@ -38,7 +58,6 @@ IMAGE_NT_SIGNATURE = 0x4550
 IMAGE_NUMBEROF_DIRECTORY_ENTRIES = 16
 IMAGE_ORDINAL_FLAG, IMAGE_ORDINAL_FLAG64 = 0x80000000, 0x8000000000000000
 OPTIONAL_HEADER_MAGIC_PE, OPTIONAL_HEADER_MAGIC_PE_PLUS = 0x10B, 0x20B
-FILE_ALIGNMENT_HARDCODED_VALUE = 0x200
 fast_load = False
 """It makes no difference: each directory is read when its attribute is asked for."""
 (UWOP_PUSH_NONVOL, UWOP_ALLOC_LARGE, UWOP_ALLOC_SMALL, UWOP_SET_FPREG, UWOP_SAVE_NONVOL, UWOP_SAVE_NONVOL_FAR, UWOP_EPILOG,
@@ -81,28 +100,8 @@ def get_sublang_name_for_lang(lang_value: int, sublang_value: int) -> str:
     return next((it for it in names if known in it), names[0])
 
 
-def retrieve_flags(flag_dict: dict[Any, Any], flag_filter: str) -> list[tuple[str, int]]:
-    """The names of flags that start so, with their numbers."""
-    return [(name, number) for name, number in flag_dict.items() if isinstance(name, str) and name.startswith(flag_filter)]
-
-
-def power_of_two(val: int) -> bool:
-    return val != 0 and val & (val - 1) == 0
-
-
 def __getattr__(name: str) -> Any:
     raise _missing("", name)
-
-
-class PEFormatError(Exception):
-    """An image that is refused. `value` says why."""
-
-    def __init__(self, value: str) -> None:
-        super().__init__(value)
-        self.value = value
-
-    def __str__(self) -> str:
-        return repr(self.value)
 
 
 def _bytes(text: str | None) -> bytes | None:
@@ -112,12 +111,12 @@ def _bytes(text: str | None) -> bytes | None:
 # ---- structures
 
 
-def _layout(*parts: tuple[str, str]) -> list[tuple[str, list[str]]]:
+def _layout(*parts: tuple[str, str]) -> list[_Value]:
     """A format of struct and the names of each field; a union has several, with commas."""
     return [(code, field.split(",")) for code, names in parts for field in names.split()]
 
 
-def _optional(address: str, base_of_data: str) -> list[tuple[str, list[str]]]:
+def _optional(address: str, base_of_data: str) -> list[_Value]:
     return _layout(
         ("H", "Magic"), ("B", "MajorLinkerVersion MinorLinkerVersion"),
         ("I", f"SizeOfCode SizeOfInitializedData SizeOfUninitializedData AddressOfEntryPoint BaseOfCode {base_of_data}"),
@@ -128,7 +127,7 @@ def _optional(address: str, base_of_data: str) -> list[tuple[str, list[str]]]:
         ("I", "LoaderFlags NumberOfRvaAndSizes"))
 
 
-def _load_config(address: str, process: tuple[tuple[str, str], ...]) -> list[tuple[str, list[str]]]:
+def _load_config(address: str, process: tuple[tuple[str, str], ...]) -> list[_Value]:
     return _layout(
         ("I", "Size TimeDateStamp"), ("H", "MajorVersion MinorVersion"),
         ("I", "GlobalFlagsClear GlobalFlagsSet CriticalSectionDefaultTimeout"),
@@ -144,7 +143,7 @@ def _load_config(address: str, process: tuple[tuple[str, str], ...]) -> list[tup
         ("I", "HotPatchTableOffset Reserved3"), (address, "EnclaveConfigurationPointer"))
 
 
-def _tls(address: str) -> list[tuple[str, list[str]]]:
+def _tls(address: str) -> list[_Value]:
     return _layout((address, "StartAddressOfRawData EndAddressOfRawData AddressOfIndex AddressOfCallBacks"),
                    ("I", "SizeOfZeroFill Characteristics"))
 
@@ -171,7 +170,9 @@ _LAYOUTS = {
     "IMAGE_DEBUG_DIRECTORY": _layout(
         ("I", "Characteristics TimeDateStamp"), ("H", "MajorVersion MinorVersion"),
         ("I", "Type SizeOfData AddressOfRawData PointerToRawData")),
-    "IMAGE_BASE_RELOCATION": _layout(("I", "VirtualAddress SizeOfBlock")),
+    "IMAGE_BASE_RELOCATION": _layout(("I", "VirtualAddress SizeOfBlock")), "IMAGE_BASE_RELOCATION_ENTRY": _layout(("H", "Data")),
+    "IMAGE_THUNK_DATA": _layout(("I", "ForwarderString,Function,Ordinal,AddressOfData")),
+    "IMAGE_THUNK_DATA64": _layout(("Q", "ForwarderString,Function,Ordinal,AddressOfData")),
     "RUNTIME_FUNCTION": _layout(("I", "BeginAddress EndAddress UnwindData")),
     "IMAGE_TLS_DIRECTORY": _tls("I"), "IMAGE_TLS_DIRECTORY64": _tls("Q"),
     "IMAGE_LOAD_CONFIG_DIRECTORY": _load_config("I", (("I", "ProcessHeapFlags ProcessAffinityMask"),)),
@@ -200,37 +201,13 @@ _FLAGS = {"IMAGE_FILE_HEADER": ("Characteristics", IMAGE_CHARACTERISTICS, "IMAGE
           "IMAGE_SECTION_HEADER": ("Characteristics", SECTION_CHARACTERISTICS, "IMAGE_SCN_")}
 
 
-def _time(stamp: int) -> str:
-    return f" [{time.asctime(time.gmtime(stamp))} UTC]"
-
-
-def _dumped(name: str, value: Any) -> str:
-    """The value of a field as `dump` shows it."""
-    if name.startswith("Signature_Data"):
-        return f"{value:<8X}" if isinstance(value, int) else str(value.hex().upper())
-    if isinstance(value, int):
-        return f"0x{value:<8X}{_time(value) if name in ('TimeDateStamp', 'dwTimeStamp') else ''}"
-    return "".join(chr(it) if 0x20 < it < 0x7F else f"\\x{it:02x}" for it in value.rstrip(b"\0"))
-
-
-class Structure:
-    """A structure of winnt.h: its fields are attributes, and so are its flags, True or False."""
-
-    name: str
-    DATA_DIRECTORY: list[Structure]
-    StringTable: list[Structure]
-    Var: list[Structure]
-    entry: dict[bytes | None, str]
+class _Made(Structure):
+    """A structure of winnt.h, by its name, whose fields the library read. Its flags are attributes too, True or False."""
 
     def __init__(self, structure: str, offset: int | None = None, /, **fields: Any) -> None:
-        sizes = {name: len(value) for name, value in fields.items() if isinstance(value, bytes)}
-        self.__dict__.update(fields, name=structure, _structure=structure, _offset=offset, _fields=tuple(fields), _changed=set(),
-                             _sizes=sizes)
-
-    def __setattr__(self, name: str, value: Any) -> None:
-        if name in self.__dict__.get("_fields", ()):
-            self._changed.add(name)
-        self.__dict__[name] = value
+        self._starts(structure, structure, offset, [])
+        self._takes(fields)
+        self.__dict__["_sizes"] = {name: len(value) for name, value in fields.items() if isinstance(value, bytes)}
 
     def __getattr__(self, name: str) -> Any:
         structure = self.__dict__.get("_structure", "").removesuffix("64")
@@ -239,94 +216,15 @@ class Structure:
             return bool(getattr(self, field) & table[name])
         raise _missing(structure, name)
 
-    def __repr__(self) -> str:
-        return f"<Structure: [{self.name}] {' '.join(f'{it}={getattr(self, it)!r}' for it in self._fields)}>"
-
-    def get_file_offset(self) -> int:
-        """The file offset of the structure, where the library says where that is."""
-        offset: int | None = self._offset
-        if offset is None:
-            raise NotInPeC(f"{self.name}.get_file_offset", "the library for C does not return where this structure stands")
-        return offset
-
-    def set_file_offset(self, offset: int) -> None:
-        """Where `PE.write` writes the structure."""
-        self.__dict__["_offset"] = offset
-
-    def _layout(self, what: str) -> list[tuple[str, list[str]]]:
+    def _layout(self, what: str) -> list[_Value]:
         if self._structure not in _LAYOUTS:
             raise NotInPeC(f"{self.name}.{what}", "the layout of this structure is not known here")
         # A load configuration may be shorter, and the name of a PDB has the length that the file says.
         there = [it for it in _LAYOUTS[self._structure] if it[1][0] in self.__dict__]
         return [(f"{self._sizes[names[0]]}s" if code == "s" else code, names) for code, names in there]
 
-    def sizeof(self) -> int:
-        """The bytes of the structure in the file."""
-        return struct.calcsize("<" + "".join(code for code, _ in self._layout("sizeof")))
 
-    def _offsets(self, what: str) -> dict[str, int]:
-        """The offset of each field in the structure."""
-        found, offset = {}, 0
-        for code, names in self._layout(what):
-            found.update(dict.fromkeys(names, offset))
-            offset += struct.calcsize("<" + code)
-        return found
-
-    def get_field_relative_offset(self, field_name: str) -> int:
-        return self._offsets("get_field_relative_offset")[field_name]
-
-    def get_field_absolute_offset(self, field_name: str) -> int:
-        return self.get_file_offset() + self._offsets("get_field_absolute_offset")[field_name]
-
-    def __pack__(self) -> bytes:
-        """The structure as bytes, with what was assigned to its fields. Of a union that name counts which was assigned."""
-        layout = self._layout("__pack__")
-        values = [getattr(self, next((it for it in names if it in self._changed), names[0])) for _, names in layout]
-        return struct.pack("<" + "".join(code for code, _ in layout), *values)
-
-    def dump(self, indentation: int = 0) -> list[str]:
-        """The fields in lines: where each stands, its name and its value."""
-        start, lines = self.get_file_offset(), [f"[{self.name}]"]
-        for name, offset in self._offsets("dump").items():
-            lines.append("0x%-8X 0x%-3X %-30s %s" % (start + offset, offset, name + ":", _dumped(name, getattr(self, name))))
-        return lines
-
-    def dump_dict(self) -> dict[str, Any]:
-        """The fields by their names: where each stands, and its value."""
-        start = self.get_file_offset()
-        found: dict[str, Any] = {"Structure": self.name}
-        for name, offset in self._offsets("dump_dict").items():
-            value = getattr(self, name)
-            if isinstance(value, int):
-                value = _dumped(name, value) if name in ("TimeDateStamp", "dwTimeStamp") else value
-            else:
-                value = "".join(chr(it) if chr(it) in string.printable else f"\\x{it:02x}" for it in value)
-            found[name] = {"FileOffset": start + offset, "Offset": offset, "Value": value}
-        return found
-
-    def all_zeroes(self) -> bool:
-        """Whether all fields are 0 that are there."""
-        return not any(getattr(self, it) for it in self._fields if isinstance(getattr(self, it), int))
-
-
-class _Unpacked(Structure):
-    """A structure of a caller's own, by a format as pefile has them: its name, and for each field "CODE,NAME" as
-    struct has it."""
-
-    def __init__(self, format: tuple[str, typing.Iterable[str]], data: bytes, offset: int | None) -> None:
-        fields = [it.split(",") for it in format[1]]
-        self._codes, self._names = "<" + "".join(it[0] for it in fields), [it[1:] for it in fields]
-        values = struct.unpack_from(self._codes, data)
-        super().__init__(format[0], offset, **{name: value for names, value in zip(self._names, values) for name in names})
-
-    def sizeof(self) -> int:
-        return struct.calcsize(self._codes)
-
-    def __pack__(self) -> bytes:
-        return struct.pack(self._codes, *(getattr(self, names[0]) for names in self._names))
-
-
-class SectionStructure(Structure):
+class SectionStructure(_Made):
     """A section header, and the data of its section."""
 
     def __init__(self, pe: PE, row: _rows.Section, offset: int, following: int | None) -> None:
@@ -425,18 +323,93 @@ class ImportDescData(DataContainer):
     """A DLL: struct, imports, dll."""
 
 
-class ImportData(DataContainer):
-    """An import: import_by_ordinal, ordinal, hint, name, name_offset, address, thunk_rva, thunk_offset, pe."""
+class _Changing(DataContainer):
+    """What is written into the file when it is assigned to, and read of it when it is asked for: by the names of attributes how."""
+
+    _ways: dict[str, typing.Callable[[Any, Any], Any]] = {}
+    _makes: dict[str, typing.Callable[[Any], Any]] = {}
+
+    def __setattr__(self, name: str, value: Any) -> None:
+        way = type(self)._ways.get(name)
+        if way is not None:
+            way(self, value)
+        self.__dict__[name] = value
+
+    def __getattr__(self, name: str) -> Any:
+        makes = type(self)._makes.get(name)
+        if makes is None:
+            raise _missing(type(self).__name__, name)
+        value = self.__dict__[name] = makes(self)
+        return value
+
+
+def _write_text(pe: PE, offset: int | None, before: bytes | None, text: bytes) -> None:
+    """Writes a name over another one, which must not be shorter."""
+    if offset is None or before is None:
+        raise PEFormatError("The entry has no name.")
+    if len(text) > len(before):
+        raise PEFormatError("The export name provided is longer than the existing one.")
+    pe.set_bytes_at_offset(offset, text)
+
+
+def _set_thunk(thunk: Structure | None, value: int) -> None:
+    """A thunk with another value, which `PE.write` writes."""
+    if thunk is not None and thunk.AddressOfData != value:
+        for it in thunk._fields:
+            setattr(thunk, it, value)
+
+
+class ImportData(_Changing):
+    """An import: import_by_ordinal, ordinal, hint, name, name_offset, address, bound, struct_table, struct_iat, hint_name_table_rva,
+    ordinal_offset, thunk_rva, thunk_offset, pe. One that is assigned a name, an ordinal or an address is written so."""
 
     name: bytes | None
+
+    def _set_name(self, text: bytes) -> None:
+        if self.hint_name_table_rva is not None:
+            _set_thunk(self.struct_table, self.hint_name_table_rva)
+            _write_text(self.pe, self.name_offset, self.name, text)
+
+    def _set_ordinal(self, number: int) -> None:
+        flag = IMAGE_ORDINAL_FLAG64 if self.pe.PE_TYPE == OPTIONAL_HEADER_MAGIC_PE_PLUS else IMAGE_ORDINAL_FLAG
+        self._set_address(flag | number & 0xFFFF)
+
+    def _set_address(self, value: int) -> None:
+        # What the thunk says is read before it is another one.
+        _ = self.hint_name_table_rva, self.bound
+        _set_thunk(self.struct_table, value)
+
+    def _slot(self) -> Structure | None:
+        """The entry of the address table of a bound import, which is another than that of the lookup table."""
+        slot = _thunk(self.pe, self.pe._image.offset_of(self.address - self.pe.OPTIONAL_HEADER.ImageBase))
+        table = self.struct_table
+        return None if slot is None or table is None or slot.AddressOfData in (0, table.AddressOfData) else slot
+
+    def _hint_rva(self) -> int | None:
+        is_named = not self.import_by_ordinal and self.struct_table is not None
+        return self.struct_table.AddressOfData & 0x7FFFFFFFFFFFFFFF if is_named else None
+
+    _ways = {"name": _set_name, "ordinal": _set_ordinal, "bound": lambda it, value: _set_thunk(it.struct_iat, value),
+             "address": _set_address}
+    _makes = {"struct_table": lambda it: _thunk(it.pe, it.thunk_offset), "struct_iat": _slot, "hint_name_table_rva": _hint_rva,
+              "bound": lambda it: None if it.struct_iat is None else it.struct_iat.AddressOfData}
 
 
 class ExportDirData(DataContainer):
     """The exports: struct, symbols, name."""
 
 
-class ExportData(DataContainer):
-    """An export: ordinal, address, name, forwarder, pe."""
+class ExportData(_Changing):
+    """An export: ordinal, address, name, forwarder; of one with a name also pe, address_offset, name_offset, forwarder_offset. One that
+    is assigned an address, a name or a forwarder is written so into the file's bytes."""
+
+    def _set_ordinal(self, number: int) -> None:
+        raise _missing("ExportData", "ordinal_offset")
+
+    _ways = {"ordinal": _set_ordinal, "address": lambda it, value: it.pe.set_dword_at_offset(it.address_offset, value),
+             "name": lambda it, value: _write_text(it.pe, it.name_offset, it.name, value),
+             "forwarder": lambda it, value: _write_text(it.pe, it.forwarder_offset, it.forwarder, value)}
+    _makes = {"address_offset": lambda it: it.pe.get_physical_by_rva(it._address_rva)}
 
 
 class ResourceDirData(DataContainer):
@@ -461,8 +434,20 @@ class BaseRelocationData(DataContainer):
     """A block of base relocations: struct, entries."""
 
 
-class RelocationData(DataContainer):
-    """A base relocation: type, base_rva, rva."""
+class RelocationData(_Changing):
+    """A base relocation: struct, type, base_rva, rva. One that is assigned a type or an RVA is written so by `PE.write`."""
+
+    def _set_type(self, number: int) -> None:
+        self.struct.Data = number << 12 | self.struct.Data & 0xFFF
+
+    def _set_rva(self, rva: int) -> None:
+        self.struct.Data = self.struct.Data & 0xF000 | max(rva - self.base_rva, 0) & 0xFFF
+
+    def _entry(self) -> Structure:
+        return _Made("IMAGE_BASE_RELOCATION_ENTRY", self._offset, Data=self.type << 12 | self.rva - self.base_rva & 0xFFF)
+
+    _ways = {"type": _set_type, "rva": _set_rva}
+    _makes = {"struct": _entry}
 
 
 class TlsData(DataContainer):
@@ -481,8 +466,10 @@ class LoadConfigData(DataContainer):
     """The load configuration: struct."""
 
 
-class ExceptionsDirEntryData(DataContainer):
-    """An entry of the function table of x64: struct."""
+class ExceptionsDirEntryData(_Changing):
+    """An entry of the function table of x64: struct, and its unwind record as unwindinfo, None where it links to another entry."""
+
+    _makes = {"unwindinfo": lambda it: _read_unwind(it._pe, it.struct.UnwindData)}
 
 
 class RichHeader(DataContainer):
@@ -547,55 +534,67 @@ def _each(start: int | None, i: int, size: int) -> int | None:
     return None if start is None else start + i * size
 
 
-def _imports(pe: PE, rows: typing.Iterable[Any], rva_of: Any) -> typing.Iterator[ImportData]:
+def _thunk(pe: PE, offset: int | None) -> Structure | None:
+    """The entry of an import table at a file offset."""
+    width = 8 if pe._image.is_64 else 4
+    number = None if offset is None else pe._number("<Q" if width == 8 else "<I", pe.__data__[offset:offset + width], 0)
+    if number is None:
+        return None
+    made = _Made(f"IMAGE_THUNK_DATA{'64' * pe._image.is_64}", offset, ForwarderString=number, Function=number, Ordinal=number,
+                 AddressOfData=number)
+    made.name = "IMAGE_THUNK_DATA"
+    return made
+
+
+def _imports(pe: PE, rows: typing.Iterable[Any], table_rva: int, slots_rva: int) -> typing.Iterator[ImportData]:
     """The imports of a DLL. Those of ordinal 0 are not imports to pefile."""
-    base = pe.OPTIONAL_HEADER.ImageBase
+    base, width = pe.OPTIONAL_HEADER.ImageBase, 8 if pe._image.is_64 else 4
     for i, it in enumerate(rows):
         if it.name is None and it.ordinal == 0 or it.name == "":
             continue
-        thunk_rva, address_rva = rva_of(i)
-        yield ImportData(pe=pe, import_by_ordinal=it.name is None, ordinal=it.ordinal if it.name is None else None,
-                         hint=it.ordinal if it.name is not None else None, name=_bytes(it.name),
-                         address=base + address_rva, thunk_rva=thunk_rva, thunk_offset=pe._image.offset_of(thunk_rva),
-                         name_offset=getattr(it, "name_offset", None))
+        offset, is_named = pe._image.offset_of(table_rva + i * width), it.name is not None
+        made = ImportData()
+        made.__dict__.update(
+            pe=pe, import_by_ordinal=not is_named, ordinal=None if is_named else it.ordinal, hint=it.ordinal if is_named else None,
+            name=_bytes(it.name), address=base + slots_rva + i * width, thunk_rva=table_rva + i * width, thunk_offset=offset,
+            ordinal_offset=offset, name_offset=getattr(it, "name_offset", None))
+        yield made
 
 
 def _with_names(dll: bytes, imports: list[ImportData]) -> list[ImportData]:
     known = ORDINALS.get(dll.decode("utf-8", "replace").lower(), {})
     for it in imports:
         if it.name is None and it.ordinal in known:
-            it.name = known[it.ordinal].encode()
+            it.__dict__["name"] = known[it.ordinal].encode()
     return imports
 
 
 def _read_imports(pe: PE) -> list[ImportDescData]:
-    width = 8 if pe._image.is_64 else 4
     found, start = [], _start(pe, "IMAGE_DIRECTORY_ENTRY_IMPORT")
     for number, row in enumerate(pe._image.imports):
         slots = row.address_table_rva
         table = slots if row.has_unmapped_list else row.lookup_table_rva or slots
-        descriptor = Structure("IMAGE_IMPORT_DESCRIPTOR", _each(start, number, 20), OriginalFirstThunk=row.lookup_table_rva,
+        descriptor = _Made("IMAGE_IMPORT_DESCRIPTOR", _each(start, number, 20), OriginalFirstThunk=row.lookup_table_rva,
                                Characteristics=row.lookup_table_rva, TimeDateStamp=row.time_date_stamp,
                                ForwarderChain=row.forwarder_chain, Name=row.name_rva, FirstThunk=row.address_table_rva)
         dll = _bytes(row.name) or b""
-        imports = list(_imports(pe, row.imports, lambda i: (table + i * width, slots + i * width)))
+        imports = list(_imports(pe, row.imports, table, slots))
         if imports and dll:
             found.append(ImportDescData(struct=descriptor, imports=_with_names(dll, imports), dll=dll))
     return found
 
 
 def _read_delay_imports(pe: PE) -> list[ImportDescData]:
-    width = 8 if pe._image.is_64 else 4
     found, start = [], _start(pe, "IMAGE_DIRECTORY_ENTRY_DELAY_IMPORT")
     for number, row in enumerate(pe._image.delay_imports):
         it = row.descriptor
         base = 0 if it.attributes & 1 else pe.OPTIONAL_HEADER.ImageBase
         table, slots = it.import_name_table - base, it.import_address_table - base
-        descriptor = Structure("IMAGE_DELAY_IMPORT_DESCRIPTOR", _each(start, number, 32), grAttrs=it.attributes, szName=it.name,
+        descriptor = _Made("IMAGE_DELAY_IMPORT_DESCRIPTOR", _each(start, number, 32), grAttrs=it.attributes, szName=it.name,
                                phmod=it.module_handle, pIAT=it.import_address_table, pINT=it.import_name_table,
                                pBoundIAT=it.bound_import_address_table, pUnloadIAT=it.unload_information_table,
                                dwTimeStamp=it.time_date_stamp)
-        imports = list(_imports(pe, row.imports, lambda i: (table + i * width, slots + i * width)))
+        imports = list(_imports(pe, row.imports, table, slots))
         if imports:
             dll = _bytes(row.name) or b""
             found.append(ImportDescData(struct=descriptor, imports=_with_names(dll, imports), dll=dll))
@@ -627,24 +626,32 @@ def _counted_exports(pe: PE) -> list[tuple[str | None, _rows.Export]]:
         (None, it) for it in _up_to(pe, pe.max_repeated_symbol, "ordinal", ((it.rva, it) for it in ordered))]
 
 
+def _export(pe: PE, directory: Any, name: str | None, row: _rows.Export) -> ExportData:
+    """An export; one without a name has no places, as in pefile."""
+    made = ExportData(ordinal=row.ordinal, address=row.rva, name=_bytes(name), forwarder=_bytes(row.forwarder))
+    if name is not None:
+        made.__dict__.update(pe=pe, name_offset=row.name_offset, forwarder_offset=None if row.forwarder is None else row.offset,
+                             _address_rva=directory.address_of_functions + 4 * (row.ordinal - directory.base))
+    return made
+
+
 def _read_exports(pe: PE) -> ExportDirData | None:
     table = pe._value("export_table")
     if table is None or pe._image.exports.error:
         return None
-    symbols = [ExportData(pe=pe, ordinal=it.ordinal, address=it.rva, name=_bytes(name), forwarder=_bytes(it.forwarder))
-               for name, it in _counted_exports(pe)]
     it = pe._value("export_directory")
-    directory = Structure("IMAGE_EXPORT_DIRECTORY", _start(pe, "IMAGE_DIRECTORY_ENTRY_EXPORT"), Characteristics=it.characteristics, TimeDateStamp=it.time_date_stamp,
-                          MajorVersion=it.major_version, MinorVersion=it.minor_version, Name=it.name, Base=it.base,
-                          NumberOfFunctions=it.number_of_functions, NumberOfNames=it.number_of_names,
-                          AddressOfFunctions=it.address_of_functions, AddressOfNames=it.address_of_names,
-                          AddressOfNameOrdinals=it.address_of_name_ordinals)
+    symbols = [_export(pe, it, name, row) for name, row in _counted_exports(pe)]
+    directory = _Made("IMAGE_EXPORT_DIRECTORY", _start(pe, "IMAGE_DIRECTORY_ENTRY_EXPORT"), Characteristics=it.characteristics,
+                      TimeDateStamp=it.time_date_stamp, MajorVersion=it.major_version, MinorVersion=it.minor_version, Name=it.name,
+                      Base=it.base, NumberOfFunctions=it.number_of_functions, NumberOfNames=it.number_of_names,
+                      AddressOfFunctions=it.address_of_functions, AddressOfNames=it.address_of_names,
+                      AddressOfNameOrdinals=it.address_of_name_ordinals)
     return ExportDirData(struct=directory, symbols=symbols, name=_bytes(table.name))
 
 
 def _pdb70(key: _rows.SymbolKey, offset: int) -> Structure:
     one, two, three, four, five = struct.unpack_from("<IHHBB", key.guid)
-    return Structure("CV_INFO_PDB70", offset, CvSignature=b"RSDS", Signature_Data1=one, Signature_Data2=two, Signature_Data3=three,
+    return _Made("CV_INFO_PDB70", offset, CvSignature=b"RSDS", Signature_Data1=one, Signature_Data2=two, Signature_Data3=three,
                      Signature_Data4=four, Signature_Data5=five, Signature_Data6=key.guid[10:],
                      Signature_Data6_value=int.from_bytes(key.guid[10:], "big"), Age=key.age, PdbFileName=key.raw_name,
                      Signature_String=f"{one:08X}{two:04X}{three:04X}{key.guid[8:].hex().upper()}{key.age:X}")
@@ -658,14 +665,14 @@ def _read_record(pe: PE, row: _rows.DebugEntry) -> Structure | None:
     if key is not None:
         return _pdb70(key, row.pointer_to_raw_data)
     old = pe._value("pdb20") if number == 0 else None
-    return None if old is None else Structure(
+    return None if old is None else _Made(
         "CV_INFO_PDB20", row.pointer_to_raw_data, CvHeaderSignature=0x3031424E, CvHeaderOffset=old.offset,
         Signature=old.signature, Age=old.age, PdbFileName=_bytes(old.name + "\0"))
 
 
 def _read_debug(pe: PE) -> list[DebugData]:
     start = _start(pe, "IMAGE_DIRECTORY_ENTRY_DEBUG")
-    return [DebugData(struct=Structure("IMAGE_DEBUG_DIRECTORY", _each(start, i, 28), Characteristics=it.characteristics,
+    return [DebugData(struct=_Made("IMAGE_DEBUG_DIRECTORY", _each(start, i, 28), Characteristics=it.characteristics,
                                        TimeDateStamp=it.time_date_stamp, MajorVersion=it.major_version,
                                        MinorVersion=it.minor_version, Type=it.data_type, SizeOfData=it.size_of_data,
                                        AddressOfRawData=it.address_of_raw_data, PointerToRawData=it.pointer_to_raw_data),
@@ -675,14 +682,19 @@ def _read_debug(pe: PE) -> list[DebugData]:
 _TOP_BIT = 0x80000000
 
 
+def _with_parts(entry: _Made) -> _Made:
+    """An entry of a directory with the parts of its two numbers."""
+    entry.__dict__.update(NameOffset=entry.Name & ~_TOP_BIT, Id=entry.Name & 0xFFFF, DataIsDirectory=entry.OffsetToData >> 31,
+                          OffsetToDirectory=entry.OffsetToData & ~_TOP_BIT)
+    return entry
+
+
 def _entry(item: tuple[int | str, int, int, bool], tree: int, offset: int, **more: Any) -> ResourceDirEntryData:
     """An entry of a directory, at a file offset. That of its name counts from the tree, and has the length first."""
     name, name_offset, leads_to, is_directory = item
     number = name if isinstance(name, int) else _TOP_BIT | (name_offset - 2 - tree)
     data = leads_to | (_TOP_BIT if is_directory else 0)
-    entry = Structure("IMAGE_RESOURCE_DIRECTORY_ENTRY", offset, Name=number, OffsetToData=data)
-    entry.__dict__.update(NameOffset=number & ~_TOP_BIT, Id=number & 0xFFFF, DataIsDirectory=int(is_directory),
-                          OffsetToDirectory=leads_to)
+    entry = _with_parts(_Made("IMAGE_RESOURCE_DIRECTORY_ENTRY", offset, Name=number, OffsetToData=data))
     return ResourceDirEntryData(struct=entry, name=UnicodeStringWrapperPostProcessor(name) if isinstance(name, str) else None,
                                 id=name if isinstance(name, int) else None, **more)
 
@@ -693,28 +705,12 @@ def _directory(pe: PE, offset: int) -> tuple[ResourceDirData, int, list[tuple[in
     if number or found is None:
         return None
     it, tree, entries = found
-    directory = Structure(
+    directory = _Made(
         "IMAGE_RESOURCE_DIRECTORY", tree + offset, Characteristics=it.characteristics, TimeDateStamp=it.time_date_stamp,
         MajorVersion=it.major_version, MinorVersion=it.minor_version, NumberOfNamedEntries=it.number_of_named_entries,
         NumberOfIdEntries=it.number_of_id_entries)
     items = pe._image._read("resource_items", offset)[0] or ()
     return ResourceDirData(struct=directory, entries=[]), tree, [(entries + 8 * i, item) for i, item in enumerate(items)]
-
-
-def _strings(content: memoryview, first: int) -> dict[int, str]:
-    """The texts of a string table by their ids. A text that is none is left out, and at the third the rest."""
-    found: dict[int, str] = {}
-    wrong = at = 0
-    while at + 2 <= len(content) and wrong < 3:
-        count, = struct.unpack_from("<h", content, at)
-        at, first = at + 2, first + 1
-        if 0 < count <= len(content) // 2:
-            try:
-                found[first - 1] = bytes(content[at:at + 2 * count]).decode("utf-16-le")
-            except UnicodeDecodeError:
-                wrong += 1
-            at += 2 * count
-    return found
 
 
 def _read_strings(pe: PE, leaf: _rows.Resource, directory: ResourceDirData, left: int) -> int:
@@ -724,7 +720,7 @@ def _read_strings(pe: PE, leaf: _rows.Resource, directory: ResourceDirData, left
     if left >= 0 and left < size:
         pe._limits.append("String tables have more bytes than the file. Those after them are left out.")
     if left >= size and leaf.content is not None and isinstance(leaf.name, int):
-        directory.strings.update(_strings(leaf.content, (leaf.name - 1) * 16))
+        parse_strings(leaf.content, (leaf.name - 1) * 16, directory.strings)
     return left - size if left >= size else -1
 
 
@@ -761,7 +757,7 @@ class _Tree:
         """The data entry of the next leaf, which stands at a file offset."""
         leaf = self.leaves.popleft()
         reserved = self.pe.get_dword_from_offset(offset + 12) or 0
-        entry = Structure("IMAGE_RESOURCE_DATA_ENTRY", offset, OffsetToData=leaf.rva, Size=leaf.size, CodePage=leaf.code_page,
+        entry = _Made("IMAGE_RESOURCE_DATA_ENTRY", offset, OffsetToData=leaf.rva, Size=leaf.size, CodePage=leaf.code_page,
                           Reserved=reserved)
         if leaf.type == RESOURCE_TYPE["RT_STRING"]:
             directory.__dict__.setdefault("strings", {})
@@ -773,8 +769,9 @@ class _Tree:
 def _read_relocations(pe: PE) -> list[BaseRelocationData]:
     found, offset = [], _start(pe, "IMAGE_DIRECTORY_ENTRY_BASERELOC")
     for row in pe._image.relocations:
-        block = Structure("IMAGE_BASE_RELOCATION", offset, VirtualAddress=row.page_rva, SizeOfBlock=row.size_of_block)
-        entries = [RelocationData(type=it.kind, base_rva=row.page_rva, rva=it.rva) for it in row.entries]
+        block = _Made("IMAGE_BASE_RELOCATION", offset, VirtualAddress=row.page_rva, SizeOfBlock=row.size_of_block)
+        entries = [RelocationData(type=it.kind, base_rva=row.page_rva, rva=it.rva, _offset=_each(offset, 1, 8 + 2 * i))
+                   for i, it in enumerate(row.entries)]
         found.append(BaseRelocationData(struct=block, entries=entries))
         offset = _each(offset, 1, row.size_of_block)
     return found
@@ -782,7 +779,7 @@ def _read_relocations(pe: PE) -> list[BaseRelocationData]:
 
 def _wide(pe: PE, name: str, offset: int | None, **fields: Any) -> Structure:
     """A structure that is different in PE32+."""
-    made = Structure(f"{name}{'64' * pe._image.is_64}", offset, **fields)
+    made = _Made(f"{name}{'64' * pe._image.is_64}", offset, **fields)
     made.name = name
     return made
 
@@ -841,7 +838,7 @@ def _read_bound_imports(pe: PE) -> list[BoundImportDescData]:
         more = {}
         if offset is not None:
             _, more["OffsetModuleName"], more[last] = struct.unpack_from("<IHH", pe.__data__, offset)
-        return Structure(name, offset, TimeDateStamp=stamp, **more)
+        return _Made(name, offset, TimeDateStamp=stamp, **more)
     found = []
     for row in rows:
         own = of("IMAGE_BOUND_IMPORT_DESCRIPTOR", row.time_date_stamp, "NumberOfModuleForwarderRefs")
@@ -853,8 +850,9 @@ def _read_bound_imports(pe: PE) -> list[BoundImportDescData]:
 
 def _read_exceptions(pe: PE) -> list[ExceptionsDirEntryData]:
     start = _start(pe, "IMAGE_DIRECTORY_ENTRY_EXCEPTION")
-    return [ExceptionsDirEntryData(struct=Structure("RUNTIME_FUNCTION", _each(start, i, 12), BeginAddress=it.begin, EndAddress=it.end,
-                                                    UnwindData=it.unwind)) for i, it in enumerate(pe._image.functions)]
+    return [ExceptionsDirEntryData(_pe=pe, struct=_Made("RUNTIME_FUNCTION", _each(start, i, 12), BeginAddress=it.begin,
+                                                        EndAddress=it.end, UnwindData=it.unwind))
+            for i, it in enumerate(pe._image.functions)]
 
 
 def _read_rich(pe: PE) -> RichHeader | None:
@@ -876,23 +874,37 @@ def _versions(pe: PE) -> list[_image.Version]:
     return [version for leaf, version in zip(leaves, pe._image.versions) if leaf.name == leaves[0].name]
 
 
-def _file_info(block: _rows.VersionBlock) -> Structure:
-    """StringFileInfo with its tables, or VarFileInfo with its values."""
-    made = Structure(block.key if block.key == "VarFileInfo" else "StringFileInfo", None, Key=_bytes(block.key))
-    if block.key.startswith("StringFileInfo"):
-        made.StringTable = []
-        for table in block.children:
-            entries = _Texts({_bytes(it.key): _bytes(it.value) if isinstance(it.value, str) else b"" for it in table.children})
-            lengths = {key: (len(key or b""), len(value or b"")) for key, value in entries.items()}
-            made.StringTable.append(Structure("StringTable", None, LangID=_bytes(table.key), entries=entries,
-                                              entries_lengths=lengths))
-    elif block.key.startswith("VarFileInfo"):
-        made.Var = [_var(it) for it in block.children]
+def _block(pe: PE, name: str, block: _rows.VersionBlock, **more: Any) -> Structure:
+    """The head of a block, which stands before its key."""
+    made = _Made(name, block.key_offset - 6, Length=0, ValueLength=0, Type=0)
+    made.__unpack__(pe.__data__[block.key_offset - 6:block.key_offset])
+    made.__dict__.update(more)
     return made
 
 
-def _var(block: _rows.VersionBlock) -> Structure:
-    made = Structure("Var")
+def _file_info(pe: PE, block: _rows.VersionBlock) -> Structure:
+    """StringFileInfo with its tables, or VarFileInfo with its values."""
+    made = _block(pe, block.key if block.key == "VarFileInfo" else "StringFileInfo", block, Key=_bytes(block.key))
+    if block.key.startswith("StringFileInfo"):
+        made.StringTable = [_string_table(pe, it) for it in block.children]
+    elif block.key.startswith("VarFileInfo"):
+        made.Var = [_var(pe, it) for it in block.children]
+    return made
+
+
+def _string_table(pe: PE, table: _rows.VersionBlock) -> Structure:
+    entries, offsets = _Texts(), {}
+    for it in table.children:
+        key, value = _bytes(it.key), _bytes(it.value) if isinstance(it.value, str) else b""
+        entries[key] = value
+        offsets[key] = it.key_offset, it.value_offset
+    lengths = {key: (len(key or b""), len(value or b"")) for key, value in entries.items()}
+    entries._before = {key: (offsets[key][1], value) for key, value in entries.items()}
+    return _block(pe, "StringTable", table, LangID=_bytes(table.key), entries=entries, entries_offsets=offsets, entries_lengths=lengths)
+
+
+def _var(pe: PE, block: _rows.VersionBlock) -> Structure:
+    made = _block(pe, "Var", block)
     numbers = block.value if isinstance(block.value, bytes) else b""
     for pair in struct.iter_unpack("<HH", numbers[:len(numbers) & ~3]):
         made.entry = {_bytes(block.key): "0x%04x 0x%04x" % pair}
@@ -900,35 +912,42 @@ def _var(block: _rows.VersionBlock) -> Structure:
 
 
 def _read_file_info(pe: PE) -> list[list[Structure]]:
-    return [[_file_info(it) for root in version.blocks[:1] for it in root.children] for version in _versions(pe)
+    return [[_file_info(pe, it) for root in version.blocks[:1] for it in root.children] for version in _versions(pe)
             if version.fixed is not None]
 
 
 def _read_version_info(pe: PE) -> list[Structure]:
-    return [Structure("VS_VERSIONINFO", None, Key=_bytes(root.key)) for it in _versions(pe) for root in it.blocks[:1]]
+    return [_block(pe, "VS_VERSIONINFO", root, Key=_bytes(root.key)) for it in _versions(pe) for root in it.blocks[:1]]
 
 
 def _read_fixed_info(pe: PE) -> list[Structure]:
-    return [Structure("VS_FIXEDFILEINFO", None, Signature=it.signature, StrucVersion=it.struct_version,
-                      FileVersionMS=it.file_version_ms, FileVersionLS=it.file_version_ls,
-                      ProductVersionMS=it.product_version_ms, ProductVersionLS=it.product_version_ls,
-                      FileFlagsMask=it.file_flags_mask, FileFlags=it.file_flags, FileOS=it.file_os, FileType=it.file_type,
-                      FileSubtype=it.file_subtype, FileDateMS=it.file_date_ms, FileDateLS=it.file_date_ls)
-            for it in (version.fixed for version in _versions(pe)) if it is not None]
+    return [_Made("VS_FIXEDFILEINFO", root.value_offset, Signature=it.signature, StrucVersion=it.struct_version,
+                  FileVersionMS=it.file_version_ms, FileVersionLS=it.file_version_ls,
+                  ProductVersionMS=it.product_version_ms, ProductVersionLS=it.product_version_ls,
+                  FileFlagsMask=it.file_flags_mask, FileFlags=it.file_flags, FileOS=it.file_os, FileType=it.file_type,
+                  FileSubtype=it.file_subtype, FileDateMS=it.file_date_ms, FileDateLS=it.file_date_ls)
+            for version in _versions(pe) for it, root in zip([version.fixed] if version.fixed else [], version.blocks[:1])]
 
 
 _LOST = "the library for C does not return where this structure stands, so that it is not written"
 
 
 class _Texts(dict[typing.Optional[bytes], typing.Optional[bytes]]):
-    """The strings of a table of version information, which say whether one was assigned."""
+    """The strings of a table of version information, and where each stood, with what it was."""
 
-    _changed: frozenset[str] = frozenset()
-    name = "StringTable"
+    _before: dict[bytes | None, tuple[int, bytes | None]] = {}
 
-    def __setitem__(self, key: bytes | None, value: bytes | None) -> None:
-        self._changed = frozenset(["entries"])
-        super().__setitem__(key, value)
+    def changes(self) -> typing.Iterator[tuple[int, bytes]]:
+        """The strings that are others now: at which offset, and the bytes. A shorter one is filled up with zeros."""
+        for key in [*self, *(it for it in self._before if it not in self)]:
+            if key not in self or key not in self._before:
+                raise NotInPeC(f"StringTable.entries[{key!r}], which was added or taken away", "ResourceEditor writes others")
+            offset, before = self._before[key]
+            if self[key] != before:
+                text, room = ((it or b"").decode("utf-8").encode("utf-16-le") for it in (self[key], before))
+                if len(text) > len(room):
+                    raise PEFormatError(f"The text of {key!r} is longer than the one in the file.")
+                yield offset, text.ljust(len(room), b"\0")
 
 
 def _structures(value: Any) -> typing.Iterator[Any]:
@@ -936,10 +955,10 @@ def _structures(value: Any) -> typing.Iterator[Any]:
     values = [value]
     while values:
         it = values.pop()
-        if isinstance(it, (Structure, _Texts)):
+        if isinstance(it, Structure):
             yield it
         if isinstance(it, (Structure, DataContainer)):
-            values += [inner for name, inner in it.__dict__.items() if name != "pe"]
+            values += [inner for name, inner in it.__dict__.items() if name not in ("pe", "_pe")]
         elif isinstance(it, list):
             values += it
 
@@ -951,6 +970,21 @@ _READ = {"DIRECTORY_ENTRY_IMPORT": _read_imports, "DIRECTORY_ENTRY_DELAY_IMPORT"
          "DIRECTORY_ENTRY_TLS": _read_tls, "DIRECTORY_ENTRY_LOAD_CONFIG": _read_load_config,
          "DIRECTORY_ENTRY_BOUND_IMPORT": _read_bound_imports, "DIRECTORY_ENTRY_EXCEPTION": _read_exceptions,
          "FileInfo": _read_file_info, "VS_VERSIONINFO": _read_version_info, "VS_FIXEDFILEINFO": _read_fixed_info}
+
+
+def _format_of(name: str) -> tuple[str, tuple[str, ...]]:
+    """The format of a structure, which an image of pefile has as __NAME_format__."""
+    own = name if "OPTIONAL" in name else name.removesuffix("64")
+    return own, tuple(f"{code},{','.join(names)}" for code, names in _LAYOUTS[name])
+
+
+def _unpacked(made: Structure, data: bytes | bytearray) -> Structure | None:
+    """The structure with the fields that stand in some bytes; None where these are too few."""
+    try:
+        made.__unpack__(data)
+    except PEFormatError:
+        return None
+    return made
 
 
 # Fields of these directories that are addresses.
@@ -991,17 +1025,17 @@ class PE:
             self.close()
             raise PEFormatError("No Optional Header found, invalid PE32 or PE32+ file.")
         optional, nt = it.optional_offset, it.dos.pe_pointer
-        self.DOS_HEADER = Structure("IMAGE_DOS_HEADER", 0, **_fields(_DOS, it.dos))
-        self.FILE_HEADER = Structure("IMAGE_FILE_HEADER", nt + 4, **_fields(_COFF, it.coff))
+        self.DOS_HEADER = _Made("IMAGE_DOS_HEADER", 0, **_fields(_DOS, it.dos))
+        self.FILE_HEADER = _Made("IMAGE_FILE_HEADER", nt + 4, **_fields(_COFF, it.coff))
         is_64 = it.optional.magic == OPTIONAL_HEADER_MAGIC_PE_PLUS
         fields = _fields({name: own for name, own in _OPTIONAL.items() if not is_64 or name != "BaseOfData"}, it.optional)
-        self.OPTIONAL_HEADER = Structure("IMAGE_OPTIONAL_HEADER64" if is_64 else "IMAGE_OPTIONAL_HEADER", optional, **fields)
+        self.OPTIONAL_HEADER = _Made("IMAGE_OPTIONAL_HEADER64" if is_64 else "IMAGE_OPTIONAL_HEADER", optional, **fields)
         self.OPTIONAL_HEADER.DATA_DIRECTORY = [
-            Structure("IMAGE_DATA_DIRECTORY", it.directories_offset + 8 * i, VirtualAddress=row.virtual_address, Size=row.size)
+            _Made("IMAGE_DATA_DIRECTORY", it.directories_offset + 8 * i, VirtualAddress=row.virtual_address, Size=row.size)
             for i, row in enumerate(it.directories)]
         for i, directory in enumerate(self.OPTIONAL_HEADER.DATA_DIRECTORY):
             directory.name = DIRECTORY_ENTRY[i]
-        self.NT_HEADERS = Structure("IMAGE_NT_HEADERS", nt, Signature=it.signature, FILE_HEADER=self.FILE_HEADER,
+        self.NT_HEADERS = _Made("IMAGE_NT_HEADERS", nt, Signature=it.signature, FILE_HEADER=self.FILE_HEADER,
                                     OPTIONAL_HEADER=self.OPTIONAL_HEADER)
         self.PE_TYPE = it.optional.magic
         rows = sorted(enumerate(self._image.sections), key=lambda pair: pair[1].virtual_address)
@@ -1023,6 +1057,8 @@ class PE:
         if name == "RICH_HEADER":
             self.RICH_HEADER = _read_rich(self)
             return self.RICH_HEADER
+        if name.startswith("__") and name[2:].removesuffix("_format__") in _LAYOUTS:
+            return _format_of(name[2:].removesuffix("_format__"))
         value = read(self) if read is not None and "_image" in self.__dict__ else None
         if not value:
             raise _missing("PE", name)
@@ -1050,10 +1086,12 @@ class PE:
 
     def __unpack_data__(self, format: tuple[str, typing.Iterable[str]], data: bytes, file_offset: int | None) -> Structure | None:
         """A structure of the caller's own from some bytes; None where they are too short."""
-        try:
-            return _Unpacked(format, bytes(data), file_offset)
-        except struct.error:
-            return None
+        return _unpacked(Structure(format, file_offset=file_offset), data)
+
+    def __unpack_data_with_bitfields__(self, format: tuple[str, typing.Iterable[str]], data: bytes,
+                                       file_offset: int | None) -> Structure | None:
+        """The same with bit fields."""
+        return _unpacked(StructureWithBitfields(format, file_offset=file_offset), data)
 
     def full_load(self) -> None:
         """Does nothing: each directory is read when it is asked for."""
@@ -1061,6 +1099,96 @@ class PE:
     def parse_data_directories(self, directories: Any = None, forwarded_exports_only: bool = False,
                                import_dllnames_only: bool = False) -> None:
         """Does nothing: each directory is read when it is asked for, and whole."""
+
+    # ---- directories at another place
+
+    def _elsewhere(self, attribute: str, directory: str, rva: int, size: int) -> Any:
+        """What an attribute would have where its directory stood at an RVA; None where nothing is read there."""
+        directories, index = self.OPTIONAL_HEADER.DATA_DIRECTORY, DIRECTORY_ENTRY[directory]
+        if index >= len(directories):
+            raise NotInPeC(f"PE.{attribute} at an RVA", "the image has no entry of this directory")
+        own = directories[index]
+        if (rva, size) == (own.VirtualAddress, own.Size):
+            return getattr(self, attribute, None)
+        data = bytearray(self.__data__)
+        struct.pack_into("<II", data, own.get_file_offset(), rva, size)
+        other = _copies.copy(self)
+        # What is set in its bytes is set in those of the image that this one was opened as.
+        other.__dict__.update(_image=_image.Image(bytes(data)), _origin=self.__dict__.get("_origin", self))
+        for name in ("_unwinding", *_READ):
+            other.__dict__.pop(name, None)
+        other._read_headers()
+        return getattr(other, attribute, None)
+
+    def parse_import_directory(self, rva: int, size: int, dllnames_only: bool = False) -> list[ImportDescData] | None:
+        """The imports by an import directory at an RVA, with all names."""
+        found: list[ImportDescData] | None = self._elsewhere("DIRECTORY_ENTRY_IMPORT", "IMAGE_DIRECTORY_ENTRY_IMPORT", rva, size)
+        return found
+
+    def parse_delay_import_directory(self, rva: int, size: int) -> list[ImportDescData] | None:
+        found: list[ImportDescData] | None = self._elsewhere(
+            "DIRECTORY_ENTRY_DELAY_IMPORT", "IMAGE_DIRECTORY_ENTRY_DELAY_IMPORT", rva, size)
+        return found
+
+    def parse_export_directory(self, rva: int, size: int, forwarded_only: bool = False) -> ExportDirData | None:
+        """The exports by an export directory at an RVA. Where forwarders alone are asked for, the others with a name come after them
+        without it, as in pefile."""
+        found: ExportDirData | None = self._elsewhere("DIRECTORY_ENTRY_EXPORT", "IMAGE_DIRECTORY_ENTRY_EXPORT", rva, size)
+        if found is None or not forwarded_only:
+            return found
+        symbols = [it for it in found.symbols if it.name is not None and it.forwarder is not None]
+        known = {it.ordinal for it in symbols}
+        others = {it.ordinal: it for it in found.symbols if it.ordinal not in known}
+        symbols += [ExportData(ordinal=it, address=others[it].address, name=None, forwarder=others[it].forwarder) for it in sorted(others)]
+        return ExportDirData(struct=found.struct, symbols=symbols, name=found.name)
+
+    def parse_debug_directory(self, rva: int, size: int) -> list[DebugData] | None:
+        found: list[DebugData] | None = self._elsewhere("DIRECTORY_ENTRY_DEBUG", "IMAGE_DIRECTORY_ENTRY_DEBUG", rva, size)
+        return found
+
+    def parse_directory_tls(self, rva: int, size: int) -> TlsData | None:
+        found: TlsData | None = self._elsewhere("DIRECTORY_ENTRY_TLS", "IMAGE_DIRECTORY_ENTRY_TLS", rva, size)
+        return found
+
+    def parse_directory_load_config(self, rva: int, size: int) -> LoadConfigData | None:
+        found: LoadConfigData | None = self._elsewhere("DIRECTORY_ENTRY_LOAD_CONFIG", "IMAGE_DIRECTORY_ENTRY_LOAD_CONFIG", rva, size)
+        return found
+
+    def parse_relocations_directory(self, rva: int, size: int) -> list[BaseRelocationData] | None:
+        found: list[BaseRelocationData] | None = self._elsewhere(
+            "DIRECTORY_ENTRY_BASERELOC", "IMAGE_DIRECTORY_ENTRY_BASERELOC", rva, size)
+        return found
+
+    def parse_directory_bound_imports(self, rva: int, size: int) -> list[BoundImportDescData] | None:
+        found: list[BoundImportDescData] | None = self._elsewhere(
+            "DIRECTORY_ENTRY_BOUND_IMPORT", "IMAGE_DIRECTORY_ENTRY_BOUND_IMPORT", rva, size)
+        return found
+
+    def parse_exceptions_directory(self, rva: int, size: int) -> list[ExceptionsDirEntryData] | None:
+        found: list[ExceptionsDirEntryData] | None = self._elsewhere(
+            "DIRECTORY_ENTRY_EXCEPTION", "IMAGE_DIRECTORY_ENTRY_EXCEPTION", rva, size)
+        return found
+
+    def parse_resources_directory(self, rva: int, size: int = 0) -> ResourceDirData | None:
+        """The tree of resources whose root is at an RVA."""
+        found: ResourceDirData | None = self._elsewhere("DIRECTORY_ENTRY_RESOURCE", "IMAGE_DIRECTORY_ENTRY_RESOURCE", rva, size or 16)
+        return found
+
+    def _structure_at(self, name: str, rva: int) -> _Made | None:
+        """A structure at an RVA, None where that is nowhere."""
+        made = _Made(name, self.get_physical_by_rva(rva), **{it: 0 for _, names in _LAYOUTS[name] for it in names})
+        try:
+            made.__unpack__(self.get_data(rva, made.sizeof()))
+        except PEFormatError:
+            return None
+        return made
+
+    def parse_resource_data_entry(self, rva: int) -> Structure | None:
+        return self._structure_at("IMAGE_RESOURCE_DATA_ENTRY", rva)
+
+    def parse_resource_entry(self, rva: int) -> Structure | None:
+        made = self._structure_at("IMAGE_RESOURCE_DIRECTORY_ENTRY", rva)
+        return made and _with_parts(made)
 
     def get_warnings(self) -> list[str]:
         """What of the image is damaged or limited, a small file alignment, and exports that are left out. pefile's texts, and its guesses
@@ -1073,10 +1201,17 @@ class PE:
         from . import _pefile_dump
         return _pefile_dump.dump_dict(self)
 
-    def dump_info(self, dump: None = None, encoding: str = "ascii") -> str:
-        """All that was read as text, a section for each part. Its texts are ASCII, whatever the encoding is."""
+    def dump_info(self, dump: Dump | None = None, encoding: str = "ascii") -> str:
+        """All that was read as text, a section for each part, after what a dump has. Its texts are ASCII, whatever the encoding is."""
         from . import _pefile_dump
-        return _pefile_dump.dump_info(self)
+        text = _pefile_dump.dump_info(self)
+        if dump is None:
+            return text
+        dump.add(text)
+        return dump.get_text()
+
+    def __str__(self) -> str:
+        return self.dump_info()
 
     def print_info(self, encoding: str = "utf-8") -> None:
         """Prints dump_info."""
@@ -1124,9 +1259,10 @@ class PE:
 
     def set_data_bytes(self, offset: int, data: bytes) -> None:
         """Writes bytes at a file offset. What was read before stays as it is."""
-        if not isinstance(self.__data__, bytearray):
-            self.__data__ = bytearray(self.__data__)
-        self.__data__[offset:offset + len(data)] = data
+        own: PE = self.__dict__.get("_origin", self)
+        if not isinstance(own.__data__, bytearray):
+            own.__data__ = bytearray(own.__data__)
+        own.__data__[offset:offset + len(data)] = data
 
     def set_bytes_at_offset(self, offset: int, data: bytes) -> bool:
         """Writes bytes at a file offset. False where that is outside of the file."""
@@ -1198,24 +1334,30 @@ class PE:
             for it in dll.imports:
                 it.address += difference
         for name, fields in _ADDRESSES.items():
-            there = getattr(self.__dict__.get(name), "struct", Structure("")).__dict__
+            there = getattr(self.__dict__.get(name), "struct", _Made("")).__dict__
             there.update({it: there[it] + difference for it in fields if there.get(it)})
+
+    @property
+    def __structures__(self) -> list[Any]:
+        """The headers, and the structures of directories that were read so far."""
+        headers = [self.DOS_HEADER, self.NT_HEADERS, self.FILE_HEADER, self.OPTIONAL_HEADER, *self.OPTIONAL_HEADER.DATA_DIRECTORY,
+                   *self.sections]
+        return [*headers, *_structures([self.__dict__.get(name) for name in _READ])]
 
     def merge_modified_section_data(self) -> None:
         """Does nothing: the data of sections are those of the file."""
 
     def write(self, filename: str | os.PathLike[str] | None = None) -> bytearray | None:
-        """The file with what was set in its bytes, and assigned to fields of headers and directories; into a file where that is
-        named. Raises NotInPeC where a field of version information was assigned, or a string of it, and of a directory that is not
-        mapped: their places are not known."""
+        """The file with what was set in its bytes, and assigned to fields of headers, directories and version information, and to its
+        strings; into a file where that is named. Raises PEFormatError where such a string is longer than the one in the file, and
+        NotInPeC where strings were added, and of a directory that is not mapped: their places are not known."""
         data = bytearray(self.__data__)
-        headers = [self.DOS_HEADER, self.NT_HEADERS, self.FILE_HEADER, self.OPTIONAL_HEADER, *self.OPTIONAL_HEADER.DATA_DIRECTORY,
-                   *self.sections]
-        for it in (it for it in [*headers, *_structures([self.__dict__.get(name) for name in _READ])] if it._changed):
-            if isinstance(it, _Texts) or it._offset is None or it._structure not in _LAYOUTS:
+        for it in self.__structures__:
+            if it._changed and it._offset is None:
                 raise NotInPeC(f"{it.name}.{min(it._changed)} as it was assigned", _LOST)
-            packed = it.__pack__()
-            data[it._offset:it._offset + len(packed)] = packed
+            changes = [(it._offset, it.__pack__())] if it._changed else []
+            for offset, packed in [*changes, *getattr(it.__dict__.get("entries"), "changes", tuple)()]:
+                data[offset:offset + len(packed)] = packed
         if not filename:
             return data
         with open(filename, "wb") as file:
@@ -1233,11 +1375,18 @@ class PE:
     # ---- addresses
 
     def adjust_FileAlignment(self, val: int, file_alignment: int) -> int:
-        return val if file_alignment < FILE_ALIGNMENT_HARDCODED_VALUE else val // 0x200 * 0x200
+        return cache_adjust_FileAlignment(val, file_alignment)
 
     def adjust_SectionAlignment(self, val: int, section_alignment: int, file_alignment: int) -> int:
-        alignment = file_alignment if section_alignment < 0x1000 else section_alignment
-        return val // alignment * alignment if alignment else val
+        return cache_adjust_SectionAlignment(val, section_alignment, file_alignment)
+
+    def dword_align(self, offset: int, base: int) -> int:
+        return ((offset + base + 3) & 0xFFFFFFFC) - (base & 0xFFFFFFFC)
+
+    def normalize_import_va(self, va: int) -> int:
+        """The RVA of an address in the image, and any other number as it is."""
+        base = self.OPTIONAL_HEADER.ImageBase
+        return int(va - base if base <= va < base + self.OPTIONAL_HEADER.SizeOfImage else va)
 
     def get_section_by_rva(self, rva: int) -> SectionStructure | None:
         return next((it for it in self.sections if it.contains_rva(rva)), None)
@@ -1395,3 +1544,22 @@ class PE:
         native = ("IMAGE_SUBSYSTEM_NATIVE", "IMAGE_SUBSYSTEM_NATIVE_WINDOWS")
         is_paged = any(it.Name.lower().rstrip(b"\0") in (b"page", b"paged") for it in self.sections)
         return is_paged and SUBSYSTEM_TYPE.get(self.OPTIONAL_HEADER.Subsystem) in native
+
+
+def main() -> None:
+    """Prints what pefile's own command prints: the text of dump_info of a file, or after the word exports its exports."""
+    import sys
+    if not sys.argv[1:]:
+        print("pefile.py <filename>\npefile.py exports <filename>")
+    elif sys.argv[1] != "exports":
+        print(PE(sys.argv[1]).dump_info())
+    elif not sys.argv[2:]:
+        sys.exit("error: <filename> required")
+    else:
+        pe = PE(sys.argv[2])
+        for it in pe.DIRECTORY_ENTRY_EXPORT.symbols:
+            print(hex(pe.OPTIONAL_HEADER.ImageBase + it.address), it.name, it.ordinal)
+
+
+if __name__ == "__main__":
+    main()
