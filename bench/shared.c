@@ -96,7 +96,7 @@ static uint8_t *made_image(void)
     return image;
 }
 
-/* pe_c_edit of as many records as have the bytes, or as it takes: more than 65,535 would be refused by their number. */
+/* pe_c_edit, which has to refuse them before it counts them. */
 static uint32_t contents(size_t bytes)
 {
     size_t count = bytes / sizeof(pe_c_resource);

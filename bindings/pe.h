@@ -3239,7 +3239,7 @@ typedef struct {
 
 /* The root of the metadata. */
 typedef struct {
-    pe_c_range version;             /* such as "v4.0.30319": UTF-8 up to the first zero, and the zeros after it */
+    pe_c_range version;             /* such as "v4.0.30319", up to the first zero, and the zeros after it; UTF-8 is not tested */
     pe_c_metadata_streams streams;  /* a walk for pe_c_next_metadata_stream, at its start */
     uint16_t major_version;         /* of the format of metadata */
     uint16_t minor_version;         /* of the format of metadata */

@@ -32,6 +32,8 @@ HAZARDS = {
     "two directories": (0.02, "image has no resource directory"),
     "a language by a name": (0.03, "resource has a range outside of the array, or an id or language above 65,535"),
     "a leaf twice": (0.03, "resource is not sorted after the one before it"),
+    # Drawn with the slack: the section has more data in the file than pages in memory, and as many pages would end after the image.
+    "data that reach past the image": (0, "section shares bytes or pages with the resource section or headers, or is after it"),
 }
 # Without a directory there are no resources, and where there are none nothing is in their section.
 ALONE = "no resource directory, and a section at RVA 0"
@@ -266,6 +268,8 @@ class Made:
             it.content += bytes(-len(it.content) % self.alignment)
             pointer += len(it.content)
         self.size_of_image, self.data_end = rva, pointer
+        if self.own and rounded(self.own.rva + len(self.own.content), PAGE) > rva:
+            self.hazards.add("data that reach past the image")
         self.overlay = self.chance.randbytes(self.chance.randrange(1, 900)) if "an overlay" in self.hazards else b""
 
     def debug(self):

@@ -438,7 +438,10 @@ impl<T> List<T> {
                     list.is_limited = true;
                     break;
                 }
-                Err(error) => list.error = Some(error.into()),
+                Err(error) => {
+                    list.error = Some(error.into());
+                    break;
+                }
             }
         }
         list

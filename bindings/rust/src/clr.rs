@@ -82,9 +82,9 @@ shown! {
 }
 
 impl<'a> Metadata<'a> {
-    /// The version of the runtime that the image was made for, such as `v4.0.30319`: the version text up to the first zero.
+    /// The version of the runtime that the image was made for, such as `v4.0.30319`: the version text up to the first zero. Nothing
+    /// where it is not UTF-8: `version_bytes` has it.
     pub fn version(&self) -> &'a str {
-        // It is UTF-8, as the library returns it.
         core::str::from_utf8(up_to_zero(self.version_bytes)).unwrap_or_default()
     }
 

@@ -2218,7 +2218,7 @@ const _: () = assert!(core::mem::size_of::<MetadataStreams>() == 40);
 #[repr(C)]
 #[derive(Clone, Copy, Debug, Default, PartialEq, Eq)]
 pub struct Metadata {
-    /// Such as "v4.0.30319": UTF-8 up to the first zero, and the zeros after it.
+    /// Such as "v4.0.30319", up to the first zero, and the zeros after it; UTF-8 is not tested.
     pub version: Range,
     /// A walk for [`pe_c_next_metadata_stream`], at its start.
     pub streams: MetadataStreams,

@@ -36,6 +36,7 @@ pub struct Directory {
 #[derive(Clone, Debug, Serialize)]
 pub struct Metadata<'a> {
     /// Of the runtime that the image was made for, such as `v4.0.30319`.
+    #[serde(flatten, serialize_with = "text::version")]
     pub version: Name<'a>,
     /// Of the format of the metadata, such as `1.1`.
     pub format_version: String,
@@ -67,7 +68,7 @@ fn stream_of(stream: MetadataStream<'_>) -> Stream<'_> {
 
 fn metadata_of(found: FoundMetadata<'_>) -> Metadata<'_> {
     Metadata {
-        version: Name::of(found.version()),
+        version: Name(found.version_bytes.split(|it| *it == 0).next().unwrap_or_default()),
         format_version: format!("{}.{}", found.major_version, found.minor_version),
         streams: Part::Present(List::of(found.streams(), stream_of)),
         tables: assembly::of(&found),

@@ -77,5 +77,5 @@ pub mod text {
             }
         )+};
     }
-    written!(algorithm culture name section);
+    written!(algorithm culture name section version);
 }

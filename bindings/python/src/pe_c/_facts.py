@@ -476,7 +476,7 @@ def language(value: int | str) -> Facts:
 
 def resource_type(value: int | str) -> Facts:
     it = label(value)
-    return {"id": it["id"], "name": it["name"] or names.RESOURCE_TYPES.get(it["id"])}
+    return it if it["id"] is None else {**it, "name": names.RESOURCE_TYPES.get(it["id"])}
 
 
 def known(kept: dict[int | str, Facts], of: typing.Callable[[int | str], Facts], value: int | str) -> Facts:
@@ -680,7 +680,7 @@ def tables(it: _tables.Tables) -> Facts:
 def clr(image: Exact) -> Facts:
     def metadata(it: Any, length: int) -> Facts:
         streams = [(one.name, one.content) for one in it.streams[0] or ()]
-        return {"version": it.version, "format_version": f"{it.major_version}.{it.minor_version}",
+        return {**name_of(it.version, "version"), "format_version": f"{it.major_version}.{it.minor_version}",
                 **rows("streams", it.streams, lambda one: {**name_of(one.name), "offset": one.offset, "size": one.size,
                                                            "is_there": one.content is not None}),
                 **part("tables", _tables.tables(streams, length), tables)}

@@ -1852,7 +1852,7 @@ static PyObject *row_cor20_header(Image *self, Rows *rows, const pe_c_cor20_head
 }
 
 static PyStructSequence_Field row_metadata_fields[] = {
-    {"version", "such as \"v4.0.30319\": UTF-8 up to the first zero, and the zeros after it"},
+    {"version", "such as \"v4.0.30319\", up to the first zero, and the zeros after it; UTF-8 is not tested"},
     {"streams", "a walk for pe_c_next_metadata_stream, at its start"},
     {"major_version", "of the format of metadata"},
     {"minor_version", "of the format of metadata"},
