@@ -2,6 +2,7 @@
 //! the library; names of codes are this program's own. A dump may say anything: no path in it is opened, and no more of its texts
 //! is shown than a dump of its size has room for: a frame shows the start of its module's name.
 
+mod breakpad;
 mod files;
 mod folded;
 mod frames;

@@ -99,8 +99,8 @@ fn put_image(file: &mut SymbolFile, path: &Path, image: &Image<'_>) -> Result<()
 fn of_image(path: &Path, image: &Image<'_>) -> Result<SymbolFile, String> {
     let mut file = SymbolFile::default();
     put_image(&mut file, path, image).map_err(|error| complaint(path, Refusal::from(error)))?;
-    Functions::of_image(image, &mut file).put(&mut file);
-    unwinding::put(image, &mut file);
+    let functions = Functions::of_image(image, &mut file);
+    put_all(functions, Some(image), &mut file);
     Ok(file)
 }
 
@@ -118,8 +118,8 @@ fn of_both(path: &Path, image: &Image<'_>, (pdb_path, bytes): (&Path, &[u8])) ->
     }
     let mut file = SymbolFile::default();
     put_image(&mut file, path, image).map_err(|error| refused(path, error))?;
-    put_of_pdb(&pdb, &mut file);
-    unwinding::put(image, &mut file);
+    let functions = functions_of(&pdb, &mut file);
+    put_all(functions, Some(image), &mut file);
     Ok(file)
 }
 
@@ -128,14 +128,25 @@ fn of_pdb(path: &Path, pdb: &Pdb<'_>) -> Result<SymbolFile, String> {
     let name = path.file_name().map_or(String::new(), |it| it.to_string_lossy().into_owned());
     let mut file = SymbolFile::default();
     put_module(&mut file, pdb.info().machine, &pdb.key("").to_string(), &name);
-    put_of_pdb(pdb, &mut file);
+    let functions = functions_of(pdb, &mut file);
+    put_all(functions, None, &mut file);
     Ok(file)
 }
 
-fn put_of_pdb(pdb: &Pdb<'_>, file: &mut SymbolFile) {
+/// The functions of a PDB, none where they are not those of the image as it is.
+fn functions_of(pdb: &Pdb<'_>, file: &mut SymbolFile) -> Functions {
     if pdb.is_moved() {
         file.complain("functions", "a tool moved the code of the image after it was linked (OMAP), which is not read");
-        return;
+        return Functions::default();
     }
-    Functions::of_pdb(pdb, file).put(file);
+    Functions::of_pdb(pdb, file)
+}
+
+/// Writes functions, and how frames of an image are unwound.
+fn put_all(functions: Functions, image: Option<&Image<'_>>, file: &mut SymbolFile) {
+    let ranges = functions.ranges();
+    functions.put(file);
+    if let Some(image) = image {
+        unwinding::put(image, &ranges, file);
+    }
 }

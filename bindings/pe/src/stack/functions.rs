@@ -1,5 +1,6 @@
 //! The names of the functions of frames: by the PDB of a module, or by the COFF symbols and the exports of its image.
 
+use super::breakpad::Named;
 use super::pdbs::{self, ToldPdbs};
 use super::symbols::SymbolFolders;
 use super::told::{Frame, Function, Inlined, Thread};
@@ -65,6 +66,30 @@ pub fn function_of_pdb(found: &[SymbolFrame], at: u32, texts: &mut Texts<'_>) ->
         source: source_of(own),
         is_nearest: false,
         line: line_of(own),
+        inlined: inlined.collect(),
+    })
+}
+
+/// The same by a symbol file.
+pub fn function_of_symbol_file(found: &[Named<'_>], at: u32, texts: &mut Texts<'_>) -> Option<Function> {
+    let (own, inlined) = found.split_last()?;
+    let size = |it: &Named<'_>| 2 * it.name.len() + it.file.map_or(0, str::len);
+    if !texts.takes(found.iter().map(size).sum()) {
+        return None;
+    }
+    let line = |it: &Named<'_>| Line { file: it.file.map(str::to_string), line: it.line, column: None };
+    let inlined = inlined.iter().map(|it| {
+        let (name, raw_name) = both_names(Some(it.name));
+        Inlined { name, raw_name, line: line(it) }
+    });
+    let (name, raw_name) = both_names(Some(own.name));
+    Some(Function {
+        name,
+        raw_name,
+        offset: at.wrapping_sub(own.start),
+        source: if own.is_public { "public" } else { "procedure" },
+        is_nearest: false,
+        line: line(own),
         inlined: inlined.collect(),
     })
 }

@@ -1,9 +1,11 @@
 //! The PDB files of a dump's modules: which is found where, whether it is that of the module, and what it names. A PDB is that of
 //! a module if its GUID and its age are those that the module names; no name is read of another one.
 //!
-//! One that is damaged costs its names, and no frame. Each file is read once, and one at a time is in memory.
+//! One that is damaged costs its names, and no frame. Each file is read once, and one at a time is in memory. A symbol file of Breakpad is
+//! one that names the key in its first line.
 
-use super::functions::function_of_pdb;
+use super::breakpad::{self, SymbolFile};
+use super::functions::{function_of_pdb, function_of_symbol_file};
 use super::symbols::SymbolFolders;
 use super::told::{Frame, Function};
 use super::{modules, Loaded, Texts};
@@ -115,6 +117,9 @@ fn name_frames(
     texts: &mut Texts<'_>,
 ) -> ToldPdb {
     let (group, loaded) = of;
+    if breakpad::is_symbol_file(bytes) {
+        return name_by_symbol_file(frames, of, bytes, said, texts);
+    }
     let refused = |error: pe_c::Error| ToldPdb { state: "refused", error: Some(error.into()), ..said.clone() };
     let pdb = match Pdb::parse(bytes) {
         Ok(pdb) => pdb,
@@ -147,6 +152,36 @@ fn name_frames(
         said.frames += usize::from(frame.function.is_some());
     }
     said.damaged = damaged_of(&symbolizer);
+    said
+}
+
+/// The same of a symbol file.
+fn name_by_symbol_file(
+    frames: &mut [&mut Frame],
+    (group, loaded): (&Group<'_>, &Loaded<'_>),
+    bytes: &[u8],
+    mut said: ToldPdb,
+    texts: &mut Texts<'_>,
+) -> ToldPdb {
+    let file = match SymbolFile::parse(bytes) {
+        Ok(file) => file,
+        Err(why) => return ToldPdb { state: "not-read", reason: Some(why.to_string()), ..said },
+    };
+    for &(index, rva) in &group.frames {
+        if texts.is_over {
+            break;
+        }
+        let (found, frame) = (file.frames(rva), &mut frames[index]);
+        let image = frame.module_index.and_then(|it| Some(&loaded.images.image(it)?.image));
+        let public = found.last().filter(|it| it.is_public);
+        let is_own = public.map_or(Some(true), |it| is_in_function(image, rva, it.start));
+        if is_own != Some(false) {
+            let shown = rva.wrapping_add(frame.has_called.into());
+            let function = function_of_symbol_file(&found, shown, texts);
+            frame.function = function.map(|it| Function { is_nearest: is_own.is_none(), ..it });
+            said.frames += usize::from(frame.function.is_some());
+        }
+    }
     said
 }
 
@@ -197,6 +232,21 @@ impl PdbFiles<'_> {
         (told, None)
     }
 
+    /// The bytes of a symbol file with this key, or why they are not read.
+    fn symbol_file(&mut self, path: &Path, bytes: Vec<u8>, wanted: &str) -> Result<Vec<u8>, ToldPdb> {
+        let not_read = |why: String| ToldPdb { state: "not-read", reason: Some(why), ..ToldPdb::default() };
+        if bytes.len() as u64 > breakpad::MOST {
+            let (size, most) = (bytes.len(), breakpad::MOST);
+            return Err(not_read(format!("it has {size} bytes; of a symbol file at most {most} are read")));
+        }
+        let key = breakpad::key_of(&bytes).map_err(|why| not_read(why.to_string()))?.to_uppercase();
+        self.keys.insert(path.to_path_buf(), Ok(key.clone()));
+        match key == wanted {
+            true => Ok(bytes),
+            false => Err(ToldPdb { state: "another-build", found_key: Some(key), ..ToldPdb::default() }),
+        }
+    }
+
     /// The bytes of a PDB with this key, or why they are not read, or no PDB with it.
     fn read(&mut self, path: &Path, key: &SymbolKey<'_>, wanted: &str) -> Result<Vec<u8>, ToldPdb> {
         let not_read = |why: String| ToldPdb { state: "not-read", reason: Some(why), ..ToldPdb::default() };
@@ -216,6 +266,9 @@ impl PdbFiles<'_> {
             not_read(format!("the PDB files of one dump that are read have at most {MOST_IN_ALL} bytes"))
         })?;
         let bytes = files::whole(path).map_err(|error| not_read(error.to_string()))?;
+        if breakpad::is_symbol_file(&bytes) {
+            return self.symbol_file(path, bytes, wanted);
+        }
         let parsed = Pdb::parse(&bytes).and_then(|it| it.dbi().map(|()| it)).map_err(Refusal::from);
         let found = parsed.as_ref().map(|it| it.key("").to_string()).map_err(Refusal::clone);
         self.keys.insert(path.to_path_buf(), found.clone());

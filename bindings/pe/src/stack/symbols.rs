@@ -1,10 +1,11 @@
 //! The folders in which PDB files are looked for: those that the user names, and those of the variable `_NT_SYMBOL_PATH`. They are
 //! laid out as [symbol servers](https://learn.microsoft.com/windows/win32/debug/using-symsrv) and debuggers' caches are: NAME/KEY/NAME,
-//! in two tiers NA/NAME/KEY/NAME; or a PDB stands in the folder itself.
+//! in two tiers NA/NAME/KEY/NAME; or a PDB stands in the folder itself. Where a PDB is looked for a symbol file of Breakpad is too, after it.
 //!
 //! No path is made of what a dump says. Folders are listed, and what stands in them is compared with the name and the key that are
 //! looked for, in upper or lower case: servers ignore the case, and file systems need not.
 
+use super::breakpad;
 use crate::files::paths_in;
 use std::cell::RefCell;
 use std::collections::BTreeMap;
@@ -44,10 +45,10 @@ impl Candidate {
         }
     }
 
-    /// Whether it has a name, in upper or lower case.
+    /// Whether it has the name of a PDB, or of its symbol file, in upper or lower case.
     pub fn has_name(&self, name: &str) -> bool {
         let own = self.path().file_name().map(|it| it.to_string_lossy().to_lowercase());
-        own.is_some_and(|it| it == name.to_lowercase())
+        own.is_some_and(|it| [name.to_string(), breakpad::name_of(name)].iter().any(|name| it == name.to_lowercase()))
     }
 
     /// Its path, and what is wrong with it. None of a file.
@@ -121,7 +122,9 @@ impl SymbolFolders {
             for folder in self.named(folder, &tier, &mut found) {
                 self.by_key(&folder, (name, key), &mut found);
             }
-            found.extend(self.files(folder, name).map(Candidate::File));
+            for name in [name, &breakpad::name_of(name)] {
+                found.extend(self.files(folder, name).map(Candidate::File));
+            }
         }
         found
     }
@@ -134,6 +137,7 @@ impl SymbolFolders {
                 found.extend(self.files(of_key, name).map(Candidate::File));
                 found.extend(self.files(of_key, &compressed(name)).map(Candidate::Compressed));
                 found.extend(self.files(of_key, POINTER).map(Candidate::Pointer));
+                found.extend(self.files(of_key, &breakpad::name_of(name)).map(Candidate::File));
             }
         }
     }

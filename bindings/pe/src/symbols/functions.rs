@@ -83,8 +83,9 @@ impl Functions {
                 Ok((rest, procedures)) => {
                     left = rest;
                     found.add_procedures(&procedures, index);
-                    let error = procedures.iter().find_map(|it| it.error);
-                    error.map_or((), |error| refused(&module.name, error));
+                    if let Some(error) = procedures.iter().find_map(|it| it.error) {
+                        refused(&module.name, error);
+                    }
                     found.add_lines((pdb, module, index), names.as_ref(), &mut refused);
                 }
                 Err(error) => refused(&module.name, error),
@@ -186,6 +187,11 @@ impl Functions {
         self.publics = one_at_each_start(self.publics);
         self.publics.retain(|it| !starts.contains(&it.start));
         self
+    }
+
+    /// The ranges of those that are not public.
+    pub fn ranges(&self) -> Vec<(u32, u32)> {
+        self.functions.iter().map(|it| (it.start, it.end)).collect()
     }
 
     /// Writes them.

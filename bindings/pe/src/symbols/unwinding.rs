@@ -17,8 +17,8 @@ const STEPS_A_BYTE: usize = 16;
 const MACHINE_RSP: u64 = 24;
 const RSP: Register = Register(4);
 
-/// Writes those of an image.
-pub fn put(image: &Image<'_>, file: &mut SymbolFile) {
+/// Writes those of an image, and those of functions that no record covers: these are leaves, which change no register that a caller keeps.
+pub fn put(image: &Image<'_>, leaves: &[(u32, u32)], file: &mut SymbolFile) {
     let functions = match image.functions() {
         Ok(Some(functions)) => functions,
         Ok(None) => return,
@@ -26,26 +26,39 @@ pub fn put(image: &Image<'_>, file: &mut SymbolFile) {
     };
     let mut left = image.bytes().len().saturating_mul(STEPS_A_BYTE);
     let (mut refused, mut first, mut left_out) = (0, None, 0);
+    put_leaves(&functions, leaves, file);
     for function in functions.iter() {
         if left == 0 {
             left_out += 1;
             continue;
         }
         let before = file.text.len();
-        if let Err(error) = put_function(&functions, function, file, &mut left) {
+        if let Err(why) = put_function(&functions, function, file, &mut left) {
             refused += 1;
-            first = first.or(Some(error));
+            first = first.or(Some(why));
         }
         left = left.saturating_sub(file.text.len() - before);
     }
-    if let Some(error) = first {
+    if let Some(why) = first {
         let all = counted(refused, "function");
-        file.complain("unwind records", format_args!("{all} refused, the first: {}", Refusal::from(error)));
+        file.complain("unwind records", format_args!("{all} refused, the first: {why}"));
     }
     if left_out > 0 {
         let all = counted(left_out, "function");
         let why = "more of them share records than the file's bytes account for";
         file.complain("unwind records", format_args!("{all} left out: {why}"));
+    }
+}
+
+/// Writes of these functions those that start in no entry of the table, up to the next entry.
+fn put_leaves(functions: &Functions<'_, '_>, leaves: &[(u32, u32)], file: &mut SymbolFile) {
+    let mut begins: Vec<u32> = functions.iter().map(|it| it.begin).collect();
+    begins.sort_unstable();
+    let rules = Rules::at_call().lines().after(&Lines::default());
+    for &(start, end) in leaves.iter().filter(|it| matches!(functions.find(it.0), Ok(None))) {
+        let next = begins.get(begins.partition_point(|it| *it < start)).copied().unwrap_or(u32::MAX);
+        let size = end.min(next).saturating_sub(start);
+        file.line(format_args!("STACK CFI INIT {start:x} {size:x} {rules}"));
     }
 }
 
@@ -56,13 +69,14 @@ struct Read<'a> {
 }
 
 /// The records of a function, its own first.
-fn records_of<'a>(functions: &Functions<'_, 'a>, function: Function) -> Result<Vec<Read<'a>>, Error> {
+fn records_of<'a>(functions: &Functions<'_, 'a>, function: Function) -> Result<Vec<Read<'a>>, String> {
+    let refused = |error: Error| Refusal::from(error).to_string();
     let mut records = Vec::new();
     for record in functions.plan(function) {
-        let record = record?;
-        records.push(Read { record, codes: record.codes().collect::<Result<_, _>>()? });
+        let record = record.map_err(refused)?;
+        records.push(Read { record, codes: record.codes().collect::<Result<_, _>>().map_err(refused)? });
         if records.len() > MOST_CHAINED {
-            return Err(Error::FUNCTION_CYCLE);
+            return Err(format!("more than {MOST_CHAINED} chained records"));
         }
     }
     Ok(records)
@@ -74,7 +88,7 @@ fn put_function(
     function: Function,
     file: &mut SymbolFile,
     left: &mut usize,
-) -> Result<(), Error> {
+) -> Result<(), String> {
     let records = records_of(functions, function)?;
     *left = left.saturating_sub(records.iter().map(|it| it.codes.len() + 1).sum());
     let Some((own, others)) = records.split_first() else { return Ok(()) };
@@ -116,9 +130,9 @@ struct Rules {
     machine: Option<u64>,
 }
 
-/// The rules as text, by their registers.
+/// The rules as text, by their registers: that of the CFA and the return address first.
 #[derive(Default)]
-struct Lines(BTreeMap<String, String>);
+struct Lines(BTreeMap<(bool, String), String>);
 
 impl Rules {
     /// After a call the return address is on the stack.
@@ -191,10 +205,10 @@ impl Rules {
             }
             None => (self.address(0), own(8)),
         };
-        lines.insert(".cfa".to_string(), cfa);
-        lines.insert(".ra".to_string(), ra);
+        lines.insert((false, ".cfa".to_string()), cfa);
+        lines.insert((false, ".ra".to_string()), ra);
         for (register, below) in self.saved.iter().filter(|it| *it.0 != RSP.0) {
-            lines.insert(format!("${}", Register(*register).name()), own(*below));
+            lines.insert((true, format!("${}", Register(*register).name())), own(*below));
         }
         Lines(lines)
     }
@@ -212,7 +226,8 @@ impl Lines {
     /// Those that differ from what held before.
     fn after(&self, last: &Lines) -> String {
         let mut text = String::new();
-        for (name, rule) in self.0.iter().filter(|it| last.0.get(it.0) != Some(it.1)) {
+        let changed = self.0.iter().filter(|it| last.0.get(it.0) != Some(it.1));
+        for ((_, name), rule) in changed {
             // Writing to a text never fails.
             let _ = write!(text, "{}{name}: {rule}", if text.is_empty() { "" } else { " " });
         }
