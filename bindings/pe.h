@@ -317,6 +317,9 @@
  *   pe_c_find_pdb_line              Finds the line of an RVA by an index that pe_c_pdb_lines made
  *   pe_c_pdb_files                  Returns the range of the source files of a module in its stream
  *   pe_c_pdb_file_name              Returns the range of the name of a source file in `names`, the bytes of the stream ..
+ *   pe_c_pdb_module_ranges          Writes to the start of `room` which RVAs are of which module
+ *   pe_c_pdb_ids                    Writes to the start of `room` where each record of the stream of ids starts, for ..
+ *   pe_c_find_pdb_inlined           Writes the inlined functions whose code is at an RVA to the start of `room`, the ..
  *   pe_c_pdb_named_stream           Returns the number of the stream with a name, such as "/names", by the bytes of the ..
  */
 
@@ -501,6 +504,7 @@ enum pe_c_result {
     PE_C_PDB_CONTRIBUTIONS_VERSION = 624, /* unknown version of the section contributions of a PDB */
     PE_C_PDB_CONTRIBUTIONS_SIZE = 625, /* section contributions of a PDB are not a multiple of their size */
     PE_C_PDB_ANNOTATION = 626,      /* annotation of an inlined function truncated or not known */
+    PE_C_PDB_INLINE_DEPTH = 627,    /* more than 64 inlined functions at one offset of a procedure */
 };
 
 /* Modes. PE_C_MAPPED is added to one of the others, or stands for PE_C_STRICT | PE_C_MAPPED. */
@@ -667,6 +671,7 @@ static inline const char *pe_c_message(uint32_t number)
     case PE_C_PDB_CONTRIBUTIONS_VERSION: return "unknown version of the section contributions of a PDB";
     case PE_C_PDB_CONTRIBUTIONS_SIZE: return "section contributions of a PDB are not a multiple of their size";
     case PE_C_PDB_ANNOTATION: return "annotation of an inlined function truncated or not known";
+    case PE_C_PDB_INLINE_DEPTH: return "more than 64 inlined functions at one offset of a procedure";
     default: return "unknown result";
     }
 }
@@ -4304,8 +4309,34 @@ typedef struct {
     uint32_t index;                 /* which one it is among those of the module */
 } pe_c_pdb_line_entry;
 
+/* RVAs that are of one module. */
+typedef struct {
+    uint32_t start;                 /* the first RVA */
+    uint32_t size;                  /* how many there are; 0 of a contribution in no section */
+    uint32_t module_index;          /* which module it is, in the order of pe_c_list_pdb_modules, from 0 on; it may be of none */
+} pe_c_pdb_module_range;
+
+/* An inlined function whose code is at an RVA, and which line of it that is. */
+typedef struct {
+    pe_c_range name;                /* its name in the stream of ids, as in the source but without its scope, UTF-8, without its
+                                       final zero; where `name_result` is PE_C_DONE */
+    pe_c_range scope;               /* the namespace that it is in, there too; no bytes in none */
+    uint32_t id;                    /* which function it is: the index of its record in the stream of ids */
+    uint32_t class_type;            /* of a member function its class, an index of the stream of types; else 0 */
+    uint32_t file;                  /* its source file, for pe_c_pdb_file_name, where `line_result` is PE_C_DONE */
+    uint32_t line;                  /* the line, from 1 on; of a function that another one is inlined in, that of the call; or 0 */
+    uint32_t code_offset;           /* where the code of that line starts, from the start of the procedure */
+    uint32_t code_size;             /* how many bytes that is */
+    uint32_t name_result;           /* PE_C_DONE; PE_C_NOTHING without a name; or why the stream of ids, or the function's record in
+                                       it, is refused */
+    uint32_t line_result;           /* PE_C_DONE; PE_C_NOTHING without a line; or why the lines of the module's inlined functions
+                                       are refused */
+} pe_c_pdb_inlined;
+
 PE_C_SIZE(pe_c_pdb_line, 20);
 PE_C_SIZE(pe_c_pdb_line_entry, 24);
+PE_C_SIZE(pe_c_pdb_module_range, 12);
+PE_C_SIZE(pe_c_pdb_inlined, 64);
 PE_C_SIZE(pe_c_pdb_info, 96);
 PE_C_SIZE(pe_c_pdb_module, 80);
 PE_C_SIZE(pe_c_pdb_symbol, 56);
@@ -4397,6 +4428,35 @@ uint32_t pe_c_pdb_files(const uint8_t *bytes, size_t length, const pe_c_range *l
  * PE_C_PDB_NAME. */
 uint32_t pe_c_pdb_file_name(const uint8_t *bytes, size_t length, const pe_c_range *files, const uint8_t *names,
                             size_t names_length, uint32_t file, pe_c_range *out) PE_C_RESULT(3, 7);
+
+/* Writes to the start of `room` which RVAs are of which module: a range for each section contribution, in their order.
+ * `contributions` are those of pe_c_pdb in `bytes`, the DBI stream, stream 3. In what linkers write ranges ascend and do not
+ * overlap; where two have an RVA, the first counts.
+ * Errors: PE_C_PDB_SECTION_HEADERS; PE_C_SHORT where the range is not inside the bytes, or has fewer than 4 that are some;
+ * PE_C_PDB_CONTRIBUTIONS_VERSION; PE_C_PDB_CONTRIBUTIONS_SIZE; PE_C_ROOM. */
+uint32_t pe_c_pdb_module_ranges(const uint8_t *bytes, size_t length, const pe_c_range *contributions, const uint8_t *sections,
+                                size_t sections_length, pe_c_pdb_module_range *room, size_t entries, uint64_t *written)
+    PE_C_RESULT(3, 8);
+
+/* Writes to the start of `room` where each record of the stream of ids starts, for pe_c_find_pdb_inlined. `bytes` are those of
+ * the stream, stream 4. n records take n steps.
+ * Errors: PE_C_SHORT where there are fewer than 56 bytes; PE_C_PDB_RECORD_TRUNCATED where the records pass the end; PE_C_SHORT,
+ * PE_C_PDB_RECORD_SIZE, PE_C_PDB_RECORD_TRUNCATED of a record; PE_C_ROOM. */
+uint32_t pe_c_pdb_ids(const uint8_t *bytes, size_t length, uint64_t *room, size_t entries, uint64_t *written) PE_C_RESULT(5);
+
+/* Writes the inlined functions whose code is at an RVA to the start of `room`, the innermost first: each is inlined in the one
+ * after it, and the last in the procedure. None where the RVA is of the procedure alone. `bytes` are those of the stream of
+ * `module`, and `procedure` is what pe_c_find_pdb_symbol found in it. `ids` are the bytes of the stream of ids, and `starts` what
+ * pe_c_pdb_ids wrote: with another start a function has another name, or none. Without ids the functions have lines alone. There is
+ * always room in 64 entries. A call reads the records of the procedure, and for each function found those of the module's
+ * inlined functions up to its own.
+ * Errors: PE_C_SHORT where the symbols of the module are not inside the bytes; PE_C_SHORT, PE_C_PDB_RECORD_SIZE,
+ * PE_C_PDB_RECORD_TRUNCATED of a record from that of the procedure to its end; of that of an inlined function PE_C_SHORT,
+ * PE_C_PDB_ANNOTATION; PE_C_PDB_INLINE_DEPTH; PE_C_ROOM. */
+uint32_t pe_c_find_pdb_inlined(const uint8_t *bytes, size_t length, const pe_c_pdb_module *module,
+                               const pe_c_pdb_symbol *procedure, uint32_t rva, const uint8_t *ids, size_t ids_length,
+                               const uint64_t *starts, size_t number_of_starts, pe_c_pdb_inlined *room, size_t entries,
+                               uint64_t *written) PE_C_RESULT(3, 4, 12);
 
 /* Returns the number of the stream with a name, such as "/names", by the bytes of the info stream, stream 1. PE_C_NOTHING without
  * one. Error: PE_C_SHORT or PE_C_PDB_RECORD_TRUNCATED where the names of streams pass the end of the bytes. */

@@ -9,7 +9,8 @@ use pe_core::RangeEntry;
 use pe_pdb::{
     CodeLine, Contribution, DBI_STREAM, DEBUG_S_FILECHKSMS, DEBUG_S_INLINEELINES, Dbi,
     FileChecksum, FunctionId, ID_STREAM, INFO_STREAM, InlineFrames, InlineRow, InlineRows,
-    InlineSite, InlineeLine, LF_FUNC_ID, LF_STRING_ID, LineEntry, LineIndex, ModuleIndex,
+    InlineSite, InlineStack, InlineeLine, LF_FUNC_ID, LF_STRING_ID, LineEntry, LineIndex,
+    MOST_INLINED, ModuleIndex,
     ModuleRange, Modules, Msf, NAMES_STREAM, Names, PdbError, S_INLINESITE, S_INLINESITE2,
     SectionContributions, SectionHeaders, Subsections, SymbolRecord, TypeRecords, named_stream,
     string_id,
@@ -400,7 +401,79 @@ fn inlined_functions_are_those_that_pdbutil_lists(rt: HostRuntime) -> Result<(),
             count += 1;
         }
         assert_eq!(rt; count, listed.len());
+        // The same from the innermost on.
+        let stack = InlineStack::new(&symbols[..748], procedure, offset)?;
+        assert_eq!(rt; stack.frames().len(), count);
+        for frame in stack.frames() {
+            count -= 1;
+            assert!(rt; listed.get(count).is_some_and(|it| it.0 == frame.record_offset));
+        }
     }
+    Ok(())
+}
+
+/// The record of a procedure, and so many inlined functions in one another, whose code is its first 8 bytes.
+fn nested(alloc: Global, count: usize) -> Result<Vec<u8>, AllocError> {
+    let mut bytes = vec![in alloc; 0u8; 4 + 20 * count]?;
+    put(&mut bytes, &[(0, b"\x02\0\x10\x11")]);
+    for index in 0..count {
+        let at = 4 + 20 * index;
+        put(
+            &mut bytes,
+            &[
+                (at, b"\x12\0\x4D\x11"),
+                (at + 12, &[index as u8]),
+                (at + 16, b"\x0C\x08\0"),
+            ],
+        );
+    }
+    Ok(bytes)
+}
+
+#[test]
+fn inlined_functions_have_a_limit(rt: HostRuntime) -> Result<(), Fail> {
+    let deep = nested(rt.alloc(), MOST_INLINED)?;
+    let stack = InlineStack::new(&deep, 0, 7)?;
+    let mut left = MOST_INLINED as u32;
+    for frame in stack.frames() {
+        left -= 1;
+        assert_eq!(rt; frame.inlinee, left);
+    }
+    assert_eq!(rt; left, 0);
+    assert!(rt; InlineStack::new(&deep, 0, 8)?.frames().is_empty());
+    let deeper = nested(rt.alloc(), MOST_INLINED + 1)?;
+    // shows: pe_pdb/src/inline_stack.rt new InlineDepth
+    let refused = |offset| match InlineStack::new(&deeper, 0, offset) {
+        Ok(_) => None,
+        Err(error) => Some(error),
+    };
+    assert_eq!(rt; refused(7), Some(PdbError::InlineDepth));
+    assert_eq!(rt; refused(8), None::<PdbError>);
+    Ok(())
+}
+
+#[test]
+fn lines_of_rows_count_from_that_of_the_function(rt: HostRuntime) -> Result<(), Fail> {
+    let function = InlineeLine {
+        inlinee: 0x1000,
+        file: 24,
+        line: 6,
+    };
+    let line = |line: u32, file: Option<u32>| {
+        let row = InlineRow {
+            offset: 0,
+            length: 1,
+            line,
+            file,
+        };
+        function.line_of(&row).map(|it| (it.file, it.line))
+    };
+    assert_eq!(rt; line(1, None), Some((24, 7)));
+    assert_eq!(rt; line(u32::MAX, Some(0)), Some((0, 5)));
+    // 0, and the lines of code that a debugger steps over and into.
+    assert_eq!(rt; line(u32::MAX - 5, None), None);
+    assert_eq!(rt; line(0xF0_0F00 - 6, None), None);
+    assert_eq!(rt; line(0xFE_EFEE - 6, None), None);
     Ok(())
 }
 
@@ -640,6 +713,16 @@ fn ids_are_those_that_pdbutil_lists(rt: HostRuntime) -> Result<(), Fail> {
         };
         assert_eq!(rt; own, name);
     }
+    assert_eq!(rt; (ids.offset, ids.count()?), (56, 10));
+    let start = |starts: &[u64], index| match ids.get(starts, index) {
+        Ok(record) => record.map(|it: SymbolRecord<'_>| it.offset),
+        Err(_) => Some(usize::MAX),
+    };
+    for index in 0..10 {
+        assert_eq!(rt; start(&room, 0x1000 + index), Some(room[index as usize] as usize));
+    }
+    assert_eq!(rt; (start(&room, 0xFFF), start(&room, 0x100A)), (None, None));
+    assert_eq!(rt; (start(&room[..1], 0x1001), start(&[0, 1 << 40], 0x1001)), (None, Some(usize::MAX)));
     let twice = SymbolRecord::parse(ids.records, 0)?.content;
     assert_eq!(rt; FunctionId::parse(twice)?.type_index, 0x1001);
     // shows: pe_pdb/src/ids.rt put_starts Room
@@ -655,6 +738,7 @@ fn ids_are_those_that_pdbutil_lists(rt: HostRuntime) -> Result<(), Fail> {
         length: 0,
     };
     assert!(rt; refused(TypeRecords::parse(&more)?.put_starts(&mut room), end));
+    assert!(rt; refused(TypeRecords::parse(&more)?.count(), end));
     // shows: pe_pdb/src/ids.rt parse Short
     let short = PdbError::Short {
         needed: 56,

@@ -1062,6 +1062,25 @@ static void pdb_lines(const uint8_t *bytes, size_t length, const pe_c_range *ran
     CALL(pe_c_pdb_file_name, name, bytes, length, &files, names, names_length, line.file, &name);
 }
 
+/* The inlined functions of the procedures of a module, by the stream of ids. */
+static void pdb_inlined(const uint8_t *bytes, size_t length, const pe_c_pdb_module *module, const uint8_t *headers,
+                        size_t headers_length, const uint8_t *ids, size_t ids_length)
+{
+    uint64_t index[NUMBERS] = PE_C_EMPTY, starts[NUMBERS] = PE_C_EMPTY, entries = 0, count = 0, written = 0;
+    pe_c_pdb_symbol found = PE_C_EMPTY;
+    pe_c_pdb_inlined frames[4] = PE_C_EMPTY;
+    CALL(pe_c_pdb_ids, starts, ids, ids_length, starts, NUMBERS, &count);
+    count = count < NUMBERS ? count : NUMBERS;
+    CALL(pe_c_pdb_index, index, PE_C_PDB_PROCEDURES, bytes, length, &module->symbols, headers, headers_length, index, NUMBERS, &entries);
+    for (uint32_t rva = 0xFFF; rva < 0x1100; rva += 3) {
+        CALL(pe_c_find_pdb_symbol, found, PE_C_PDB_PROCEDURES, bytes, length, headers, headers_length, index,
+             entries < NUMBERS ? (size_t)entries : NUMBERS, rva, &found);
+        CALL(pe_c_find_pdb_inlined, frames, bytes, length, module, &found, rva, ids, ids_length, starts, (size_t)count, frames, 4,
+             &written);
+        add(written);
+    }
+}
+
 static size_t stream_of(const struct file *file, const uint64_t *starts, size_t count, uint32_t index, uint8_t *room)
 {
     uint64_t written = 0;
@@ -1080,6 +1099,11 @@ static void pdb_stream(const struct file *file, const uint64_t *starts)
     pdb_symbols(BYTES, file->bytes, file->length / 40 * 40, all);
     LIST(pe_c_list_pdb_modules, pe_c_pdb_module, BYTES, &walk);
     pdb_lines(BYTES, &all, file->bytes, file->length / 40 * 40, BYTES);
+    pe_c_pdb_module module = {all, all, all, all, 0, 0, 0, 0, 0, 0};
+    pdb_inlined(BYTES, &module, file->bytes, file->length / 40 * 40, BYTES);
+    pe_c_pdb_module_range ranges[NUMBERS] = PE_C_EMPTY;
+    uint64_t written = 0;
+    CALL(pe_c_pdb_module_ranges, ranges, BYTES, &all, file->bytes, file->length / 40 * 40, ranges, NUMBERS, &written);
     stream_of(file, starts, NUMBERS, 1, stream_bytes);
 }
 
@@ -1100,7 +1124,12 @@ static void pdb_streams(const struct file *file, const pe_c_pdb_info *info, cons
     length = stream_of(file, starts, count, 3, stream_bytes);
     CALL(pe_c_list_pdb_modules, module, stream_bytes, length, &walk, &module, 1, &one);
     LIST(pe_c_list_pdb_modules, pe_c_pdb_module, stream_bytes, length, &walk);
+    pe_c_pdb_module_range ranges[NUMBERS] = PE_C_EMPTY;
+    CALL(pe_c_pdb_module_ranges, ranges, stream_bytes, length, &info->contributions, section_bytes, headers, ranges, NUMBERS, &one);
+    add(one);
+    size_t ids = stream_of(file, starts, count, 4, name_bytes);
     length = stream_of(file, starts, count, module.stream, stream_bytes);
+    pdb_inlined(stream_bytes, length, &module, section_bytes, headers, name_bytes, ids);
     size_t names = stream_of(file, starts, count, number, name_bytes);
     pdb_lines(stream_bytes, length, &module.lines, section_bytes, headers, name_bytes, names);
 }

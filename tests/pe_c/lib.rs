@@ -39,6 +39,8 @@ mod memory_runs;
 mod overlay;
 mod pdb;
 mod pdb_bytes;
+mod pdb_inlined;
+mod pdb_inlined_bytes;
 mod plan;
 mod resource_edit;
 mod resource_leaves;

@@ -183,6 +183,14 @@ pub(crate) const PDB_NAME: u32 = 619;
 
 pub(crate) const PDB_NAMES_SIGNATURE: u32 = 623;
 
+pub(crate) const PDB_CONTRIBUTIONS_VERSION: u32 = 624;
+
+pub(crate) const PDB_CONTRIBUTIONS_SIZE: u32 = 625;
+
+pub(crate) const PDB_ANNOTATION: u32 = 626;
+
+pub(crate) const PDB_INLINE_DEPTH: u32 = 627;
+
 pub(crate) const X64: u16 = 0x8664;
 
 pub(crate) const ARM64: u16 = 0xAA64;

@@ -55,7 +55,7 @@ const NO_PDB: Pdb = Pdb {
     omap_from_source: 9,
 };
 
-const NO_SYMBOL: PdbSymbol = PdbSymbol {
+pub(crate) const NO_SYMBOL: PdbSymbol = PdbSymbol {
     range: NO_BYTES,
     name: NO_BYTES,
     rva: 9,
@@ -67,7 +67,7 @@ const NO_SYMBOL: PdbSymbol = PdbSymbol {
     result: 9,
 };
 
-const NO_MODULE: PdbModule = PdbModule {
+pub(crate) const NO_MODULE: PdbModule = PdbModule {
     name: NO_BYTES,
     file: NO_BYTES,
     symbols: NO_BYTES,
@@ -81,7 +81,7 @@ const NO_MODULE: PdbModule = PdbModule {
 };
 
 /// The file of lld-link.
-fn pdb(alloc: Global) -> Result<Vec<u8>, AllocError> {
+pub(crate) fn pdb(alloc: Global) -> Result<Vec<u8>, AllocError> {
     image(alloc, LENGTH, &PIECES)
 }
 
@@ -90,7 +90,7 @@ fn put_number(bytes: &mut [u8], offset: usize, number: usize) {
 }
 
 /// A stream, copied without the starts of all.
-fn stream(alloc: Global, bytes: &[u8], index: u32) -> Result<Vec<u8>, AllocError> {
+pub(crate) fn stream(alloc: Global, bytes: &[u8], index: u32) -> Result<Vec<u8>, AllocError> {
     let mut written = 0;
     let _ = pe_c_pdb_stream(bytes, &[], index, &mut [], &mut written);
     let mut room = vec![in alloc; 0u8; written as usize]?;

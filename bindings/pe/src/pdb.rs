@@ -34,21 +34,24 @@ pub struct Asked<'a> {
 #[derive(Clone, Debug, Serialize)]
 pub struct Damaged {
     pub module: String,
-    /// Whether its lines alone are refused, and its functions have names.
+    /// Whether its functions have names all the same: its lines, or inlined functions, are refused.
     pub has_names: bool,
     pub error: Refusal,
 }
 
-/// What stands in place of a module where the names of source files are refused.
+/// What stands in place of a module where the names of source files, or of inlined functions, are refused.
 const FILES: &str = "names of source files";
+const INLINED: &str = "names of inlined functions";
 
 /// What the symbols of a PDB could not be read of.
 pub fn damaged_of(symbolizer: &Symbolizer<'_>) -> Vec<Damaged> {
-    let damaged = symbolizer.damaged().iter();
-    let damaged =
-        damaged.map(|it| Damaged { module: it.name.clone(), has_names: it.has_names, error: it.error.into() });
-    let of_files = |error: Error| Damaged { module: FILES.to_string(), has_names: true, error: error.into() };
-    damaged.chain(symbolizer.names_error().map(of_files)).collect()
+    let damaged = symbolizer.damaged().into_iter();
+    let damaged = damaged.map(|it| Damaged { module: it.name, has_names: it.has_names, error: it.error.into() });
+    let names = [(FILES, symbolizer.names_error()), (INLINED, symbolizer.ids_error())];
+    let of = |(module, error): (&str, Option<Error>)| {
+        Some(Damaged { module: module.to_string(), has_names: true, error: error?.into() })
+    };
+    damaged.chain(names.into_iter().filter_map(of)).collect()
 }
 
 /// What is said of a PDB. What it does not say, or is not asked for, is null.
@@ -94,6 +97,8 @@ struct Head {
     linker_version: Option<String>,
     /// Whether a tool moved the code of the image: RVAs are those before that.
     is_moved: bool,
+    /// Whether its modules' symbols and lines are in the objects.
+    is_fastlink: bool,
     block_size: Option<u32>,
     number_of_blocks: Option<u32>,
     number_of_streams: Option<u32>,
@@ -183,6 +188,7 @@ fn head_of(path: &Path, pdb: &Pdb<'_>) -> Head {
             .filter(|it| it >> 15 == 1)
             .map(|it| format!("{}.{}", it >> 8 & 0x7F, it & 0xFF)),
         is_moved: pdb.is_moved(),
+        is_fastlink: pdb.is_fastlink(),
         block_size: Some(info.block_size),
         number_of_blocks: Some(info.number_of_blocks),
         number_of_streams: Some(info.number_of_streams),

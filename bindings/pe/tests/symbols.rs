@@ -85,8 +85,19 @@ fn frames_have_the_functions_and_lines_of_the_sources() {
         json!(["entry", "crash.cpp", 31]),
     ];
     assert_eq!(own, wanted);
+    // What is inlined there, the innermost first, by the sources.
+    let inlined: Vec<Vec<Value>> =
+        functions.iter().map(|it| it["inlined"].as_array().unwrap().iter().map(line_of).collect()).collect();
+    let wanted = [
+        vec![json!(["geo::load", "shapes.h", 5]), json!(["geo::twice", "shapes.h", 9])],
+        vec![],
+        vec![json!(["app::through", "crash.cpp", 21])],
+        vec![],
+    ];
+    assert_eq!(inlined, wanted);
     let (text, _, _) = run_in(&folder, &["stack", "crash.dmp", "--images", "images", "--symbols", "syms"], None);
-    assert!(text.contains("middle+0xe           generated\\else.inc:900  leaf\n"), "{text}");
+    assert!(text.contains("  geo::load [inlined]"), "{text}");
+    assert!(text.contains("generated\\else.inc:900  leaf\n"), "{text}");
 }
 
 /// By the procedures of `llvm-pdbutil dump -symbols`, and the offsets of the frames.

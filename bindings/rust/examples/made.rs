@@ -14,5 +14,6 @@ fn main() -> std::io::Result<()> {
     std::fs::write(format!("{folder}/x64.dmp"), made::full_dump(made::X64))?;
     std::fs::write(format!("{folder}/arm64.dmp"), made::full_dump(made::ARM64))?;
     std::fs::write(format!("{folder}/t.pdb"), made::pdb())?;
+    std::fs::write(format!("{folder}/inlined.pdb"), made::pdb_inlined())?;
     std::fs::write(format!("{folder}/object.obj"), made::object())
 }

@@ -322,6 +322,14 @@ errors! {
     PDB_SYMBOLS_SIZE = 622;
     /// Names of the source files of a PDB do not start with 0xEFFEEFFE.
     PDB_NAMES_SIGNATURE = 623;
+    /// Unknown version of the section contributions of a PDB.
+    PDB_CONTRIBUTIONS_VERSION = 624;
+    /// Section contributions of a PDB are not a multiple of their size.
+    PDB_CONTRIBUTIONS_SIZE = 625;
+    /// Annotation of an inlined function truncated or not known.
+    PDB_ANNOTATION = 626;
+    /// More than 64 inlined functions at one offset of a procedure.
+    PDB_INLINE_DEPTH = 627;
     // Of steps of a stack walk, which pe_core does not make.
     /// Eight bytes of memory are missing: [`StepError::Missing`](crate::StepError::Missing).
     MISSING = 102;

@@ -9,7 +9,7 @@ use crate::coff::room_for;
 use crate::debug::SymbolKey;
 use crate::image::{bytes_of, returned, text_of, Error};
 use crate::symbol_server::Guid;
-use crate::sys::{self, PdbInfo, Range};
+use crate::sys::{self, PdbInfo, PdbModuleRange, Range};
 use alloc::string::String;
 use alloc::vec::Vec;
 use core::fmt;
@@ -20,6 +20,12 @@ const INFO_STREAM: u32 = 1;
 const DBI_STREAM: u32 = 3;
 /// The number of no stream.
 const NO_STREAM: u16 = 0xFFFF;
+/// Where the names of streams start in the info stream.
+const STREAM_NAMES: usize = 28;
+/// A feature after which there is no other.
+const VC110: u32 = 20091201;
+/// The feature of /DEBUG:FASTLINK, the letters MINI.
+const FASTLINK: u32 = 0x494E494D;
 /// What an index has: public functions, or procedures.
 pub(crate) const PUBLICS: u32 = 0;
 pub(crate) const PROCEDURES: u32 = 1;
@@ -190,6 +196,13 @@ impl<'a> Pdb<'a> {
         stream_number(self.info.omap_from_source).is_some()
     }
 
+    /// Whether it was linked with /DEBUG:FASTLINK: then symbols and lines are in the objects, and it has hardly more than the public
+    /// symbols. A feature of the info stream says so, after the names of streams. `false` where that stream is damaged.
+    pub fn is_fastlink(&self) -> bool {
+        let info = self.stream(INFO_STREAM).unwrap_or_default();
+        features_of(&info).is_some_and(|features| features.take_while(|it| *it != VC110).any(|it| it == FASTLINK))
+    }
+
     /// The key by which an image names a PDB of this file name, with its path on a symbol server. A PDB does not know its own name.
     pub fn key<'n>(&self, file_name: &'n str) -> SymbolKey<'n> {
         SymbolKey::new(Guid(self.info.guid), self.info.dbi_age, file_name.as_bytes())
@@ -208,23 +221,22 @@ impl<'a> Pdb<'a> {
     ///
     /// [`Error::PDB_NO_STREAM`]; [`Error::PDB_STREAM_SIZE`]; [`Error::PDB_DIRECTORY`]; [`Error::PDB_BLOCK`]; [`Error::MEMORY`].
     pub fn stream(&self, number: u32) -> Result<Vec<u8>, Error> {
-        let mut room = Vec::new();
-        match self.copy(number, &mut room) {
-            (sys::ROOM, length) => room = room_for(usize::try_from(length).map_err(|_| Error::MEMORY)?, 0u8)?,
-            (number, _) => return Error::of(number).map(|()| room),
-        }
-        Error::of(self.copy(number, &mut room).0).map(|()| room)
+        let (bytes, starts) = (self.bytes, &self.starts);
+        // SAFETY: the pointers and lengths are those of slices; the room overlaps none of them, and all are lent for the call.
+        filled(|room, length, written| unsafe {
+            let (at, size) = (bytes.as_ptr(), bytes.len());
+            sys::pe_c_pdb_stream(at, size, starts.as_ptr(), starts.len(), number, room, length, written)
+        })
     }
 
-    fn copy(&self, number: u32, room: &mut [u8]) -> (u32, u64) {
-        let (starts, mut written) = (&self.starts, 0);
-        // SAFETY: the pointers and lengths are those of slices; the room overlaps none of them, and all are lent for the call.
-        let result = unsafe {
-            let (bytes, length) = (self.bytes.as_ptr(), self.bytes.len());
-            let (room, room_length) = (room.as_mut_ptr(), room.len());
-            sys::pe_c_pdb_stream(bytes, length, starts.as_ptr(), starts.len(), number, room, room_length, &mut written)
-        };
-        (result, written)
+    /// Which RVAs are of which module, in the order of the section contributions.
+    pub(crate) fn module_ranges(&self) -> Result<Vec<PdbModuleRange>, Error> {
+        let (dbi, sections) = (self.stream(DBI_STREAM)?, self.section_headers()?);
+        // SAFETY: as above.
+        filled(|room, entries, written| unsafe {
+            let (headers, size, contributions) = (sections.as_ptr(), sections.len(), &self.info.contributions);
+            sys::pe_c_pdb_module_ranges(dbi.as_ptr(), dbi.len(), contributions, headers, size, room, entries, written)
+        })
     }
 
     /// The modules, in the order of the DBI stream.
@@ -330,6 +342,29 @@ impl<'a> Pdb<'a> {
             }
         }
     }
+}
+
+/// What a call writes to a room, in one of as many entries as it asks for.
+pub(crate) fn filled<T: Clone + Default>(call: impl Fn(*mut T, usize, &mut u64) -> u32) -> Result<Vec<T>, Error> {
+    let (mut room, mut written) = (Vec::new(), 0);
+    let mut number = call(room.as_mut_ptr(), 0, &mut written);
+    if number == sys::ROOM {
+        room = room_for(usize::try_from(written).map_err(|_| Error::MEMORY)?, T::default())?;
+        number = call(room.as_mut_ptr(), room.len(), &mut written);
+    }
+    Error::of(number).map(|()| room)
+}
+
+/// The features at the end of an info stream: numbers after the table of the names of streams. Others among them mean nothing.
+fn features_of(info: &[u8]) -> Option<impl Iterator<Item = u32> + '_> {
+    let word = |at: usize| Some(u32::from_le_bytes(info.get(at..at.checked_add(4)?)?.try_into().ok()?));
+    let after = |at: usize, count: u32, size: usize| at.checked_add(size.checked_mul(count as usize)?);
+    let table = after(STREAM_NAMES + 4, word(STREAM_NAMES)?, 1)?;
+    let present = table + 8;
+    let deleted = after(present + 4, word(present)?, 4)?;
+    let pairs = after(deleted.checked_add(4)?, word(deleted)?, 4)?;
+    let features = info.get(after(pairs, word(table)?, 8)?..)?;
+    Some(features.chunks_exact(4).map(|it| u32::from_le_bytes([it[0], it[1], it[2], it[3]])))
 }
 
 fn lossy(range: Range, bytes: &[u8]) -> Result<String, Error> {

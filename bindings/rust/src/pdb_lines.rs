@@ -1,9 +1,7 @@
 //! The lines of a module of a PDB, all of them, with the source files that they are of.
 
-use crate::coff::room_for;
 use crate::image::{returned, Error};
-use crate::pdb::{Pdb, PdbModule};
-use crate::symbolizer::lines_to;
+use crate::pdb::{filled, Pdb, PdbModule};
 use crate::sys::{self, PdbLineEntry, Range};
 use alloc::collections::BTreeMap;
 use alloc::string::String;
@@ -70,13 +68,11 @@ impl Pdb<'_> {
         let mut files = Range::default();
         // SAFETY: the pointers and lengths are those of slices; the records are lent for the call.
         returned(unsafe { sys::pe_c_pdb_files(bytes.as_ptr(), bytes.len(), &range, &mut files) }, ())?;
-        let mut room: Vec<PdbLineEntry> = Vec::new();
-        let (mut number, needed) = lines_to(&bytes, &range, sections, &mut room);
-        if number == sys::ROOM {
-            room = room_for(usize::try_from(needed).map_err(|_| Error::MEMORY)?, PdbLineEntry::default())?;
-            number = lines_to(&bytes, &range, sections, &mut room).0;
-        }
-        Error::of(number)?;
+        // SAFETY: as above, and the room overlaps no other argument.
+        let room = filled(|room, entries, written| unsafe {
+            let (at, length) = (bytes.as_ptr(), bytes.len());
+            sys::pe_c_pdb_lines(at, length, &range, sections.as_ptr(), sections.len(), room, entries, written)
+        })?;
         Ok(Files::new(&bytes, files, &names.0).lines_of(&room))
     }
 }

@@ -1,20 +1,27 @@
-//! Names and lines of the functions at RVAs, by a PDB. The procedures of all modules are read once, and sorted; each RVA is looked up by halves. A
-//! function without debug information is in no module: the public symbols name it, if the linker wrote them.
+//! Names and lines of the functions at RVAs, by a PDB. A module is read when an RVA in it is asked for first: its procedures and lines are
+//! sorted, and each RVA is looked up by halves. The functions that are inlined there are read of the records of the procedure. A function
+//! without debug information is in no module: the public symbols name it, if the linker wrote them.
 
-use crate::coff::room_for;
 use crate::image::{returned, text_of, Error};
-use crate::pdb::{Pdb, PdbModule, PROCEDURES, PUBLICS};
-use crate::sys::{self, PdbLine, PdbLineEntry as LineEntry, Range};
+use crate::pdb::{filled, Pdb, PdbModule, PROCEDURES, PUBLICS};
+use crate::sys::{self, PdbInlined, PdbLine, PdbLineEntry as LineEntry, PdbModuleRange, Range};
 use alloc::string::String;
 use alloc::vec::Vec;
+use core::cell::{Cell, OnceCell};
 use core::fmt;
+
+/// The stream of ids, which has the names of inlined functions.
+const ID_STREAM: u32 = 4;
+/// How many inlined functions an RVA has at most.
+const MOST_INLINED: usize = 64;
 
 /// A function at an RVA, and where in its source.
 #[derive(Clone, Debug, PartialEq, Eq)]
 #[cfg_attr(feature = "serde", derive(serde::Serialize))]
 #[non_exhaustive]
 pub struct SymbolFrame {
-    /// The name of the function: of a procedure as in the source, of a public symbol as linkers have it.
+    /// The name of the function: of a procedure as in the source, of a public symbol as linkers have it. Of an inlined one as in the
+    /// source, with its namespace, but without its class; empty where the PDB does not have it.
     pub name: String,
     /// Where the function starts. Of an inlined one it is that of the procedure that has its code.
     pub function_rva: u32,
@@ -22,7 +29,7 @@ pub struct SymbolFrame {
     pub offset: u32,
     /// The path of the source file. `None` where nothing says it.
     pub file: Option<String>,
-    /// The line, from 1 on.
+    /// The line, from 1 on. Of a function that the one of the frame before is inlined in it is that of the call.
     pub line: Option<u32>,
     /// The column, from 1 on.
     pub column: Option<u16>,
@@ -32,7 +39,7 @@ pub struct SymbolFrame {
     pub is_public: bool,
 }
 
-/// A module that is refused, whole or its lines alone.
+/// A module that is refused, whole or its lines or inlined functions alone.
 #[derive(Clone, Debug, PartialEq, Eq)]
 #[cfg_attr(feature = "serde", derive(serde::Serialize))]
 #[non_exhaustive]
@@ -41,104 +48,86 @@ pub struct DamagedModule {
     pub name: String,
     /// Why it is refused.
     pub error: Error,
-    /// Whether its lines alone are refused, and its functions are named.
+    /// Whether its functions are named all the same: its lines, or the inlined functions of one of them, are refused.
     pub has_names: bool,
 }
 
-/// The symbols of a module, with their index.
+/// The symbols of a kind, with their index.
 struct Symbols {
     bytes: Vec<u8>,
     index: Vec<u64>,
-    lines: Vec<LineEntry>,
-    /// Where its source files are.
+}
+
+/// The lines of a module, with where its source files are.
+#[derive(Default)]
+struct Lines {
+    index: Vec<LineEntry>,
     files: Option<Range>,
+}
+
+/// What is read of a module: its procedures, and its lines, which may be refused alone.
+struct Read {
+    symbols: Symbols,
+    lines: Result<Lines, Error>,
+    /// Why the inlined functions of an RVA are refused, of the first that was asked for.
+    inlined_error: Cell<Option<Error>>,
+}
+
+/// A module, which is read when an RVA in it is asked for.
+struct Module {
+    module: PdbModule,
+    read: OnceCell<Result<Read, Error>>,
+}
+
+/// The stream of ids, and where its records start.
+struct Ids {
+    bytes: Vec<u8>,
+    starts: Vec<u64>,
 }
 
 /// What names RVAs by a PDB: see [`Pdb::symbolizer`].
 pub struct Symbolizer<'p> {
+    pdb: &'p Pdb<'p>,
     sections: &'p [u8],
     publics: Symbols,
-    modules: Vec<Symbols>,
-    /// The starts of all procedures, each with the last of the modules that have one there.
-    starts: Vec<(u32, u32)>,
-    damaged: Vec<DamagedModule>,
+    modules: Vec<Module>,
+    /// Which RVAs are of which module, in ascending order. `None` where the section contributions do not say it.
+    ranges: Option<Vec<PdbModuleRange>>,
+    /// Else the starts of all procedures, each with the last of the modules that have one there.
+    starts: OnceCell<Vec<(u32, usize)>>,
+    /// How many more bytes of streams may be kept.
+    left: Cell<usize>,
+    ids: OnceCell<Result<Ids, Error>>,
     /// The names of all source files.
     names: Result<Vec<u8>, Error>,
-    pdb: &'p Pdb<'p>,
 }
 
 impl fmt::Debug for Symbolizer<'_> {
     fn fmt(&self, f: &mut fmt::Formatter<'_>) -> fmt::Result {
-        let (pdb, damaged) = (&self.pdb, &self.damaged);
-        f.debug_struct("Symbolizer").field("pdb", pdb).field("damaged", damaged).finish_non_exhaustive()
+        let (pdb, damaged) = (&self.pdb, self.damaged());
+        f.debug_struct("Symbolizer").field("pdb", pdb).field("damaged", &damaged).finish_non_exhaustive()
     }
 }
 
 impl Symbols {
     /// The symbols of a kind in these bytes.
     fn of(kind: u32, bytes: Vec<u8>, symbols: Range, sections: &[u8]) -> Result<Symbols, Error> {
-        let mut index = Vec::new();
-        let (mut number, mut needed) = index_to(kind, &bytes, &symbols, sections, &mut index);
-        if number == sys::ROOM {
-            index = room_for(usize::try_from(needed).map_err(|_| Error::MEMORY)?, 0u64)?;
-            (number, needed) = index_to(kind, &bytes, &symbols, sections, &mut index);
-        }
-        Error::of(number)?;
-        debug_assert_eq!(needed, index.len() as u64);
-        Ok(Symbols { bytes, index, lines: Vec::new(), files: None })
-    }
-
-    /// Reads the lines of the module, and where its source files are.
-    fn read_lines(&mut self, lines: &Range, sections: &[u8]) -> Result<(), Error> {
-        let (at, length, mut files) = (self.bytes.as_ptr(), self.bytes.len(), Range::default());
         // SAFETY: the pointers and lengths are those of slices; the records are lent for the call.
-        let found = returned(unsafe { sys::pe_c_pdb_files(at, length, lines, &mut files) }, ())?;
-        self.files = found.map(|()| files);
-        let mut room = Vec::new();
-        let (mut number, needed) = lines_to(&self.bytes, lines, sections, &mut room);
-        if number == sys::ROOM {
-            room = room_for(usize::try_from(needed).map_err(|_| Error::MEMORY)?, LineEntry::default())?;
-            number = lines_to(&self.bytes, lines, sections, &mut room).0;
-        }
-        Error::of(number)?;
-        self.lines = room;
-        Ok(())
-    }
-
-    /// The line of an RVA.
-    fn line(&self, rva: u32) -> Option<PdbLine> {
-        let (index, mut found) = (&self.lines, PdbLine::default());
-        // SAFETY: as above.
-        let number = unsafe { sys::pe_c_find_pdb_line(index.as_ptr(), index.len(), rva, &mut found) };
-        (number == sys::DONE).then_some(found)
-    }
-
-    /// The name of a source file. What is not UTF-8 is U+FFFD.
-    fn file(&self, file: u32, names: &[u8]) -> Option<String> {
-        let (at, length, mut name) = (self.bytes.as_ptr(), self.bytes.len(), Range::default());
-        // SAFETY: as above.
-        let number =
-            unsafe { sys::pe_c_pdb_file_name(at, length, &self.files?, names.as_ptr(), names.len(), file, &mut name) };
-        let name = name.of(names).filter(|_| number == sys::DONE)?;
-        Some(String::from_utf8_lossy(name).into_owned())
+        let index = filled(|room, entries, written| unsafe {
+            let (headers, size) = (sections.as_ptr(), sections.len());
+            sys::pe_c_pdb_index(kind, bytes.as_ptr(), bytes.len(), &symbols, headers, size, room, entries, written)
+        })?;
+        Ok(Symbols { bytes, index })
     }
 
     /// The symbol of an RVA.
     fn find(&self, kind: u32, sections: &[u8], rva: u32) -> Option<sys::PdbSymbol> {
-        let mut found = sys::PdbSymbol::default();
-        // SAFETY: the pointers and lengths are those of slices; the record is lent for the call.
+        let (bytes, index, mut found) = (&self.bytes, &self.index, sys::PdbSymbol::default());
+        // SAFETY: as above.
         let number = unsafe {
-            sys::pe_c_find_pdb_symbol(
-                kind,
-                self.bytes.as_ptr(),
-                self.bytes.len(),
-                sections.as_ptr(),
-                sections.len(),
-                self.index.as_ptr(),
-                self.index.len(),
-                rva,
-                &mut found,
-            )
+            let (headers, size, entries) = (sections.as_ptr(), sections.len(), index.as_ptr());
+            let (at, length) = (bytes.as_ptr(), bytes.len());
+            sys::pe_c_find_pdb_symbol(kind, at, length, headers, size, entries, index.len(), rva, &mut found)
         };
         (number == sys::DONE).then_some(found)
     }
@@ -158,49 +147,68 @@ impl Symbols {
     }
 }
 
-/// Makes an index in a room, and returns the result and how many entries it has.
-fn index_to(kind: u32, bytes: &[u8], symbols: &Range, sections: &[u8], room: &mut [u64]) -> (u32, u64) {
-    let mut written = 0;
-    // SAFETY: as above, and the room overlaps no other argument.
-    let number = unsafe {
-        sys::pe_c_pdb_index(
-            kind,
-            bytes.as_ptr(),
-            bytes.len(),
-            symbols,
-            sections.as_ptr(),
-            sections.len(),
-            room.as_mut_ptr(),
-            room.len(),
-            &mut written,
-        )
-    };
-    (number, written)
+impl Lines {
+    /// The lines of a module, of the bytes of its stream.
+    fn of(bytes: &[u8], lines: &Range, sections: &[u8]) -> Result<Lines, Error> {
+        let (at, length, mut files) = (bytes.as_ptr(), bytes.len(), Range::default());
+        // SAFETY: as above.
+        let found = returned(unsafe { sys::pe_c_pdb_files(at, length, lines, &mut files) }, ())?;
+        // SAFETY: as above.
+        let index = filled(|room, entries, written| unsafe {
+            let (headers, size) = (sections.as_ptr(), sections.len());
+            sys::pe_c_pdb_lines(at, length, lines, headers, size, room, entries, written)
+        })?;
+        Ok(Lines { index, files: found.map(|()| files) })
+    }
+
+    /// The line of an RVA.
+    fn find(&self, rva: u32) -> Option<PdbLine> {
+        let mut found = PdbLine::default();
+        // SAFETY: as above.
+        let number = unsafe { sys::pe_c_find_pdb_line(self.index.as_ptr(), self.index.len(), rva, &mut found) };
+        (number == sys::DONE).then_some(found)
+    }
 }
 
-/// Makes an index of lines in a room, and returns the result and how many entries it has.
-pub(crate) fn lines_to(bytes: &[u8], lines: &Range, sections: &[u8], room: &mut [LineEntry]) -> (u32, u64) {
-    let mut written = 0;
-    // SAFETY: as above.
-    let number = unsafe {
-        sys::pe_c_pdb_lines(
-            bytes.as_ptr(),
-            bytes.len(),
-            lines,
-            sections.as_ptr(),
-            sections.len(),
-            room.as_mut_ptr(),
-            room.len(),
-            &mut written,
-        )
-    };
-    (number, written)
+impl Read {
+    /// The name of a source file. What is not UTF-8 is U+FFFD.
+    fn file(&self, file: u32, names: &[u8]) -> Option<String> {
+        let (bytes, mut name) = (&self.symbols.bytes, Range::default());
+        let files = self.lines.as_ref().ok()?.files?;
+        // SAFETY: as above.
+        let number = unsafe {
+            let (at, length) = (names.as_ptr(), names.len());
+            sys::pe_c_pdb_file_name(bytes.as_ptr(), bytes.len(), &files, at, length, file, &mut name)
+        };
+        let name = name.of(names).filter(|_| number == sys::DONE)?;
+        Some(String::from_utf8_lossy(name).into_owned())
+    }
+}
+
+impl Ids {
+    fn of(pdb: &Pdb<'_>) -> Result<Ids, Error> {
+        let bytes = pdb.stream(ID_STREAM)?;
+        // SAFETY: as above.
+        let starts = filled(|room, entries, written| unsafe {
+            sys::pe_c_pdb_ids(bytes.as_ptr(), bytes.len(), room, entries, written)
+        })?;
+        Ok(Ids { bytes, starts })
+    }
+
+    /// The name of an inlined function, with the namespace that it is in.
+    fn name(&self, inlined: &PdbInlined) -> Result<String, Error> {
+        let (name, scope) = (text_of(inlined.name, &self.bytes)?, text_of(inlined.scope, &self.bytes)?);
+        let between = if scope.is_empty() { "" } else { "::" };
+        Ok([scope, between, name].concat())
+    }
 }
 
 impl Pdb<'_> {
-    /// Reads what names RVAs: the public functions, and the procedures and lines of all modules, each module once. A module that is refused
-    /// costs its own names alone: [`Symbolizer::damaged`] has it. So does one whose stream, with those of the modules before it, has more
-    /// bytes than the file: no linker writes a block for two.
+    /// Reads what names RVAs: the public functions, the modules, and which RVAs are of which; the procedures and lines of a module when an
+    /// RVA of it is asked for first. Where the section contributions do not say whose an RVA is, all modules are read then.
+    ///
+    /// A module that is refused costs its own names alone: [`Symbolizer::damaged`] has it. So does one whose stream, with those of the
+    /// modules that were read before it, has more bytes than the file: no linker writes a block for two.
     ///
     /// # Errors
     ///
@@ -209,54 +217,66 @@ impl Pdb<'_> {
         let sections = self.section_headers()?;
         let bytes = self.symbol_stream()?;
         let all = Range { offset: 0, length: bytes.len() as u64 };
-        let publics = Symbols::of(PUBLICS, bytes, all, sections)?;
-        let mut symbolizer = Symbolizer {
-            sections,
-            publics,
-            modules: Vec::new(),
-            starts: Vec::new(),
-            damaged: Vec::new(),
-            names: self.file_names(),
+        let modules = self.modules()?.into_iter().map(|module| Module { module, read: OnceCell::new() });
+        Ok(Symbolizer {
             pdb: self,
-        };
-        let mut left = self.bytes().len();
-        for module in self.modules()? {
-            match symbolizer.read(&module, &mut left) {
-                Err((Error::MEMORY, _)) => return Err(Error::MEMORY),
-                Err((error, has_names)) => {
-                    symbolizer.damaged.push(DamagedModule { name: module.name, error, has_names });
-                }
-                Ok(()) => {}
-            }
-        }
-        symbolizer.sort();
-        Ok(symbolizer)
+            sections,
+            publics: Symbols::of(PUBLICS, bytes, all, sections)?,
+            modules: modules.collect(),
+            ranges: self.module_ranges().ok().and_then(ascending),
+            starts: OnceCell::new(),
+            left: Cell::new(self.bytes().len()),
+            ids: OnceCell::new(),
+            names: self.file_names(),
+        })
     }
 }
 
+/// The ranges that have RVAs, in ascending order. `None` where there are none, or two have an RVA.
+fn ascending(mut ranges: Vec<PdbModuleRange>) -> Option<Vec<PdbModuleRange>> {
+    ranges.retain(|it| it.size > 0);
+    ranges.sort_unstable_by_key(|it| it.start);
+    let are_apart = ranges.windows(2).all(|it| u64::from(it[0].start) + u64::from(it[0].size) <= it[1].start.into());
+    (are_apart && !ranges.is_empty()).then_some(ranges)
+}
+
 impl Symbolizer<'_> {
-    /// Reads the procedures and lines of a module, where so many bytes of streams may be kept. An error comes with whether functions
-    /// are named all the same.
-    fn read(&mut self, module: &PdbModule, left: &mut usize) -> Result<(), (Error, bool)> {
-        let Some(stream) = module.stream else { return Ok(()) };
-        let mut symbols = self.procedures(stream, module, left).map_err(|error| (error, false))?;
-        let lines = symbols.read_lines(&module.lines(), self.sections);
-        let number = self.modules.len() as u32;
-        self.starts.extend(symbols.index.iter().map(|entry| ((entry >> 32) as u32, number)));
-        self.modules.push(symbols);
-        lines.map_err(|error| (error, true))
+    /// What a module has, which is read once. `None` where it has no debug information, or is refused.
+    fn read<'s>(&'s self, module: &'s Module) -> Option<&'s Read> {
+        let stream = module.module.stream?;
+        module.read.get_or_init(|| self.read_stream(stream, &module.module)).as_ref().ok()
     }
 
-    fn procedures(&self, stream: u16, module: &PdbModule, left: &mut usize) -> Result<Symbols, Error> {
+    fn read_stream(&self, stream: u16, module: &PdbModule) -> Result<Read, Error> {
         let bytes = self.pdb.stream(stream.into())?;
-        *left = left.checked_sub(bytes.len()).ok_or(Error::PDB_STREAM_SIZE)?;
-        Symbols::of(PROCEDURES, bytes, module.symbols(), self.sections)
+        let left = self.left.get().checked_sub(bytes.len()).ok_or(Error::PDB_STREAM_SIZE)?;
+        self.left.set(left);
+        let symbols = Symbols::of(PROCEDURES, bytes, module.symbols(), self.sections)?;
+        let lines = Lines::of(&symbols.bytes, &module.lines(), self.sections);
+        Ok(Read { symbols, lines, inlined_error: Cell::new(None) })
     }
 
-    /// Sorts the starts of procedures: of several at one RVA, as a linker folds equal ones, that of the last module counts.
-    fn sort(&mut self) {
-        self.starts.sort_unstable_by(|one, other| one.0.cmp(&other.0).then(other.1.cmp(&one.1)));
-        self.starts.dedup_by_key(|it| it.0);
+    /// The module that has an RVA: by the section contributions, else by the procedures of all modules.
+    fn module_at(&self, rva: u32) -> Option<&Module> {
+        let Some(ranges) = &self.ranges else {
+            let starts = self.starts.get_or_init(|| self.all_starts());
+            let after = starts.partition_point(|it| it.0 <= rva);
+            return self.modules.get(starts.get(after.checked_sub(1)?)?.1);
+        };
+        let after = ranges.partition_point(|it| it.start <= rva);
+        let range = ranges.get(after.checked_sub(1)?).filter(|it| rva - it.start < it.size)?;
+        self.modules.get(range.module_index as usize)
+    }
+
+    /// The starts of all procedures: of several at one RVA, as a linker folds equal ones, that of the last module counts.
+    fn all_starts(&self) -> Vec<(u32, usize)> {
+        let read = self.modules.iter().enumerate().filter_map(|(number, it)| Some((number, self.read(it)?)));
+        let mut starts: Vec<(u32, usize)> = read
+            .flat_map(|(number, it)| it.symbols.index.iter().map(move |entry| ((entry >> 32) as u32, number)))
+            .collect();
+        starts.sort_unstable_by(|one, other| one.0.cmp(&other.0).then(other.1.cmp(&one.1)));
+        starts.dedup_by_key(|it| it.0);
+        starts
     }
 
     /// Why no source file has a name, if the stream with their names is refused.
@@ -264,9 +284,20 @@ impl Symbolizer<'_> {
         self.names.as_ref().err().copied()
     }
 
-    /// The modules that are refused, or whose lines are.
-    pub fn damaged(&self) -> &[DamagedModule] {
-        &self.damaged
+    /// Why no inlined function has a name, if one was found and the stream of ids is refused.
+    pub fn ids_error(&self) -> Option<Error> {
+        self.ids.get()?.as_ref().err().copied()
+    }
+
+    /// The modules that were read so far and are refused, or whose lines or inlined functions are.
+    pub fn damaged(&self) -> Vec<DamagedModule> {
+        let errors = |read: &Result<Read, Error>| match read {
+            Err(error) => [Some((*error, false)), None],
+            Ok(it) => [it.lines.as_ref().err().copied(), it.inlined_error.get()].map(|it| Some((it?, true))),
+        };
+        let damaged = self.modules.iter().filter_map(|it| Some((&it.module.name, errors(it.read.get()?))));
+        let of = |name: &String, (error, has_names)| DamagedModule { name: name.clone(), error, has_names };
+        damaged.flat_map(|(name, errors)| errors.into_iter().flatten().map(move |it| of(name, it))).collect()
     }
 
     /// The functions at an RVA, innermost first: those that are inlined there, and then the procedure that has the code. Where no procedure
@@ -274,20 +305,80 @@ impl Symbolizer<'_> {
     ///
     /// A return address is that after the call: ask for the byte before it, since a call may be the last instruction of a function.
     pub fn frames(&self, rva: u32) -> Vec<SymbolFrame> {
-        self.procedure(rva).or_else(|| self.public(rva)).into_iter().collect()
+        self.procedure(rva).unwrap_or_else(|| self.public(rva).into_iter().collect())
     }
 
-    fn procedure(&self, rva: u32) -> Option<SymbolFrame> {
-        let after = self.starts.partition_point(|it| it.0 <= rva);
-        let module = self.modules.get(self.starts.get(after.checked_sub(1)?)?.1 as usize)?;
-        let found = module.find(PROCEDURES, self.sections, rva)?;
-        let mut frame = module.frame(&found, rva)?;
-        if let Some(line) = module.line(rva) {
-            frame.file = self.names.as_ref().ok().and_then(|names| module.file(line.file, names));
-            frame.line = Some(line.line);
-            frame.column = u16::try_from(line.column).ok().filter(|it| *it != 0);
+    fn procedure(&self, rva: u32) -> Option<Vec<SymbolFrame>> {
+        let module = self.module_at(rva)?;
+        let read = self.read(module)?;
+        let found = read.symbols.find(PROCEDURES, self.sections, rva)?;
+        let mut own = read.symbols.frame(&found, rva)?;
+        if let Some(line) = read.lines.as_ref().ok().and_then(|it| it.find(rva)) {
+            own.file = self.file(read, line.file);
+            own.line = Some(line.line);
+            own.column = u16::try_from(line.column).ok().filter(|it| *it != 0);
         }
-        Some(frame)
+        let mut frames = match self.inlined(read, &module.module, &found, rva) {
+            Ok(inlined) => inlined.iter().map(|it| self.inlined_frame(read, it, &own)).collect(),
+            Err(error) => {
+                read.inlined_error.set(read.inlined_error.get().or(Some(error)));
+                Vec::new()
+            }
+        };
+        frames.push(own);
+        Some(frames)
+    }
+
+    fn file(&self, read: &Read, file: u32) -> Option<String> {
+        read.file(file, self.names.as_ref().ok()?)
+    }
+
+    /// The functions that are inlined at an RVA of a procedure, the innermost first.
+    fn inlined(
+        &self,
+        read: &Read,
+        module: &PdbModule,
+        procedure: &sys::PdbSymbol,
+        rva: u32,
+    ) -> Result<Vec<PdbInlined>, Error> {
+        let record = sys::PdbModule { symbols: module.symbols(), lines: module.lines(), ..sys::PdbModule::default() };
+        let find = |ids: &[u8], starts: &[u64], room: &mut [PdbInlined]| {
+            let (bytes, mut written) = (&read.symbols.bytes, 0);
+            // SAFETY: as above, and the room overlaps no other argument.
+            let number = unsafe {
+                let (at, length, of_ids, size) = (bytes.as_ptr(), bytes.len(), ids.as_ptr(), ids.len());
+                let (starts, count, entries) = (starts.as_ptr(), starts.len(), room.len());
+                let room = room.as_mut_ptr();
+                sys::pe_c_find_pdb_inlined(
+                    at, length, &record, procedure, rva, of_ids, size, starts, count, room, entries, &mut written,
+                )
+            };
+            (number, written as usize)
+        };
+        // Most RVAs have none: the ids are read when one has.
+        if find(&[], &[], &mut []).0 == sys::DONE {
+            return Ok(Vec::new());
+        }
+        let mut room = [PdbInlined::default(); MOST_INLINED];
+        let (number, count) = match self.ids.get_or_init(|| Ids::of(self.pdb)) {
+            Ok(ids) => find(&ids.bytes, &ids.starts, &mut room),
+            Err(_) => find(&[], &[], &mut room),
+        };
+        Error::of(number).map(|()| room[..count].to_vec())
+    }
+
+    /// The frame of an inlined function, in the procedure of another frame.
+    fn inlined_frame(&self, read: &Read, inlined: &PdbInlined, own: &SymbolFrame) -> SymbolFrame {
+        let ids = self.ids.get().and_then(|it| it.as_ref().ok()).filter(|_| inlined.name_result == sys::DONE);
+        let has_line = inlined.line_result == sys::DONE;
+        SymbolFrame {
+            name: ids.and_then(|it| it.name(inlined).ok()).unwrap_or_default(),
+            file: has_line.then(|| self.file(read, inlined.file)).flatten(),
+            line: has_line.then_some(inlined.line),
+            column: None,
+            is_inlined: true,
+            ..*own
+        }
     }
 
     fn public(&self, rva: u32) -> Option<SymbolFrame> {

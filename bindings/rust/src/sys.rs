@@ -2883,6 +2883,47 @@ pub struct PdbLineEntry {
 }
 const _: () = assert!(core::mem::size_of::<PdbLineEntry>() == 24);
 
+/// RVAs that are of one module.
+#[repr(C)]
+#[derive(Clone, Copy, Debug, Default, PartialEq, Eq)]
+pub struct PdbModuleRange {
+    /// The first RVA.
+    pub start: u32,
+    /// How many there are; 0 of a contribution in no section.
+    pub size: u32,
+    /// Which module it is, in the order of [`pe_c_list_pdb_modules`], from 0 on; it may be of none.
+    pub module_index: u32,
+}
+const _: () = assert!(core::mem::size_of::<PdbModuleRange>() == 12);
+
+/// An inlined function whose code is at an RVA, and which line of it that is.
+#[repr(C)]
+#[derive(Clone, Copy, Debug, Default, PartialEq, Eq)]
+pub struct PdbInlined {
+    /// Its name in the stream of ids, as in the source but without its scope, UTF-8, without its final zero; where
+    /// `name_result` is [`DONE`].
+    pub name: Range,
+    /// The namespace that it is in, there too; no bytes in none.
+    pub scope: Range,
+    /// Which function it is: the index of its record in the stream of ids.
+    pub id: u32,
+    /// Of a member function its class, an index of the stream of types; else 0.
+    pub class_type: u32,
+    /// Its source file, for [`pe_c_pdb_file_name`], where `line_result` is [`DONE`].
+    pub file: u32,
+    /// The line, from 1 on; of a function that another one is inlined in, that of the call; or 0.
+    pub line: u32,
+    /// Where the code of that line starts, from the start of the procedure.
+    pub code_offset: u32,
+    /// How many bytes that is.
+    pub code_size: u32,
+    /// [`DONE`]; [`NOTHING`] without a name; or why the stream of ids, or the function's record in it, is refused.
+    pub name_result: u32,
+    /// [`DONE`]; [`NOTHING`] without a line; or why the lines of the module's inlined functions are refused.
+    pub line_result: u32,
+}
+const _: () = assert!(core::mem::size_of::<PdbInlined>() == 64);
+
 #[rustfmt::skip]
 extern "C" {
     /// The number of the ABI is in the name of this call, and grows with each change that breaks callers.
@@ -4945,6 +4986,59 @@ extern "C" {
         names_length: usize,
         file: u32,
         out: *mut Range,
+    ) -> u32;
+    /// Writes to the start of `room` which RVAs are of which module: a range for each section contribution, in their
+    /// order.
+    ///
+    /// `contributions` are those of [`pe_c_pdb`] in `bytes`, the DBI stream, stream 3. In what linkers write ranges
+    /// ascend and do not overlap; where two have an RVA, the first counts.
+    ///
+    /// Errors: [`Error::PDB_SECTION_HEADERS`]; [`Error::SHORT`] where the range is not inside the bytes, or has fewer
+    /// than 4 that are some; [`Error::PDB_CONTRIBUTIONS_VERSION`]; [`Error::PDB_CONTRIBUTIONS_SIZE`]; [`ROOM`].
+    pub fn pe_c_pdb_module_ranges(
+        bytes: *const u8,
+        length: usize,
+        contributions: *const Range,
+        sections: *const u8,
+        sections_length: usize,
+        room: *mut PdbModuleRange,
+        entries: usize,
+        written: *mut u64,
+    ) -> u32;
+    /// Writes to the start of `room` where each record of the stream of ids starts, for [`pe_c_find_pdb_inlined`].
+    ///
+    /// `bytes` are those of the stream, stream 4. n records take n steps.
+    ///
+    /// Errors: [`Error::SHORT`] where there are fewer than 56 bytes; [`Error::PDB_RECORD_TRUNCATED`] where the records
+    /// pass the end; [`Error::SHORT`], [`Error::PDB_RECORD_SIZE`], [`Error::PDB_RECORD_TRUNCATED`] of a record;
+    /// [`ROOM`].
+    pub fn pe_c_pdb_ids(bytes: *const u8, length: usize, room: *mut u64, entries: usize, written: *mut u64) -> u32;
+    /// Writes the inlined functions whose code is at an RVA to the start of `room`, the innermost first: each is
+    /// inlined in the one after it, and the last in the procedure.
+    ///
+    /// None where the RVA is of the procedure alone. `bytes` are those of the stream of `module`, and `procedure` is
+    /// what [`pe_c_find_pdb_symbol`] found in it. `ids` are the bytes of the stream of ids, and `starts` what
+    /// [`pe_c_pdb_ids`] wrote: with another start a function has another name, or none. Without ids the functions have
+    /// lines alone. There is always room in 64 entries. A call reads the records of the procedure, and for each
+    /// function found those of the module's inlined functions up to its own.
+    ///
+    /// Errors: [`Error::SHORT`] where the symbols of the module are not inside the bytes; [`Error::SHORT`],
+    /// [`Error::PDB_RECORD_SIZE`], [`Error::PDB_RECORD_TRUNCATED`] of a record from that of the procedure to its end;
+    /// of that of an inlined function [`Error::SHORT`], [`Error::PDB_ANNOTATION`]; [`Error::PDB_INLINE_DEPTH`];
+    /// [`ROOM`].
+    pub fn pe_c_find_pdb_inlined(
+        bytes: *const u8,
+        length: usize,
+        module: *const PdbModule,
+        procedure: *const PdbSymbol,
+        rva: u32,
+        ids: *const u8,
+        ids_length: usize,
+        starts: *const u64,
+        number_of_starts: usize,
+        room: *mut PdbInlined,
+        entries: usize,
+        written: *mut u64,
     ) -> u32;
     /// Returns the number of the stream with a name, such as "/names", by the bytes of the info stream, stream 1.
     ///

@@ -95,12 +95,14 @@ fn damaged_lines_cost_themselves_alone() {
     bytes[MODULE + 332 + 6] = 1;
     let pdb = Pdb::parse(&bytes).unwrap();
     let symbolizer = pdb.symbolizer().unwrap();
-    let [damaged] = symbolizer.damaged() else { panic!("{:?}", symbolizer.damaged()) };
-    assert_eq!((damaged.name.as_str(), damaged.has_names), ("b.obj", true));
-    assert_eq!(damaged.error, Error::PDB_RECORD_TRUNCATED);
+    assert_eq!(symbolizer.frames(0x1048)[0].line, Some(6));
+    // The module is not read yet.
+    assert_eq!(symbolizer.damaged(), []);
     assert_eq!(named(&symbolizer.frames(0x108B)), [("local", 0x1080, 11, false)]);
     assert_eq!(symbolizer.frames(0x108B)[0].line, None);
-    assert_eq!(symbolizer.frames(0x1048)[0].line, Some(6));
+    let [damaged] = &symbolizer.damaged()[..] else { panic!("{:?}", symbolizer.damaged()) };
+    assert_eq!((damaged.name.as_str(), damaged.has_names), ("b.obj", true));
+    assert_eq!(damaged.error, Error::PDB_RECORD_TRUNCATED);
 }
 
 #[test]
@@ -111,11 +113,11 @@ fn a_damaged_module_costs_its_names_alone() {
     bytes[MODULE + 73] = 0;
     let pdb = Pdb::parse(&bytes).unwrap();
     let symbolizer = pdb.symbolizer().unwrap();
-    let [damaged] = symbolizer.damaged() else { panic!("{:?}", symbolizer.damaged()) };
-    assert_eq!((damaged.name.as_str(), damaged.error), ("b.obj", Error::PDB_RECORD_SIZE));
-    assert!(!damaged.has_names);
     assert_eq!(named(&symbolizer.frames(0x1048)), [("entry", 0x1000, 0x48, false)]);
     assert_eq!(named(&symbolizer.frames(0x108B)), [("helper", 0x1050, 0x3B, true)]);
+    let [damaged] = &symbolizer.damaged()[..] else { panic!("{:?}", symbolizer.damaged()) };
+    assert_eq!((damaged.name.as_str(), damaged.error), ("b.obj", Error::PDB_RECORD_SIZE));
+    assert!(!damaged.has_names);
 }
 
 #[test]
@@ -130,4 +132,90 @@ fn what_is_refused_has_an_error() {
     assert_eq!(pdb.publics(), Err(Error::PDB_DBI_SIGNATURE));
     assert!(pdb.symbolizer().is_err());
     assert!(!pdb.matches(&SymbolKey::new(GUID, 1, b"t.pdb")));
+}
+
+/// A function, its file and line, and whether it is inlined.
+fn placed(frames: &[SymbolFrame]) -> Vec<(&str, Option<&str>, Option<u32>, bool)> {
+    frames.iter().map(|it| (it.name.as_str(), it.file.as_deref(), it.line, it.is_inlined)).collect()
+}
+
+/// By the rows of `llvm-pdbutil dump -symbols`, and the lines of `-il` and `-l`.
+#[test]
+fn inlined_functions_are_those_that_pdbutil_prints() {
+    let bytes = made::pdb_inlined();
+    let pdb = Pdb::parse(&bytes).unwrap();
+    let symbolizer = pdb.symbolizer().unwrap();
+    assert_eq!(placed(&symbolizer.frames(0x1004)), [("entry", Some("c.c"), Some(3), false)]);
+    assert_eq!(symbolizer.ids_error(), None);
+    let (clamp, twice) = (("clamp", Some("c.h"), Some(2), true), ("twice", Some("c.h"), Some(7), true));
+    let frames = symbolizer.frames(0x1005);
+    assert_eq!(placed(&frames), [clamp, twice, ("entry", Some("c.c"), Some(4), false)]);
+    assert_eq!((frames[0].function_rva, frames[0].offset, frames[0].column, frames[0].is_public), (0x1000, 5, None, false));
+    assert_eq!(placed(&symbolizer.frames(0x1020)), [clamp, ("entry", Some("c.c"), Some(5), false)]);
+    let twice = ("twice", Some("c.h"), Some(8), true);
+    assert_eq!(placed(&symbolizer.frames(0x1065)), [twice, ("helper", Some("c.c"), Some(9), false)]);
+    assert_eq!((symbolizer.damaged(), symbolizer.ids_error()), (vec![], None));
+}
+
+#[test]
+fn ids_that_are_refused_cost_names_alone() {
+    let mut bytes = made::pdb_inlined();
+    let pdb = Pdb::parse(&bytes).unwrap();
+    let ids = pdb.stream(4).unwrap();
+    let at = bytes.windows(ids.len()).position(|it| it == ids).unwrap();
+    bytes[at + 56] = 1;
+    let pdb = Pdb::parse(&bytes).unwrap();
+    let symbolizer = pdb.symbolizer().unwrap();
+    let found = placed_owned(&symbolizer.frames(0x1005));
+    assert_eq!(found[..2], [(String::new(), Some(2)), (String::new(), Some(7))]);
+    assert_eq!((symbolizer.ids_error(), symbolizer.damaged()), (Some(Error::PDB_RECORD_SIZE), vec![]));
+}
+
+fn placed_owned(frames: &[SymbolFrame]) -> Vec<(String, Option<u32>)> {
+    frames.iter().map(|it| (it.name.clone(), it.line)).collect()
+}
+
+#[test]
+fn an_annotation_that_is_refused_costs_the_inlined_functions() {
+    let mut bytes = made::pdb_inlined();
+    let module = Pdb::parse(&bytes).unwrap().stream(11).unwrap();
+    let at = bytes.windows(module.len()).position(|it| it == module).unwrap();
+    // The first annotation of the function that is inlined first: operation 14.
+    bytes[at + 192 + 16] = 14;
+    let pdb = Pdb::parse(&bytes).unwrap();
+    let symbolizer = pdb.symbolizer().unwrap();
+    assert_eq!(placed(&symbolizer.frames(0x1005)), [("entry", Some("c.c"), Some(4), false)]);
+    let [damaged] = &symbolizer.damaged()[..] else { panic!("{:?}", symbolizer.damaged()) };
+    assert_eq!((damaged.error, damaged.has_names), (Error::PDB_ANNOTATION, true));
+    assert_eq!(symbolizer.frames(0x1065).len(), 2);
+}
+
+/// Without contributions the procedures of all modules say whose an RVA is.
+#[test]
+fn modules_are_found_without_contributions() {
+    let mut bytes = made::pdb();
+    // The version of the contributions, which start 64 and 228 bytes after the start of the DBI stream.
+    bytes[DBI + 292] = 0;
+    let pdb = Pdb::parse(&bytes).unwrap();
+    let symbolizer = pdb.symbolizer().unwrap();
+    assert_eq!(named(&symbolizer.frames(0x1048)), [("entry", 0x1000, 0x48, false)]);
+    assert_eq!(named(&symbolizer.frames(0x108B)), [("local", 0x1080, 11, false)]);
+    assert_eq!(named(&symbolizer.frames(0x104F)), [("entry", 0x1000, 0x4F, true)]);
+    assert_eq!(symbolizer.damaged(), []);
+}
+
+/// No file of /DEBUG:FASTLINK was at hand: its feature is put in the place of the one that lld writes.
+#[test]
+fn fastlink_is_recognised() {
+    let mut bytes = made::pdb();
+    let info = Pdb::parse(&bytes).unwrap().stream(1).unwrap();
+    let at = bytes.windows(info.len()).position(|it| it == info).unwrap();
+    assert!(!Pdb::parse(&bytes).unwrap().is_fastlink());
+    let last = at + info.len() - 4;
+    assert_eq!(bytes[last..last + 4], 20140508u32.to_le_bytes());
+    bytes[last..last + 4].copy_from_slice(b"MINI");
+    assert!(Pdb::parse(&bytes).unwrap().is_fastlink());
+    // After the feature of Visual C++ 11 there is no other.
+    bytes[last - 4..last].copy_from_slice(&20091201u32.to_le_bytes());
+    assert!(!Pdb::parse(&bytes).unwrap().is_fastlink());
 }

@@ -28,6 +28,6 @@ pub dump_text_past : (n : ℕ) → 10 ≤ n → codes "unknown result" ≡ dump_
 unfolding dump_text
 dump_text_past n h = sym (get_or_past dump_texts n (codes "unknown result") (omega arith))
 
-pub pdb_text_past : (n : ℕ) → 26 ≤ n → codes "unknown result" ≡ pdb_text n
+pub pdb_text_past : (n : ℕ) → 27 ≤ n → codes "unknown result" ≡ pdb_text n
 unfolding pdb_text
 pdb_text_past n h = sym (get_or_past pdb_texts n (codes "unknown result") (omega arith))

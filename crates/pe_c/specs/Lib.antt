@@ -98,3 +98,6 @@ pub mod PdbModules
 pub mod PdbSymbols
 pub mod PdbIndexes
 pub mod PdbLines
+pub mod PdbInlined
+pub mod PdbContributions
+pub mod PdbFrames

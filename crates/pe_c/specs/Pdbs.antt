@@ -6,7 +6,7 @@ use Rattle.pe_core.specs.Rows.{each}
 use Rattle.pe_pdb.specs.Dbi.{dbi_header_of, debug_start, debug_stream}
 use Rattle.pe_pdb.specs.Info.{info_of}
 use Rattle.pe_pdb.specs.Msf.{MsfView, msf_of, superblock_of}
-use Rattle.pe_pdb.specs.Refusals.{PdbRefusal, Short, Pdb20, PortablePdb, Magic, BlockSize, FileSize, BlockMap, Block, Directory, NoStream, StreamSize, Outside, InfoVersion, DbiSignature, DbiVersion, DbiParts, SectionHeaders, RecordSize, RecordTruncated, Name, ModuleSymbols, ModuleSignature, NamesSignature, ContributionsVersion, ContributionsSize, Annotation, SymbolsSize, Room, pdb_kind_of}
+use Rattle.pe_pdb.specs.Refusals.{PdbRefusal, Short, Pdb20, PortablePdb, Magic, BlockSize, FileSize, BlockMap, Block, Directory, NoStream, StreamSize, Outside, InfoVersion, DbiSignature, DbiVersion, DbiParts, SectionHeaders, RecordSize, RecordTruncated, Name, ModuleSymbols, ModuleSignature, NamesSignature, ContributionsVersion, ContributionsSize, Annotation, InlineDepth, SymbolsSize, Room, pdb_kind_of}
 use Rattle.pe_pdb.specs.Streams.{StreamView, list_start, stream_bytes, stream_from, stream_of, streams}
 use Rattle.pe_pdb.specs.declared.dbi.DbiHeader.{DbiHeader}
 use Rattle.pe_pdb.specs.declared.dbi.TheConstants.{NO_STREAM}
@@ -50,6 +50,7 @@ pdb_number NamesSignature = 623
 pdb_number ContributionsVersion = 624
 pdb_number ContributionsSize = 625
 pdb_number Annotation = 626
+pdb_number InlineDepth = 627
 pdb_number Room = ROOM
 
 -- a result with the kind of its error

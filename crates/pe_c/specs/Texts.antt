@@ -217,6 +217,7 @@ pdb_texts =
     codes "unknown version of the section contributions of a PDB" ∷
     codes "section contributions of a PDB are not a multiple of their size" ∷
     codes "annotation of an inlined function truncated or not known" ∷
+    codes "more than 64 inlined functions at one offset of a procedure" ∷
     []
 
 -- the text of a refusal of a program database, by its number from 601 on

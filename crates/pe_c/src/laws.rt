@@ -14,6 +14,7 @@ pub mod indexes;
 pub mod kept_sections;
 pub mod lists;
 pub mod loaded;
+pub mod pdbs;
 pub mod results;
 pub mod signatures;
 pub mod te;

@@ -4,7 +4,9 @@
 //! are of that room too.
 //! https://llvm.org/docs/PDB/
 
+pub mod contributions;
 pub mod index;
+pub mod inlined;
 pub mod lines;
 pub mod modules;
 pub mod symbols;
@@ -123,6 +125,7 @@ pub fn number_of_pdb(error: &PdbError) -> u32
         PdbError::ContributionsVersion(_) => 624,
         PdbError::ContributionsSize(_) => 625,
         PdbError::Annotation(_) => 626,
+        PdbError::InlineDepth => 627,
         PdbError::Room { .. } => ROOM,
     }
 }

@@ -257,6 +257,7 @@ fn pdb_text(number: u32) -> &'static str
         23 => "unknown version of the section contributions of a PDB",
         24 => "section contributions of a PDB are not a multiple of their size",
         25 => "annotation of an inlined function truncated or not known",
+        26 => "more than 64 inlined functions at one offset of a procedure",
         _ => "unknown result",
     }
 }

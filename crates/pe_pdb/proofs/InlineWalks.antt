@@ -70,7 +70,7 @@ pub rows_end : (b : List ℕ) (p : ℕ) (c : Cursor) (last : Option OpenRow) →
 unfolding rows_of
 rows_end b p c last past = ap (λ (l : List (Result Annotation PdbRefusal)). rows_of c last l) (items_none (annotation_at b) (length b) p past)
 
-annotations_more : (b : List ℕ) (p : ℕ) (a : Annotation) (q : ℕ) → p < length b → annotation_at b p ≡ Ok (a, q) → annotations b p ≡ Ok a ∷ annotations b q
+pub annotations_more : (b : List ℕ) (p : ℕ) (a : Annotation) (q : ℕ) → p < length b → annotation_at b p ≡ Ok (a, q) → annotations b p ≡ Ok a ∷ annotations b q
 annotations_more b p a q before is = items_step (annotation_at b) (annotations_later b) (length b) p before ∙ rw is
 
 annotations_refused : (b : List ℕ) (p : ℕ) (r : PdbRefusal) → p < length b → annotation_at b p ≡ Err r → annotations b p ≡ Err r ∷ []

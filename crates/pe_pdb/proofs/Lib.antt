@@ -16,6 +16,8 @@ pub mod LineEntries
 pub mod LineOrder
 pub mod LastLines
 pub mod InlineWalks
+pub mod InlineStacks
+pub mod InlineNests
 pub mod Inlinees
 pub mod RecordStarts
 pub mod WrittenAnnotations

@@ -1,9 +1,9 @@
 -- The starts of records.
-use Rattle.std.proofs.Common.{◌≡◌, ℕ, zero, suc, ◌+◌, ◌-◌, ◌<◌, ◌≤◌, true, leb, List, length, get_or, slice_set, Ok, Err, refl, ap, sym, ◌∙◌, arith, below_more}
+use Rattle.std.proofs.Common.{◌≡◌, ℕ, zero, suc, ◌+◌, ◌-◌, ◌<◌, ◌≤◌, true, leb, List, drop, length, get_or, slice_set, Ok, Err, refl, ap, sym, ◌∙◌, arith, below_more}
 use Rattle.std.proofs.lemmas.Bool.Decides.{nat_tests}
-use Rattle.std.proofs.lemmas.List.{get_or-set_same, get_or-set_other}
+use Rattle.std.proofs.lemmas.List.{drop-drop, drop-set-lt, get_or-set_same, get_or-set_other}
 use Rattle.pe_core.specs.Refusals.{◌>>=◌}
-use Rattle.pe_pdb.specs.Ids.{AreStarts, TypesView, count_of, start_of, starts_in}
+use Rattle.pe_pdb.specs.Ids.{AreStarts, TypesView, count_of, start_of, starts_in, whole_count}
 use Rattle.pe_pdb.specs.Refusals.{PdbRefusal}
 use Rattle.pe_pdb.specs.Symbols.{Symbol, symbol_at, symbol_end}
 
@@ -34,6 +34,17 @@ one_more_start b room i p lt is before k d low =
     (λ k h. before k d h ∙ ap (λ (n : ℕ). Ok n) (sym (get_or-set_other room i k p d (λ e. omega (arith, h, e)))))
     (is ∙ ap (λ (n : ℕ). Ok n) (sym (get_or-set_same room i p d lt))) k low
 
+-- ---- without a room
+
+pub count_whole : (t : TypesView) (p count : ℕ) → count ≡ count_of t → start_of t.records count ≡ Ok p → whole_count t ≡ Ok count
+count_whole t p count number is = ap (λ (k : ℕ). start_of t.records k >>= λ end. Ok k) (sym number) ∙ rw is refl
+
+pub count_refused : (t : TypesView) (k p : ℕ) (r : PdbRefusal) → k < count_of t → start_of t.records k ≡ Ok p → symbol_at t.records p ≡ Err r → whole_count t ≡ Err r
+count_refused t k p r lt at is =
+    let parts : (k + 1) + (count_of t - (k + 1)) ≡ count_of t = omega (arith, lt) in
+    let last : start_of t.records (count_of t) ≡ Err r = ap (start_of t.records) (sym parts) ∙ refused_later t.records (k + 1) (count_of t - (k + 1)) r (start_refused t.records k p r at is) in
+    rw last refl
+
 -- ---- what is returned
 
 starts_fit : (n : ℕ) (t : TypesView) → count_of t ≤ n → starts_in n t ≡ (start_of t.records (count_of t) >>= λ end. Ok (count_of t))
@@ -44,6 +55,8 @@ starts_all n t p count fits number is = starts_fit n t fits ∙ rw is (ap (λ (m
 
 pub starts_refused : (n : ℕ) (t : TypesView) (k p : ℕ) (r : PdbRefusal) → count_of t ≤ n → k < count_of t → start_of t.records k ≡ Ok p → symbol_at t.records p ≡ Err r → starts_in n t ≡ Err r
 starts_refused n t k p r fits lt at is =
-    let parts : (k + 1) + (count_of t - (k + 1)) ≡ count_of t = omega (arith, lt) in
-    let last : start_of t.records (count_of t) ≡ Err r = ap (start_of t.records) (sym parts) ∙ refused_later t.records (k + 1) (count_of t - (k + 1)) r (start_refused t.records k p r at is) in
-    starts_fit n t fits ∙ rw last refl
+    starts_fit n t fits ∙ count_refused t k p r lt at is
+
+pub rest_left : (old now : List ℕ) (i y : ℕ) → drop i now ≡ drop i old → drop (i + 1) (slice_set now i y) ≡ drop (i + 1) old
+rest_left old now i y others =
+    drop-set-lt (i + 1) now i y (omega arith) ∙ (sym (drop-drop 1 i now) ∙ (ap (drop 1) others ∙ drop-drop 1 i old))

@@ -1,14 +1,19 @@
 -- What is read of annotations that are written.
-use Rattle.std.proofs.Common.{◌≡◌, ℕ, suc, ◌+◌, ◌-◌, ◌*◌, ◌/◌, ◌%◌, ◌^◌, ◌<◌, ◌≤◌, Bool, true, false, List, [], ◌∷◌, ◌++◌, length, get_or, Ok, refl, ap, sym, subst, ◌∙◌, arith, append_assoc, length-append, inl, inr, ltb, leb}
+use Rattle.std.proofs.Common.{◌≡◌, ℕ, suc, ◌+◌, ◌-◌, ◌*◌, ◌/◌, ◌%◌, ◌^◌, ◌<◌, ◌≤◌, Bool, true, false, List, [], ◌∷◌, ◌++◌, length, get_or, Result, Ok, refl, ap, sym, subst, ◌∙◌, arith, append_assoc, length-append, inl, inr, ltb, leb}
 use Rattle.std.proofs.lemmas.Bool.{cases_lt}
 use Rattle.std.proofs.lemmas.Bool.Decides.{nat_tests}
-use Rattle.std.proofs.lemmas.List.{get_or-append-add}
+use Rattle.std.proofs.lemmas.List.{append-nil, get_or-append-add}
+use Rattle.std.proofs.lemmas.List.Elements.{All-head, All-tail}
+use Rattle.std.specs.List.{All}
 use Rattle.std.specs.Prelude.{◌==◌, slice_index, if◌then◌else◌}
 use Rattle.pe_core.specs.Bytes.{le}
 use Rattle.pe_core.proofs.NumberBytes.{le-cons, le-zero}
-use Rattle.pe_pdb.specs.Annotations.{annotation_at, number_at}
-use Rattle.pe_pdb.specs.WrittenAnnotations.{IsWritable, written, written_number}
+use Rattle.pe_pdb.specs.Annotations.{annotation_at, annotations, number_at}
+use Rattle.pe_pdb.specs.Refusals.{PdbRefusal}
+use Rattle.pe_pdb.specs.WrittenAnnotations.{IsWritable, all_read, end_of_annotations, written, written_all, written_number}
 use Rattle.pe_pdb.specs.declared.annotation.Annotation.{Annotation}
+use Rattle.pe_pdb.proofs.InlineWalks.{annotations_later, annotations_more}
+use Rattle.pe_pdb.proofs.Walked.{items_none}
 
 -- a byte after others
 byte_of : (before ys : List ℕ) (k x : ℕ) → get_or ys k 0 ≡ x → le (before ++ ys) (length before + k) 1 ≡ x
@@ -161,3 +166,58 @@ read_if a false is fits before after =
 
 pub annotation_read : (a : Annotation) → IsWritable a → (before after : List ℕ) → annotation_at (before ++ (written a ++ after)) (length before) ≡ Ok (a, length before + length (written a))
 annotation_read a fits before after = read_if a (a.operation == 12) refl fits before after
+
+-- ---- many
+
+-- what is read of bytes that end others
+abbrev Ends : List ℕ → List (Result Annotation PdbRefusal) → Type 0
+Ends tail items = (before : List ℕ) → annotations (before ++ tail) (length before) ≡ items
+
+ends_here : Ends [] []
+ends_here before =
+    let size : length (before ++ []) ≤ length before = (let l = length-append before [] in omega (arith, l)) in
+    items_none (annotation_at (before ++ [])) (length (before ++ [])) (length before) size
+
+read_zero : (b : List ℕ) (p q : ℕ) → number_at b p ≡ Ok (0, q) → annotation_at b p ≡ Ok (end_of_annotations, length b)
+unfolding annotation_at
+read_zero b p q is = rw is refl
+
+ends_by_zero : (after : List ℕ) → Ends (0 ∷ after) (Ok end_of_annotations ∷ [])
+ends_by_zero after before =
+    let b : List ℕ = before ++ (0 ∷ after) in
+    let p = length before in
+    let last : Result Annotation PdbRefusal = Ok end_of_annotations in
+    let size : length b ≡ p + (length after + 1) = (let l = length-append before (0 ∷ after) in omega (arith, l)) in
+    let number : number_at b p ≡ Ok (0, p + 1) = one_byte b p 0 (start_byte before (0 ∷ after) 0 refl) (omega arith) (omega (arith, size)) in
+    let is = read_zero b p (p + 1) number in
+    annotations_more b p end_of_annotations (length b) (omega (arith, size)) is
+    ∙ ap (λ (l : List (Result Annotation PdbRefusal)). last ∷ l) (items_none (annotation_at b) (length b) (length b) (omega arith))
+
+read_then : (tail : List ℕ) (items : List (Result Annotation PdbRefusal)) → Ends tail items → (xs : List Annotation) → All IsWritable xs → (before : List ℕ) →
+    annotations (before ++ (written_all xs ++ tail)) (length before) ≡ all_read xs ++ items
+read_then tail items ends [] fits before = ends before
+read_then tail items ends (a ∷ more) fits before =
+    let first : Result Annotation PdbRefusal = Ok a in
+    let w : List ℕ = written a in
+    let rest : List ℕ = written_all more in
+    let b : List ℕ = before ++ ((w ++ rest) ++ tail) in
+    let p = length before in
+    let one : b ≡ before ++ (w ++ (rest ++ tail)) = ap (λ (l : List ℕ). before ++ l) (append_assoc w rest tail) in
+    let two : b ≡ (before ++ w) ++ (rest ++ tail) = one ∙ sym (append_assoc before w (rest ++ tail)) in
+    let is : annotation_at b p ≡ Ok (a, p + length w) =
+    ap (λ (l : List ℕ). annotation_at l p) one ∙ annotation_read a (All-head IsWritable a more fits) before (rest ++ tail) in
+    let later : p < p + length w = annotations_later b p (a, p + length w) is in
+    let size : length b ≡ p + length w + length (rest ++ tail) = (let l = length-append (before ++ w) (rest ++ tail) in let m = length-append before w in let n = ap length two in omega (arith, l, m, n)) in
+    let next : length (before ++ w) ≡ p + length w = length-append before w in
+    annotations_more b p a (p + length w) (omega (arith, later, size)) is
+    ∙ ap (λ (l : List (Result Annotation PdbRefusal)). first ∷ l)
+    (ap (λ (l : List ℕ). annotations l (p + length w)) two ∙ ap (λ (n : ℕ). annotations ((before ++ w) ++ (rest ++ tail)) n) (sym next)
+    ∙ read_then tail items ends more (All-tail IsWritable a more fits) (before ++ w))
+
+pub list_read : (xs : List Annotation) → All IsWritable xs → (before : List ℕ) → annotations (before ++ written_all xs) (length before) ≡ all_read xs
+list_read xs fits before =
+    ap (λ (l : List ℕ). annotations (before ++ l) (length before)) (sym (append-nil (written_all xs))) ∙ read_then [] [] ends_here xs fits before ∙ append-nil (all_read xs)
+
+pub padded_read : (xs : List Annotation) → All IsWritable xs → (before after : List ℕ) →
+    annotations (before ++ (written_all xs ++ (0 ∷ after))) (length before) ≡ all_read xs ++ (Ok end_of_annotations ∷ [])
+padded_read xs fits before after = read_then (0 ∷ after) (Ok end_of_annotations ∷ []) (ends_by_zero after) xs fits before

@@ -1,10 +1,13 @@
 -- Where inlined functions are in the source: a subsection of a module with a record for each.
-use Rattle.std.specs.Prelude.{ℕ, ◌+◌, ◌*◌, ◌==◌, Bool, List, [], ◌∷◌, length, Option, Some, None, Result, Ok, Err, if◌then◌else◌}
+use Rattle.std.specs.Prelude.{ℕ, ◌+◌, ◌*◌, ◌%◌, ◌^◌, ◌==◌, Bool, List, [], ◌∷◌, length, Option, Some, None, Result, Ok, Err, if◌then◌else◌}
 use Rattle.pe_core.specs.Bytes.{le, holds}
 use Rattle.pe_core.specs.Refusals.{outcome, ◌>>=◌}
+use Rattle.pe_pdb.specs.LineIndexes.{is_line}
 use Rattle.pe_pdb.specs.Refusals.{PdbRefusal, Short, RecordTruncated}
 use Rattle.pe_pdb.specs.Walks.{items}
+use Rattle.pe_pdb.specs.declared.inline_rows.InlineRow.{InlineRow}
 use Rattle.pe_pdb.specs.declared.inlinee.InlineeLine.{InlineeLine}
+use Rattle.pe_pdb.specs.declared.inlinee.SourceLine.{SourceLine}
 
 unfoldable pub inlinee_row : List ℕ → ℕ → InlineeLine
 inlinee_row b p = record { inlinee = le b p 4; file = le b (p + 4) 4; line = le b (p + 8) 4 }
@@ -32,3 +35,14 @@ first_inlinee id (Err r ∷ more) = Err r
 -- that of a subsection
 abbrev pub inlinee_of : List ℕ → ℕ → Result (Option InlineeLine) PdbRefusal
 inlinee_of b id = outcome ((holds b 0 4, Short) ∷ []) b >>= λ b. first_inlinee id (inlinees b 4)
+
+-- ---- lines
+
+-- the file of a row, else that of the function
+abbrev pub file_or : ℕ → Option ℕ → ℕ
+file_or file None = file
+file_or file (Some own) = own
+
+-- the line of a row of a function, whose lines count from that of the function
+abbrev pub inline_line : InlineeLine → InlineRow → Option SourceLine
+inline_line i r = if is_line ((i.line + r.line) % 2 ^ 32) then Some (record { file = file_or i.file r.file; line = (i.line + r.line) % 2 ^ 32 }) else None

@@ -22,6 +22,8 @@ pub mod LineIndexes
 pub mod Annotations
 pub mod InlineWalks
 pub mod InlineSites
+pub mod InlineStacks
+pub mod InlineNests
 pub mod Inlinees
 pub mod Ids
 pub mod WrittenAnnotations

@@ -31,6 +31,7 @@ pub data PdbRefusal : Type 0 where
   ContributionsVersion : PdbRefusal
   ContributionsSize : PdbRefusal
   Annotation : PdbRefusal
+  InlineDepth : PdbRefusal
   SymbolsSize : PdbRefusal
   Room : PdbRefusal
 
@@ -62,6 +63,7 @@ pdb_kind_of (errors.NamesSignature number) = NamesSignature
 pdb_kind_of (errors.ContributionsVersion number) = ContributionsVersion
 pdb_kind_of (errors.ContributionsSize length) = ContributionsSize
 pdb_kind_of (errors.Annotation offset) = Annotation
+pdb_kind_of errors.InlineDepth = InlineDepth
 pdb_kind_of errors.SymbolsSize = SymbolsSize
 pdb_kind_of (errors.Room needed length) = Room
 

@@ -1,5 +1,7 @@
 -- Annotations as compilers write them.
-use Rattle.std.specs.Prelude.{◌≡◌, ℕ, ◌+◌, ◌/◌, ◌%◌, ◌^◌, ◌<◌, ◌≤◌, ◌==◌, List, [], ◌∷◌, ◌++◌, nat_lt, if◌then◌else◌}
+use Rattle.std.specs.Prelude.{◌≡◌, ℕ, ◌+◌, ◌/◌, ◌%◌, ◌^◌, ◌<◌, ◌≤◌, ◌==◌, List, [], ◌∷◌, ◌++◌, map, nat_lt, Result, Ok, if◌then◌else◌}
+use Rattle.std.specs.List.{flat_map}
+use Rattle.pe_pdb.specs.Refusals.{PdbRefusal}
 use Rattle.pe_pdb.specs.declared.annotation.Annotation.{Annotation}
 
 -- a number below 2^29, in as few bytes as it needs
@@ -20,3 +22,15 @@ pub record IsWritable (a : Annotation) : Type 0 where
   pub first : a.first < 2 ^ 29
   pub second : a.second < 2 ^ 29
   pub alone : (a.operation ≡ 12 → ⊥) → a.second ≡ 0
+
+-- annotations one after the other
+abbrev pub written_all : List Annotation → List ℕ
+written_all = flat_map written
+
+-- what ends them, where more bytes follow
+abbrev pub end_of_annotations : Annotation
+end_of_annotations = record { operation = 0; first = 0; second = 0 }
+
+-- each of them is read
+abbrev pub all_read : List Annotation → List (Result Annotation PdbRefusal)
+all_read = map (λ a. Ok a)

@@ -46,7 +46,7 @@ pub struct ModuleRange {
     /// How many there are. 0 of a contribution in no section.
     pub size: u32,
     /// The index of the module, in the order of `Modules`.
-    pub module_index: u16,
+    pub module_index: u32,
 }
 
 /// The section contributions of a PDB.
@@ -161,12 +161,12 @@ fn module_range(sections: &SectionHeaders<'_>, contribution: &Contribution) -> M
         Some(start) => ModuleRange {
             start,
             size: contribution.size,
-            module_index: contribution.module_index,
+            module_index: u32::from(contribution.module_index),
         },
         None => ModuleRange {
             start: 0,
             size: 0,
-            module_index: contribution.module_index,
+            module_index: u32::from(contribution.module_index),
         },
     }
 }

@@ -115,6 +115,9 @@ pub enum PdbError {
     /// annotations.
     #[error("invalid annotation at offset {0} of an inlined function")]
     Annotation(usize),
+    /// More than 64 inlined functions, each in the one before it, have an offset of a procedure.
+    #[error("more than 64 inlined functions at one offset of a procedure")]
+    InlineDepth,
     /// Records or lines that are indexed have 4 GiB or more, as no stream has.
     #[error("records of 4 GiB or more")]
     SymbolsSize,

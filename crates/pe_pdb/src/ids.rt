@@ -5,9 +5,11 @@
 //! Records have no place of their own, so a caller writes the starts of all of them into a room once (`put_starts`), and reads the
 //! record with an index where it starts.
 
-ghost use Rattle.std.specs.Prelude.{◌≡◌, ◌-◌, length, IfOk};
-ghost use Rattle.pe_pdb.specs.Ids.{AreStarts, count_of, function_id_of, function_id_view, starts_in, string_id_of, types_of, types_view};
+ghost use Rattle.std.specs.Prelude.{◌≡◌, ◌+◌, ◌-◌, ◌≤◌, drop, length, IfOk, IfSome};
+ghost use Rattle.std.specs.Option.{option_map};
+ghost use Rattle.pe_pdb.specs.Ids.{AreStarts, count_of, function_id_of, function_id_view, record_by, starts_in, whole_count, string_id_of, types_of, types_view};
 ghost use Rattle.pe_pdb.specs.Refusals.{PdbReturns};
+ghost use Rattle.pe_pdb.specs.Symbols.{symbol_view};
 
 use crate::error::{PdbError, Result};
 use crate::symbol::SymbolRecord;
@@ -43,6 +45,8 @@ pub struct TypeRecords<'a> {
     pub first: u32,
     /// The index after that of the last one.
     pub end: u32,
+    /// Where the records start in the stream.
+    pub offset: usize,
     /// The records, for `SymbolRecord::parse`.
     pub records: &'a [u8],
 }
@@ -63,7 +67,8 @@ impl<'a> TypeRecords<'a> {
     /// the records pass the end.
     #[tactic(auto, unfolding(crate::specs::Ids::types_of))]
     pub fn parse(bytes: &'a [u8]) -> Result<TypeRecords<'a>>
-        ensures { PdbReturns types_view result (types_of bytes.entry.now) }
+        ensures value { PdbReturns types_view result (types_of bytes.entry.now) }
+        ensures inside { IfOk result (λ t. t.offset + length t.records.now ≤ length bytes.entry.now) }
     {
         if bytes.len() < SIZE_OF_HEADER {
             return Err(PdbError::Short {
@@ -83,6 +88,7 @@ impl<'a> TypeRecords<'a> {
         Ok(TypeRecords {
             first: read_u32(bytes, 8),
             end: read_u32(bytes, 12),
+            offset: start,
             records: &bytes[start..start + size],
         })
     }
@@ -94,12 +100,29 @@ impl<'a> TypeRecords<'a> {
         self.end.saturating_sub(self.first) as usize
     }
 
+    /// How many records there are, where each of them is whole. Errors: those of `SymbolRecord::parse`, of the first record that
+    /// is refused.
+    pub fn count(&self) -> Result<usize>
+        ensures { PdbReturns (λ n. n) result (whole_count (types_view self.now)) }
+    {
+        let count = self.len();
+        let mut next = 0;
+        let mut index = 0;
+        while index < count {
+            let record = SymbolRecord::parse(self.records, next)?;
+            next = record.end();
+            index += 1;
+        }
+        Ok(count)
+    }
+
     /// Writes the start of each record in `records` into a room, that of the first at the start, and returns how many there are.
-    /// What follows them in the room is left open. Errors, in order: `Room` if the room has fewer entries; those of
-    /// `SymbolRecord::parse`, of the first record that is refused.
+    /// The rest of the room is unchanged; after an error what was written is left. Errors, in order: `Room` if the room has fewer
+    /// entries; those of `SymbolRecord::parse`, of the first record that is refused.
     pub fn put_starts(&self, room: &mut [u64]) -> Result<usize>
         ensures count { PdbReturns (λ n. n) result (starts_in (length room.old) (types_view self.now)) }
         ensures starts { IfOk result (λ n. AreStarts self.now.records.now room.new n) }
+        ensures rest { IfOk result (λ n. (length room.new ≡ length room.old) × (drop n room.new ≡ drop n room.old)) }
     {
         let count = self.len();
         if room.len() < count {
@@ -115,6 +138,21 @@ impl<'a> TypeRecords<'a> {
             next = record.end();
         }
         Ok(count)
+    }
+
+    /// The record with an index, by the starts that `put_starts` wrote: by others it is what stands there. `None` of an index that
+    /// the stream does not have, or that has no start. Errors: those of `SymbolRecord::parse`.
+    pub fn get(&self, starts: &[u64], index: u32) -> Result<Option<SymbolRecord<'a>>>
+        ensures value { PdbReturns (option_map symbol_view) result (record_by (types_view self.now) starts.now index) }
+        ensures inside { IfOk result (λ o. IfSome o (λ r. r.offset + 4 + length r.content.now ≤ length self.now.records.now)) }
+    {
+        if index < self.first || index >= self.end {
+            return Ok(None);
+        }
+        match starts.get((index - self.first) as usize) {
+            Some(start) => Ok(Some(SymbolRecord::parse(self.records, *start as usize)?)),
+            None => Ok(None),
+        }
     }
 }
 

@@ -4,10 +4,12 @@
 
 ghost use Rattle.std.specs.Prelude.{◌≡◌, ◌+◌, ◌≤◌, ◌<◌, ◌==◌, length, IfOk};
 ghost use Rattle.pe_core.specs.Bytes.{le};
-ghost use Rattle.pe_pdb.specs.Inlinees.{inlinee_at, inlinee_end, inlinee_of, inlinee_row};
+ghost use Rattle.pe_pdb.specs.Inlinees.{inline_line, inlinee_at, inlinee_end, inlinee_of, inlinee_row};
 ghost use Rattle.pe_pdb.specs.Refusals.{PdbReturns};
 
 use crate::error::{PdbError, Result};
+use crate::inline_rows::InlineRow;
+use crate::line_lookup::is_line;
 use pe_core::read_u32;
 
 /// The subsection with the inlined functions of a module.
@@ -25,6 +27,15 @@ pub struct InlineeLine {
     /// Its file, an offset in the content of `DEBUG_S_FILECHKSMS`.
     pub file: u32,
     /// Its line.
+    pub line: u32,
+}
+
+/// A line of a source file.
+#[derive(Clone, Copy, Debug, PartialEq)]
+pub struct SourceLine {
+    /// Its file, an offset in the content of `DEBUG_S_FILECHKSMS`.
+    pub file: u32,
+    /// The line, from 1 on.
     pub line: u32,
 }
 
@@ -99,5 +110,19 @@ impl InlineeLine {
             next = end;
         }
         Ok(None)
+    }
+
+    /// The line of a row of the function. `None` where its code is of no line: 0, F00F00h, FEEFEEh.
+    pub fn line_of(&self, row: &InlineRow) -> Option<SourceLine>
+        ensures { result ≡ inline_line self.now row.now }
+    {
+        let line = self.line.wrapping_add(row.line);
+        if !is_line(line) {
+            return None;
+        }
+        Some(SourceLine {
+            file: row.file.unwrap_or(self.file),
+            line,
+        })
     }
 }

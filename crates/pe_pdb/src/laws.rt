@@ -1,12 +1,14 @@
 //! What the definitions that contracts cite say together.
 
-ghost use Rattle.std.specs.Prelude.{◌≡◌, ◌↔◌, ℕ, ◌+◌, ◌++◌, ◌-◌, ◌*◌, ◌/◌, ◌^◌, ◌<◌, ◌≤◌, [], length, nat_le, take, List, Ok, Option, Result, Some, if◌then◌else◌, true};
+ghost use Rattle.std.specs.Prelude.{◌≡◌, ◌↔◌, ℕ, ◌+◌, ◌++◌, ◌∷◌, ◌-◌, ◌*◌, ◌/◌, ◌^◌, ◌<◌, ◌≤◌, [], length, nat_le, take, List, Ok, Option, Result, Some, if◌then◌else◌, true};
 ghost use Rattle.std.specs.Int.{div_ceil};
-ghost use Rattle.std.specs.List.{Contains};
+ghost use Rattle.std.specs.List.{All, Contains};
 ghost use Rattle.pe_core.specs.Offsets.{bytes_in};
 ghost use Rattle.pe_core.specs.declared.byte_range.ByteRange.{ByteRange};
 ghost use Rattle.pe_pdb.specs.Streams.{CopiesStream, HasBlocks, StreamView, block_bytes, contiguous_of, joined, stream_bytes};
-ghost use Rattle.pe_pdb.specs.Annotations.{annotation_at};
+ghost use Rattle.pe_pdb.specs.Annotations.{annotation_at, annotations};
+ghost use Rattle.pe_pdb.specs.InlineNests.{RowsHave, SitesNest};
+ghost use Rattle.pe_pdb.specs.InlineSites.{frames_in, no_scopes};
 ghost use Rattle.pe_pdb.specs.Keys.{key_of};
 ghost use Rattle.pe_pdb.specs.Lines.{block_at, block_end, blocks, subsection_at, subsection_end, subsections};
 ghost use Rattle.pe_pdb.specs.LineIndexes.{IsLastBefore, LineAt, NoneStarts, is_line};
@@ -14,9 +16,10 @@ ghost use Rattle.pe_pdb.specs.Modules.{module_at, module_end, modules};
 ghost use Rattle.pe_pdb.specs.SectionHeaders.{rva_of, start_of};
 ghost use Rattle.pe_pdb.specs.SymbolEntries.{HasEntry, addresses, rva_by};
 ghost use Rattle.pe_pdb.specs.SymbolIndexes.{Nearest};
-ghost use Rattle.pe_pdb.specs.Symbols.{symbol_at, symbol_end, symbols};
+ghost use Rattle.pe_pdb.specs.Refusals.{PdbRefusal};
+ghost use Rattle.pe_pdb.specs.Symbols.{Symbol, symbol_at, symbol_end, symbols};
 ghost use Rattle.pe_pdb.specs.Walks.{with_end, with_more};
-ghost use Rattle.pe_pdb.specs.WrittenAnnotations.{IsWritable, written};
+ghost use Rattle.pe_pdb.specs.WrittenAnnotations.{IsWritable, all_read, end_of_annotations, written, written_all};
 ghost use Rattle.pe_pdb.specs.declared.annotation.Annotation.{Annotation};
 ghost use Rattle.pe_pdb.specs.declared.dbi.DbiHeader.{DbiHeader};
 ghost use Rattle.pe_pdb.specs.declared.error.PdbError.{PdbError};
@@ -94,8 +97,19 @@ pub fn rows_are_last_before()
 {}
 
 /// Annotations of an inlined function are read as they are written: numbers of one, two and four bytes, whatever stands before
-/// and after.
+/// and after. So are many, one after the other, up to the end of their bytes or to the operation that ends them.
 pub fn annotations_are_written()
-    ensures { (a : Annotation) → IsWritable a → (before after : List ℕ) →
+    ensures one { (a : Annotation) → IsWritable a → (before after : List ℕ) →
         annotation_at (before ++ (written a ++ after)) (length before) ≡ Ok (a, length before + length (written a)) }
+    ensures list { (xs : List Annotation) → All IsWritable xs → (before : List ℕ) →
+        annotations (before ++ written_all xs) (length before) ≡ all_read xs }
+    ensures padded { (xs : List Annotation) → All IsWritable xs → (before after : List ℕ) →
+        annotations (before ++ (written_all xs ++ (0 ∷ after))) (length before) ≡ all_read xs ++ (Ok end_of_annotations ∷ []) }
+{}
+
+/// The inlined functions that have an offset nest: each is a record within that of the one before, whose scope no record on the way
+/// ends, and its row has the offset. So it is of every byte string; only a refusal may follow the last.
+pub fn sites_nest()
+    ensures nest { (x : ℕ) (records : List (Result Symbol PdbRefusal)) → SitesNest x 0 records (frames_in x no_scopes records) }
+    ensures covered { (x : ℕ) (records : List (Result Symbol PdbRefusal)) → RowsHave x (frames_in x no_scopes records) }
 {}

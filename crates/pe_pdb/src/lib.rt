@@ -16,8 +16,8 @@
 //!    has an RVA. `SectionContributions` and `ModuleIndex` say which module that is in;
 //! 5. `LineIndex` finds the line of an RVA in the lines of its module (`Subsections`); `FileChecksum` and `Names` have the name of
 //!    its file;
-//! 6. `InlineFrames` walks over the functions that were inlined there, the outermost first; `InlineRow` and `InlineeLine` have
-//!    their lines, and `TypeRecords` their names (`FunctionId`).
+//! 6. `InlineStack` has the functions that were inlined there, the innermost first; `InlineeLine` has their lines, and
+//!    `TypeRecords` their names (`FunctionId`).
 //!
 //! Every call is proved to return what its definition in `specs/` says, for every byte string.
 #![tactic(auto)]
@@ -33,6 +33,7 @@ mod info;
 mod inline_frames;
 mod inline_rows;
 mod inline_site;
+mod inline_stack;
 mod inline_walk;
 mod inlinee;
 mod key;
@@ -72,8 +73,9 @@ pub use ids::{
 pub use info::{INFO_STREAM, PdbInfo};
 pub use inline_rows::{InlineRow, InlineRows};
 pub use inline_site::{InlineSite, S_INLINESITE, S_INLINESITE2};
+pub use inline_stack::{InlineStack, MOST_INLINED};
 pub use inline_walk::{InlineFrame, InlineFrames};
-pub use inlinee::{DEBUG_S_INLINEELINES, InlineeLine};
+pub use inlinee::{DEBUG_S_INLINEELINES, InlineeLine, SourceLine};
 pub use key::PdbKey;
 pub use line::{
     DEBUG_S_FILECHKSMS, DEBUG_S_LINES, FIRST_BLOCK, LineBlock, LineBlocks, LineHeader, LineRow,

@@ -21,7 +21,7 @@ const HIDDEN: u32 = 0xF0_0F00;
 const STEPPED_INTO: u32 = 0xFE_EFEE;
 
 /// Whether a number is that of a line.
-fn is_line(number: u32) -> bool
+pub(crate) fn is_line(number: u32) -> bool
     ensures { result ≡ is_line number }
 {
     !matches!(number, 0 | HIDDEN | STEPPED_INTO)

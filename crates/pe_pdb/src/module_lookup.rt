@@ -44,7 +44,7 @@ impl<'r> ModuleIndex<'r> {
     }
 
     /// The index of the module that has an RVA: that of the first range with it. `None` where no range has it.
-    pub fn module_at(&self, rva: u32) -> Option<u16>
+    pub fn module_at(&self, rva: u32) -> Option<u32>
         ensures { result ≡ module_at_rva self.now.ranges.now rva }
     {
         let number = number_at(self.entries, u64::from(rva));

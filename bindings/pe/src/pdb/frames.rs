@@ -48,7 +48,7 @@ pub struct ToldFrame {
 
 impl ToldFrame {
     pub fn of(frame: &SymbolFrame) -> ToldFrame {
-        let (name, raw_name) = both_names(Some(&frame.name));
+        let (name, raw_name) = names_of(frame);
         let SymbolFrame { function_rva, offset, is_inlined, .. } = *frame;
         ToldFrame { name, raw_name, function_rva, offset, source: source_of(frame), is_inlined, line: line_of(frame) }
     }
@@ -63,6 +63,11 @@ impl ToldFrame {
             false => format!("{name}+{:#x}{kind}", self.offset),
         }
     }
+}
+
+/// The name of a frame, and as the PDB has it. None of an inlined function that the PDB does not name.
+pub fn names_of(frame: &SymbolFrame) -> (Option<String>, Option<String>) {
+    both_names(Some(frame.name.as_str()).filter(|it| !it.is_empty()))
 }
 
 /// How many bytes a frame counts for where it is shown.

@@ -59,6 +59,9 @@ fn warnings(told: &Told, page: &mut Page) {
     if told.head.is_moved {
         page.warning("a tool moved the code of the image after it was linked (OMAP): RVAs are those before that");
     }
+    if told.head.is_fastlink {
+        page.warning("linked with /DEBUG:FASTLINK: symbols and lines are in the objects, which are not read");
+    }
     for (part, refusal) in [("DBI stream", &told.dbi_error), ("symbols", &told.symbols_error)] {
         if let Some(refusal) = refusal {
             page.warning(format_args!("{part}: {refusal}"));

@@ -6,7 +6,7 @@ use super::symbols::SymbolFolders;
 use super::told::{Frame, Function, Inlined, Thread};
 use super::{Loaded, Texts};
 use crate::demangle::both_names;
-use crate::pdb::frames::{line_of, size_of, source_of, Line};
+use crate::pdb::frames::{line_of, names_of, size_of, source_of, Line};
 use pe_c::{Dump, FunctionName, NameSource, SymbolFrame};
 
 /// Puts its function to each frame that has none: by a PDB, where there are folders of them, and else by the image. The names of all
@@ -55,10 +55,10 @@ pub fn function_of_pdb(found: &[SymbolFrame], at: u32, texts: &mut Texts<'_>) ->
         return None;
     }
     let inlined = inlined.iter().map(|it| {
-        let (name, raw_name) = both_names(Some(&it.name));
+        let (name, raw_name) = names_of(it);
         Inlined { name, raw_name, line: line_of(it) }
     });
-    let (name, raw_name) = both_names(Some(&own.name));
+    let (name, raw_name) = names_of(own);
     Some(Function {
         name,
         raw_name,

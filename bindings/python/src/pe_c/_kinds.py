@@ -281,6 +281,8 @@ class Kind(enum.IntEnum):
     """section contributions of a PDB are not a multiple of their size"""
     PDB_ANNOTATION = 626
     """annotation of an inlined function truncated or not known"""
+    PDB_INLINE_DEPTH = 627
+    """more than 64 inlined functions at one offset of a procedure"""
     OTHER = -1
     """a number that this version does not know"""
 

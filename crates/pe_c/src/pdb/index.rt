@@ -28,7 +28,7 @@ fn class_of(number: u32) -> SymbolClass
 }
 
 /// The bytes up to the end of a range. `Short` where it is not inside them.
-fn up_to<'a>(bytes: &'a [u8], range: &Range) -> Result<&'a [u8]>
+pub fn up_to<'a>(bytes: &'a [u8], range: &Range) -> Result<&'a [u8]>
     ensures { PdbReturns (λ s. s.now) result (up_to bytes.entry.now range.now) }
 {
     let part = part_of(bytes, range)?;

@@ -3,7 +3,7 @@ use Rattle.std.proofs.Math.ListN.{length-set}
 use Rattle.pe_pdb.specs.Ids.{count_of, start_of, starts_in, types_view}
 use Rattle.pe_pdb.specs.Refusals.{pdb_kind_of}
 use Rattle.pe_pdb.specs.Symbols.{symbol_view}
-use Rattle.pe_pdb.proofs.RecordStarts.{one_more_start, start_next, start_none, starts_all, starts_refused}
+use Rattle.pe_pdb.proofs.RecordStarts.{one_more_start, rest_left, start_next, start_none, starts_all, starts_refused}
 use Rattle.pe_pdb.proofs.ids.TypeRecords.put_starts.Goals as goal
 
 pub loop-index-init : goal.loop-index-init
@@ -11,6 +11,7 @@ loop-index-init c = record {
   at = start_none c.args.self.now.records.now;
   starts = λ k d low. absurd (omega (arith, low));
   same = refl;
+  rest = refl;
 }
 
 pub returns-in_err-record-clause-count : goal.returns-in_err-record-clause-count
@@ -29,6 +30,7 @@ loop-index-preserved c =
       at = start_next b c.loop-index.index c.loop-index.next c.end-next.result (symbol_view c.in_ok-record.record) c.loop-index.invariant.at c.in_ok-record.ensures.value c.end-next.ensures;
       starts = one_more_start b c.loop-index.room c.loop-index.index c.loop-index.next lt c.loop-index.invariant.at c.loop-index.invariant.starts;
       same = length-set c.loop-index.room c.loop-index.index _ ∙ c.loop-index.invariant.same;
+      rest = rest_left c.args.room.now c.loop-index.room c.loop-index.index _ c.loop-index.invariant.rest;
     }
 
 pub returns-clause-count : goal.returns-clause-count
@@ -40,3 +42,8 @@ returns-clause-count c =
 
 pub returns-clause-starts : goal.returns-clause-starts
 returns-clause-starts c = λ k d low. c.loop-index.invariant.starts k d (omega (arith, low, c.loop-index-test.false))
+
+pub returns-clause-rest : goal.returns-clause-rest
+returns-clause-rest c =
+    let end : c.loop-index.index ≡ c.len-count.result = omega (arith, c.loop-index-test.false, c.loop-index.auto.index-end) in
+    (c.loop-index.invariant.same, rw (sym end) c.loop-index.invariant.rest)
