@@ -158,8 +158,8 @@ export class Caller {
   }
 
   /** The items of a walk by a call that lists many of them, from where it is, or of what starts one, with so many runs for each
-   * where the call reads names together. `cut` returns the walk with its next so many entries alone, or null at its end, for
-   * one that may skip entries. */
+   * where the call reads names together. `cut` returns a walk over exports with its next so many entries alone, or null at its end,
+   * since that may skip entries. */
   *many(name, start, { runs = 0, cut, given = {} } = {}) {
     const walk = typeof start === 'function' ? start() : start;
     if (!walk) return;
@@ -168,7 +168,7 @@ export class Caller {
       if (!part) return;
       const { found } = this.#listed(name, { ...given, walk: part }, count, runs);
       for (let i = 0; i < found.length; i++) yield found[i];
-      if (cut) walk.next = part.next;
+      if (cut) walk.exports.next = part.exports.next;
       else if (!found.length) return;
     }
   }

@@ -6,11 +6,11 @@ use crate::base_relocations::{Relocation, RelocationBlock};
 use crate::bound_imports::{BoundForwarder, BoundImport};
 use crate::coff::{Symbol, SymbolWalk, pe_c_next_symbol};
 use crate::debug_walks::PogoEntry;
-use crate::delay_imports::{DelayLibrary, DelayedFunction, DelayedFunctions};
+use crate::delay_imports::{DelayLibrary, DelayWalk, DelayedFunction, DelayedFunctionWalk};
 use crate::export_addresses::{AddressTable, Exported};
-use crate::exports::{Export, Exports};
+use crate::exports::{Export, ExportWalk};
 use crate::guard_tables::{GuardEntries, GuardEntry};
-use crate::imports::{Import, Imports, Libraries, Library};
+use crate::imports::{Import, ImportWalk, Library, LibraryWalk};
 use crate::lists::arm64::{pe_c_list_arm64_codes, pe_c_list_arm64_functions};
 use crate::lists::bound_imports::{pe_c_list_bound_forwarders, pe_c_list_bound_imports};
 use crate::lists::debug::pe_c_list_pogo_entries;
@@ -23,7 +23,7 @@ use crate::lists::relocations::{pe_c_list_relocation_blocks, pe_c_list_relocatio
 use crate::lists::resources::{pe_c_list_resource_leaves, pe_c_list_version_blocks};
 use crate::lists::x64::{pe_c_list_codes, pe_c_list_functions};
 use crate::ranges::Range;
-use crate::resource_leaves::{ResourceLeaf, ResourceLeaves};
+use crate::resource_leaves::{LeafWalk, ResourceLeaf};
 use crate::results::{DONE, NOTHING};
 use crate::unwinding::{Code, CodeWalk};
 use crate::version_blocks::VersionBlock;
@@ -57,28 +57,32 @@ pub(crate) fn pe_c_next_arm64_code(
     one(number, written, NOTHING)
 }
 
-pub(crate) fn pe_c_next_export(view: &View, walk: &mut Exports, out: &mut Export) -> u32 {
+pub(crate) fn pe_c_next_export(view: &View, walk: &mut ExportWalk, out: &mut Export) -> u32 {
     let (mut entries, mut written) = ([*out], 0);
     let number = pe_c_list_exports(view, walk, &mut [], &mut entries, &mut written);
     *out = entries[0];
     one(number, written, NOTHING)
 }
 
-pub(crate) fn pe_c_next_library(view: &View, walk: &mut Libraries, out: &mut Library) -> u32 {
+pub(crate) fn pe_c_next_library(view: &View, walk: &mut LibraryWalk, out: &mut Library) -> u32 {
     let (mut entries, mut written) = ([*out], 0);
     let number = pe_c_list_libraries(view, walk, &mut [], &mut entries, &mut written);
     *out = entries[0];
     one(number, written, NOTHING)
 }
 
-pub(crate) fn pe_c_next_import(view: &View, walk: &mut Imports, out: &mut Import) -> u32 {
+pub(crate) fn pe_c_next_import(view: &View, walk: &mut ImportWalk, out: &mut Import) -> u32 {
     let (mut entries, mut written) = ([*out], 0);
     let number = pe_c_list_imports(view, walk, &mut [], &mut entries, &mut written);
     *out = entries[0];
     one(number, written, NOTHING)
 }
 
-pub(crate) fn pe_c_next_delay_import(view: &View, walk: &mut Range, out: &mut DelayLibrary) -> u32 {
+pub(crate) fn pe_c_next_delay_import(
+    view: &View,
+    walk: &mut DelayWalk,
+    out: &mut DelayLibrary,
+) -> u32 {
     let (mut entries, mut written) = ([*out], 0);
     let number = pe_c_list_delay_imports(view, walk, &mut [], &mut entries, &mut written);
     *out = entries[0];
@@ -87,7 +91,7 @@ pub(crate) fn pe_c_next_delay_import(view: &View, walk: &mut Range, out: &mut De
 
 pub(crate) fn pe_c_next_delayed_function(
     view: &View,
-    walk: &mut DelayedFunctions,
+    walk: &mut DelayedFunctionWalk,
     out: &mut DelayedFunction,
 ) -> u32 {
     let (mut entries, mut written) = ([*out], 0);
@@ -140,7 +144,7 @@ pub(crate) fn pe_c_next_version_block(
 
 pub(crate) fn pe_c_next_resource_leaf(
     view: &View,
-    walk: &mut ResourceLeaves,
+    walk: &mut LeafWalk,
     out: &mut ResourceLeaf,
 ) -> u32 {
     let (mut entries, mut written) = ([*out], 0);

@@ -190,12 +190,12 @@ pub struct View {
 }
 const _: () = assert!(core::mem::size_of::<View>() == 56);
 
-/// The sections of the last RVAs of a plan, which its steps test before the others: the RVAs of records mostly lie in
-/// one section or two.
+/// The sections of the last RVAs of a walk, which calls over exports, imports, delay imports, resources and the records
+/// of a plan test before the others: the RVAs of a table mostly lie in one section or two.
 ///
-/// `kept` of such a walk is all 0 at the start, and only the step calls read and write it. Where a caller changes it
-/// and sections overlap, a step may return an offset by another section, and no other harm is done; a number past the
-/// last section maps nothing.
+/// `kept` of such a walk is all 0 at the start, and only these calls read and write it. Where a caller changes it and
+/// sections overlap, they may return an offset by another section, and no other harm is done; a number past the last
+/// section maps nothing.
 #[repr(C)]
 #[derive(Clone, Copy, Debug, Default, PartialEq, Eq)]
 pub struct KeptSections {
@@ -1445,6 +1445,19 @@ pub struct Exports {
 }
 const _: () = assert!(core::mem::size_of::<Exports>() == 64);
 
+/// A walk over exports.
+///
+/// It starts as `PE_C_EMPTY` with what [`pe_c_export_tables`] returns.
+#[repr(C)]
+#[derive(Clone, Copy, Debug, Default, PartialEq, Eq)]
+pub struct ExportWalk {
+    /// Where it stands.
+    pub exports: Exports,
+    /// The sections of its last RVAs.
+    pub kept: KeptSections,
+}
+const _: () = assert!(core::mem::size_of::<ExportWalk>() == 72);
+
 /// An export.
 #[repr(C)]
 #[derive(Clone, Copy, Debug, Default, PartialEq, Eq)]
@@ -1615,6 +1628,30 @@ pub struct Imports {
 }
 const _: () = assert!(core::mem::size_of::<Imports>() == 24);
 
+/// A walk over libraries.
+///
+/// It starts as `PE_C_EMPTY` with what [`pe_c_import_libraries`] returns.
+#[repr(C)]
+#[derive(Clone, Copy, Debug, Default, PartialEq, Eq)]
+pub struct LibraryWalk {
+    /// Where it stands.
+    pub libraries: Libraries,
+    /// The sections of its last RVAs.
+    pub kept: KeptSections,
+}
+const _: () = assert!(core::mem::size_of::<LibraryWalk>() == 24);
+
+/// A walk over the imports of a library.
+#[repr(C)]
+#[derive(Clone, Copy, Debug, Default, PartialEq, Eq)]
+pub struct ImportWalk {
+    /// Where it stands; at the start that of the library.
+    pub imports: Imports,
+    /// The sections of its last RVAs.
+    pub kept: KeptSections,
+}
+const _: () = assert!(core::mem::size_of::<ImportWalk>() == 32);
+
 /// A DLL that an image imports from, `IMAGE_IMPORT_DESCRIPTOR`.
 #[repr(C)]
 #[derive(Clone, Copy, Debug, Default, PartialEq, Eq)]
@@ -1726,6 +1763,30 @@ pub struct DelayedFunctions {
     pub spare: u32,
 }
 const _: () = assert!(core::mem::size_of::<DelayedFunctions>() == 24);
+
+/// A walk over the DLLs.
+///
+/// It starts as `PE_C_EMPTY` with what [`pe_c_delay_imports`] returns.
+#[repr(C)]
+#[derive(Clone, Copy, Debug, Default, PartialEq, Eq)]
+pub struct DelayImportWalk {
+    /// Those of the directory that are left.
+    pub entries: Range,
+    /// The sections of its last RVAs.
+    pub kept: KeptSections,
+}
+const _: () = assert!(core::mem::size_of::<DelayImportWalk>() == 24);
+
+/// A walk over what is imported of a DLL.
+#[repr(C)]
+#[derive(Clone, Copy, Debug, Default, PartialEq, Eq)]
+pub struct DelayedFunctionWalk {
+    /// Where it stands; at the start that of the DLL.
+    pub functions: DelayedFunctions,
+    /// The sections of its last RVAs.
+    pub kept: KeptSections,
+}
+const _: () = assert!(core::mem::size_of::<DelayedFunctionWalk>() == 32);
 
 /// A DLL that is loaded later.
 #[repr(C)]
@@ -1937,6 +1998,19 @@ pub struct ResourceWalk {
     pub name: ResourceEntry,
 }
 const _: () = assert!(core::mem::size_of::<ResourceWalk>() == 80);
+
+/// A walk over leaves.
+///
+/// It starts as `PE_C_EMPTY` with what [`pe_c_resource_leaves`] returns.
+#[repr(C)]
+#[derive(Clone, Copy, Debug, Default, PartialEq, Eq)]
+pub struct LeafWalk {
+    /// Where it stands.
+    pub leaves: ResourceWalk,
+    /// The sections of its last RVAs.
+    pub kept: KeptSections,
+}
+const _: () = assert!(core::mem::size_of::<LeafWalk>() == 88);
 
 /// A directory of the tree, `IMAGE_RESOURCE_DIRECTORY`.
 #[repr(C)]
@@ -2939,11 +3013,11 @@ extern "C" {
     /// offset, [`pe_c_overlay`] and the lists of their names. Few calls, and images with few sections, as most, gain
     /// nothing by it. No entries, and [`DONE`], where no section is searched: in an image as loaded, and where the file
     /// alignment is not a power of two. An index in the view that is passed makes no difference. An index of other
-    /// sections gives wrong offsets, and no other harm. With an index a plan and a list keep no sections, and need
-    /// none; nor do they under 32 sections or fewer, which are searched for less. Else a step over the records of a
-    /// plan tests the section or two that its walk keeps, and a list the RVAs near its last ones, and they search all
-    /// of them only for an RVA elsewhere; all other steps search all for each RVA. A section that may share an RVA with
-    /// an earlier one, whose size is rounded up to a page, is not kept.
+    /// sections gives wrong offsets, and no other harm. With an index a walk keeps no sections, and needs none; nor
+    /// does it under 32 sections or fewer, which are searched for less. Else a call over exports, imports, delay
+    /// imports, resources or the records of a plan tests the section or two that its walk keeps, and searches all of
+    /// them only for an RVA elsewhere; all other calls search all for each RVA. A section that may share an RVA with an
+    /// earlier one, whose size is rounded up to a page, is not kept.
     ///
     /// Errors: [`ROOM`] where the array has too few entries; then `written` is how many it has to have.
     pub fn pe_c_index(view: *const View, room: *mut IndexEntry, entries: usize, written: *mut u64) -> u32;
@@ -4225,7 +4299,7 @@ extern "C" {
     /// Errors: [`ROOM`]; [`Error::SHORT`] where the tables are not inside the bytes.
     pub fn pe_c_list_exports(
         view: *const View,
-        walk: *mut Exports,
+        walk: *mut ExportWalk,
         runs: *mut Run,
         number_of_runs: usize,
         entries: *mut Export,
@@ -4240,7 +4314,7 @@ extern "C" {
     /// [`pe_c_next_library`].
     pub fn pe_c_list_libraries(
         view: *const View,
-        walk: *mut Libraries,
+        walk: *mut LibraryWalk,
         runs: *mut Run,
         number_of_runs: usize,
         entries: *mut Library,
@@ -4252,7 +4326,7 @@ extern "C" {
     /// Errors: [`ROOM`]; those of [`pe_c_next_import`].
     pub fn pe_c_list_imports(
         view: *const View,
-        walk: *mut Imports,
+        walk: *mut ImportWalk,
         runs: *mut Run,
         number_of_runs: usize,
         entries: *mut Import,
@@ -4331,7 +4405,7 @@ extern "C" {
     /// Errors: [`ROOM`]; those of [`pe_c_next_resource_leaf`].
     pub fn pe_c_list_resource_leaves(
         view: *const View,
-        walk: *mut ResourceWalk,
+        walk: *mut LeafWalk,
         entries: *mut ResourceLeaf,
         number_of_entries: usize,
         written: *mut u64,
@@ -4376,7 +4450,7 @@ extern "C" {
     /// Errors: [`ROOM`]; those of [`pe_c_next_delay_import`].
     pub fn pe_c_list_delay_imports(
         view: *const View,
-        walk: *mut Range,
+        walk: *mut DelayImportWalk,
         runs: *mut Run,
         number_of_runs: usize,
         entries: *mut DelayImport,
@@ -4389,7 +4463,7 @@ extern "C" {
     /// Errors: [`ROOM`]; those of [`pe_c_next_delayed_function`].
     pub fn pe_c_list_delayed_functions(
         view: *const View,
-        walk: *mut DelayedFunctions,
+        walk: *mut DelayedFunctionWalk,
         runs: *mut Run,
         number_of_runs: usize,
         entries: *mut DelayedFunction,
@@ -5015,7 +5089,7 @@ pub unsafe extern "C" fn pe_c_next_arm64_code(
 #[rustfmt::skip]
 pub unsafe extern "C" fn pe_c_next_export(
     view: *const View,
-    walk: *mut Exports,
+    walk: *mut ExportWalk,
     out: *mut Export,
 ) -> u32 {
     let mut written = 0;
@@ -5037,7 +5111,7 @@ pub unsafe extern "C" fn pe_c_next_export(
 #[rustfmt::skip]
 pub unsafe extern "C" fn pe_c_next_library(
     view: *const View,
-    walk: *mut Libraries,
+    walk: *mut LibraryWalk,
     out: *mut Library,
 ) -> u32 {
     let mut written = 0;
@@ -5056,7 +5130,7 @@ pub unsafe extern "C" fn pe_c_next_library(
 #[rustfmt::skip]
 pub unsafe extern "C" fn pe_c_next_import(
     view: *const View,
-    walk: *mut Imports,
+    walk: *mut ImportWalk,
     out: *mut Import,
 ) -> u32 {
     let mut written = 0;
@@ -5078,7 +5152,7 @@ pub unsafe extern "C" fn pe_c_next_import(
 #[rustfmt::skip]
 pub unsafe extern "C" fn pe_c_next_delay_import(
     view: *const View,
-    walk: *mut Range,
+    walk: *mut DelayImportWalk,
     out: *mut DelayImport,
 ) -> u32 {
     let mut written = 0;
@@ -5098,7 +5172,7 @@ pub unsafe extern "C" fn pe_c_next_delay_import(
 #[rustfmt::skip]
 pub unsafe extern "C" fn pe_c_next_delayed_function(
     view: *const View,
-    walk: *mut DelayedFunctions,
+    walk: *mut DelayedFunctionWalk,
     out: *mut DelayedFunction,
 ) -> u32 {
     let mut written = 0;
@@ -5190,7 +5264,7 @@ pub unsafe extern "C" fn pe_c_next_version_block(
 #[rustfmt::skip]
 pub unsafe extern "C" fn pe_c_next_resource_leaf(
     view: *const View,
-    walk: *mut ResourceWalk,
+    walk: *mut LeafWalk,
     out: *mut ResourceLeaf,
 ) -> u32 {
     let mut written = 0;

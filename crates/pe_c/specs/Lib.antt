@@ -85,6 +85,7 @@ pub mod ImageWrites
 pub mod NearMaps
 pub mod ExportWindows
 pub mod KeptSections
+pub mod KeptWalks
 pub mod NearLists
 pub mod StepFailures
 pub mod ResourceFailures
