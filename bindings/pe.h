@@ -95,7 +95,6 @@
  *   pe_c_debug_entries              Returns the entries of the debug directory as a walk for pe_c_next_debug_entry
  *   pe_c_next_debug_entry           Returns the next entry of the debug directory
  *   pe_c_first_debug_entry          Returns the first entry of a type
- *   pe_c_symbol_key                 Returns the symbol key
  *   pe_c_codeview                   Returns the symbol key of a CodeView record that stands alone, as a minidump has one ..
  *   pe_c_debug_data                 Reads the record of the first entry of each type at once
  *   pe_c_symbol_key_of              Returns the symbol key
@@ -184,8 +183,6 @@
  * bound imports
  *   pe_c_bound_imports              Returns the bytes of the directory
  * version information and manifest
- *   pe_c_fixed_version              Returns the fixed file information
- *   pe_c_version_text               Returns the value of a name, PE_C_COMMENTS .. PE_C_SPECIAL_BUILD: UTF-16 code units ..
  *   pe_c_version_blocks             Returns version information as a walk over its blocks, of which the first is all of it
  *   pe_c_manifest                   Returns the range of the manifest, an XML text
  * resources
@@ -263,6 +260,10 @@
  *   pe_c_arm64_function_at          Returns the function with an index, from 0
  *   pe_c_export_at                  Returns the export with an index, from 0
  *   pe_c_symbol                     Reads the symbol in an entry of a symbol table
+ * two calls
+ *   pe_c_symbol_key                 Returns the symbol key
+ *   pe_c_fixed_version              Returns the fixed file information
+ *   pe_c_version_text               Returns the value of a name, PE_C_COMMENTS .. PE_C_SPECIAL_BUILD: UTF-16 code units ..
  * why a step is refused
  *   pe_c_library_failure            Of pe_c_next_library
  *   pe_c_import_failure             Of pe_c_next_import
@@ -1203,10 +1204,6 @@ uint32_t pe_c_next_debug_entry(const uint8_t *bytes, size_t length, pe_c_range *
 /* Returns the first entry of a type. A truncated last entry is none. PE_C_NOTHING without a directory or such an entry.
  * Errors: PE_C_UNMAPPED; PE_C_DEBUG_BOUNDS in strict mode. */
 uint32_t pe_c_first_debug_entry(const pe_c_view *view, uint32_t data_type, pe_c_debug_entry *out) PE_C_RESULT(1, 3);
-
-/* Returns the symbol key: the record of the first CodeView entry, if it is one of PDB 7.0. PE_C_NOTHING also without such an
- * entry. Errors: those of pe_c_first_debug_entry, then those of pe_c_symbol_key_of. */
-uint32_t pe_c_symbol_key(const pe_c_view *view, pe_c_key *out) PE_C_RESULT(1, 2);
 
 /* Returns the symbol key of a CodeView record that stands alone, as a minidump has one of each module: no other debug
  * data is read, and no damage there is an error. PE_C_NOTHING where it is not a record of PDB 7.0.
@@ -2824,14 +2821,6 @@ typedef struct {
 
 PE_C_SIZE(pe_c_version_block, 64);
 
-/* Returns the fixed file information. PE_C_NOTHING also where version information has none. A damaged string is an error too: without
- * the strings the same is read by pe_c_fixed_version_in, of the first 92 bytes of what pe_c_version_blocks returns. */
-uint32_t pe_c_fixed_version(const pe_c_view *view, pe_c_version *out) PE_C_RESULT(1, 2);
-
-/* Returns the value of a name, PE_C_COMMENTS .. PE_C_SPECIAL_BUILD: UTF-16 code units, little-endian, with the zeros after
- * the text, which ends at the first zero. PE_C_NOTHING also without a string of that name, and for another number. */
-uint32_t pe_c_version_text(const pe_c_view *view, uint32_t name, pe_c_range *out) PE_C_RESULT(1, 3);
-
 /* Returns version information as a walk over its blocks, of which the first is all of it. Its content is not read yet, so
  * the errors of version strings and of fixed file information are not among its errors. */
 uint32_t pe_c_version_blocks(const pe_c_view *view, pe_c_range *out) PE_C_RESULT(1, 2);
@@ -3772,6 +3761,44 @@ static inline uint32_t pe_c_symbol(const uint8_t *bytes, size_t length, const pe
 {
     pe_c_symbol_walk walk = {*table, index};
     return pe_c_next_symbol(bytes, length, &walk, out);
+}
+
+/* ---- two calls
+ *
+ * These functions are defined here too. Each makes a call, and where that is done another over what it wrote. */
+
+/* Returns the symbol key: the record of the first CodeView entry, if it is one of PDB 7.0. PE_C_NOTHING also without such an
+ * entry. Errors: those of pe_c_first_debug_entry, then those of pe_c_symbol_key_of. */
+PE_C_RESULT(1, 2)
+static inline uint32_t pe_c_symbol_key(const pe_c_view *view, pe_c_key *out)
+{
+    pe_c_debug_entry found = PE_C_EMPTY;
+    uint32_t result = pe_c_first_debug_entry(view, 2, &found);
+    return result == PE_C_DONE ? pe_c_symbol_key_of(view->bytes, view->length, view->image->mode, &found, out) : result;
+}
+
+/* Returns the fixed file information. PE_C_NOTHING also where version information has none. A damaged string is an error too:
+ * without the strings the same is read by pe_c_fixed_version_in, of the first 92 bytes of what pe_c_version_blocks returns.
+ * Errors: those of pe_c_version_blocks, then those of pe_c_fixed_version_in. */
+PE_C_RESULT(1, 2)
+static inline uint32_t pe_c_fixed_version(const pe_c_view *view, pe_c_version *out)
+{
+    pe_c_range found = PE_C_EMPTY;
+    uint32_t result = pe_c_version_blocks(view, &found);
+    return result == PE_C_DONE ? pe_c_fixed_version_in(view->bytes, view->length, &found, out) : result;
+}
+
+/* Returns the value of a name, PE_C_COMMENTS .. PE_C_SPECIAL_BUILD: UTF-16 code units, little-endian, with the zeros after
+ * the text, which ends at the first zero. PE_C_NOTHING also without a string of that name, and for another number.
+ * Errors: those of pe_c_version_blocks, then those of pe_c_version_text_in. */
+PE_C_RESULT(1, 3)
+static inline uint32_t pe_c_version_text(const pe_c_view *view, uint32_t name, pe_c_range *out)
+{
+    if (name > PE_C_SPECIAL_BUILD)
+        return PE_C_NOTHING;
+    pe_c_range found = PE_C_EMPTY;
+    uint32_t result = pe_c_version_blocks(view, &found);
+    return result == PE_C_DONE ? pe_c_version_text_in(view->bytes, view->length, &found, name, out) : result;
 }
 
 /* ---- why a step is refused

@@ -1,10 +1,13 @@
-//! The functions of `pe.h` that are a list with room for one entry: the next item of a walk, and an entry by its index.
+//! The functions of `pe.h`: those that are a list with room for one entry, the next item of a walk and an entry by its index, and those
+//! that make two calls, the second over what the first writes.
 
 use super::made::FUNCTION_INDEX;
 use crate::arm64::codes::{Arm64Code, Arm64CodeWalk};
 use crate::base_relocations::{Relocation, RelocationBlock};
 use crate::bound_imports::{BoundForwarder, BoundImport};
 use crate::coff::{Symbol, SymbolWalk, pe_c_next_symbol};
+use crate::debug::pe_c_first_debug_entry;
+use crate::debug_records::{SymbolKey, pe_c_symbol_key_of};
 use crate::debug_walks::PogoEntry;
 use crate::delay_imports::{DelayLibrary, DelayWalk, DelayedFunction, DelayedFunctionWalk};
 use crate::export_addresses::{AddressTable, Exported};
@@ -22,12 +25,15 @@ use crate::lists::imports::{pe_c_list_imports, pe_c_list_libraries};
 use crate::lists::relocations::{pe_c_list_relocation_blocks, pe_c_list_relocations};
 use crate::lists::resources::{pe_c_list_resource_leaves, pe_c_list_version_blocks};
 use crate::lists::x64::{pe_c_list_codes, pe_c_list_functions};
-use crate::ranges::Range;
+use crate::ranges::{NO_BYTES, Range};
 use crate::resource_leaves::{LeafWalk, ResourceLeaf};
 use crate::results::{DONE, NOTHING};
 use crate::unwinding::{Code, CodeWalk};
-use crate::version_blocks::VersionBlock;
+use crate::version::{pe_c_fixed_version_in, pe_c_version_text_in};
+use crate::version_blocks::{VersionBlock, pe_c_version_blocks};
 use crate::view::View;
+use pe_records::ImageDebugDirectory;
+use pe_resource::VsFixedFileInfo;
 use pe_unwind::{Arm64RuntimeFunction, RuntimeFunction};
 
 /// What such a function returns of a list that returns this, and writes so many entries: `none` where it writes none.
@@ -243,4 +249,37 @@ pub(crate) fn pe_c_symbol(bytes: &[u8], table: &Range, index: u64, out: &mut Sym
         next: index,
     };
     pe_c_next_symbol(bytes, &mut walk, out)
+}
+
+pub(crate) fn pe_c_symbol_key(view: &View, out: &mut SymbolKey) -> u32 {
+    let mut found = ImageDebugDirectory::default();
+    let number = pe_c_first_debug_entry(view, 2, &mut found);
+    if number == DONE {
+        pe_c_symbol_key_of(view.bytes, view.image.mode, &found, out)
+    } else {
+        number
+    }
+}
+
+pub(crate) fn pe_c_fixed_version(view: &View, out: &mut VsFixedFileInfo) -> u32 {
+    let mut found = NO_BYTES;
+    let number = pe_c_version_blocks(view, &mut found);
+    if number == DONE {
+        pe_c_fixed_version_in(view.bytes, &found, out)
+    } else {
+        number
+    }
+}
+
+pub(crate) fn pe_c_version_text(view: &View, name: u32, out: &mut Range) -> u32 {
+    if name > 11 {
+        return NOTHING;
+    }
+    let mut found = NO_BYTES;
+    let number = pe_c_version_blocks(view, &mut found);
+    if number == DONE {
+        pe_c_version_text_in(view.bytes, &found, name, out)
+    } else {
+        number
+    }
 }

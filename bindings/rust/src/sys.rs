@@ -3181,11 +3181,6 @@ extern "C" {
     ///
     /// Errors: [`Error::UNMAPPED`]; [`Error::DEBUG_BOUNDS`] in strict mode.
     pub fn pe_c_first_debug_entry(view: *const View, data_type: u32, out: *mut DebugEntry) -> u32;
-    /// Returns the symbol key: the record of the first CodeView entry, if it is one of PDB 7.0.
-    ///
-    /// [`NOTHING`] also without such an entry. Errors: those of [`pe_c_first_debug_entry`], then those of
-    /// [`pe_c_symbol_key_of`].
-    pub fn pe_c_symbol_key(view: *const View, out: *mut Key) -> u32;
     /// Returns the symbol key of a CodeView record that stands alone, as a minidump has one of each module: no other
     /// debug data is read, and no damage there is an error.
     ///
@@ -3946,16 +3941,6 @@ extern "C" {
     ///
     /// Error: [`Error::SHORT`].
     pub fn pe_c_bound_imports(view: *const View, out: *mut Range) -> u32;
-    /// Returns the fixed file information.
-    ///
-    /// [`NOTHING`] also where version information has none. A damaged string is an error too: without the strings the
-    /// same is read by [`pe_c_fixed_version_in`], of the first 92 bytes of what [`pe_c_version_blocks`] returns.
-    pub fn pe_c_fixed_version(view: *const View, out: *mut Version) -> u32;
-    /// Returns the value of a name, `PE_C_COMMENTS` .. `PE_C_SPECIAL_BUILD`: UTF-16 code units, little-endian, with the
-    /// zeros after the text, which ends at the first zero.
-    ///
-    /// [`NOTHING`] also without a string of that name, and for another number.
-    pub fn pe_c_version_text(view: *const View, name: u32, out: *mut Range) -> u32;
     /// Returns version information as a walk over its blocks, of which the first is all of it.
     ///
     /// Its content is not read yet, so the errors of version strings and of fixed file information are not among its
@@ -5438,4 +5423,66 @@ pub unsafe extern "C" fn pe_c_symbol(
 ) -> u32 {
     let mut walk = SymbolWalk { table: unsafe { *table }, next: index };
     unsafe { pe_c_next_symbol(bytes, length, &mut walk, out) }
+}
+
+/// Returns the symbol key: the record of the first CodeView entry, if it is one of PDB 7.0.
+///
+/// [`NOTHING`] also without such an entry. Errors: those of [`pe_c_first_debug_entry`], then those of
+/// [`pe_c_symbol_key_of`].
+///
+/// # Safety
+///
+/// As of [`pe_c_first_debug_entry`] and [`pe_c_symbol_key_of`], which it calls.
+#[rustfmt::skip]
+pub unsafe extern "C" fn pe_c_symbol_key(
+    view: *const View,
+    out: *mut Key,
+) -> u32 {
+    let mut found = DebugEntry::default();
+    let result = unsafe { pe_c_first_debug_entry(view, 2, &mut found) };
+    if result == DONE { unsafe { pe_c_symbol_key_of((*view).bytes, (*view).length, (*(*view).image).mode, &mut found, out) } } else { result }
+}
+
+/// Returns the fixed file information.
+///
+/// [`NOTHING`] also where version information has none. A damaged string is an error too: without the strings the same
+/// is read by [`pe_c_fixed_version_in`], of the first 92 bytes of what [`pe_c_version_blocks`] returns.
+///
+/// Errors: those of [`pe_c_version_blocks`], then those of [`pe_c_fixed_version_in`].
+///
+/// # Safety
+///
+/// As of [`pe_c_version_blocks`] and [`pe_c_fixed_version_in`], which it calls.
+#[rustfmt::skip]
+pub unsafe extern "C" fn pe_c_fixed_version(
+    view: *const View,
+    out: *mut Version,
+) -> u32 {
+    let mut found = Range::default();
+    let result = unsafe { pe_c_version_blocks(view, &mut found) };
+    if result == DONE { unsafe { pe_c_fixed_version_in((*view).bytes, (*view).length, &mut found, out) } } else { result }
+}
+
+/// Returns the value of a name, `PE_C_COMMENTS` .. `PE_C_SPECIAL_BUILD`: UTF-16 code units, little-endian, with the
+/// zeros after the text, which ends at the first zero.
+///
+/// [`NOTHING`] also without a string of that name, and for another number.
+///
+/// Errors: those of [`pe_c_version_blocks`], then those of [`pe_c_version_text_in`].
+///
+/// # Safety
+///
+/// As of [`pe_c_version_blocks`] and [`pe_c_version_text_in`], which it calls.
+#[rustfmt::skip]
+pub unsafe extern "C" fn pe_c_version_text(
+    view: *const View,
+    name: u32,
+    out: *mut Range,
+) -> u32 {
+    if name > 11 {
+        return NOTHING;
+    }
+    let mut found = Range::default();
+    let result = unsafe { pe_c_version_blocks(view, &mut found) };
+    if result == DONE { unsafe { pe_c_version_text_in((*view).bytes, (*view).length, &mut found, name, out) } } else { result }
 }

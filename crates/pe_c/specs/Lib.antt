@@ -86,6 +86,7 @@ pub mod NearMaps
 pub mod ExportWindows
 pub mod KeptSections
 pub mod KeptWalks
+pub mod TwoCalls
 pub mod NearLists
 pub mod StepFailures
 pub mod ResourceFailures

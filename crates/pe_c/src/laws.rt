@@ -17,6 +17,7 @@ pub mod loaded;
 pub mod results;
 pub mod signatures;
 pub mod te;
+pub mod two_calls;
 pub mod version_blocks;
 pub mod walks;
 
