@@ -20,7 +20,7 @@ enum { ENTRIES = 64, LEVELS = 4, CODES = 255 };
         return count; \
     }
 
-COUNTS(count_leaves, pe_c_resource_walk, pe_c_resource_leaf, pe_c_list_resource_leaves, view)
+COUNTS(count_leaves, pe_c_leaf_walk, pe_c_resource_leaf, pe_c_list_resource_leaves, view)
 COUNTS(count_pogo_entries, pe_c_range, pe_c_pogo_entry, pe_c_list_pogo_entries, view->bytes, view->length)
 COUNTS(count_arm64_codes, pe_c_arm64_walk, pe_c_arm64_code, pe_c_list_arm64_codes, view->bytes, view->length)
 
@@ -100,11 +100,11 @@ static uint64_t count_arm64_functions(const pe_c_view *view, const pe_c_range *t
 /* Counts all entries of the list WHAT, or puts 0 to `is_known` where it is another one. */
 static uint64_t count_alone(const pe_c_view *view, const char *what, int *is_known)
 {
-    pe_c_resource_walk leaves = PE_C_EMPTY;
+    pe_c_leaf_walk leaves = PE_C_EMPTY;
     pe_c_range range = PE_C_EMPTY;
     pe_c_debug_records records = PE_C_EMPTY;
     if (strcmp(what, "leaves") == 0)
-        return pe_c_resource_leaves(view, &leaves) == PE_C_DONE ? count_leaves(view, &leaves) : 0;
+        return pe_c_resource_leaves(view, &leaves.leaves) == PE_C_DONE ? count_leaves(view, &leaves) : 0;
     if (strcmp(what, "blocks") == 0)
         return pe_c_version_blocks(view, &range) == PE_C_DONE ? count_blocks(view, range, LEVELS) : 0;
     if (strcmp(what, "relocations") == 0)

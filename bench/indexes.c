@@ -16,8 +16,8 @@ enum { ENTRIES = 64 };
 /* The exports of a view that have a name, MOST at most, several in a call. */
 static uint64_t list_exports(const pe_c_view *view, uint64_t most)
 {
-    pe_c_exports walk = PE_C_EMPTY;
-    if (pe_c_export_tables(view, &walk) != PE_C_DONE)
+    pe_c_export_walk walk = PE_C_EMPTY;
+    if (pe_c_export_tables(view, &walk.exports) != PE_C_DONE)
         return 0;
     uint64_t count = 0, written = 1;
     while (count < most && written > 0) {
@@ -34,10 +34,10 @@ static uint64_t list_exports(const pe_c_view *view, uint64_t most)
 /* The same, a step a call. */
 static uint64_t step_exports(const pe_c_view *view, uint64_t most)
 {
-    pe_c_exports walk = PE_C_EMPTY;
+    pe_c_export_walk walk = PE_C_EMPTY;
     pe_c_export entry = PE_C_EMPTY;
     uint64_t count = 0;
-    if (pe_c_export_tables(view, &walk) == PE_C_DONE)
+    if (pe_c_export_tables(view, &walk.exports) == PE_C_DONE)
         while (count < most && pe_c_next_export(view, &walk, &entry) == PE_C_DONE)
             count++;
     return count;
@@ -46,8 +46,8 @@ static uint64_t step_exports(const pe_c_view *view, uint64_t most)
 /* Reads the first delay-loaded DLL. */
 static int first_dll(const pe_c_view *view, pe_c_delay_import *dll)
 {
-    pe_c_range walk = PE_C_EMPTY;
-    return pe_c_delay_imports(view, &walk) == PE_C_DONE && pe_c_next_delay_import(view, &walk, dll) == PE_C_DONE;
+    pe_c_delay_import_walk walk = PE_C_EMPTY;
+    return pe_c_delay_imports(view, &walk.entries) == PE_C_DONE && pe_c_next_delay_import(view, &walk, dll) == PE_C_DONE;
 }
 
 /* The functions of the first delay-loaded DLL, MOST at most, a step a call. */
@@ -57,7 +57,7 @@ static uint64_t step_delayed(const pe_c_view *view, uint64_t most)
     pe_c_delayed_function entry = PE_C_EMPTY;
     if (!first_dll(view, &dll))
         return 0;
-    pe_c_delayed_functions walk = dll.functions;
+    pe_c_delayed_function_walk walk = {.functions = dll.functions};
     uint64_t count = 0;
     while (count < most && pe_c_next_delayed_function(view, &walk, &entry) == PE_C_DONE)
         count++;
@@ -70,11 +70,12 @@ static uint64_t list_delayed(const pe_c_view *view, uint64_t most)
     pe_c_delay_import dll = PE_C_EMPTY;
     if (!first_dll(view, &dll))
         return 0;
+    pe_c_delayed_function_walk walk = {.functions = dll.functions};
     pe_c_run *runs = calloc(most + 1, sizeof *runs);
     pe_c_delayed_function *entries = calloc(most + 1, sizeof *entries);
     uint64_t written = 0;
     if (runs == NULL || entries == NULL
-        || pe_c_list_delayed_functions(view, &dll.functions, runs, most, entries, most, &written) != PE_C_DONE)
+        || pe_c_list_delayed_functions(view, &walk, runs, most, entries, most, &written) != PE_C_DONE)
         written = 0;
     free(runs);
     free(entries);

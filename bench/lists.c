@@ -134,17 +134,17 @@ static uint64_t read_lookups(void)
         return count; \
     }
 
-READS(exports_of, pe_c_exports, pe_c_export, pe_c_next_export, pe_c_list_exports)
-READS(libraries_of, pe_c_libraries, pe_c_library, pe_c_next_library, pe_c_list_libraries)
-READS(imports_of, pe_c_imports, pe_c_import, pe_c_next_import, pe_c_list_imports)
+READS(exports_of, pe_c_export_walk, pe_c_export, pe_c_next_export, pe_c_list_exports)
+READS(libraries_of, pe_c_library_walk, pe_c_library, pe_c_next_library, pe_c_list_libraries)
+READS(imports_of, pe_c_import_walk, pe_c_import, pe_c_next_import, pe_c_list_imports)
 
 static uint64_t read_exports(void)
 {
     static pe_c_export *exports;
-    pe_c_exports walk = PE_C_EMPTY;
-    if (pe_c_export_tables(&view, &walk) != PE_C_DONE)
+    pe_c_export_walk walk = PE_C_EMPTY;
+    if (pe_c_export_tables(&view, &walk.exports) != PE_C_DONE)
         return 0;
-    size_t most = (size_t)walk.names.length / 4 + 1;
+    size_t most = (size_t)walk.exports.names.length / 4 + 1;
     if (exports == NULL)
         exports = room_for(most, sizeof *exports);
     return exports_of(&walk, exports, most);
@@ -178,13 +178,13 @@ static uint64_t read_imports(void)
 {
     static pe_c_library libraries[ROOM];
     static pe_c_import imports[1 << 16];
-    pe_c_libraries walk = PE_C_EMPTY;
+    pe_c_library_walk walk = PE_C_EMPTY;
     uint64_t count = 0;
-    if (pe_c_import_libraries(&view, &walk) != PE_C_DONE)
+    if (pe_c_import_libraries(&view, &walk.libraries) != PE_C_DONE)
         return 0;
     uint64_t number = libraries_of(&walk, libraries, ROOM);
     for (uint64_t i = 0; i < number; i++)
-        count += imports_of(&libraries[i].imports, imports, 1 << 16);
+        count += imports_of(&(pe_c_import_walk){.imports = libraries[i].imports}, imports, 1 << 16);
     return count;
 }
 

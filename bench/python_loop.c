@@ -14,19 +14,19 @@ static uint64_t sum;
 
 static uint64_t names(void)
 {
-    pe_c_libraries libraries = PE_C_EMPTY;
+    pe_c_library_walk libraries = PE_C_EMPTY;
     pe_c_library library = PE_C_EMPTY;
     pe_c_import import = PE_C_EMPTY;
-    pe_c_exports exports = PE_C_EMPTY;
+    pe_c_export_walk exports = PE_C_EMPTY;
     pe_c_address_table table = PE_C_EMPTY;
     pe_c_export export = PE_C_EMPTY;
     pe_c_exported entry = PE_C_EMPTY;
     uint64_t count = 0;
-    if (pe_c_import_libraries(&view, &libraries) == PE_C_DONE)
+    if (pe_c_import_libraries(&view, &libraries.libraries) == PE_C_DONE)
         while (pe_c_next_library(&view, &libraries, &library) == PE_C_DONE)
-            for (; pe_c_next_import(&view, &library.imports, &import) == PE_C_DONE; count++)
+            for (pe_c_import_walk walk = {.imports = library.imports}; pe_c_next_import(&view, &walk, &import) == PE_C_DONE; count++)
                 sum += import.name.length;
-    if (pe_c_export_addresses(&view, &table) == PE_C_DONE && pe_c_export_tables(&view, &exports) == PE_C_DONE)
+    if (pe_c_export_addresses(&view, &table) == PE_C_DONE && pe_c_export_tables(&view, &exports.exports) == PE_C_DONE)
         while (pe_c_next_export(&view, &exports, &export) == PE_C_DONE) {
             if (pe_c_export_at(&view, &table, export.index, &entry) == PE_C_DONE)
                 sum += export.name.length + entry.rva;

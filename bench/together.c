@@ -40,11 +40,11 @@
         return count; \
     }
 
-LISTS(list_exports, pe_c_exports, pe_c_export, pe_c_list_exports)
-LISTS(list_libraries, pe_c_libraries, pe_c_library, pe_c_list_libraries)
-LISTS(list_imports, pe_c_imports, pe_c_import, pe_c_list_imports)
-LISTS(list_dlls, pe_c_range, pe_c_delay_import, pe_c_list_delay_imports)
-LISTS(list_delayed, pe_c_delayed_functions, pe_c_delayed_function, pe_c_list_delayed_functions)
+LISTS(list_exports, pe_c_export_walk, pe_c_export, pe_c_list_exports)
+LISTS(list_libraries, pe_c_library_walk, pe_c_library, pe_c_list_libraries)
+LISTS(list_imports, pe_c_import_walk, pe_c_import, pe_c_list_imports)
+LISTS(list_dlls, pe_c_delay_import_walk, pe_c_delay_import, pe_c_list_delay_imports)
+LISTS(list_delayed, pe_c_delayed_function_walk, pe_c_delayed_function, pe_c_list_delayed_functions)
 
 static uint64_t list_addresses(const pe_c_view *view, pe_c_run *runs, size_t number_of_runs)
 {
@@ -108,14 +108,16 @@ static uint64_t list_section_names(const pe_c_view *view, pe_c_run *runs, size_t
 
 static uint64_t list_delay_imports(const pe_c_view *view, const char *what, pe_c_run *runs, size_t number_of_runs)
 {
-    pe_c_range walk = PE_C_EMPTY;
+    pe_c_delay_import_walk walk = PE_C_EMPTY;
     pe_c_delay_import first = PE_C_EMPTY;
-    if (pe_c_delay_imports(view, &walk) != PE_C_DONE)
+    if (pe_c_delay_imports(view, &walk.entries) != PE_C_DONE)
         return 0;
     if (strcmp(what, "dlls") == 0)
-        return list_dlls(view, &walk, (size_t)walk.length / 32, runs, number_of_runs);
-    return pe_c_next_delay_import(view, &walk, &first) != PE_C_DONE
-               ? 0 : list_delayed(view, &first.functions, view->length / 8, runs, number_of_runs);
+        return list_dlls(view, &walk, (size_t)walk.entries.length / 32, runs, number_of_runs);
+    if (pe_c_next_delay_import(view, &walk, &first) != PE_C_DONE)
+        return 0;
+    pe_c_delayed_function_walk functions = {.functions = first.functions};
+    return list_delayed(view, &functions, view->length / 8, runs, number_of_runs);
 }
 
 static uint64_t list_symbols(const uint8_t *bytes, size_t length, pe_c_run *runs, size_t number_of_runs)
@@ -147,15 +149,16 @@ static uint64_t list_symbols(const uint8_t *bytes, size_t length, pe_c_run *runs
     return count;
 }
 
-static uint64_t list_all_imports(const pe_c_view *view, pe_c_libraries libraries, pe_c_run *runs, size_t number_of_runs)
+static uint64_t list_all_imports(const pe_c_view *view, pe_c_library_walk steps, pe_c_run *runs, size_t number_of_runs)
 {
-    pe_c_libraries steps = libraries;
     pe_c_library library = PE_C_EMPTY;
     pe_c_library_imports walk = PE_C_EMPTY;
     uint64_t count = 0, written = 1;
     if (runs == NULL) {
-        while (pe_c_next_library(view, &steps, &library) == PE_C_DONE)
-            count += list_imports(view, &library.imports, 0, NULL, 0);
+        while (pe_c_next_library(view, &steps, &library) == PE_C_DONE) {
+            pe_c_import_walk imports = {.imports = library.imports};
+            count += list_imports(view, &imports, 0, NULL, 0);
+        }
         return count;
     }
     /* Each run is for a library or an import. */
@@ -175,15 +178,17 @@ static uint64_t list_all_imports(const pe_c_view *view, pe_c_libraries libraries
 
 static uint64_t list_all_delayed(const pe_c_view *view, pe_c_run *runs, size_t number_of_runs)
 {
-    pe_c_range dlls = PE_C_EMPTY;
+    pe_c_delay_import_walk dlls = PE_C_EMPTY;
     pe_c_delay_import dll = PE_C_EMPTY;
     pe_c_library_functions walk = PE_C_EMPTY;
     uint64_t count = 0, written = 1;
-    if (pe_c_delay_imports(view, &dlls) != PE_C_DONE)
+    if (pe_c_delay_imports(view, &dlls.entries) != PE_C_DONE)
         return 0;
     if (runs == NULL) {
-        while (pe_c_next_delay_import(view, &dlls, &dll) == PE_C_DONE)
-            count += list_delayed(view, &dll.functions, 0, NULL, 0);
+        while (pe_c_next_delay_import(view, &dlls, &dll) == PE_C_DONE) {
+            pe_c_delayed_function_walk functions = {.functions = dll.functions};
+            count += list_delayed(view, &functions, 0, NULL, 0);
+        }
         return count;
     }
     /* Each run is for a DLL or a function. */
@@ -203,11 +208,11 @@ static uint64_t list_all_delayed(const pe_c_view *view, pe_c_run *runs, size_t n
 
 static uint64_t list(const pe_c_view *view, const char *what, pe_c_run *runs, size_t number_of_runs)
 {
-    pe_c_exports exports = PE_C_EMPTY;
-    pe_c_libraries libraries = PE_C_EMPTY;
+    pe_c_export_walk exports = PE_C_EMPTY;
+    pe_c_library_walk libraries = PE_C_EMPTY;
     if (strcmp(what, "exports") == 0)
-        return pe_c_export_tables(view, &exports) != PE_C_DONE
-                   ? 0 : list_exports(view, &exports, (size_t)exports.names.length / 4, runs, number_of_runs);
+        return pe_c_export_tables(view, &exports.exports) != PE_C_DONE
+                   ? 0 : list_exports(view, &exports, (size_t)exports.exports.names.length / 4, runs, number_of_runs);
     if (strcmp(what, "addresses") == 0)
         return list_addresses(view, runs, number_of_runs);
     if (strcmp(what, "bound") == 0)
@@ -218,7 +223,7 @@ static uint64_t list(const pe_c_view *view, const char *what, pe_c_run *runs, si
         return list_all_delayed(view, runs, number_of_runs);
     if (strcmp(what, "dlls") == 0 || strcmp(what, "delayed") == 0)
         return list_delay_imports(view, what, runs, number_of_runs);
-    if (pe_c_import_libraries(view, &libraries) != PE_C_DONE)
+    if (pe_c_import_libraries(view, &libraries.libraries) != PE_C_DONE)
         return 0;
     if (strcmp(what, "libraries") == 0)
         return list_libraries(view, &libraries, view->length / 20, runs, number_of_runs);

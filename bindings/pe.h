@@ -95,7 +95,6 @@
  *   pe_c_debug_entries              Returns the entries of the debug directory as a walk for pe_c_next_debug_entry
  *   pe_c_next_debug_entry           Returns the next entry of the debug directory
  *   pe_c_first_debug_entry          Returns the first entry of a type
- *   pe_c_symbol_key                 Returns the symbol key
  *   pe_c_codeview                   Returns the symbol key of a CodeView record that stands alone, as a minidump has one ..
  *   pe_c_debug_data                 Reads the record of the first entry of each type at once
  *   pe_c_symbol_key_of              Returns the symbol key
@@ -184,8 +183,6 @@
  * bound imports
  *   pe_c_bound_imports              Returns the bytes of the directory
  * version information and manifest
- *   pe_c_fixed_version              Returns the fixed file information
- *   pe_c_version_text               Returns the value of a name, PE_C_COMMENTS .. PE_C_SPECIAL_BUILD: UTF-16 code units ..
  *   pe_c_version_blocks             Returns version information as a walk over its blocks, of which the first is all of it
  *   pe_c_manifest                   Returns the range of the manifest, an XML text
  * resources
@@ -263,6 +260,10 @@
  *   pe_c_arm64_function_at          Returns the function with an index, from 0
  *   pe_c_export_at                  Returns the export with an index, from 0
  *   pe_c_symbol                     Reads the symbol in an entry of a symbol table
+ * two calls
+ *   pe_c_symbol_key                 Returns the symbol key
+ *   pe_c_fixed_version              Returns the fixed file information
+ *   pe_c_version_text               Returns the value of a name, PE_C_COMMENTS .. PE_C_SPECIAL_BUILD: UTF-16 code units ..
  * why a step is refused
  *   pe_c_library_failure            Of pe_c_next_library
  *   pe_c_import_failure             Of pe_c_next_import
@@ -776,10 +777,10 @@ typedef struct {
     size_t entries;                 /* of the index; 0 for no index, and then calls test the sections in turn */
 } pe_c_view;
 
-/* The sections of the last RVAs of a plan, which its steps test before the others: the RVAs of records mostly lie in one
- * section or two. `kept` of such a walk is all 0 at the start, and only the step calls read and write it. Where a caller
- * changes it and sections overlap, a step may return an offset by another section, and no other harm is done; a number past
- * the last section maps nothing. */
+/* The sections of the last RVAs of a walk, which calls over exports, imports, delay imports, resources and the records of a
+ * plan test before the others: the RVAs of a table mostly lie in one section or two. `kept` of such a walk is all 0 at the
+ * start, and only these calls read and write it. Where a caller changes it and sections overlap, they may return an offset by
+ * another section, and no other harm is done; a number past the last section maps nothing. */
 typedef struct {
     uint32_t first;                 /* index of a section plus 1; 0 for none, as at the start of a walk; 0xFFFFFFFF for none,
                                        and the walk keeps no more, where that of an RVA may share some with an earlier one */
@@ -915,9 +916,9 @@ uint32_t pe_c_headers(const uint8_t *bytes, size_t length, uint32_t mode, pe_c_h
  * lists of their names. Few calls, and images with few sections, as most, gain nothing by it. No entries, and PE_C_DONE,
  * where no section is searched: in an image as loaded, and where the file alignment is not a power of two. An index in
  * the view that is passed makes no difference. An index of other sections gives wrong offsets, and no other harm.
- * With an index a plan and a list keep no sections, and need none; nor do they under 32 sections or fewer, which are searched
- * for less. Else a step over the records of a plan tests the section or two that its walk keeps, and a list the RVAs near
- * its last ones, and they search all of them only for an RVA elsewhere; all other steps search all for each RVA. A section
+ * With an index a walk keeps no sections, and needs none; nor does it under 32 sections or fewer, which are searched for
+ * less. Else a call over exports, imports, delay imports, resources or the records of a plan tests the section or two that
+ * its walk keeps, and searches all of them only for an RVA elsewhere; all other calls search all for each RVA. A section
  * that may share an RVA with an earlier one, whose size is rounded up to a page, is not kept.
  * Errors: PE_C_ROOM where the array has too few entries; then `written` is how many it has to have. */
 uint32_t pe_c_index(const pe_c_view *view, pe_c_index_entry *room, size_t entries, uint64_t *written) PE_C_RESULT(1, 4);
@@ -1208,10 +1209,6 @@ uint32_t pe_c_next_debug_entry(const uint8_t *bytes, size_t length, pe_c_range *
 /* Returns the first entry of a type. A truncated last entry is none. PE_C_NOTHING without a directory or such an entry.
  * Errors: PE_C_UNMAPPED; PE_C_DEBUG_BOUNDS in strict mode. */
 uint32_t pe_c_first_debug_entry(const pe_c_view *view, uint32_t data_type, pe_c_debug_entry *out) PE_C_RESULT(1, 3);
-
-/* Returns the symbol key: the record of the first CodeView entry, if it is one of PDB 7.0. PE_C_NOTHING also without such an
- * entry. Errors: those of pe_c_first_debug_entry, then those of pe_c_symbol_key_of. */
-uint32_t pe_c_symbol_key(const pe_c_view *view, pe_c_key *out) PE_C_RESULT(1, 2);
 
 /* Returns the symbol key of a CodeView record that stands alone, as a minidump has one of each module: no other debug
  * data is read, and no damage there is an error. PE_C_NOTHING where it is not a record of PDB 7.0.
@@ -2426,6 +2423,12 @@ typedef struct {
     pe_c_directory directory;       /* the export directory: an RVA inside it is that of a forwarder's text */
 } pe_c_exports;
 
+/* A walk over exports. It starts as PE_C_EMPTY with what pe_c_export_tables returns. */
+typedef struct {
+    pe_c_exports exports;           /* where it stands */
+    pe_c_kept_sections kept;        /* the sections of its last RVAs */
+} pe_c_export_walk;
+
 /* An export. */
 typedef struct {
     pe_c_range name;                /* UTF-8, without its final zero */
@@ -2472,6 +2475,7 @@ typedef struct {
 } pe_c_export_fields;
 
 PE_C_SIZE(pe_c_exports, 64);
+PE_C_SIZE(pe_c_export_walk, 72);
 PE_C_SIZE(pe_c_export, 56);
 PE_C_SIZE(pe_c_address_table, 48);
 PE_C_SIZE(pe_c_exported, 32);
@@ -2564,11 +2568,13 @@ uint32_t pe_c_function_names(const pe_c_view *view, const pe_c_name_sources *sou
  * library.imports. A program that reads all libraries before the first import meets errors in the order of
  * `peinfo list`. A third walk goes through both, for pe_c_list_all_imports.
  *
- *     pe_c_libraries libraries = PE_C_EMPTY;
- *     pe_c_import_libraries(&view, &libraries);
- *     while (pe_c_next_library(&view, &libraries, &library) == PE_C_DONE)
- *         while (pe_c_next_import(&view, &library.imports, &entry) == PE_C_DONE)
- *             use(&entry); */
+ *     pe_c_library_walk libraries = PE_C_EMPTY;
+ *     pe_c_import_libraries(&view, &libraries.libraries);
+ *     while (pe_c_next_library(&view, &libraries, &library) == PE_C_DONE) {
+ *         pe_c_import_walk imports = {library.imports, {0, 0}};
+ *         while (pe_c_next_import(&view, &imports, &entry) == PE_C_DONE)
+ *             use(&entry);
+ *     } */
 
 /* Where a walk over libraries stands. */
 typedef struct {
@@ -2582,6 +2588,18 @@ typedef struct {
     pe_c_range left;                /* the entries of the list that are left: 8 bytes each in PE32+, else 4 */
     uint64_t rva;                   /* RVA of the next import's slot in the address table */
 } pe_c_imports;
+
+/* A walk over libraries. It starts as PE_C_EMPTY with what pe_c_import_libraries returns. */
+typedef struct {
+    pe_c_libraries libraries;       /* where it stands */
+    pe_c_kept_sections kept;        /* the sections of its last RVAs */
+} pe_c_library_walk;
+
+/* A walk over the imports of a library. */
+typedef struct {
+    pe_c_imports imports;           /* where it stands; at the start that of the library */
+    pe_c_kept_sections kept;        /* the sections of its last RVAs */
+} pe_c_import_walk;
 
 /* A DLL that an image imports from, IMAGE_IMPORT_DESCRIPTOR. */
 typedef struct {
@@ -2623,6 +2641,8 @@ typedef struct {
 
 PE_C_SIZE(pe_c_libraries, 16);
 PE_C_SIZE(pe_c_imports, 24);
+PE_C_SIZE(pe_c_library_walk, 24);
+PE_C_SIZE(pe_c_import_walk, 32);
 PE_C_SIZE(pe_c_library, 64);
 PE_C_SIZE(pe_c_import, 32);
 PE_C_SIZE(pe_c_library_imports, 64);
@@ -2661,6 +2681,18 @@ typedef struct {
     uint32_t spare;                 /* 0 */
 } pe_c_delayed_functions;
 
+/* A walk over the DLLs. It starts as PE_C_EMPTY with what pe_c_delay_imports returns. */
+typedef struct {
+    pe_c_range entries;             /* those of the directory that are left */
+    pe_c_kept_sections kept;        /* the sections of its last RVAs */
+} pe_c_delay_import_walk;
+
+/* A walk over what is imported of a DLL. */
+typedef struct {
+    pe_c_delayed_functions functions;  /* where it stands; at the start that of the DLL */
+    pe_c_kept_sections kept;        /* the sections of its last RVAs */
+} pe_c_delayed_function_walk;
+
 /* A DLL that is loaded later. */
 typedef struct {
     pe_c_range name;                /* of the DLL: UTF-8, without its final zero */
@@ -2693,6 +2725,8 @@ typedef struct {
 
 PE_C_SIZE(pe_c_delay_descriptor, 32);
 PE_C_SIZE(pe_c_delayed_functions, 24);
+PE_C_SIZE(pe_c_delay_import_walk, 24);
+PE_C_SIZE(pe_c_delayed_function_walk, 32);
 PE_C_SIZE(pe_c_delay_import, 72);
 PE_C_SIZE(pe_c_delayed_function, 24);
 PE_C_SIZE(pe_c_library_functions, 64);
@@ -2793,14 +2827,6 @@ typedef struct {
 
 PE_C_SIZE(pe_c_version_block, 64);
 
-/* Returns the fixed file information. PE_C_NOTHING also where version information has none. A damaged string is an error too: without
- * the strings the same is read by pe_c_fixed_version_in, of the first 92 bytes of what pe_c_version_blocks returns. */
-uint32_t pe_c_fixed_version(const pe_c_view *view, pe_c_version *out) PE_C_RESULT(1, 2);
-
-/* Returns the value of a name, PE_C_COMMENTS .. PE_C_SPECIAL_BUILD: UTF-16 code units, little-endian, with the zeros after
- * the text, which ends at the first zero. PE_C_NOTHING also without a string of that name, and for another number. */
-uint32_t pe_c_version_text(const pe_c_view *view, uint32_t name, pe_c_range *out) PE_C_RESULT(1, 3);
-
 /* Returns version information as a walk over its blocks, of which the first is all of it. Its content is not read yet, so
  * the errors of version strings and of fixed file information are not among its errors. */
 uint32_t pe_c_version_blocks(const pe_c_view *view, pe_c_range *out) PE_C_RESULT(1, 2);
@@ -2851,6 +2877,12 @@ typedef struct {
     pe_c_resource_entry name;       /* the entry of this name */
 } pe_c_resource_walk;
 
+/* A walk over leaves. It starts as PE_C_EMPTY with what pe_c_resource_leaves returns. */
+typedef struct {
+    pe_c_resource_walk leaves;      /* where it stands */
+    pe_c_kept_sections kept;        /* the sections of its last RVAs */
+} pe_c_leaf_walk;
+
 /* A directory of the tree, IMAGE_RESOURCE_DIRECTORY. */
 typedef struct {
     uint32_t characteristics;       /* reserved */
@@ -2874,6 +2906,7 @@ PE_C_SIZE(pe_c_resource_name, 24);
 PE_C_SIZE(pe_c_resource_leaf, 104);
 PE_C_SIZE(pe_c_resource_entry, 8);
 PE_C_SIZE(pe_c_resource_walk, 80);
+PE_C_SIZE(pe_c_leaf_walk, 88);
 PE_C_SIZE(pe_c_resource_directory, 32);
 PE_C_SIZE(pe_c_resource_item, 32);
 
@@ -3385,18 +3418,18 @@ PE_C_SIZE(pe_c_run, 24);
  * each entry that the name table has left, or more, a call takes about as long as to sort these and to read each byte a few
  * times, however many of the texts overlap. A call looks at no more entries for that than there are runs.
  * Errors: PE_C_ROOM; PE_C_SHORT where the tables are not inside the bytes. */
-uint32_t pe_c_list_exports(const pe_c_view *view, pe_c_exports *walk, pe_c_run *runs, size_t number_of_runs,
+uint32_t pe_c_list_exports(const pe_c_view *view, pe_c_export_walk *walk, pe_c_run *runs, size_t number_of_runs,
                            pe_c_export *entries, size_t number_of_entries, uint64_t *written) PE_C_RESULT(1, 2, 7);
 
 /* Lists the libraries of an import directory, and reads the names together, and looks for the ends of the lists of imports
  * together. With two runs for each library that is left, or more, this takes about as long as to sort these and to read each
  * byte a few times, at most ten, however many share a text or a list. Errors: PE_C_ROOM; those of pe_c_next_library. */
-uint32_t pe_c_list_libraries(const pe_c_view *view, pe_c_libraries *walk, pe_c_run *runs, size_t number_of_runs,
+uint32_t pe_c_list_libraries(const pe_c_view *view, pe_c_library_walk *walk, pe_c_run *runs, size_t number_of_runs,
                              pe_c_library *entries, size_t number_of_entries, uint64_t *written) PE_C_RESULT(1, 2, 7);
 
 /* Lists the imports of a library, and reads the names together, with a run for each import that is left, or more.
  * Errors: PE_C_ROOM; those of pe_c_next_import. */
-uint32_t pe_c_list_imports(const pe_c_view *view, pe_c_imports *walk, pe_c_run *runs, size_t number_of_runs,
+uint32_t pe_c_list_imports(const pe_c_view *view, pe_c_import_walk *walk, pe_c_run *runs, size_t number_of_runs,
                            pe_c_import *entries, size_t number_of_entries, uint64_t *written) PE_C_RESULT(1, 2, 7);
 
 /* Lists the imports of all libraries, one library after the other, and reads the names of the libraries and of the imports
@@ -3453,7 +3486,7 @@ uint32_t pe_c_list_symbols(const uint8_t *bytes, size_t length, pe_c_named_symbo
                            uint64_t *written) PE_C_RESULT(3, 8);
 
 /* Lists the leaves of a resource tree. Errors: PE_C_ROOM; those of pe_c_next_resource_leaf. */
-uint32_t pe_c_list_resource_leaves(const pe_c_view *view, pe_c_resource_walk *walk, pe_c_resource_leaf *entries,
+uint32_t pe_c_list_resource_leaves(const pe_c_view *view, pe_c_leaf_walk *walk, pe_c_resource_leaf *entries,
                                    size_t number_of_entries, uint64_t *written) PE_C_RESULT(1, 2, 5);
 
 /* Lists blocks of version information. Errors: PE_C_ROOM; those of pe_c_next_version_block. */
@@ -3470,13 +3503,13 @@ uint32_t pe_c_list_relocations(const uint8_t *bytes, size_t length, uint32_t pag
 
 /* Lists the DLLs of a delay import directory, and reads the names together, with a run for each of the entries, or more.
  * Errors: PE_C_ROOM; those of pe_c_next_delay_import. */
-uint32_t pe_c_list_delay_imports(const pe_c_view *view, pe_c_range *walk, pe_c_run *runs, size_t number_of_runs,
-                                 pe_c_delay_import *entries, size_t number_of_entries,
+uint32_t pe_c_list_delay_imports(const pe_c_view *view, pe_c_delay_import_walk *walk, pe_c_run *runs,
+                                 size_t number_of_runs, pe_c_delay_import *entries, size_t number_of_entries,
                                  uint64_t *written) PE_C_RESULT(1, 2, 7);
 
 /* Lists what is imported of a DLL that is loaded later, and reads the names together, with a run for each of the entries, or
  * more. Errors: PE_C_ROOM; those of pe_c_next_delayed_function. */
-uint32_t pe_c_list_delayed_functions(const pe_c_view *view, pe_c_delayed_functions *walk, pe_c_run *runs,
+uint32_t pe_c_list_delayed_functions(const pe_c_view *view, pe_c_delayed_function_walk *walk, pe_c_run *runs,
                                      size_t number_of_runs, pe_c_delayed_function *entries, size_t number_of_entries,
                                      uint64_t *written) PE_C_RESULT(1, 2, 7);
 
@@ -3546,7 +3579,7 @@ static inline uint32_t pe_c_next_arm64_code(const uint8_t *bytes, size_t length,
  * past the table of RVAs. Each name and each forwarder's text is read to its end, so texts that overlap are read once each.
  * Errors: PE_C_SHORT where the tables are not inside the bytes. */
 PE_C_RESULT(1, 2, 3)
-static inline uint32_t pe_c_next_export(const pe_c_view *view, pe_c_exports *walk, pe_c_export *out)
+static inline uint32_t pe_c_next_export(const pe_c_view *view, pe_c_export_walk *walk, pe_c_export *out)
 {
     uint64_t written = 0;
     uint32_t result = pe_c_list_exports(view, walk, NULL, 0, out, 1, &written);
@@ -3558,7 +3591,7 @@ static inline uint32_t pe_c_next_export(const pe_c_view *view, pe_c_exports *wal
  * Errors: PE_C_SHORT where the record is truncated; PE_C_UNMAPPED, PE_C_IMPORT_NAME of the name; PE_C_SHORT where no zero
  * entry ends the list. */
 PE_C_RESULT(1, 2, 3)
-static inline uint32_t pe_c_next_library(const pe_c_view *view, pe_c_libraries *walk, pe_c_library *out)
+static inline uint32_t pe_c_next_library(const pe_c_view *view, pe_c_library_walk *walk, pe_c_library *out)
 {
     uint64_t written = 0;
     uint32_t result = pe_c_list_libraries(view, walk, NULL, 0, out, 1, &written);
@@ -3569,7 +3602,7 @@ static inline uint32_t pe_c_next_library(const pe_c_view *view, pe_c_libraries *
  * Errors: PE_C_SHORT where the walk is not inside the bytes, or its last entry is truncated; PE_C_UNMAPPED of the RVA in
  * the entry; PE_C_SHORT of the hint there; PE_C_IMPORT_NAME of the name. */
 PE_C_RESULT(1, 2, 3)
-static inline uint32_t pe_c_next_import(const pe_c_view *view, pe_c_imports *walk, pe_c_import *out)
+static inline uint32_t pe_c_next_import(const pe_c_view *view, pe_c_import_walk *walk, pe_c_import *out)
 {
     uint64_t written = 0;
     uint32_t result = pe_c_list_imports(view, walk, NULL, 0, out, 1, &written);
@@ -3580,7 +3613,8 @@ static inline uint32_t pe_c_next_import(const pe_c_view *view, pe_c_imports *wal
  * Errors: PE_C_SHORT of the entry; PE_C_DIRECTORY_VA_BELOW_BASE, PE_C_UNMAPPED, PE_C_DIRECTORY_DELAY_IMPORT_NAME of the
  * name; PE_C_DIRECTORY_VA_BELOW_BASE, PE_C_UNMAPPED of the table of functions. */
 PE_C_RESULT(1, 2, 3)
-static inline uint32_t pe_c_next_delay_import(const pe_c_view *view, pe_c_range *walk, pe_c_delay_import *out)
+static inline uint32_t pe_c_next_delay_import(const pe_c_view *view, pe_c_delay_import_walk *walk,
+                                              pe_c_delay_import *out)
 {
     uint64_t written = 0;
     uint32_t result = pe_c_list_delay_imports(view, walk, NULL, 0, out, 1, &written);
@@ -3591,7 +3625,7 @@ static inline uint32_t pe_c_next_delay_import(const pe_c_view *view, pe_c_range 
  * Errors: PE_C_SHORT where the bytes end before the table does; of an import by name PE_C_DIRECTORY_VA_BELOW_BASE,
  * PE_C_UNMAPPED of its address, PE_C_SHORT of the hint there, PE_C_DIRECTORY_DELAY_IMPORT_NAME. */
 PE_C_RESULT(1, 2, 3)
-static inline uint32_t pe_c_next_delayed_function(const pe_c_view *view, pe_c_delayed_functions *walk,
+static inline uint32_t pe_c_next_delayed_function(const pe_c_view *view, pe_c_delayed_function_walk *walk,
                                                   pe_c_delayed_function *out)
 {
     uint64_t written = 0;
@@ -3639,7 +3673,7 @@ static inline uint32_t pe_c_next_version_block(const uint8_t *bytes, size_t leng
  * or a name PE_C_TREE_NOT_DIRECTORY, PE_C_SHORT of its directory and of the entries there, PE_C_TREE_NO_ENTRIES; of the
  * entry of a language PE_C_TREE_NOT_DATA, PE_C_SHORT of its data entry; PE_C_SHORT of a name. */
 PE_C_RESULT(1, 2, 3)
-static inline uint32_t pe_c_next_resource_leaf(const pe_c_view *view, pe_c_resource_walk *walk, pe_c_resource_leaf *out)
+static inline uint32_t pe_c_next_resource_leaf(const pe_c_view *view, pe_c_leaf_walk *walk, pe_c_resource_leaf *out)
 {
     uint64_t written = 0;
     uint32_t result = pe_c_list_resource_leaves(view, walk, out, 1, &written);
@@ -3735,13 +3769,51 @@ static inline uint32_t pe_c_symbol(const uint8_t *bytes, size_t length, const pe
     return pe_c_next_symbol(bytes, length, &walk, out);
 }
 
+/* ---- two calls
+ *
+ * These functions are defined here too. Each makes a call, and where that is done another over what it wrote. */
+
+/* Returns the symbol key: the record of the first CodeView entry, if it is one of PDB 7.0. PE_C_NOTHING also without such an
+ * entry. Errors: those of pe_c_first_debug_entry, then those of pe_c_symbol_key_of. */
+PE_C_RESULT(1, 2)
+static inline uint32_t pe_c_symbol_key(const pe_c_view *view, pe_c_key *out)
+{
+    pe_c_debug_entry found = PE_C_EMPTY;
+    uint32_t result = pe_c_first_debug_entry(view, 2, &found);
+    return result == PE_C_DONE ? pe_c_symbol_key_of(view->bytes, view->length, view->image->mode, &found, out) : result;
+}
+
+/* Returns the fixed file information. PE_C_NOTHING also where version information has none. A damaged string is an error too:
+ * without the strings the same is read by pe_c_fixed_version_in, of the first 92 bytes of what pe_c_version_blocks returns.
+ * Errors: those of pe_c_version_blocks, then those of pe_c_fixed_version_in. */
+PE_C_RESULT(1, 2)
+static inline uint32_t pe_c_fixed_version(const pe_c_view *view, pe_c_version *out)
+{
+    pe_c_range found = PE_C_EMPTY;
+    uint32_t result = pe_c_version_blocks(view, &found);
+    return result == PE_C_DONE ? pe_c_fixed_version_in(view->bytes, view->length, &found, out) : result;
+}
+
+/* Returns the value of a name, PE_C_COMMENTS .. PE_C_SPECIAL_BUILD: UTF-16 code units, little-endian, with the zeros after
+ * the text, which ends at the first zero. PE_C_NOTHING also without a string of that name, and for another number.
+ * Errors: those of pe_c_version_blocks, then those of pe_c_version_text_in. */
+PE_C_RESULT(1, 3)
+static inline uint32_t pe_c_version_text(const pe_c_view *view, uint32_t name, pe_c_range *out)
+{
+    if (name > PE_C_SPECIAL_BUILD)
+        return PE_C_NOTHING;
+    pe_c_range found = PE_C_EMPTY;
+    uint32_t result = pe_c_version_blocks(view, &found);
+    return result == PE_C_DONE ? pe_c_version_text_in(view->bytes, view->length, &found, name, out) : result;
+}
+
 /* ---- why a step is refused
  *
  * A walk is over after an error. Keep a copy of it from before each step, or of where it stands: these calls read the same
  * item again, by the copy, which does not move, and return the result of the step and the numbers of its error. PE_C_NOTHING
  * where the step returns no error. They never return an error.
  *
- *     pe_c_libraries before = walk;
+ *     pe_c_libraries before = walk.libraries;
  *     if (pe_c_next_library(&view, &walk, &library) == PE_C_UNMAPPED
  *         && pe_c_library_failure(&view, &before, &failure) == PE_C_DONE)
  *         printf("no section maps the RVA %#llx\n", (unsigned long long)failure.value);

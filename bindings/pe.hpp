@@ -30,6 +30,7 @@
 #include <iterator>
 #include <memory>
 #include <string_view>
+#include <type_traits>
 #include <utility>
 #include <vector>
 #if defined(PE_C_EXCEPTIONS)
@@ -254,21 +255,21 @@ public:
     }
 
     /* The entries of a list by its call, from where a walk stands; none where that is PE_C_NOTHING, and its error where it is one. */
-    template <class W, class T>
-    auto list(std::uint32_t (*call)(const pe_c_view *, W *, T *, std::size_t, std::uint64_t *), const outcome<W> &walk) const
+    template <class W, class T, class A>
+    auto list(std::uint32_t (*call)(const pe_c_view *, W *, T *, std::size_t, std::uint64_t *), const outcome<A> &walk) const
     {
-        return entries_of<T>(walk, [this, call, at = *walk](T *room, std::size_t size, std::uint64_t &written) mutable {
+        return entries_of<T>(walk, [this, call, at = walk_at<W>(*walk)](T *room, std::size_t size, std::uint64_t &written) mutable {
             pe_c_view of = view();
             return call(&of, &at, room, size, &written);
         });
     }
     /* The same of names, which are read together, so that a hostile file costs little: with runs for two names of each entry that a
      * call takes, and `more` for those that it skips. */
-    template <class W, class T>
+    template <class W, class T, class A>
     auto list(std::uint32_t (*call)(const pe_c_view *, W *, pe_c_run *, std::size_t, T *, std::size_t, std::uint64_t *),
-              const outcome<W> &walk, std::size_t more = 0) const
+              const outcome<A> &walk, std::size_t more = 0) const
     {
-        return entries_of<T>(walk, [this, call, more, at = *walk](T *room, std::size_t size, std::uint64_t &written) mutable {
+        return entries_of<T>(walk, [this, call, more, at = walk_at<W>(*walk)](T *room, std::size_t size, std::uint64_t &written) mutable {
             runs_room runs(2 * size + more);
             pe_c_view of = view();
             return call(&of, &at, runs.data(), runs.size(), room, size, &written);
@@ -342,6 +343,15 @@ public:
 private:
     /* Runs for two names of each library: a record of the directory has 20 bytes. */
     std::size_t most_libraries() const noexcept { return bytes_.size() / 10; }
+
+    /* A walk from where it stands: that itself, or with the sections that it keeps beside, none at its start. */
+    template <class W, class A> static W walk_at(const A &from) noexcept
+    {
+        if constexpr (std::is_same_v<W, A>)
+            return from;
+        else
+            return W{from, {}};
+    }
 
     /* Makes an index where calls would search many sections: pe_c_index asks for room for four entries a section. */
     std::uint32_t make_index()

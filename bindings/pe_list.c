@@ -119,9 +119,9 @@ static uint32_t ended(uint32_t result)
 /* Reads every library. */
 static uint32_t try_libraries(const image *it)
 {
-    pe_c_libraries walk = PE_C_EMPTY;
+    pe_c_library_walk walk = PE_C_EMPTY;
     pe_c_library library = PE_C_EMPTY;
-    uint32_t result = pe_c_import_libraries(&it->view, &walk);
+    uint32_t result = pe_c_import_libraries(&it->view, &walk.libraries);
     while (result == PE_C_DONE)
         result = pe_c_next_library(&it->view, &walk, &library);
     return ended(result);
@@ -130,9 +130,10 @@ static uint32_t try_libraries(const image *it)
 /* Reads every import of a library. */
 static uint32_t try_imports_of(const image *it, const pe_c_library *library)
 {
-    pe_c_imports walk = library->imports;
+    pe_c_import_walk walk = PE_C_EMPTY;
     pe_c_import item = PE_C_EMPTY;
     uint32_t result = PE_C_DONE;
+    walk.imports = library->imports;
     while (result == PE_C_DONE)
         result = pe_c_next_import(&it->view, &walk, &item);
     return ended(result);
@@ -141,11 +142,11 @@ static uint32_t try_imports_of(const image *it, const pe_c_library *library)
 /* Reads all libraries, then all imports. An error in one refuses the image in both modes. */
 static uint32_t try_imports(const image *it)
 {
-    pe_c_libraries walk = PE_C_EMPTY;
+    pe_c_library_walk walk = PE_C_EMPTY;
     pe_c_library library = PE_C_EMPTY;
     uint32_t result = try_libraries(it);
     if (result == PE_C_DONE)
-        result = pe_c_import_libraries(&it->view, &walk);
+        result = pe_c_import_libraries(&it->view, &walk.libraries);
     while (result == PE_C_DONE) {
         result = pe_c_next_library(&it->view, &walk, &library);
         if (result == PE_C_DONE)

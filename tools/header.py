@@ -1,6 +1,6 @@
 """What bindings/pe.h declares: its calls, its records with their layouts, its constants, each with its comment, its version and
 the number of its ABI; and its own functions, which are defined there and are no calls of the library: those that make one call
-have its parameters but for what they pass themselves.
+have its parameters but for what they pass themselves, and those that make two pass what the first writes to the second.
 
 The header is C11 of a few plain forms, and a form that is not known is an error. All targets of the library are little-endian, with
 pointers of 64 bits, and a number is aligned to its width on each, so a record has one layout on all of them."""
@@ -79,11 +79,16 @@ class Call:
 class Function(Call):
     """A function that the header defines, by a call: `made` is its name, `passed` its arguments as they stand there, `none` what the
     function returns where the call is done and writes no entry, and "" where it returns what the call does. `walk` has the fields of a
-    walk that it makes for the call, as they stand there."""
+    walk that it makes for the call, as they stand there. One that makes two calls has the record `found` that the first writes, and the
+    second as `then` with `then_passed`; `most` is the parameter above whose largest number it returns PE_C_NOTHING, and that number."""
     made: str
     passed: tuple
-    none: str
-    walk: tuple
+    none: str = ""
+    walk: tuple = ()
+    found: str = ""
+    then: str = ""
+    then_passed: tuple = ()
+    most: tuple = ()
 
 
 class Unknown(Exception):
@@ -192,7 +197,7 @@ class Header:
 
     @staticmethod
     def read_steps(text, comments, kinds):
-        """The functions that make one call, by their names, and the text without them."""
+        """The functions that make one call or two, by their names, and the text without them."""
         form = re.compile(r"^(?:PE_C_RESULT\([\d, ]+\)\n)?static inline (uint32_t) (pe_c_\w+)\(([^)]*)\)\n\{\n"
                           r"(?:    pe_c_\w+ walk = \{(.*)\};\n    return (\w+)\((.*)\);\n"
                           r"|    uint64_t written = 0;\n    uint32_t result = (\w+)\((.*)\);\n"
@@ -201,7 +206,15 @@ class Header:
         for result, name, body, walk, one, its, listed, passed, none in form.findall(text):
             steps[name] = Function(name, result, Header.parameters(name, body, kinds), comments.get(name, ""), one or listed,
                                    tuple((its or passed).split(", ")), none, tuple(filter(None, walk.split(", "))))
-        return steps, form.sub("", text)
+        two = re.compile(r"^(?:PE_C_RESULT\([\d, ]+\)\n)?static inline (uint32_t) (pe_c_\w+)\(([^)]*)\)\n\{\n"
+                         r"(?:    if \((\w+) > (PE_C_\w+)\)\n        return PE_C_NOTHING;\n)?"
+                         r"    (pe_c_\w+) found = PE_C_EMPTY;\n    uint32_t result = (\w+)\((.*)\);\n"
+                         r"    return result == PE_C_DONE \? (\w+)\((.*)\) : result;\n\}\n", re.M)
+        for result, name, body, own, most, found, made, passed, then, then_passed in two.findall(text):
+            steps[name] = Function(name, result, Header.parameters(name, body, kinds), comments.get(name, ""), made,
+                                   tuple(passed.split(", ")), found=found, then=then, then_passed=tuple(then_passed.split(", ")),
+                                   most=(own, most) if own else ())
+        return steps, two.sub("", form.sub("", text))
 
     @staticmethod
     def parameters(name, body, kinds):

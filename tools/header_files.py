@@ -195,10 +195,24 @@ def reader(record, header):
     return f"  {record.name}: (v, at) => ({{ {', '.join(fields)} }}),\n"
 
 
+def handed(call, passed):
+    """What a function of pe.h hands to one of its calls, by the names of its parameters, but for what the JavaScript passes itself and
+    what the call writes."""
+    own = own_parameters(call)
+    return {it.name: word for it, word in zip(call.parameters, passed) if it.name not in own and it.name != "out"}
+
+
+def step_of(it, header):
+    """A function of pe.h over calls: the call that it makes, and what it returns where that writes no entry; of two calls also the
+    second, what each is handed, and the largest number of a parameter."""
+    both = (handed(header.calls[it.made], it.passed), handed(header.calls[it.then], it.then_passed)) if it.then else ()
+    return [it.made, it.none, *([it.then, *both, it.most] if it.then else [])]
+
+
 def layouts_mjs(header):
     records = {name: [it.size, fields_of(it)] for name, it in header.records.items()}
     calls = {name: js_parameters(it) for name, it in (header.calls | header.steps).items() if is_in_js(name)}
-    steps = {name: [it.made, it.none] for name, it in header.steps.items()}
+    steps = {name: step_of(it, header) for name, it in header.steps.items()}
     results = {str(number): name for name, number in header.results.items()}
     lines = [f"// tools/make_targets makes this file of bindings/pe.h.\nexport const version = {json.dumps(header.version)};",
              f"export const abi = {header.abi};"]

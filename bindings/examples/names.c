@@ -12,14 +12,16 @@ static pe_c_view view;
 /* Each library is a step of one walk, and says where the walk over its imports starts. */
 static uint32_t show_imports(void)
 {
-    pe_c_libraries walk = PE_C_EMPTY;
+    pe_c_library_walk walk = PE_C_EMPTY;
     pe_c_library library = PE_C_EMPTY;
     pe_c_import entry = PE_C_EMPTY;
-    uint32_t result = pe_c_import_libraries(&view, &walk);
+    uint32_t result = pe_c_import_libraries(&view, &walk.libraries);
     while (result == PE_C_DONE) {
+        pe_c_import_walk imports = PE_C_EMPTY;
         result = pe_c_next_library(&view, &walk, &library);
+        imports.imports = library.imports;
         while (result == PE_C_DONE) {
-            result = pe_c_next_import(&view, &library.imports, &entry);
+            result = pe_c_next_import(&view, &imports, &entry);
             if (result != PE_C_DONE)
                 break;
             printf("import ");
@@ -28,7 +30,7 @@ static uint32_t show_imports(void)
             show_name(view.bytes, &entry.name);
             printf("\n");
         }
-        if (result == PE_C_NOTHING && !walk.is_over)
+        if (result == PE_C_NOTHING && !walk.libraries.is_over)
             result = PE_C_DONE;
     }
     return result;
@@ -53,9 +55,9 @@ static uint32_t show_exports(const pe_c_address_table *table)
 /* The names of exports, any number for each, in the order of the table, which is sorted. */
 static uint32_t show_names(const pe_c_address_table *table)
 {
-    pe_c_exports walk = PE_C_EMPTY;
+    pe_c_export_walk walk = PE_C_EMPTY;
     pe_c_export entry = PE_C_EMPTY;
-    uint32_t result = pe_c_export_tables(&view, &walk);
+    uint32_t result = pe_c_export_tables(&view, &walk.exports);
     while (result == PE_C_DONE) {
         result = pe_c_next_export(&view, &walk, &entry);
         if (result != PE_C_DONE)

@@ -54,7 +54,7 @@ static uint32_t show_types(const pe_c_range *tree)
     return result;
 }
 
-static uint32_t show_resources(pe_c_resource_walk *walk)
+static uint32_t show_resources(pe_c_leaf_walk *walk)
 {
     pe_c_resource_leaf leaf = PE_C_EMPTY;
     uint32_t result = PE_C_DONE;
@@ -77,13 +77,13 @@ int main(int argc, char **argv)
 {
     if (argc != 2)
         return 2;
-    pe_c_resource_walk walk = PE_C_EMPTY;
+    pe_c_leaf_walk walk = PE_C_EMPTY;
     uint32_t result = read_image(argv[1], PE_C_PERMISSIVE, &view);
     if (result == PE_C_DONE)
-        result = pe_c_resource_leaves(&view, &walk);
+        result = pe_c_resource_leaves(&view, &walk.leaves);
     if (result != PE_C_DONE)
         return status_of(result);
-    result = show_types(&walk.tree);
+    result = show_types(&walk.leaves.tree);
     if (result == PE_C_DONE || result == PE_C_NOTHING)
         result = show_resources(&walk);
     return status_of(result);

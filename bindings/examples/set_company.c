@@ -22,10 +22,10 @@ uint32_t with_version(const pe_c_view *view, const uint8_t *data, size_t data_le
 {
     static pe_c_resource resources[MOST_RESOURCES];
     const pe_c_range version = {view->length, data_length - view->length};
-    pe_c_resource_walk walk = PE_C_EMPTY;
+    pe_c_leaf_walk walk = PE_C_EMPTY;
     pe_c_resource_leaf leaf = PE_C_EMPTY;
     size_t count = 0;
-    uint32_t result = pe_c_resource_leaves(view, &walk);
+    uint32_t result = pe_c_resource_leaves(view, &walk.leaves);
     while (result == PE_C_DONE && (result = pe_c_next_resource_leaf(view, &walk, &leaf)) == PE_C_DONE) {
         if (count == MOST_RESOURCES)
             return PE_C_EDIT_TOO_MANY;

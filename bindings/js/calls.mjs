@@ -68,11 +68,22 @@ export class Caller {
     return new PeError(name, number, this.#memory.text(number));
   }
 
-  /** Makes the call of a function of pe.h: a list with room for one entry, or a step of a walk that starts at an index. */
+  /** Makes the two calls of a function of pe.h, the second over what the first writes. */
+  #joined([made, , then, first, second, [own, most]], given) {
+    if (given[own] > constants[most]) return null;
+    const mode = () => this.#memory.read('pe_c_image_info', Number(this.#own.image)).mode;
+    const word = (it, found) => (it === '&found' ? found : it === 'view->image->mode' ? mode() : given[it] ?? Number(it));
+    const words = (all, found) => Object.fromEntries(Object.entries(all).map(([name, it]) => [name, word(it, found)]));
+    const found = this.call(made, words(first));
+    return found === null ? null : this.call(then, words(second, found));
+  }
+
+  /** Makes the call of a function of pe.h: a list with room for one entry, or a step of a walk that starts at an index; or two calls. */
   #stepped(name, { index, ...given }) {
-    const [made, none] = steps[name], entries = [{}];
+    const [made, none, then] = steps[name], entries = [{}];
     expected(name, index === undefined ? given : { ...given, index }, this.#own);
     try {
+      if (then) return this.#joined(steps[name], given);
       if (!none) return this.call(made, { walk: { ...given, next: index } });
       const said = this.call(made, { ...given, ...(index !== undefined && { next: index }), entries });
       if ((said.written ?? said) > 0n) return entries[0];
@@ -158,8 +169,8 @@ export class Caller {
   }
 
   /** The items of a walk by a call that lists many of them, from where it is, or of what starts one, with so many runs for each
-   * where the call reads names together. `cut` returns the walk with its next so many entries alone, or null at its end, for
-   * one that may skip entries. */
+   * where the call reads names together. `cut` returns a walk over exports with its next so many entries alone, or null at its end,
+   * since that may skip entries. */
   *many(name, start, { runs = 0, cut, given = {} } = {}) {
     const walk = typeof start === 'function' ? start() : start;
     if (!walk) return;
@@ -168,7 +179,7 @@ export class Caller {
       if (!part) return;
       const { found } = this.#listed(name, { ...given, walk: part }, count, runs);
       for (let i = 0; i < found.length; i++) yield found[i];
-      if (cut) walk.next = part.next;
+      if (cut) walk.exports.next = part.exports.next;
       else if (!found.length) return;
     }
   }

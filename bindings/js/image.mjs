@@ -11,26 +11,26 @@ const ARM64 = 0xAA64;
 const SOURCES = [null, 'symbol', 'export'];
 
 // The lists of an image: the call that starts each, the one that returns its next item or many, and for calls that read names
-// together how many runs they take for each. The walk over exports skips names that are no text, so that it is cut in place of
-// its end.
+// together how many runs they take for each. `place` is the field of a walk that says where it stands, beside the sections that it
+// keeps. The walk over exports skips names that are no text, so that it is cut in place of its end.
 const LISTS = {
   debugEntries: ['pe_c_debug_entries', 'pe_c_next_debug_entry'],
-  exports: ['pe_c_export_tables', 'pe_c_list_exports', { runs: 2, cut: nextNames }],
-  libraries: ['pe_c_import_libraries', 'pe_c_list_libraries', { runs: 2 }],
-  delayImports: ['pe_c_delay_imports', 'pe_c_list_delay_imports', { runs: 1 }],
+  exports: ['pe_c_export_tables', 'pe_c_list_exports', { runs: 2, cut: nextNames, place: 'exports' }],
+  libraries: ['pe_c_import_libraries', 'pe_c_list_libraries', { runs: 2, place: 'libraries' }],
+  delayImports: ['pe_c_delay_imports', 'pe_c_list_delay_imports', { runs: 1, place: 'entries' }],
   versionBlocks: ['pe_c_version_blocks', 'pe_c_next_version_block'],
-  resourceLeaves: ['pe_c_resource_leaves', 'pe_c_list_resource_leaves', {}],
+  resourceLeaves: ['pe_c_resource_leaves', 'pe_c_list_resource_leaves', { place: 'leaves' }],
   relocationBlocks: ['pe_c_relocation_blocks', 'pe_c_list_relocation_blocks', {}],
 };
 
 /** A walk over exports with the next so many entries of its name table, or null at its end. */
-function nextNames({ names: { offset, length }, ...walk }, count) {
-  const end = 4n * (walk.next + BigInt(count));
-  return 4n * walk.next < length ? { ...walk, names: { offset, length: end < length ? end : length } } : null;
+function nextNames({ exports: { names: { offset, length }, ...walk } }, count) {
+  const end = 4n * (walk.next + BigInt(count)), names = { offset, length: end < length ? end : length };
+  return 4n * walk.next < length ? { exports: { ...walk, names } } : null;
 }
 
 /** The exports that have a name, from where a walk over them is. */
-export const namedExports = (image, walk) => image.many('pe_c_list_exports', walk, LISTS.exports[2]);
+export const namedExports = (image, exports) => image.many('pe_c_list_exports', { exports }, LISTS.exports[2]);
 
 /** A walk of its own, for a list that starts anew each time. */
 const copied = (walk) => structuredClone(walk);
@@ -68,7 +68,8 @@ export class Image extends File {
 
   /** The items of a list of the image, none where it is absent: see index.d.ts for the names. */
   list(name) {
-    const [start, next, options] = listOf(LISTS, name), walk = () => this.call(start);
+    const [start, next, options] = listOf(LISTS, name), place = options?.place;
+    const walk = () => { const at = this.call(start); return at && place ? { [place]: at } : at; };
     return options ? this.many(next, walk, options) : this.items(next, walk);
   }
 
@@ -132,7 +133,7 @@ export class Image extends File {
   /** All libraries with what is imported of each, as values; or the imports of one library, as records. */
   imports(library) {
     if (!library) return importsOf(this);
-    return this.many('pe_c_list_imports', copied(library.imports), { runs: 1 });
+    return this.many('pe_c_list_imports', copied({ imports: library.imports }), { runs: 1 });
   }
 
   /** Whether the RVA of a library's list is unmapped, so that `imports` has nothing. A list at the file offset 0 is not empty: the DOS
@@ -146,9 +147,9 @@ export class Image extends File {
   *addressTable({ address_table_rva: rva }) {
     const offset = this.call('pe_c_offset', { rva }), size = this.info.width === 64 ? 8n : 4n, call = 'pe_c_next_import';
     if (offset === null) throw this.refused(call, 'PE_C_UNMAPPED');
-    const walk = { left: { offset, length: BigInt(this.length) - offset }, rva: BigInt(rva) };
+    const walk = { imports: { left: { offset, length: BigInt(this.length) - offset }, rva: BigInt(rva) } };
     for (;;) {
-      const { left } = walk;
+      const { left } = walk.imports;
       if (left.length < size) throw this.refused(call, 'PE_C_SHORT');
       if (this.slice({ offset: left.offset, length: size }).every((it) => it === 0)) return;
       yield this.call(call, { walk });
@@ -157,7 +158,7 @@ export class Image extends File {
 
   /** The functions of a DLL that is loaded when it is needed. */
   delayedFunctions(delayImport) {
-    return this.many('pe_c_list_delayed_functions', copied(delayImport.functions), { runs: 1 });
+    return this.many('pe_c_list_delayed_functions', copied({ functions: delayImport.functions }), { runs: 1 });
   }
 
   /** All exports by their index, with those that have no name. */

@@ -112,7 +112,7 @@ test('a damaged version string costs neither the fixed information nor the other
 });
 
 test('a walk that is given is moved, and is over in the end', () => {
-  const image = opened('imports'), walk = image.call('pe_c_import_libraries');
+  const image = opened('imports'), walk = { libraries: image.call('pe_c_import_libraries') };
   assert.notEqual(image.call('pe_c_next_library', { walk }), null);
   assert.notEqual(image.call('pe_c_next_library', { walk }), null);
   assert.equal(image.call('pe_c_next_library', { walk }), null);
@@ -688,7 +688,7 @@ test('directories have fields of their own', () => {
   const tables = exported.call('pe_c_export_tables'), [named] = exported.list('exports');
   assert.deepEqual([tables.directory, named.is_forwarder], [table.directory, 0]);
   const exports = { ...tables, directory: { ...tables.directory, virtual_address: named.rva, size: 1 } };
-  const [forwarder] = exported.items('pe_c_next_export', exports);
+  const [forwarder] = exported.items('pe_c_next_export', { exports });
   assert.deepEqual([forwarder.is_forwarder, forwarder.forwarder], [1, { offset: 0n, length: 0n }]);
   assert.deepEqual([fields.base, BigInt(fields.number_of_functions)], [table.ordinal_base, table.addresses.length / 4n]);
   assert.equal(exported.call('pe_c_offset', { rva: fields.name }), table.name.offset);
@@ -740,10 +740,12 @@ function listed(image, call, given) {
 }
 
 test('a list in one call has what its walk has, and starts where that is', () => {
-  for (const [name, call, start] of [['exports', 'exports', 'export_tables'], ['imports', 'libraries', 'import_libraries'],
-    ['resources', 'resource_leaves', 'resource_leaves'], ['resources', 'version_blocks', 'version_blocks'],
-    ['relocations', 'relocation_blocks', 'relocation_blocks'], ['delay_imports', 'delay_imports', 'delay_imports']]) {
-    const image = opened(name), walk = image.call(`pe_c_${start}`), list = call.replace(/_(\w)/, (_, it) => it.toUpperCase());
+  for (const [name, call, start, place] of [['exports', 'exports', 'export_tables', 'exports'],
+    ['imports', 'libraries', 'import_libraries', 'libraries'], ['resources', 'resource_leaves', 'resource_leaves', 'leaves'],
+    ['resources', 'version_blocks', 'version_blocks'], ['relocations', 'relocation_blocks', 'relocation_blocks'],
+    ['delay_imports', 'delay_imports', 'delay_imports', 'entries']]) {
+    const image = opened(name), at = image.call(`pe_c_${start}`), walk = place ? { [place]: at } : at;
+    const list = call.replace(/_(\w)/, (_, it) => it.toUpperCase());
     const all = [...image.list(list)], found = listed(image, `pe_c_list_${call}`, { walk });
     assert.deepEqual([found, found.length > 0], [all, true], call);
     assert.equal(refused(() => image.call(`pe_c_list_${call}`, { walk, entries: [] })).constant, 'PE_C_ROOM');
@@ -752,16 +754,16 @@ test('a list in one call has what its walk has, and starts where that is', () =>
   const delayed = opened('delay_imports'), [late] = delayed.list('delayImports');
   const read = (call, walk, runs = [{}, {}]) => listed(delayed, `pe_c_list_${call}`, { walk, runs });
   for (const runs of [[], [{}, {}]]) {
-    assert.deepEqual(listed(image, 'pe_c_list_imports', { walk: structuredClone(dll.imports), runs }), [...image.imports(dll)]);
-    assert.deepEqual(read('delayed_functions', structuredClone(late.functions), runs), [...delayed.delayedFunctions(late)]);
+    assert.deepEqual(listed(image, 'pe_c_list_imports', { walk: { imports: structuredClone(dll.imports) }, runs }), [...image.imports(dll)]);
+    assert.deepEqual(read('delayed_functions', { functions: structuredClone(late.functions) }, runs), [...delayed.delayedFunctions(late)]);
   }
-  assert.deepEqual(read('delay_imports', delayed.call('pe_c_delay_imports')), [...delayed.list('delayImports')]);
+  assert.deepEqual(read('delay_imports', { entries: delayed.call('pe_c_delay_imports') }), [...delayed.list('delayImports')]);
   const later = read('all_delayed_functions', { libraries: delayed.call('pe_c_delay_imports') });
   assert.deepEqual(later.map((it) => [delayed.utf8(it.library_name), it.library, it.function.has_name ? delayed.utf8(it.function.name) : null,
     it.function.ordinal]), [['dbghelp.dll', 0n, 'SymInitialize', 0x121], ['dbghelp.dll', 0n, null, 7],
     ['VERSION.dll', 1n, 'VerQueryValueW', 0]]);
   assert.deepEqual(later[0].function, [...delayed.delayedFunctions(late)][0]);
-  assert.deepEqual(listed(image, 'pe_c_list_libraries', { walk: image.call('pe_c_import_libraries'), runs: [{}, {}] }),
+  assert.deepEqual(listed(image, 'pe_c_list_libraries', { walk: { libraries: image.call('pe_c_import_libraries') }, runs: [{}, {}] }),
     [...image.list('libraries')]);
   const all = listed(image, 'pe_c_list_all_imports', { walk: { libraries: image.call('pe_c_import_libraries') }, runs: [{}, {}, {}] });
   assert.deepEqual(all.map((it) => [image.utf8(it.library_name), it.library, it.import.has_name ? image.utf8(it.import.name) : null,
@@ -770,7 +772,7 @@ test('a list in one call has what its walk has, and starts where that is', () =>
   assert.equal(image.call('pe_c_offset', { rva: all[0].hint_rva }) + 2n, all[0].import.name.offset);
   assert.equal(all[1].hint_rva, 0);
   const names = opened('exports'), tables = names.call('pe_c_export_tables');
-  assert.deepEqual(listed(names, 'pe_c_list_exports', { walk: tables, runs: [{}] }), [...names.list('exports')]);
+  assert.deepEqual(listed(names, 'pe_c_list_exports', { walk: { exports: tables }, runs: [{}] }), [...names.list('exports')]);
   const moved = opened('relocations'), [block] = moved.list('relocationBlocks');
   assert.deepEqual(listed(moved, 'pe_c_list_relocations', { page_rva: block.page_rva, walk: { ...block.entries } }),
     [...moved.relocations(block)]);
@@ -1295,14 +1297,14 @@ test('the assembly of .NET metadata', () => {
 
 test('lists return what steps do', () => {
   const steps = {
-    exports: ['exports', 'pe_c_export_tables', 'pe_c_next_export'],
-    libraries: ['imports', 'pe_c_import_libraries', 'pe_c_next_library'],
-    delayImports: ['delay_imports', 'pe_c_delay_imports', 'pe_c_next_delay_import'],
-    resourceLeaves: ['resources', 'pe_c_resource_leaves', 'pe_c_next_resource_leaf'],
+    exports: ['exports', 'pe_c_export_tables', 'pe_c_next_export', 'exports'],
+    libraries: ['imports', 'pe_c_import_libraries', 'pe_c_next_library', 'libraries'],
+    delayImports: ['delay_imports', 'pe_c_delay_imports', 'pe_c_next_delay_import', 'entries'],
+    resourceLeaves: ['resources', 'pe_c_resource_leaves', 'pe_c_next_resource_leaf', 'leaves'],
     relocationBlocks: ['relocations', 'pe_c_relocation_blocks', 'pe_c_next_relocation_block'],
   };
-  for (const [list, [name, start, next]] of Object.entries(steps)) {
-    const image = opened(name), found = [...image.items(next, image.call(start))];
+  for (const [list, [name, start, next, place]] of Object.entries(steps)) {
+    const image = opened(name), walk = image.call(start), found = [...image.items(next, place ? { [place]: walk } : walk)];
     assert.ok(found.length, list);
     assert.deepEqual([...image.list(list)], found);
   }
@@ -1310,10 +1312,10 @@ test('lists return what steps do', () => {
   const imports = opened('imports'), delayed = opened('delay_imports');
   const relocated = opened('relocations'), bound = opened('bound_imports');
   for (const it of imports.list('libraries')) {
-    assert.deepEqual([...imports.imports(it)], of(imports, 'pe_c_next_import', it.imports));
+    assert.deepEqual([...imports.imports(it)], of(imports, 'pe_c_next_import', { imports: it.imports }));
   }
   for (const it of delayed.list('delayImports')) {
-    assert.deepEqual([...delayed.delayedFunctions(it)], of(delayed, 'pe_c_next_delayed_function', it.functions));
+    assert.deepEqual([...delayed.delayedFunctions(it)], of(delayed, 'pe_c_next_delayed_function', { functions: it.functions }));
   }
   for (const it of relocated.list('relocationBlocks')) {
     const found = of(relocated, 'pe_c_next_relocation', it.entries, { page_rva: it.page_rva });

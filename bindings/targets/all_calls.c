@@ -51,6 +51,12 @@ struct file {
          of_##call < (most) && (CALL(why, failure, arguments, &(walk), &failure), IS_DONE(call, out, arguments, &(walk), &(out))); \
          of_##call++)
 
+/* The same of a walk that keeps sections; `place` is where it stands. */
+#define WALK_KEPT(most, call, why, out, walk, place) \
+    for (int of_##call = 0; \
+         of_##call < (most) && (CALL(why, failure, VIEW, &(walk).place, &failure), IS_DONE(call, out, VIEW, &(walk), &(out))); \
+         of_##call++)
+
 /* Makes a call that fills an array, until it writes no entry, LISTS times at most. */
 #define LIST(call, type, ...) \
     do { \
@@ -476,12 +482,12 @@ static void certificates(const struct file *file)
 
 static void exports(const struct file *file)
 {
-    pe_c_exports walk = PE_C_EMPTY;
+    pe_c_export_walk walk = PE_C_EMPTY;
     pe_c_export entry = PE_C_EMPTY;
     pe_c_address_table table = PE_C_EMPTY;
     pe_c_exported exported = PE_C_EMPTY;
     uint64_t index = 0;
-    if (IS_DONE(pe_c_export_tables, walk, VIEW, &walk))
+    if (IS_DONE(pe_c_export_tables, walk.exports, VIEW, &walk.exports))
         WALK(ITEMS, pe_c_next_export, entry, VIEW, &walk, &entry) {}
     pe_c_export_fields fields = PE_C_EMPTY;
     CALL(pe_c_export_directory, fields, VIEW, &fields);
@@ -507,7 +513,10 @@ static void function_names(const struct file *file)
 
 static void imports(const struct file *file)
 {
-    pe_c_libraries libraries = PE_C_EMPTY;
+    pe_c_library_walk libraries = PE_C_EMPTY;
+    pe_c_import_walk imports_of = PE_C_EMPTY;
+    pe_c_delay_import_walk dlls = PE_C_EMPTY;
+    pe_c_delayed_function_walk functions = PE_C_EMPTY;
     pe_c_library library = PE_C_EMPTY;
     pe_c_import import = PE_C_EMPTY;
     pe_c_range walk = PE_C_EMPTY, table = PE_C_EMPTY;
@@ -518,21 +527,24 @@ static void imports(const struct file *file)
     pe_c_bound_forwarder forwarder = PE_C_EMPTY;
     pe_c_run runs[ROWS] = PE_C_EMPTY;
     pe_c_failure failure = PE_C_EMPTY;
-    if (IS_DONE(pe_c_import_libraries, libraries, VIEW, &libraries))
-        WALK_WHY(LISTS, pe_c_next_library, pe_c_library_failure, library, VIEW, libraries) {
-            WALK_WHY(ITEMS, pe_c_next_import, pe_c_import_failure, import, VIEW, library.imports) {}
+    if (IS_DONE(pe_c_import_libraries, libraries.libraries, VIEW, &libraries.libraries))
+        WALK_KEPT(LISTS, pe_c_next_library, pe_c_library_failure, library, libraries, libraries) {
+            imports_of.imports = library.imports;
+            WALK_KEPT(ITEMS, pe_c_next_import, pe_c_import_failure, import, imports_of, imports) {}
         }
     if (IS_DONE(pe_c_delay_imports, walk, VIEW, &walk)) {
-        pe_c_range dlls = walk;
+        dlls.entries = walk;
         LIST(pe_c_list_delay_imports, pe_c_delay_import, VIEW, &dlls, NULL, 0);
-        dlls = walk;
+        dlls.entries = walk;
         LIST(pe_c_list_delay_imports, pe_c_delay_import, VIEW, &dlls, runs, ROWS);
-        WALK_WHY(LISTS, pe_c_next_delay_import, pe_c_delay_import_failure, delayed, VIEW, walk) {
-            pe_c_delayed_functions functions = delayed.functions;
+        dlls.entries = walk;
+        WALK_KEPT(LISTS, pe_c_next_delay_import, pe_c_delay_import_failure, delayed, dlls, entries) {
+            functions.functions = delayed.functions;
             LIST(pe_c_list_delayed_functions, pe_c_delayed_function, VIEW, &functions, NULL, 0);
-            functions = delayed.functions;
+            functions.functions = delayed.functions;
             LIST(pe_c_list_delayed_functions, pe_c_delayed_function, VIEW, &functions, runs, ROWS);
-            WALK_WHY(ITEMS, pe_c_next_delayed_function, pe_c_delayed_function_failure, function, VIEW, delayed.functions) {}
+            functions.functions = delayed.functions;
+            WALK_KEPT(ITEMS, pe_c_next_delayed_function, pe_c_delayed_function_failure, function, functions, functions) {}
         }
     }
     if (pe_c_delay_imports(VIEW, &all.libraries) == PE_C_DONE)
@@ -617,7 +629,7 @@ static void resources(const struct file *file)
 {
     pe_c_range range = PE_C_EMPTY;
     pe_c_version version = PE_C_EMPTY;
-    pe_c_resource_walk walk = PE_C_EMPTY;
+    pe_c_leaf_walk walk = PE_C_EMPTY;
     pe_c_resource_leaf leaf = PE_C_EMPTY;
     pe_c_resource_directory root = PE_C_EMPTY;
     pe_c_failure failure = PE_C_EMPTY;
@@ -628,10 +640,10 @@ static void resources(const struct file *file)
     version_blocks(file);
     edits(file);
     CALL(pe_c_resource_root, root, VIEW, &root);
-    if (!IS_DONE(pe_c_resource_leaves, walk, VIEW, &walk))
+    if (!IS_DONE(pe_c_resource_leaves, walk.leaves, VIEW, &walk.leaves))
         return;
-    resource_directories(file, &walk.tree);
-    WALK_WHY(ITEMS, pe_c_next_resource_leaf, pe_c_resource_leaf_failure, leaf, VIEW, walk)
+    resource_directories(file, &walk.leaves.tree);
+    WALK_KEPT(ITEMS, pe_c_next_resource_leaf, pe_c_resource_leaf_failure, leaf, walk, leaves)
         if (leaf.resource_type.id == 16) {
             CALL(pe_c_fixed_version_in, version, BYTES, &leaf.content, &version);
             for (uint32_t name = 0; name <= PE_C_SPECIAL_BUILD + 1; name++)
@@ -703,14 +715,14 @@ static void directories(const struct file *file)
 /* The lists of what the walks above step through. */
 static void lists_of_names(const struct file *file)
 {
-    pe_c_exports tables = PE_C_EMPTY;
+    pe_c_export_walk tables = PE_C_EMPTY;
     pe_c_address_table table = PE_C_EMPTY;
-    pe_c_libraries libraries = PE_C_EMPTY;
+    pe_c_library_walk libraries = PE_C_EMPTY;
     pe_c_library library = PE_C_EMPTY;
     uint64_t next = 0;
     pe_c_run runs[ROWS] = PE_C_EMPTY;
-    if (pe_c_export_tables(VIEW, &tables) == PE_C_DONE) {
-        pe_c_exports together = tables;
+    if (pe_c_export_tables(VIEW, &tables.exports) == PE_C_DONE) {
+        pe_c_export_walk together = tables;
         LIST(pe_c_list_exports, pe_c_export, VIEW, &tables, NULL, 0);
         LIST(pe_c_list_exports, pe_c_export, VIEW, &together, runs, ROWS);
     }
@@ -719,20 +731,19 @@ static void lists_of_names(const struct file *file)
         LIST(pe_c_list_export_addresses, pe_c_exported, VIEW, &table, &next, NULL, 0);
         LIST(pe_c_list_export_addresses, pe_c_exported, VIEW, &table, &together, runs, ROWS);
     }
-    if (pe_c_import_libraries(VIEW, &libraries) != PE_C_DONE)
+    if (pe_c_import_libraries(VIEW, &libraries.libraries) != PE_C_DONE)
         return;
-    pe_c_libraries walk = libraries;
-    pe_c_libraries steps = libraries;
+    pe_c_library_walk walk = libraries, steps = libraries;
     LIST(pe_c_list_libraries, pe_c_library, VIEW, &walk, NULL, 0);
     walk = libraries;
     LIST(pe_c_list_libraries, pe_c_library, VIEW, &walk, runs, ROWS);
     if (pe_c_next_library(VIEW, &steps, &library) == PE_C_DONE) {
-        pe_c_imports together = library.imports;
-        LIST(pe_c_list_imports, pe_c_import, VIEW, &library.imports, NULL, 0);
+        pe_c_import_walk imports_of = {.imports = library.imports}, together = imports_of;
+        LIST(pe_c_list_imports, pe_c_import, VIEW, &imports_of, NULL, 0);
         LIST(pe_c_list_imports, pe_c_import, VIEW, &together, runs, ROWS);
     }
     pe_c_library_imports all = PE_C_EMPTY;
-    all.libraries = libraries;
+    all.libraries = libraries.libraries;
     LIST(pe_c_list_all_imports, pe_c_library_import, VIEW, &all, runs, ROWS);
 }
 
@@ -766,12 +777,12 @@ static void lists_of_functions(const struct file *file)
 
 static void lists(const struct file *file)
 {
-    pe_c_resource_walk leaves = PE_C_EMPTY;
+    pe_c_leaf_walk leaves = PE_C_EMPTY;
     pe_c_range walk = PE_C_EMPTY;
     pe_c_relocation_block block = PE_C_EMPTY;
     lists_of_names(file);
     lists_of_functions(file);
-    if (pe_c_resource_leaves(VIEW, &leaves) == PE_C_DONE)
+    if (pe_c_resource_leaves(VIEW, &leaves.leaves) == PE_C_DONE)
         LIST(pe_c_list_resource_leaves, pe_c_resource_leaf, VIEW, &leaves);
     if (pe_c_version_blocks(VIEW, &walk) == PE_C_DONE)
         LIST(pe_c_list_version_blocks, pe_c_version_block, BYTES, &walk);

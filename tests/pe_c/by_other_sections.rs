@@ -1,17 +1,22 @@
-//! Calls by an index of the sections, and a plan by the sections that it keeps. Two sections map the same RVAs to two halves of the
+//! Calls by an index of the sections, and walks by the sections that they keep. Two sections map the same RVAs to two halves of the
 //! bytes, without an index the first: what leads to the second half shows that the index, or what a walk keeps, is asked.
 
 use super::arm64::NO_RECORD as NO_ARM64_RECORD;
 use super::clr::no_header;
 use super::delay_imports::NO_FUNCTION;
 use super::delay_imports::NO_LIBRARY as NO_DLL;
+use super::delay_imports::from as from_dlls;
+use super::delay_imports::from_function;
 use super::delay_imports::functions as functions_in;
 use super::directory_tables::NO_EXPORT_FIELDS;
 use super::directory_tables::NO_RESOURCE_DIRECTORY;
 use super::exports::UNTOUCHED as NO_EXPORT;
+use super::exports::from as from_exports;
 use super::exports::with_exports;
 use super::imports::NO_IMPORT;
 use super::imports::NO_LIBRARY;
+use super::imports::from_import;
+use super::imports::from_library;
 use super::load_config::UNTOUCHED as NO_CONFIG;
 use super::made::ARM64;
 use super::made::ARM64_VERSION;
@@ -36,12 +41,15 @@ use super::plan::plan_from;
 use super::resource_leaves::NO_LEAF;
 use super::resource_leaves::walk as walk_over_leaves;
 use super::resource_leaves::with_tree;
+use super::steps::pe_c_fixed_version;
 use super::steps::pe_c_next_delay_import;
 use super::steps::pe_c_next_delayed_function;
 use super::steps::pe_c_next_export;
 use super::steps::pe_c_next_import;
 use super::steps::pe_c_next_library;
 use super::steps::pe_c_next_resource_leaf;
+use super::steps::pe_c_symbol_key;
+use super::steps::pe_c_version_text;
 use super::tls::NONE as NO_TLS;
 use super::unwinding::no_record;
 use super::version::TREE;
@@ -58,7 +66,6 @@ use crate::clr::pe_c_clr_header;
 use crate::clr::pe_c_clr_metadata;
 use crate::debug::pe_c_debug_entries;
 use crate::debug::pe_c_first_debug_entry;
-use crate::debug::pe_c_symbol_key;
 use crate::debug_records::SymbolKey;
 use crate::delay_imports::pe_c_delay_imports;
 use crate::directory_failure::pe_c_directory_failure;
@@ -77,6 +84,7 @@ use crate::imports::pe_c_import_libraries;
 use crate::kept_sections::KeptSections;
 use crate::lists::delay_imports::pe_c_list_delay_imports;
 use crate::lists::delay_imports::pe_c_list_delayed_functions;
+use crate::lists::exports::pe_c_list_exports;
 use crate::lists::imports::pe_c_list_imports;
 use crate::lists::x64::pe_c_record_codes;
 use crate::load_config::pe_c_load_config;
@@ -96,9 +104,7 @@ use crate::tls::pe_c_tls_callbacks;
 use crate::unwinding::Code;
 use crate::unwinding::pe_c_function_table;
 use crate::unwinding::pe_c_unwind_record;
-use crate::version::pe_c_fixed_version;
 use crate::version::pe_c_manifest;
-use crate::version::pe_c_version_text;
 use crate::version_blocks::pe_c_version_blocks;
 use crate::view::View;
 use pe_core::SectionTable;
@@ -246,7 +252,7 @@ fn resources(rt: HostRuntime) -> Result<(), Fail> {
     let bytes = in_both(rt.alloc(), &[(0, &tree)])?;
     let whole = having(image(X64), 2, directory(0x1020, 142));
     let leaves = by_second(&bytes, &whole, |view| {
-        let mut out = walk_over_leaves(untouched(), NO_RANGE, NO_RANGE, NO_RANGE);
+        let mut out = walk_over_leaves(untouched(), NO_RANGE, NO_RANGE, NO_RANGE).leaves;
         let answer = pe_c_resource_leaves(view, &mut out);
         (answer, of_range(out.tree))
     });
@@ -513,67 +519,72 @@ fn same_step(step: Step) -> [(Step, [u32; 2]); 3] {
 #[test]
 fn steps(rt: HostRuntime) -> Result<(), Fail> {
     let bytes = with_walks(rt.alloc())?;
-    let image = image(X64);
-    let export = by_second(&bytes, &image, |view| {
-        let mut walk = Exports {
+    let export = ways(&bytes, |view, kept| {
+        let mut walk = from_exports(Exports {
             names: range(0x10, 4),
             ordinals: range(0x14, 2),
             addresses: range(0x18, 4),
             next: 0,
             directory: directory(0, 0),
-        };
+        });
+        walk.kept = kept;
         let mut out = NO_EXPORT;
         let answer = pe_c_next_export(view, &mut walk, &mut out);
-        (answer, of_range(out.name), out.offset)
+        ((answer, of_range(out.name), out.offset), walk.kept)
     });
-    assert_eq!(rt; export, (DONE, [0x480, 5], 0x490));
-    let library = by_second(&bytes, &image, |view| {
-        let mut walk = Libraries {
+    assert_eq!(rt; export, same_step((DONE, [0x480, 5], 0x490)));
+    let library = ways(&bytes, |view, kept| {
+        let mut walk = from_library(Libraries {
             next: 0x20,
             is_over: 0,
             spare: 0,
-        };
+        });
+        walk.kept = kept;
         let mut out = NO_LIBRARY;
         let answer = pe_c_next_library(view, &mut walk, &mut out);
         let list = out.imports.left.offset;
-        (answer, of_range(out.name), list)
+        ((answer, of_range(out.name), list), walk.kept)
     });
-    assert_eq!(rt; library, (DONE, [0x480, 5], 0x4A0));
-    let import = by_second(&bytes, &image, |view| {
-        let mut walk = Imports {
+    assert_eq!(rt; library, same_step((DONE, [0x480, 5], 0x4A0)));
+    let import = ways(&bytes, |view, kept| {
+        let mut walk = from_import(Imports {
             left: range(0x40, 8),
             rva: 0x1000,
-        };
+        });
+        walk.kept = kept;
         let mut out = NO_IMPORT;
         let answer = pe_c_next_import(view, &mut walk, &mut out);
         let hint = u64::from(out.ordinal);
-        (answer, of_range(out.name), hint)
+        ((answer, of_range(out.name), hint), walk.kept)
     });
-    assert_eq!(rt; import, (DONE, [0x4C2, 1], 7));
-    let dll = by_second(&bytes, &image, |view| {
-        let mut walk = range(0x50, 64);
+    assert_eq!(rt; import, same_step((DONE, [0x4C2, 1], 7)));
+    let dll = ways(&bytes, |view, kept| {
+        let mut walk = from_dlls(range(0x50, 64));
+        walk.kept = kept;
         let mut out = NO_DLL;
         let answer = pe_c_next_delay_import(view, &mut walk, &mut out);
         let table = out.functions.left.offset;
-        (answer, of_range(out.name), table)
+        ((answer, of_range(out.name), table), walk.kept)
     });
-    assert_eq!(rt; dll, (DONE, [0x480, 5], 0x4D0));
-    let function = by_second(&bytes, &image, |view| {
-        let mut walk = functions_in([0x40, 16], 1);
+    assert_eq!(rt; dll, same_step((DONE, [0x480, 5], 0x4D0)));
+    let function = ways(&bytes, |view, kept| {
+        let mut walk = from_function(functions_in([0x40, 16], 1));
+        walk.kept = kept;
         let mut out = NO_FUNCTION;
         let answer = pe_c_next_delayed_function(view, &mut walk, &mut out);
         let hint = u64::from(out.ordinal);
-        (answer, of_range(out.name), hint)
+        ((answer, of_range(out.name), hint), walk.kept)
     });
-    assert_eq!(rt; function, (DONE, [0x4C2, 1], 7));
-    let leaf = by_second(&bytes, &image, |view| {
+    assert_eq!(rt; function, same_step((DONE, [0x4C2, 1], 7)));
+    let leaf = ways(&bytes, |view, kept| {
         let mut walk = walk_over_leaves(range(0x200, 0x8E), range(16, 16), NO_RANGE, NO_RANGE);
+        walk.kept = kept;
         let mut out = NO_LEAF;
         let answer = pe_c_next_resource_leaf(view, &mut walk, &mut out);
         let rva = u64::from(out.rva);
-        (answer, of_range(out.content), rva)
+        ((answer, of_range(out.content), rva), walk.kept)
     });
-    assert_eq!(rt; leaf, (DONE, [0x404, 5], 0x1004));
+    assert_eq!(rt; leaf, same_step((DONE, [0x404, 5], 0x1004)));
     let record = ways(&bytes, |view, kept| {
         let mut walk = plan_from(0x10E0);
         walk.kept = kept;
@@ -592,23 +603,24 @@ fn lists(rt: HostRuntime) -> Result<(), Fail> {
     let bytes = with_walks(rt.alloc())?;
     let image = image(X64);
     let import = by_second(&bytes, &image, |view| {
-        let mut walk = Imports {
+        let mut walk = from_import(Imports {
             left: range(0x40, 8),
             rva: 0x1000,
-        };
+        });
         let (mut out, mut written) = ([NO_IMPORT], 0);
         let answer = pe_c_list_imports(view, &mut walk, &mut [], &mut out, &mut written);
         (answer, of_range(out[0].name), out[0].ordinal)
     });
     assert_eq!(rt; import, (DONE, [0x4C2, 1], 7));
     let dll = by_second(&bytes, &image, |view| {
-        let (mut walk, mut out, mut written) = (range(0x50, 64), [NO_DLL], 0);
+        let (mut walk, mut out, mut written) = (from_dlls(range(0x50, 64)), [NO_DLL], 0);
         let answer = pe_c_list_delay_imports(view, &mut walk, &mut [RUN], &mut out, &mut written);
         (answer, of_range(out[0].name))
     });
     assert_eq!(rt; dll, (DONE, [0x480, 5]));
     let function = by_second(&bytes, &image, |view| {
-        let (mut walk, mut out, mut written) = (functions_in([0x40, 16], 1), [NO_FUNCTION], 0);
+        let mut walk = from_function(functions_in([0x40, 16], 1));
+        let (mut out, mut written) = ([NO_FUNCTION], 0);
         let answer = pe_c_list_delayed_functions(
             view,
             &mut walk,
@@ -619,6 +631,38 @@ fn lists(rt: HostRuntime) -> Result<(), Fail> {
         (answer, of_range(out[0].name), out[0].ordinal)
     });
     assert_eq!(rt; function, (DONE, [0x4C2, 1], 7));
+    // With room for more a walk that keeps a section is listed by it too.
+    let sections = halves();
+    let few = view(&bytes, &image, &sections);
+    let second = KeptSections {
+        first: 2,
+        second: 0,
+    };
+    let mut walk = from_import(Imports {
+        left: range(0x40, 8),
+        rva: 0x1000,
+    });
+    walk.kept = second;
+    let (mut out, mut written) = ([NO_IMPORT; 2], 0);
+    let answer = pe_c_list_imports(&few, &mut walk, &mut [], &mut out, &mut written);
+    assert_eq!(rt;
+        (answer, written, of_range(out[0].name)),
+        (DONE, 1, [0x4C2, 1])
+    );
+    let mut walk = from_exports(Exports {
+        names: range(0x10, 4),
+        ordinals: range(0x14, 2),
+        addresses: range(0x18, 4),
+        next: 0,
+        directory: directory(0, 0),
+    });
+    walk.kept = second;
+    let (mut out, mut written) = ([NO_EXPORT; 2], 0);
+    let answer = pe_c_list_exports(&few, &mut walk, &mut [], &mut out, &mut written);
+    assert_eq!(rt;
+        (answer, written, of_range(out[0].name)),
+        (DONE, 1, [0x480, 5])
+    );
     Ok(())
 }
 

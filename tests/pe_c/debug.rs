@@ -4,9 +4,8 @@ use super::made::{
     BAD_MAGIC, DEBUG_BOUNDS, DEBUG_DATA, DEBUG_SIZE, MAPPED, PERMISSIVE, SHORT, STRICT, UNTOUCHED,
     X64, directory, having, image, in_mode, of_range, range, sections, untouched, view,
 };
-use crate::debug::{
-    DebugRecords, pe_c_debug_data, pe_c_debug_entries, pe_c_first_debug_entry, pe_c_symbol_key,
-};
+use super::steps::pe_c_symbol_key;
+use crate::debug::{DebugRecords, pe_c_debug_data, pe_c_debug_entries, pe_c_first_debug_entry};
 use crate::debug_records::{
     EmbeddedPdb, Pdb20, PdbChecksum, Pogo, Repro, SymbolKey, pe_c_characteristics_of,
     pe_c_codeview, pe_c_embedded_pdb_of, pe_c_pdb_checksum_of, pe_c_pdb20_of, pe_c_pogo_of,

@@ -6,8 +6,12 @@ use super::made::{
     words,
 };
 use super::steps::{pe_c_next_delay_import, pe_c_next_delayed_function};
-use crate::delay_imports::{DelayLibrary, DelayedFunction, DelayedFunctions, pe_c_delay_imports};
+use crate::delay_imports::{
+    DelayLibrary, DelayWalk, DelayedFunction, DelayedFunctionWalk, DelayedFunctions,
+    pe_c_delay_imports,
+};
 use crate::image::Image;
+use crate::kept_sections::NO_SECTIONS;
 use crate::ranges::Range;
 use crate::results::{DONE, NOTHING};
 use pe_directories::DelayImport;
@@ -83,13 +87,29 @@ fn tables_of_entries(rt: HostRuntime) -> Result<(), Fail> {
     Ok(())
 }
 
+/// A walk by steps, which starts here.
+pub(crate) fn from(entries: Range) -> DelayWalk {
+    DelayWalk {
+        entries,
+        kept: NO_SECTIONS,
+    }
+}
+
+/// The same over what is imported of a DLL.
+pub(crate) fn from_function(functions: DelayedFunctions) -> DelayedFunctionWalk {
+    DelayedFunctionWalk {
+        functions,
+        kept: NO_SECTIONS,
+    }
+}
+
 /// The result of a step, the name, the table and the attributes of its walk, the entry, and what is left.
 fn next(
     bytes: &[u8],
     image: &Image,
     walk: [u64; 2],
 ) -> (u32, [[u64; 2]; 2], u32, DelayImport, [u64; 2]) {
-    let mut walk = range(walk[0], walk[1]);
+    let mut walk = from(range(walk[0], walk[1]));
     let mut out = NO_LIBRARY;
     let answer = pe_c_next_delay_import(&view(bytes, image, &sections()), &mut walk, &mut out);
     (
@@ -97,7 +117,7 @@ fn next(
         [of_range(out.name), of_range(out.functions.left)],
         out.functions.attributes,
         out.descriptor,
-        of_range(walk),
+        of_range(walk.entries),
     )
 }
 
@@ -171,11 +191,11 @@ fn step(
     left: [u64; 2],
     attributes: u32,
 ) -> (u32, [u64; 2], [u32; 2], [u64; 2]) {
-    let mut walk = functions(left, attributes);
+    let mut walk = from_function(functions(left, attributes));
     let mut out = NO_FUNCTION;
     let answer = pe_c_next_delayed_function(&view(bytes, image, &sections()), &mut walk, &mut out);
     let numbers = [out.ordinal, out.has_name];
-    let left = of_range(walk.left);
+    let left = of_range(walk.functions.left);
     (answer, of_range(out.name), numbers, left)
 }
 

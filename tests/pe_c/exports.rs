@@ -5,8 +5,9 @@ use super::made::{
 };
 use super::steps::{pe_c_export_at, pe_c_next_export};
 use crate::export_addresses::{AddressTable, Exported, pe_c_export_addresses};
-use crate::exports::{Export, Exports, pe_c_export_tables};
+use crate::exports::{Export, ExportWalk, Exports, pe_c_export_tables};
 use crate::image::Image;
+use crate::kept_sections::NO_SECTIONS;
 use crate::lists::exports::pe_c_list_exports;
 use crate::ranges::Range;
 use crate::results::{DONE, NOTHING};
@@ -113,7 +114,15 @@ type Fields = ([u64; 2], u64, u32, u32);
 
 const NO_EXPORT: Fields = ([1, 2], 3, 4, 5);
 
-fn step(bytes: &[u8], walk: &mut Exports) -> (u32, Fields, Walk) {
+/// A walk by steps, which starts here.
+pub(crate) fn from(exports: Exports) -> ExportWalk {
+    ExportWalk {
+        exports,
+        kept: NO_SECTIONS,
+    }
+}
+
+fn step(bytes: &[u8], walk: &mut ExportWalk) -> (u32, Fields, Walk) {
     let mut out = UNTOUCHED;
     let answer = pe_c_next_export(&view(bytes, &image(X64), &sections()), walk, &mut out);
     let Export {
@@ -126,7 +135,7 @@ fn step(bytes: &[u8], walk: &mut Exports) -> (u32, Fields, Walk) {
     (
         answer,
         (of_range(name), offset, rva, has_offset),
-        of_walk(*walk),
+        of_walk(walk.exports),
     )
 }
 
@@ -134,7 +143,7 @@ fn step(bytes: &[u8], walk: &mut Exports) -> (u32, Fields, Walk) {
 #[test]
 fn exports_in_turn(rt: HostRuntime) -> Result<(), Fail> {
     let bytes = with_exports(rt.alloc())?;
-    let mut walk = walk_over(0);
+    let mut walk = from(walk_over(0));
     for (answer, export, next) in [
         (DONE, ([0x90, 5], 0, 0x9000, 0), 1),
         (DONE, ([0xA0, 1], 8, 0x1008, 1), 5),
@@ -144,12 +153,12 @@ fn exports_in_turn(rt: HostRuntime) -> Result<(), Fail> {
         assert_eq!(rt; step(&bytes, &mut walk), want);
     }
     // A range that lies is refused while entries are left.
-    let mut lie = Exports {
+    let mut lie = from(Exports {
         names: range(0x60, 0x51),
         ..walk_over(0)
-    };
+    });
     assert_eq!(rt; step(&bytes, &mut lie).0, SHORT);
-    assert_eq!(rt; of_range(lie.names), OVER);
+    assert_eq!(rt; of_range(lie.exports.names), OVER);
     Ok(())
 }
 
@@ -191,13 +200,13 @@ fn export_from(bytes: &[u8], directory: DataDirectory, next: u64) -> [(u32, Name
         ..walk_over(next)
     };
     let mut step = UNTOUCHED;
-    let mut walk = start;
+    let mut walk = from(start);
     let answer = pe_c_next_export(&view, &mut walk, &mut step);
-    let (mut one, mut listed, mut written) = (start, [UNTOUCHED; 1], 77);
+    let (mut one, mut listed, mut written) = (from(start), [UNTOUCHED; 1], 77);
     let first = pe_c_list_exports(&view, &mut one, &mut [], &mut listed, &mut written);
     [
-        (answer, of_export(&step), of_walk(walk)),
-        (first, of_export(&listed[0]), of_walk(one)),
+        (answer, of_export(&step), of_walk(walk.exports)),
+        (first, of_export(&listed[0]), of_walk(one.exports)),
     ]
 }
 

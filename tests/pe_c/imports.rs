@@ -6,7 +6,10 @@ use super::made::{
 };
 use super::steps::{pe_c_next_import, pe_c_next_library};
 use crate::image::Image;
-use crate::imports::{Import, Imports, Libraries, Library, pe_c_import_libraries};
+use crate::imports::{
+    Import, ImportWalk, Imports, Libraries, Library, LibraryWalk, pe_c_import_libraries,
+};
+use crate::kept_sections::NO_SECTIONS;
 use crate::ranges::Range;
 use crate::results::{DONE, NOTHING};
 use pe_images::{image as bytes_of, put};
@@ -46,6 +49,22 @@ fn libraries(next: u64, is_over: u32) -> Libraries {
         next,
         is_over,
         spare: 0,
+    }
+}
+
+/// A walk by steps, which starts here.
+pub(crate) fn from_library(libraries: Libraries) -> LibraryWalk {
+    LibraryWalk {
+        libraries,
+        kept: NO_SECTIONS,
+    }
+}
+
+/// The same over the imports of a library.
+pub(crate) fn from_import(imports: Imports) -> ImportWalk {
+    ImportWalk {
+        imports,
+        kept: NO_SECTIONS,
     }
 }
 
@@ -137,20 +156,25 @@ fn of_import(import: Import) -> ([u64; 2], u64, u32, u32) {
 fn next_library(
     bytes: &[u8],
     image: &Image,
-    walk: &mut Libraries,
+    walk: &mut LibraryWalk,
 ) -> (u32, Fields, (u64, u32, u32)) {
     let mut out = NO_LIBRARY;
     let answer = pe_c_next_library(&view(bytes, image, &sections()), walk, &mut out);
-    (answer, of_library(out), of_libraries(*walk))
+    (answer, of_library(out), of_libraries(walk.libraries))
 }
 
 /// The answer, what went out, and the entries that are left and the next slot after it.
 type Step = (u32, ([u64; 2], u64, u32, u32), [u64; 2], u64);
 
-fn next_import(bytes: &[u8], image: &Image, walk: &mut Imports) -> Step {
+fn next_import(bytes: &[u8], image: &Image, walk: &mut ImportWalk) -> Step {
     let mut out = NO_IMPORT;
     let answer = pe_c_next_import(&view(bytes, image, &sections()), walk, &mut out);
-    (answer, of_import(out), of_range(walk.left), walk.rva)
+    (
+        answer,
+        of_import(out),
+        of_range(walk.imports.left),
+        walk.imports.rva,
+    )
 }
 
 #[test]
@@ -174,7 +198,7 @@ fn libraries_in_their_order(rt: HostRuntime) -> Result<(), Fail> {
     let image = with_directory(0x1010, 60);
     let first = [0x1060, 0x0403_0201, 0x0807_0605, 0x10A0, 0x2000, 0];
     let second = [0, 0, 0, 0x10A2, 0x1088, 0];
-    let mut walk = libraries(0x10, 0);
+    let mut walk = from_library(libraries(0x10, 0));
     assert_eq!(rt;
         next_library(&bytes, &image, &mut walk),
         (DONE, ([0xA0, 1], [0x60, 16], 0x2000, first), (0x24, 0, 0))
@@ -186,7 +210,7 @@ fn libraries_in_their_order(rt: HostRuntime) -> Result<(), Fail> {
     let found = next_library(&bytes, &image, &mut walk);
     assert_eq!(rt; found, (NOTHING, UNTOUCHED_LIBRARY, (0, 1, 0)));
     // A walk that a caller says is over stays as it is.
-    let mut walk = libraries(0x10, 7);
+    let mut walk = from_library(libraries(0x10, 7));
     let found = next_library(&bytes, &image, &mut walk);
     assert_eq!(rt; found, (NOTHING, UNTOUCHED_LIBRARY, (0x10, 7, 0)));
     Ok(())
@@ -208,7 +232,7 @@ fn refused_libraries(rt: HostRuntime) -> Result<(), Fail> {
     for (offset, part, next, number) in damages {
         let mut bytes = with_imports(rt.alloc())?;
         put(&mut bytes, &[(0xB8, &[b'x'; 8]), (offset, part)]);
-        let mut walk = libraries(next, 0);
+        let mut walk = from_library(libraries(next, 0));
         assert_eq!(rt;
             next_library(&bytes, &image, &mut walk),
             (number, UNTOUCHED_LIBRARY, (0, 1, 0)),
@@ -220,7 +244,11 @@ fn refused_libraries(rt: HostRuntime) -> Result<(), Fail> {
     // A list whose address is unmapped is empty, and the walk goes on.
     let mut bytes = with_imports(rt.alloc())?;
     put(&mut bytes, &[(0x11, &[0x90])]);
-    let (answer, (_, list, ..), walk) = next_library(&bytes, &image, &mut libraries(0x10, 0));
+    let (answer, (_, list, ..), walk) = next_library(
+        &bytes,
+        &image,
+        &mut from_library(libraries(0x10, 0)),
+    );
     assert_eq!(rt; (answer, list, walk), (DONE, OVER, (0x24, 0, 0)));
     Ok(())
 }
@@ -229,10 +257,10 @@ fn refused_libraries(rt: HostRuntime) -> Result<(), Fail> {
 fn imports_of_a_library(rt: HostRuntime) -> Result<(), Fail> {
     let bytes = with_imports(rt.alloc())?;
     let pe32_plus = with_directory(0x1010, 60);
-    let mut walk = Imports {
+    let mut walk = from_import(Imports {
         left: range(0x60, 16),
         rva: 0x2000,
-    };
+    });
     let found = next_import(&bytes, &pe32_plus, &mut walk);
     assert_eq!(rt; found, (DONE, ([0xB2, 1], 0x2000, 7, 1), [0x68, 8], 0x2008));
     let found = next_import(&bytes, &pe32_plus, &mut walk);
@@ -255,10 +283,10 @@ fn refused_imports(rt: HostRuntime) -> Result<(), Fail> {
     for (offset, part, number) in damages {
         let mut bytes = with_imports(rt.alloc())?;
         put(&mut bytes, &[(0xB8, &[b'x'; 8]), (offset, part)]);
-        let mut walk = Imports {
+        let mut walk = from_import(Imports {
             left: range(0x60, 16),
             rva: 0x2000,
-        };
+        });
         for number in [number, NOTHING] {
             assert_eq!(rt;
                 next_import(&bytes, &image, &mut walk),
@@ -268,10 +296,10 @@ fn refused_imports(rt: HostRuntime) -> Result<(), Fail> {
         }
     }
     let bytes = with_imports(rt.alloc())?;
-    let mut walk = Imports {
+    let mut walk = from_import(Imports {
         left: range(0x60, 7),
         rva: 5,
-    };
+    });
     let found = next_import(&bytes, &image, &mut walk);
     assert_eq!(rt; found, (SHORT, ([1, 1], 1, 1, 1), OVER, 5));
     Ok(())

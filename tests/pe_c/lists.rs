@@ -1,12 +1,12 @@
 //! Lists in one call: the entries of a walk, so many a call as there is room for, errors after the entries before them, and what
 //! is left as it was. The entries are those that the tests of the steps expect.
 
-use super::imports::{NO_IMPORT, with_imports};
+use super::imports::{NO_IMPORT, from_import, with_imports};
 use super::made::{
-    IMPORT_NAME, OVER, SHORT, TREE_NOT_DIRECTORY, UNMAPPED, UNWIND_CODE, X64, directory, having,
-    image, of_range, range, sections, view,
+    IMPORT_NAME, NO_RANGE, OVER, SHORT, TREE_NOT_DIRECTORY, UNMAPPED, UNWIND_CODE, X64, directory,
+    having, image, of_range, range, sections, view,
 };
-use super::resource_leaves::{NO_LEAF, of_size, with_tree};
+use super::resource_leaves::{NO_LEAF, of_size, walk as walk_over_leaves, with_tree};
 use crate::imports::Imports;
 use crate::lists::imports::pe_c_list_imports;
 use crate::lists::resources::pe_c_list_resource_leaves;
@@ -153,10 +153,10 @@ fn imports_in_lists(rt: HostRuntime) -> Result<(), Fail> {
             (0xA0, b"\0\0\xFF\0"),
         ],
     );
-    let mut walk = Imports {
+    let mut walk = from_import(Imports {
         left: range(0x60, 16),
         rva: 0x2000,
-    };
+    });
     let mut entries = [NO_IMPORT; 2];
     let mut written = UNWRITTEN;
     for (answer, count, rvas, left) in [
@@ -166,17 +166,17 @@ fn imports_in_lists(rt: HostRuntime) -> Result<(), Fail> {
     ] {
         let view = view(&bytes, &image, &sections);
         let number = pe_c_list_imports(&view, &mut walk, &mut [], &mut entries, &mut written);
-        let after = (number, written, of_range(walk.left));
+        let after = (number, written, of_range(walk.imports.left));
         assert_eq!(rt; after, (answer, count, left));
         assert_eq!(rt; entries.map(|entry| entry.rva), rvas);
     }
     // The only import is by a name at an RVA that no section maps.
     put(&mut bytes, &[(0x60, &[0, 0x50, 0, 0, 0, 0, 0, 0])]);
-    walk.left = range(0x60, 8);
+    walk.imports.left = range(0x60, 8);
     let view = view(&bytes, &image, &sections);
     let number = pe_c_list_imports(&view, &mut walk, &mut [], &mut entries, &mut written);
     // shows: pe_c/src/near_imports.rt require_near Unmapped
-    assert_eq!(rt; (number, of_range(walk.left)), (UNMAPPED, OVER));
+    assert_eq!(rt; (number, of_range(walk.imports.left)), (UNMAPPED, OVER));
     Ok(())
 }
 
@@ -185,19 +185,8 @@ fn leaves_in_lists(rt: HostRuntime) -> Result<(), Fail> {
     let bytes = with_tree(rt.alloc())?;
     let (image, sections) = (of_size(0x8E), sections());
     let view = view(&bytes, &image, &sections);
-    let none = pe_resource::ResourceEntry {
-        name_or_id: 0,
-        offset_to_data_or_directory: 0,
-    };
-    let mut walk = crate::resource_leaves::ResourceLeaves {
-        tree: range(0, 0),
-        types: range(0, 0),
-        names: range(0, 0),
-        languages: range(0, 0),
-        resource_type: none,
-        name: none,
-    };
-    assert_eq!(rt; pe_c_resource_leaves(&view, &mut walk), DONE);
+    let mut walk = walk_over_leaves(NO_RANGE, NO_RANGE, NO_RANGE, NO_RANGE);
+    assert_eq!(rt; pe_c_resource_leaves(&view, &mut walk.leaves), DONE);
     for (answer, count, languages) in [
         (DONE, 2, [0x409, 0x407, 3]),
         (TREE_NOT_DIRECTORY, UNWRITTEN, [3; 3]),

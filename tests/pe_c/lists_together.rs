@@ -1,7 +1,11 @@
 //! Lists whose names are read together in a room of the caller: a sample of each, and when the room is filled, which the cost hangs
 //! on and no contract says.
 
-use super::delay_imports::{NO_FUNCTION, NO_LIBRARY as NO_DLL, functions as functions_in};
+use super::delay_imports::{
+    NO_FUNCTION, NO_LIBRARY as NO_DLL, from as from_dlls, from_function, functions as functions_in,
+};
+use super::exports::from as from_exports;
+use super::imports::{from_import, from_library};
 use super::made::{
     DIRECTORY_BOUND_IMPORT_NAME, DIRECTORY_DELAY_IMPORT_NAME, IMPORT_NAME, NO_RANGE, OVER, RUN,
     STRING_TABLE, UNTOUCHED, X64, directory, image, of_range, range, sections, untouched, view,
@@ -92,15 +96,18 @@ fn exports_that_share_much(rt: HostRuntime) -> Result<(), Fail> {
         let (image, sections) = (image(X64), sections());
         let view = view(&bytes, &image, &sections);
         for room in [0, 7, 8, 21] {
-            let mut walk = exports();
-            (walk.names, walk.ordinals) = (range(0x20, 40), range(0x80, 20));
-            walk.directory = directory(rva, 1);
+            let mut walk = from_exports(Exports {
+                names: range(0x20, 40),
+                ordinals: range(0x80, 20),
+                directory: directory(rva, 1),
+                ..exports()
+            });
             let mut runs = [RUN; 22];
             let mut entries = [NO_EXPORT; 11];
             let mut written = 77;
             let lent = &mut runs[..room];
             let answer = pe_c_list_exports(&view, &mut walk, lent, &mut entries, &mut written);
-            assert_eq!(rt; (answer, written, walk.next), (DONE, 10, 10));
+            assert_eq!(rt; (answer, written, walk.exports.next), (DONE, 10, 10));
             for entry in &entries[..10] {
                 assert_eq!(rt; [of_range(entry.name), of_range(entry.forwarder)], texts);
                 assert_eq!(rt; (entry.rva, entry.is_forwarder), (rva, 1));
@@ -142,12 +149,12 @@ fn forwarders_together(rt: HostRuntime) -> Result<(), Fail> {
     ];
     for room in [0, 16, 17, 37] {
         let mut runs = [RUN; 37];
-        let mut walk = start;
+        let mut walk = from_exports(start);
         let mut entries = [NO_EXPORT; 19];
         let mut written = 77;
         let lent = &mut runs[..room];
         let answer = pe_c_list_exports(&view, &mut walk, lent, &mut entries, &mut written);
-        assert_eq!(rt; (answer, written, walk.next), (DONE, 18, 18));
+        assert_eq!(rt; (answer, written, walk.exports.next), (DONE, 18, 18));
         for i in 0..18 {
             assert_eq!(rt; of_range(entries[i].forwarder), want[i % 9], "{room} {i}");
             assert_eq!(rt; of_range(entries[i].name), [0x152, 0]);
@@ -205,9 +212,9 @@ fn libraries_together(rt: HostRuntime) -> Result<(), Fail> {
         spare: 0,
     };
     let (mut runs, mut entries) = ([RUN; 4], [NO_LIBRARY; 4]);
-    let (mut walk, mut written) = (start, 77);
+    let (mut walk, mut written) = (from_library(start), 77);
     let answer = pe_c_list_libraries(&view, &mut walk, &mut runs, &mut entries, &mut written);
-    assert_eq!(rt; (answer, written, walk.is_over), (DONE, 3, 1));
+    assert_eq!(rt; (answer, written, walk.libraries.is_over), (DONE, 3, 1));
     assert_eq!(rt;
         entries.map(|it| (of_range(it.name), of_range(it.imports.left), it.imports.rva)),
         [
@@ -247,10 +254,10 @@ fn imports_together(rt: HostRuntime) -> Result<(), Fail> {
         rva: 0x3000,
     };
     let (mut runs, mut entries) = ([RUN; 5], [NO_IMPORT; 5]);
-    let (mut walk, mut written) = (start, 77);
+    let (mut walk, mut written) = (from_import(start), 77);
     let answer = pe_c_list_imports(&view, &mut walk, &mut runs, &mut entries, &mut written);
     assert_eq!(rt;
-        (answer, written, of_range(walk.left)),
+        (answer, written, of_range(walk.imports.left)),
         (DONE, 4, [0x40, 8])
     );
     assert_eq!(rt;
@@ -265,7 +272,7 @@ fn imports_together(rt: HostRuntime) -> Result<(), Fail> {
     );
     let answer = pe_c_list_imports(&view, &mut walk, &mut runs, &mut entries, &mut written);
     assert_eq!(rt;
-        (answer, written, of_range(walk.left)),
+        (answer, written, of_range(walk.imports.left)),
         (IMPORT_NAME, 4, OVER)
     );
     Ok(())
@@ -434,7 +441,7 @@ fn delay_imports_together(rt: HostRuntime) -> Result<(), Fail> {
     let (image, sections) = (image(X64), sections());
     let view = view(&bytes, &image, &sections);
     let (mut runs, mut entries) = ([RUN; 4], [NO_DLL; 4]);
-    let (mut walk, mut written) = (range(0x10, 0x60), 77);
+    let (mut walk, mut written) = (from_dlls(range(0x10, 0x60)), 77);
     let answer = pe_c_list_delay_imports(&view, &mut walk, &mut runs, &mut entries, &mut written);
     assert_eq!(rt; (answer, written), (DONE, 2));
     for (entry, name) in entries.iter().zip(&[[0x148, 10], [0x100, 82]]) {
@@ -443,7 +450,7 @@ fn delay_imports_together(rt: HostRuntime) -> Result<(), Fail> {
     }
     let answer = pe_c_list_delay_imports(&view, &mut walk, &mut runs, &mut entries, &mut written);
     assert_eq!(rt;
-        (answer, of_range(walk)),
+        (answer, of_range(walk.entries)),
         (DIRECTORY_DELAY_IMPORT_NAME, OVER)
     );
     Ok(())
@@ -454,7 +461,7 @@ fn delayed_functions_together(rt: HostRuntime) -> Result<(), Fail> {
     let bytes = with_texts(rt.alloc(), &DELAYED)?;
     let (image, sections) = (image(X64), sections());
     let view = view(&bytes, &image, &sections);
-    let mut walk = functions_in([0xA0, 0x160], 1);
+    let mut walk = from_function(functions_in([0xA0, 0x160], 1));
     let (mut runs, mut entries, mut written) = ([RUN; 4], [NO_FUNCTION; 4], 77);
     let answer = pe_c_list_delayed_functions(
         &view,
@@ -464,7 +471,11 @@ fn delayed_functions_together(rt: HostRuntime) -> Result<(), Fail> {
         &mut written,
     );
     assert_eq!(rt; (answer, written), (DONE, 4));
-    assert_eq!(rt; (of_range(walk.left), walk.attributes), ([0xC0, 0x140], 1));
+    let functions = walk.functions;
+    assert_eq!(rt;
+        (of_range(functions.left), functions.attributes),
+        ([0xC0, 0x140], 1)
+    );
     // Names, hints or ordinals, and which they are. A hint is the two bytes before a name.
     assert_eq!(rt;
         entries.map(|it| (of_range(it.name), it.ordinal, it.has_name)),

@@ -6,8 +6,11 @@ use super::made::{
 };
 use super::steps::pe_c_next_resource_leaf;
 use crate::image::Image;
+use crate::kept_sections::NO_SECTIONS;
 use crate::ranges::Range;
-use crate::resource_leaves::{ResourceLeaf, ResourceLeaves, ResourceName, pe_c_resource_leaves};
+use crate::resource_leaves::{
+    LeafWalk, ResourceLeaf, ResourceLeaves, ResourceName, pe_c_resource_leaves,
+};
 use crate::results::{DONE, NOTHING};
 use pe_images::image as bytes_of;
 use pe_resource::ResourceEntry;
@@ -73,14 +76,17 @@ const NO_ENTRY: ResourceEntry = ResourceEntry {
 };
 
 /// A walk from these ranges.
-pub(crate) fn walk(tree: Range, types: Range, names: Range, languages: Range) -> ResourceLeaves {
-    ResourceLeaves {
-        tree,
-        types,
-        names,
-        languages,
-        resource_type: NO_ENTRY,
-        name: NO_ENTRY,
+pub(crate) fn walk(tree: Range, types: Range, names: Range, languages: Range) -> LeafWalk {
+    LeafWalk {
+        leaves: ResourceLeaves {
+            tree,
+            types,
+            names,
+            languages,
+            resource_type: NO_ENTRY,
+            name: NO_ENTRY,
+        },
+        kept: NO_SECTIONS,
     }
 }
 
@@ -101,7 +107,8 @@ fn flat(leaf: ResourceLeaf) -> ([[u64; 4]; 3], [u64; 2], [u32; 4]) {
 }
 
 /// The four ranges of a walk, and its two entries.
-fn flat_walk(walk: ResourceLeaves) -> ([[u64; 2]; 4], [ResourceEntry; 2]) {
+fn flat_walk(walk: LeafWalk) -> ([[u64; 2]; 4], [ResourceEntry; 2]) {
+    let walk = walk.leaves;
     let ranges = [
         of_range(walk.tree),
         of_range(walk.types),
@@ -111,13 +118,13 @@ fn flat_walk(walk: ResourceLeaves) -> ([[u64; 2]; 4], [ResourceEntry; 2]) {
     (ranges, [walk.resource_type, walk.name])
 }
 
-pub(crate) fn start(bytes: &[u8], image: &Image) -> (u32, ResourceLeaves) {
+pub(crate) fn start(bytes: &[u8], image: &Image) -> (u32, LeafWalk) {
     let mut out = walk(range(1, 2), range(3, 4), range(5, 6), range(7, 8));
-    let answer = pe_c_resource_leaves(&view(bytes, image, &sections()), &mut out);
+    let answer = pe_c_resource_leaves(&view(bytes, image, &sections()), &mut out.leaves);
     (answer, out)
 }
 
-fn step(bytes: &[u8], image: &Image, walk: &mut ResourceLeaves) -> (u32, ResourceLeaf) {
+fn step(bytes: &[u8], image: &Image, walk: &mut LeafWalk) -> (u32, ResourceLeaf) {
     let mut out = NO_LEAF;
     let answer = pe_c_next_resource_leaf(&view(bytes, image, &sections()), walk, &mut out);
     (answer, out)

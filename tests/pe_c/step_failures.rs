@@ -250,7 +250,7 @@ fn resource_leaves(rt: HostRuntime) -> Result<(), Fail> {
             pe_c_next_resource_leaf(&view(&bytes, &image, &sections()), &mut walk, &mut leaf);
         }
         let found = said_of(&bytes, &image, |view, out| {
-            pe_c_resource_leaf_failure(view, &walk, out)
+            pe_c_resource_leaf_failure(view, &walk.leaves, out)
         });
         assert_eq!(rt; found, wanted, "of {offset} after {leaves}");
     }

@@ -1,16 +1,19 @@
-//! The functions of `pe.h` that are a list with room for one entry: the next item of a walk, and an entry by its index.
+//! The functions of `pe.h`: those that are a list with room for one entry, the next item of a walk and an entry by its index, and those
+//! that make two calls, the second over what the first writes.
 
 use super::made::FUNCTION_INDEX;
 use crate::arm64::codes::{Arm64Code, Arm64CodeWalk};
 use crate::base_relocations::{Relocation, RelocationBlock};
 use crate::bound_imports::{BoundForwarder, BoundImport};
 use crate::coff::{Symbol, SymbolWalk, pe_c_next_symbol};
+use crate::debug::pe_c_first_debug_entry;
+use crate::debug_records::{SymbolKey, pe_c_symbol_key_of};
 use crate::debug_walks::PogoEntry;
-use crate::delay_imports::{DelayLibrary, DelayedFunction, DelayedFunctions};
+use crate::delay_imports::{DelayLibrary, DelayWalk, DelayedFunction, DelayedFunctionWalk};
 use crate::export_addresses::{AddressTable, Exported};
-use crate::exports::{Export, Exports};
+use crate::exports::{Export, ExportWalk};
 use crate::guard_tables::{GuardEntries, GuardEntry};
-use crate::imports::{Import, Imports, Libraries, Library};
+use crate::imports::{Import, ImportWalk, Library, LibraryWalk};
 use crate::lists::arm64::{pe_c_list_arm64_codes, pe_c_list_arm64_functions};
 use crate::lists::bound_imports::{pe_c_list_bound_forwarders, pe_c_list_bound_imports};
 use crate::lists::debug::pe_c_list_pogo_entries;
@@ -22,12 +25,15 @@ use crate::lists::imports::{pe_c_list_imports, pe_c_list_libraries};
 use crate::lists::relocations::{pe_c_list_relocation_blocks, pe_c_list_relocations};
 use crate::lists::resources::{pe_c_list_resource_leaves, pe_c_list_version_blocks};
 use crate::lists::x64::{pe_c_list_codes, pe_c_list_functions};
-use crate::ranges::Range;
-use crate::resource_leaves::{ResourceLeaf, ResourceLeaves};
+use crate::ranges::{NO_BYTES, Range};
+use crate::resource_leaves::{LeafWalk, ResourceLeaf};
 use crate::results::{DONE, NOTHING};
 use crate::unwinding::{Code, CodeWalk};
-use crate::version_blocks::VersionBlock;
+use crate::version::{pe_c_fixed_version_in, pe_c_version_text_in};
+use crate::version_blocks::{VersionBlock, pe_c_version_blocks};
 use crate::view::View;
+use pe_records::ImageDebugDirectory;
+use pe_resource::VsFixedFileInfo;
 use pe_unwind::{Arm64RuntimeFunction, RuntimeFunction};
 
 /// What such a function returns of a list that returns this, and writes so many entries: `none` where it writes none.
@@ -57,28 +63,32 @@ pub(crate) fn pe_c_next_arm64_code(
     one(number, written, NOTHING)
 }
 
-pub(crate) fn pe_c_next_export(view: &View, walk: &mut Exports, out: &mut Export) -> u32 {
+pub(crate) fn pe_c_next_export(view: &View, walk: &mut ExportWalk, out: &mut Export) -> u32 {
     let (mut entries, mut written) = ([*out], 0);
     let number = pe_c_list_exports(view, walk, &mut [], &mut entries, &mut written);
     *out = entries[0];
     one(number, written, NOTHING)
 }
 
-pub(crate) fn pe_c_next_library(view: &View, walk: &mut Libraries, out: &mut Library) -> u32 {
+pub(crate) fn pe_c_next_library(view: &View, walk: &mut LibraryWalk, out: &mut Library) -> u32 {
     let (mut entries, mut written) = ([*out], 0);
     let number = pe_c_list_libraries(view, walk, &mut [], &mut entries, &mut written);
     *out = entries[0];
     one(number, written, NOTHING)
 }
 
-pub(crate) fn pe_c_next_import(view: &View, walk: &mut Imports, out: &mut Import) -> u32 {
+pub(crate) fn pe_c_next_import(view: &View, walk: &mut ImportWalk, out: &mut Import) -> u32 {
     let (mut entries, mut written) = ([*out], 0);
     let number = pe_c_list_imports(view, walk, &mut [], &mut entries, &mut written);
     *out = entries[0];
     one(number, written, NOTHING)
 }
 
-pub(crate) fn pe_c_next_delay_import(view: &View, walk: &mut Range, out: &mut DelayLibrary) -> u32 {
+pub(crate) fn pe_c_next_delay_import(
+    view: &View,
+    walk: &mut DelayWalk,
+    out: &mut DelayLibrary,
+) -> u32 {
     let (mut entries, mut written) = ([*out], 0);
     let number = pe_c_list_delay_imports(view, walk, &mut [], &mut entries, &mut written);
     *out = entries[0];
@@ -87,7 +97,7 @@ pub(crate) fn pe_c_next_delay_import(view: &View, walk: &mut Range, out: &mut De
 
 pub(crate) fn pe_c_next_delayed_function(
     view: &View,
-    walk: &mut DelayedFunctions,
+    walk: &mut DelayedFunctionWalk,
     out: &mut DelayedFunction,
 ) -> u32 {
     let (mut entries, mut written) = ([*out], 0);
@@ -140,7 +150,7 @@ pub(crate) fn pe_c_next_version_block(
 
 pub(crate) fn pe_c_next_resource_leaf(
     view: &View,
-    walk: &mut ResourceLeaves,
+    walk: &mut LeafWalk,
     out: &mut ResourceLeaf,
 ) -> u32 {
     let (mut entries, mut written) = ([*out], 0);
@@ -239,4 +249,37 @@ pub(crate) fn pe_c_symbol(bytes: &[u8], table: &Range, index: u64, out: &mut Sym
         next: index,
     };
     pe_c_next_symbol(bytes, &mut walk, out)
+}
+
+pub(crate) fn pe_c_symbol_key(view: &View, out: &mut SymbolKey) -> u32 {
+    let mut found = ImageDebugDirectory::default();
+    let number = pe_c_first_debug_entry(view, 2, &mut found);
+    if number == DONE {
+        pe_c_symbol_key_of(view.bytes, view.image.mode, &found, out)
+    } else {
+        number
+    }
+}
+
+pub(crate) fn pe_c_fixed_version(view: &View, out: &mut VsFixedFileInfo) -> u32 {
+    let mut found = NO_BYTES;
+    let number = pe_c_version_blocks(view, &mut found);
+    if number == DONE {
+        pe_c_fixed_version_in(view.bytes, &found, out)
+    } else {
+        number
+    }
+}
+
+pub(crate) fn pe_c_version_text(view: &View, name: u32, out: &mut Range) -> u32 {
+    if name > 11 {
+        return NOTHING;
+    }
+    let mut found = NO_BYTES;
+    let number = pe_c_version_blocks(view, &mut found);
+    if number == DONE {
+        pe_c_version_text_in(view.bytes, &found, name, out)
+    } else {
+        number
+    }
 }

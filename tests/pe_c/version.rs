@@ -4,13 +4,11 @@ use super::made::{
     RESOURCE_STRING, SHORT, UNMAPPED, UNTOUCHED, X64, directory, having, image, of_range, range,
     sections, untouched, view,
 };
+use super::steps::{pe_c_fixed_version, pe_c_version_text};
 use crate::image::Image;
 use crate::ranges::Range;
 use crate::results::{DONE, NOTHING};
-use crate::version::{
-    pe_c_fixed_version, pe_c_fixed_version_in, pe_c_manifest, pe_c_version_text,
-    pe_c_version_text_in,
-};
+use crate::version::{pe_c_fixed_version_in, pe_c_manifest, pe_c_version_text_in};
 use pe_images::{image as bytes_of, put};
 use pe_resource::VsFixedFileInfo;
 use std::alloc::{AllocError, Global};

@@ -745,9 +745,9 @@ macro_rules! lists_of_names {
 }
 
 lists_of_names! {
-    list_exports: pe_c_list_exports() over sys::Exports => sys::Export;
+    list_exports: pe_c_list_exports() over sys::ExportWalk => sys::Export;
     list_export_addresses: pe_c_list_export_addresses(table: &sys::AddressTable) over u64 => sys::Exported;
-    list_libraries: pe_c_list_libraries() over sys::Libraries => sys::Library;
+    list_libraries: pe_c_list_libraries() over sys::LibraryWalk => sys::Library;
     list_all_imports: pe_c_list_all_imports() over sys::LibraryImports => sys::LibraryImport;
 }
 

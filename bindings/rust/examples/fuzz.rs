@@ -275,20 +275,28 @@ fn any_kept(random: &mut Random) -> sys::KeptSections {
     sys::KeptSections { first: random.edge(4) as u32, second: random.edge(4) as u32 }
 }
 
-/// Steps a walk while it returns items, but not forever, and returns these. Where its steps have a call that says why they return an
-/// error, that does so exactly where they do, and by the same error.
+/// Steps a walk while it returns items, but not forever, and returns these. The sections that it keeps make no difference; where its
+/// steps have a call that says why they return an error, that does so exactly where they do, and by the same error. A second walk
+/// keeps any numbers.
 macro_rules! steps {
-    ($view:expr, $most:expr, $name:ident($start:expr), $out:ident $(, $why:ident)?) => {{
-        let (view, mut walk, mut items): (&sys::View, _, _) = (&$view, $start, vec![]);
+    ($view:expr, $random:expr, $most:expr,
+     $name:ident($walk:ident { $place:ident: $start:expr } $(; $more:expr)?), $out:ident $(, $why:ident)?) => {{
+        let (view, start, mut items): (&sys::View, _, _) = (&$view, $start, vec![]);
+        let none = sys::KeptSections::default();
+        let mut walk = sys::$walk { $place: start, kept: none };
         for _ in 0..$most {
-            let mut out = sys::$out::default();
+            let mut alone = sys::$walk { kept: none, ..walk };
+            let (mut out, mut same) = (sys::$out::default(), sys::$out::default());
             $(
                 let mut failure = sys::Failure::default();
                 // SAFETY: the view is of slices, and each record is lent for its call.
-                let said = unsafe { sys::$why(view, &walk, &mut failure) };
+                let said = unsafe { sys::$why(view, &walk.$place, &mut failure) };
             )?
             // SAFETY: the view is of slices, and each record is lent for its call.
-            let answer = unsafe { sys::$name(view, &mut walk, &mut out) };
+            let answer = unsafe { sys::$name(view, $($more,)? &mut walk, &mut out) };
+            // SAFETY: as above.
+            let other = unsafe { sys::$name(view, $($more,)? &mut alone, &mut same) };
+            assert_eq!((answer, out, walk.$place), (other, same, alone.$place));
             $(
                 let is_refused = answer != sys::DONE && answer != sys::NOTHING;
                 let expected = if is_refused { (sys::DONE, answer) } else { (sys::NOTHING, 0) };
@@ -299,50 +307,29 @@ macro_rules! steps {
             }
             items.push(out);
         }
+        let mut walk = sys::$walk { $place: start, kept: any_kept($random) };
+        for _ in 0..$most {
+            let mut out = sys::$out::default();
+            // SAFETY: as above.
+            if unsafe { sys::$name(view, $($more,)? &mut walk, &mut out) } != sys::DONE {
+                break;
+            }
+            if $random.below(4) == 0 {
+                walk.kept = any_kept($random);
+            }
+        }
         items
     }};
 }
 
-/// Steps a plan while it returns records, but not forever, and returns these. The sections that it keeps make no difference. A second
-/// walk keeps any numbers.
-fn records_of(view: &sys::View, random: &mut Random, table: &sys::Range, plan: sys::Plan) -> Vec<sys::Record> {
-    let (none, mut items) = (sys::KeptSections::default(), vec![]);
-    let mut walk = sys::PlanWalk { plan, kept: none };
-    for _ in 0..MOST {
-        let mut alone = sys::PlanWalk { kept: none, ..walk };
-        let (mut out, mut same) = (sys::Record::default(), sys::Record::default());
-        // SAFETY: the view is of slices, and each record is lent for its call.
-        let answer = unsafe { sys::pe_c_next_record(view, table, &mut walk, &mut out) };
-        // SAFETY: as above.
-        let other = unsafe { sys::pe_c_next_record(view, table, &mut alone, &mut same) };
-        assert_eq!((answer, out, walk.plan), (other, same, alone.plan));
-        if answer != sys::DONE {
-            break;
-        }
-        items.push(out);
-    }
-    let mut walk = sys::PlanWalk { plan, kept: any_kept(random) };
-    for _ in 0..MOST {
-        let mut out = sys::Record::default();
-        // SAFETY: as above.
-        if unsafe { sys::pe_c_next_record(view, table, &mut walk, &mut out) } != sys::DONE {
-            break;
-        }
-        if random.below(4) == 0 {
-            walk.kept = any_kept(random);
-        }
-    }
-    items
-}
-
-/// Steps through the walks of an image that map RVAs, without an index of its sections. Those that a plan keeps make no difference.
+/// Steps through the walks of an image that keep sections, without an index of these.
 fn read_by_steps(bytes: &[u8], mode: Mode, layout: Layout, random: &mut Random, seen: &mut Seen) {
     let Ok(image) = Image::parse_as(bytes, mode, layout) else {
         return;
     };
     let mut sections = image.sections().to_vec();
     if random.below(2) == 0 {
-        // Plans over few sections keep none.
+        // Walks over few sections keep none.
         sections.resize(sections.len() + 32, sys::Section::default());
     }
     let view = sys::View::of(bytes, image.info(), &sections, &[]);
@@ -355,35 +342,38 @@ fn read_by_steps(bytes: &[u8], mode: Mode, layout: Layout, random: &mut Random, 
         }};
     }
     let tables = started!(pe_c_export_tables, Exports);
-    let mut count = steps!(view, 4 * MOST, pe_c_next_export(tables), Export).len();
+    let mut count = steps!(view, random, 4 * MOST, pe_c_next_export(ExportWalk { exports: tables }), Export).len();
     let mut libraries = started!(pe_c_import_libraries, Libraries);
     // without a directory no walk was started: one at 0 would read the headers
     libraries.is_over |= u32::from(libraries.next == 0);
     for library in steps!(
         view,
+        random,
         MOST,
-        pe_c_next_library(libraries),
+        pe_c_next_library(LibraryWalk { libraries: libraries }),
         Library,
         pe_c_library_failure
     ) {
         let walk = library.imports;
         count +=
-            steps!(view, MOST, pe_c_next_import(walk), Import, pe_c_import_failure)
+            steps!(view, random, MOST, pe_c_next_import(ImportWalk { imports: walk }), Import, pe_c_import_failure)
                 .len();
     }
     let delayed = started!(pe_c_delay_imports, Range);
     for dll in steps!(
         view,
+        random,
         MOST,
-        pe_c_next_delay_import(delayed),
+        pe_c_next_delay_import(DelayImportWalk { entries: delayed }),
         DelayImport,
         pe_c_delay_import_failure
     ) {
         let walk = dll.functions;
         count += steps!(
             view,
+            random,
             MOST,
-            pe_c_next_delayed_function(walk),
+            pe_c_next_delayed_function(DelayedFunctionWalk { functions: walk }),
             DelayedFunction,
             pe_c_delayed_function_failure
         )
@@ -392,8 +382,9 @@ fn read_by_steps(bytes: &[u8], mode: Mode, layout: Layout, random: &mut Random, 
     let leaves = started!(pe_c_resource_leaves, ResourceWalk);
     count += steps!(
         view,
+        random,
         MOST,
-        pe_c_next_resource_leaf(leaves),
+        pe_c_next_resource_leaf(LeafWalk { leaves: leaves }),
         ResourceLeaf,
         pe_c_resource_leaf_failure
     )
@@ -408,7 +399,7 @@ fn read_by_steps(bytes: &[u8], mode: Mode, layout: Layout, random: &mut Random, 
             sys::pe_c_plan_from(unwind, &mut start);
             sys::pe_c_plan_from(unwind, &mut last.plan);
         }
-        let records = records_of(&view, random, &table, start);
+        let records = steps!(view, random, MOST, pe_c_next_record(PlanWalk { plan: start }; &table), Record);
         // the same from what the plan before kept
         for record in &records {
             let mut out = sys::Record::default();
@@ -575,9 +566,9 @@ fn read_by_lies(bytes: &[u8], random: &mut Random, seen: &mut Seen) {
     let resource = sys::ResourceEntry { name_or_id: few, offset_to_data_or_directory: few.rotate_left(5) };
     let part = sys::Range { offset: index, length: u64::from(few % 64) };
     let leaves = sys::ResourceWalk { tree: range, types: part, ..sys::ResourceWalk::default() };
-    list!(&view => pe_c_list_resource_leaves(; leaves), ResourceLeaf);
+    list!(&view => pe_c_list_resource_leaves(; leaves.into()), ResourceLeaf);
     let leaves = sys::ResourceWalk { languages: part, name: resource, ..leaves };
-    list!(&view => pe_c_list_resource_leaves(; leaves), ResourceLeaf);
+    list!(&view => pe_c_list_resource_leaves(; leaves.into()), ResourceLeaf);
     list!(start, length => pe_c_list_version_blocks(; range), VersionBlock);
     list!(start, length => pe_c_list_relocation_blocks(; range), RelocationBlock);
     list!(start, length => pe_c_list_relocations(few; range), Relocation);
@@ -603,18 +594,18 @@ fn read_by_lies(bytes: &[u8], random: &mut Random, seen: &mut Seen) {
             }
         }};
     }
-    together!(pe_c_list_exports(; names), Export);
+    together!(pe_c_list_exports(; names.into()), Export);
     together!(pe_c_list_export_addresses(&table; index), Exported);
     together!(pe_c_list_long_section_names(&range; index), Range);
-    together!(pe_c_list_delay_imports(; range), DelayImport);
+    together!(pe_c_list_delay_imports(; range.into()), DelayImport);
     let functions = sys::DelayedFunctions { left: range, attributes: few, spare: 1 };
-    together!(pe_c_list_delayed_functions(; functions), DelayedFunction);
+    together!(pe_c_list_delayed_functions(; functions.into()), DelayedFunction);
     let late = sys::LibraryFunctions { libraries: range, functions, library_name: range, begun: index };
     together!(pe_c_list_all_delayed_functions(; late), LibraryFunction);
     let libraries = sys::Libraries { next: range.offset, ..sys::Libraries::default() };
-    together!(pe_c_list_libraries(; libraries), Library);
+    together!(pe_c_list_libraries(; libraries.into()), Library);
     let imports = sys::Imports { left: range, rva: index };
-    together!(pe_c_list_imports(; imports), Import);
+    together!(pe_c_list_imports(; imports.into()), Import);
     let all = sys::LibraryImports { libraries, imports, library_name: range, begun: index };
     together!(pe_c_list_all_imports(; all), LibraryImport);
     macro_rules! bound {
@@ -809,7 +800,7 @@ fn read_by_lies(bytes: &[u8], random: &mut Random, seen: &mut Seen) {
     }
     let tables = call_of_image!(pe_c_export_tables(), Exports);
     for walk in [tables, sys::Exports { names: range, next: index, ..tables }] {
-        steps!(view, MOST, pe_c_next_export(walk), Export);
+        steps!(view, random, MOST, pe_c_next_export(ExportWalk { exports: walk }), Export);
     }
     call_of_image!(pe_c_export_directory(), ExportFields);
     let table = call_of_image!(pe_c_export_addresses(), AddressTable);
@@ -830,10 +821,10 @@ fn read_by_lies(bytes: &[u8], random: &mut Random, seen: &mut Seen) {
     }
     let libraries = call_of_image!(pe_c_import_libraries(), Libraries);
     for walk in [libraries, sys::Libraries { next: range.offset, ..libraries }] {
-        steps!(view, MOST, pe_c_next_library(walk), Library, pe_c_library_failure);
+        steps!(view, random, MOST, pe_c_next_library(LibraryWalk { libraries: walk }), Library, pe_c_library_failure);
     }
     let lie = sys::Imports { left: range, rva: index };
-    steps!(view, MOST, pe_c_next_import(lie), Import, pe_c_import_failure);
+    steps!(view, random, MOST, pe_c_next_import(ImportWalk { imports: lie }), Import, pe_c_import_failure);
     let tls = call_of_image!(pe_c_tls(), TlsDirectory);
     call_of_image!(pe_c_tls_callbacks(&sys::TlsDirectory { address_of_callbacks: random.edge(number), ..tls }), Range);
     call_of_image!(pe_c_relocation_blocks(), Range);
@@ -870,8 +861,9 @@ fn read_by_lies(bytes: &[u8], random: &mut Random, seen: &mut Seen) {
     for walk in [delayed, range] {
         steps!(
             view,
+            random,
             MOST,
-            pe_c_next_delay_import(walk),
+            pe_c_next_delay_import(DelayImportWalk { entries: walk }),
             DelayImport,
             pe_c_delay_import_failure
         );
@@ -879,8 +871,9 @@ fn read_by_lies(bytes: &[u8], random: &mut Random, seen: &mut Seen) {
     let lie = sys::DelayedFunctions { left: range, attributes: few, spare: 1 };
     steps!(
         view,
+        random,
         MOST,
-        pe_c_next_delayed_function(lie),
+        pe_c_next_delayed_function(DelayedFunctionWalk { functions: lie }),
         DelayedFunction,
         pe_c_delayed_function_failure
     );
@@ -896,8 +889,9 @@ fn read_by_lies(bytes: &[u8], random: &mut Random, seen: &mut Seen) {
     ] {
         steps!(
             view,
+            random,
             MOST,
-            pe_c_next_resource_leaf(walk),
+            pe_c_next_resource_leaf(LeafWalk { leaves: walk }),
             ResourceLeaf,
             pe_c_resource_leaf_failure
         );
@@ -1026,7 +1020,7 @@ fn read_by_lies(bytes: &[u8], random: &mut Random, seen: &mut Seen) {
     // SAFETY: the record is lent for the call.
     unsafe { sys::pe_c_plan_from(few, &mut started) };
     for walk in [plan, started] {
-        records_of(&view, random, &range, walk);
+        steps!(view, random, MOST, pe_c_next_record(PlanWalk { plan: walk }; &range), Record);
     }
     let mut frame = sys::Frame {
         registers: sys::Registers { general: [random.edge(number); 16], xmm: [index; 32], rip: few.into() },

@@ -28,7 +28,7 @@ impl<'i, 'a> DelayImport<'i, 'a> {
 
     /// The functions that are imported of this DLL.
     pub fn functions(&self) -> DelayedFunctions<'i, 'a> {
-        DelayedFunctions(ImageList::new(self.image, self.raw.functions))
+        DelayedFunctions(ImageList::new(self.image, self.raw.functions.into()))
     }
 }
 
@@ -57,7 +57,7 @@ impl<'i, 'a> DelayImport<'i, 'a> {
 /// # Ok::<(), pe_c::Error>(())
 /// ```
 #[derive(Clone, Debug)]
-pub struct DelayImports<'i, 'a>(ImageList<'i, 'a, sys::Range, sys::DelayImport>);
+pub struct DelayImports<'i, 'a>(ImageList<'i, 'a, sys::DelayImportWalk, sys::DelayImport>);
 
 impl<'i, 'a> Iterator for DelayImports<'i, 'a> {
     type Item = Result<DelayImport<'i, 'a>, Error>;
@@ -65,8 +65,8 @@ impl<'i, 'a> Iterator for DelayImports<'i, 'a> {
     fn next(&mut self) -> Option<Self::Item> {
         let image = self.0.source;
         // At most all that the walk has left, and four times as many as there were.
-        let most = |walk: &sys::Range, taken: usize| {
-            (walk.length / 32).min((4 * taken).min(most_names(image.bytes())) as u64) as usize
+        let most = |walk: &sys::DelayImportWalk, taken: usize| {
+            (walk.entries.length / 32).min((4 * taken).min(most_names(image.bytes())) as u64) as usize
         };
         let call = sys::pe_c_list_delay_imports as Together<_, _>;
         let found = self.0.step_together(call, 1, most, |it: &sys::DelayImport| it.name.length)?;
@@ -82,7 +82,7 @@ impl FusedIterator for DelayImports<'_, '_> {}
 impl DelayImports<'_, '_> {
     /// Why the item that is an error is one: the error with its numbers. `None` where no item was an error.
     pub fn failure(&self) -> Option<Failure> {
-        self.0.failure(sys::pe_c_delay_import_failure)
+        self.0.failure(sys::pe_c_delay_import_failure, |it| &it.entries)
     }
 }
 
@@ -112,7 +112,7 @@ impl<'a> DelayedFunction<'a> {
 /// [`Error::DIRECTORY_VA_BELOW_BASE`], [`Error::UNMAPPED`] of its address, [`Error::SHORT`] of the hint there,
 /// [`Error::DIRECTORY_DELAY_IMPORT_NAME`]. [`DelayImports`] has an example.
 #[derive(Clone, Debug)]
-pub struct DelayedFunctions<'i, 'a>(ImageList<'i, 'a, sys::DelayedFunctions, sys::DelayedFunction>);
+pub struct DelayedFunctions<'i, 'a>(ImageList<'i, 'a, sys::DelayedFunctionWalk, sys::DelayedFunction>);
 
 impl<'a> Iterator for DelayedFunctions<'_, 'a> {
     type Item = Result<DelayedFunction<'a>, Error>;
@@ -120,7 +120,7 @@ impl<'a> Iterator for DelayedFunctions<'_, 'a> {
     fn next(&mut self) -> Option<Self::Item> {
         let bytes = self.0.source.bytes();
         // Nothing says how many are left: four times as many as there were.
-        let most = |_: &sys::DelayedFunctions, taken: usize| (4 * taken).min(most_names(bytes));
+        let most = |_: &sys::DelayedFunctionWalk, taken: usize| (4 * taken).min(most_names(bytes));
         let call = sys::pe_c_list_delayed_functions as Together<_, _>;
         let found = self.0.step_together(call, 1, most, |it: &sys::DelayedFunction| it.name.length)?;
         Some(found.and_then(|found| DelayedFunction::of(&found, bytes)))
@@ -132,7 +132,7 @@ impl FusedIterator for DelayedFunctions<'_, '_> {}
 impl DelayedFunctions<'_, '_> {
     /// Why the item that is an error is one: the error with its numbers. `None` where no item was an error.
     pub fn failure(&self) -> Option<Failure> {
-        self.0.failure(sys::pe_c_delayed_function_failure)
+        self.0.failure(sys::pe_c_delayed_function_failure, |it| &it.functions)
     }
 }
 
@@ -199,7 +199,7 @@ impl<'a> Image<'a> {
     ///
     /// [`Error::UNMAPPED`], [`Error::SHORT`].
     pub fn delay_imports(&self) -> Result<DelayImports<'_, 'a>, Error> {
-        Ok(DelayImports(ImageList::started(self, self.ask(sys::pe_c_delay_imports)?)))
+        Ok(DelayImports(ImageList::started(self, self.ask(sys::pe_c_delay_imports)?.map(sys::Range::into))))
     }
 
     /// The functions of all DLLs of the delay import directory; none where it is absent. The names of DLLs and functions are read

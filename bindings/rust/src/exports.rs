@@ -111,13 +111,13 @@ impl<'i, 'a> Exports<'i, 'a> {
             }
         }
         let found = if self.many.is_empty() { self.few.as_mut_ptr() } else { self.many.as_mut_ptr() };
-        let (view, mut part, mut written) = (self.image.view(), self.walk, 0);
-        part.names.length = 4 * (part.next + count as u64);
+        let (view, mut part, mut written) = (self.image.view(), sys::ExportWalk::from(self.walk), 0);
+        part.exports.names.length = 4 * (self.walk.next + count as u64);
         let room = runs.as_mut_ptr();
         // SAFETY: the view, the walk and `written` are lent for the call, the arrays have so many items, and none overlaps another.
         let number = unsafe { sys::pe_c_list_exports(&view, &mut part, room, runs.len(), found, count, &mut written) };
         Error::of(number)?;
-        self.walk.next = part.next;
+        self.walk.next = part.exports.next;
         self.left = 0..written as usize;
         let found = &self.found()[self.left.clone()];
         let texts: u64 = found.iter().map(|it| it.name.length + it.forwarder.length).sum();

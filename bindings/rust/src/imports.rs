@@ -29,7 +29,7 @@ impl<'i, 'a> Library<'i, 'a> {
     /// The imports from this DLL, of its lookup table, or of its address table where it has no lookup table. Where the RVA of that
     /// list is unmapped there are none: [`has_unmapped_list`](Library::has_unmapped_list) says so.
     pub fn imports(&self) -> Imports<'i, 'a> {
-        Imports { list: ImageList::new(self.image, self.raw.imports), rest: None }
+        Imports { list: ImageList::new(self.image, self.raw.imports.into()), rest: None }
     }
 
     /// Whether the RVA of the list is unmapped, so that [`imports`](Library::imports) has nothing.
@@ -49,7 +49,7 @@ impl<'i, 'a> Library<'i, 'a> {
             next: self.image.offset(self.raw.address_table_rva).ok_or(Error::UNMAPPED),
             rva: self.raw.imports.rva,
         };
-        Imports { list: ImageList::new(self.image, sys::Imports::default()), rest: Some(rest) }
+        Imports { list: ImageList::new(self.image, sys::ImportWalk::default()), rest: Some(rest) }
     }
 }
 
@@ -79,7 +79,7 @@ impl<'i, 'a> Library<'i, 'a> {
 /// # Ok::<(), pe_c::Error>(())
 /// ```
 #[derive(Clone, Debug)]
-pub struct Libraries<'i, 'a>(ImageList<'i, 'a, sys::Libraries, sys::Library>);
+pub struct Libraries<'i, 'a>(ImageList<'i, 'a, sys::LibraryWalk, sys::Library>);
 
 impl<'i, 'a> Iterator for Libraries<'i, 'a> {
     type Item = Result<Library<'i, 'a>, Error>;
@@ -87,7 +87,7 @@ impl<'i, 'a> Iterator for Libraries<'i, 'a> {
     fn next(&mut self) -> Option<Self::Item> {
         let image = self.0.source;
         // Nothing says how many are left: four times as many as there were.
-        let most = |_: &sys::Libraries, taken: usize| (4 * taken).min(most_names(image.bytes()));
+        let most = |_: &sys::LibraryWalk, taken: usize| (4 * taken).min(most_names(image.bytes()));
         let cost = |it: &sys::Library| it.name.length + it.imports.left.length;
         let call = sys::pe_c_list_libraries as Together<_, _>;
         let found: Result<sys::Library, Error> = self.0.step_together(call, 2, most, cost)?;
@@ -120,7 +120,7 @@ impl Libraries<'_, '_> {
     /// # Ok::<(), Error>(())
     /// ```
     pub fn failure(&self) -> Option<Failure> {
-        self.0.failure(sys::pe_c_library_failure)
+        self.0.failure(sys::pe_c_library_failure, |it| &it.libraries)
     }
 }
 
@@ -152,7 +152,7 @@ impl<'a> Import<'a> {
 /// [`Error::IMPORT_NAME`] of the name. [`Libraries`] has an example.
 #[derive(Clone, Debug)]
 pub struct Imports<'i, 'a> {
-    list: ImageList<'i, 'a, sys::Imports, sys::Import>,
+    list: ImageList<'i, 'a, sys::ImportWalk, sys::Import>,
     rest: Option<Rest>,
 }
 
@@ -167,7 +167,7 @@ struct Rest {
 impl<'a> Imports<'_, 'a> {
     fn listed(&mut self) -> Option<Result<Import<'a>, Error>> {
         let bytes = self.list.source.bytes();
-        let most = |walk: &sys::Imports, _| (walk.left.length / 4).min(most_names(bytes) as u64) as usize;
+        let most = |walk: &sys::ImportWalk, _| (walk.imports.left.length / 4).min(most_names(bytes) as u64) as usize;
         let found = self.list.step_together(sys::pe_c_list_imports, 1, most, |it| it.name.length)?;
         self.rest = self.rest.filter(|_| found.is_ok());
         Some(found.and_then(|found| Import::of(&found, bytes)))
@@ -190,7 +190,7 @@ impl<'a> Imports<'_, 'a> {
             self.rest = Some(Rest { next: Ok(start + length as u64), rva: rest.rva + length as u64 });
         }
         let left = sys::Range { offset: start, length: length as u64 };
-        self.list.restart(sys::Imports { left, rva: rest.rva });
+        self.list.restart(sys::Imports { left, rva: rest.rva }.into());
         Ok(())
     }
 }
@@ -217,7 +217,7 @@ impl Imports<'_, '_> {
     /// Why the item that is an error is one: the error with its numbers. `None` where no item was an error, and where it is of an
     /// address table and of none of its entries.
     pub fn failure(&self) -> Option<Failure> {
-        self.list.failure(sys::pe_c_import_failure)
+        self.list.failure(sys::pe_c_import_failure, |it| &it.imports)
     }
 }
 
@@ -303,6 +303,6 @@ impl<'a> Image<'a> {
     ///
     /// [`Error::UNMAPPED`].
     pub fn libraries(&self) -> Result<Libraries<'_, 'a>, Error> {
-        Ok(Libraries(ImageList::started(self, self.ask(sys::pe_c_import_libraries)?)))
+        Ok(Libraries(ImageList::started(self, self.ask(sys::pe_c_import_libraries)?.map(sys::Libraries::into))))
     }
 }

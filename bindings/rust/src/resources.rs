@@ -169,7 +169,7 @@ impl<'a> ResourceLeaf<'a> {
 /// ```
 #[derive(Clone, Debug)]
 pub struct ResourceLeaves<'i, 'a> {
-    left: ImageList<'i, 'a, sys::ResourceWalk, sys::ResourceLeaf>,
+    left: ImageList<'i, 'a, sys::LeafWalk, sys::ResourceLeaf>,
     tree: sys::Range,
 }
 
@@ -188,7 +188,7 @@ impl ResourceLeaves<'_, '_> {
     /// Why the item that is an error is one: the error with its numbers; the offset of what an entry leads to counts from the start of
     /// the tree, that of [`Error::SHORT`] from the start of the file. `None` where no item was an error.
     pub fn failure(&self) -> Option<Failure> {
-        self.left.failure(sys::pe_c_resource_leaf_failure)
+        self.left.failure(sys::pe_c_resource_leaf_failure, |it| &it.leaves)
     }
 }
 
@@ -320,7 +320,7 @@ impl<'a> Image<'a> {
     /// data.
     pub fn resource_leaves(&self) -> Result<Option<ResourceLeaves<'_, 'a>>, Error> {
         let walk: Option<sys::ResourceWalk> = self.ask(sys::pe_c_resource_leaves)?;
-        Ok(walk.map(|walk| ResourceLeaves { tree: walk.tree, left: ImageList::new(self, walk) }))
+        Ok(walk.map(|walk| ResourceLeaves { tree: walk.tree, left: ImageList::new(self, walk.into()) }))
     }
 
     /// The first directory of the resources, whose entries are types; [`ResourceLeaves::directory`] returns the others. `None` where

@@ -190,12 +190,12 @@ pub struct View {
 }
 const _: () = assert!(core::mem::size_of::<View>() == 56);
 
-/// The sections of the last RVAs of a plan, which its steps test before the others: the RVAs of records mostly lie in
-/// one section or two.
+/// The sections of the last RVAs of a walk, which calls over exports, imports, delay imports, resources and the records
+/// of a plan test before the others: the RVAs of a table mostly lie in one section or two.
 ///
-/// `kept` of such a walk is all 0 at the start, and only the step calls read and write it. Where a caller changes it
-/// and sections overlap, a step may return an offset by another section, and no other harm is done; a number past the
-/// last section maps nothing.
+/// `kept` of such a walk is all 0 at the start, and only these calls read and write it. Where a caller changes it and
+/// sections overlap, they may return an offset by another section, and no other harm is done; a number past the last
+/// section maps nothing.
 #[repr(C)]
 #[derive(Clone, Copy, Debug, Default, PartialEq, Eq)]
 pub struct KeptSections {
@@ -1446,6 +1446,19 @@ pub struct Exports {
 }
 const _: () = assert!(core::mem::size_of::<Exports>() == 64);
 
+/// A walk over exports.
+///
+/// It starts as `PE_C_EMPTY` with what [`pe_c_export_tables`] returns.
+#[repr(C)]
+#[derive(Clone, Copy, Debug, Default, PartialEq, Eq)]
+pub struct ExportWalk {
+    /// Where it stands.
+    pub exports: Exports,
+    /// The sections of its last RVAs.
+    pub kept: KeptSections,
+}
+const _: () = assert!(core::mem::size_of::<ExportWalk>() == 72);
+
 /// An export.
 #[repr(C)]
 #[derive(Clone, Copy, Debug, Default, PartialEq, Eq)]
@@ -1616,6 +1629,30 @@ pub struct Imports {
 }
 const _: () = assert!(core::mem::size_of::<Imports>() == 24);
 
+/// A walk over libraries.
+///
+/// It starts as `PE_C_EMPTY` with what [`pe_c_import_libraries`] returns.
+#[repr(C)]
+#[derive(Clone, Copy, Debug, Default, PartialEq, Eq)]
+pub struct LibraryWalk {
+    /// Where it stands.
+    pub libraries: Libraries,
+    /// The sections of its last RVAs.
+    pub kept: KeptSections,
+}
+const _: () = assert!(core::mem::size_of::<LibraryWalk>() == 24);
+
+/// A walk over the imports of a library.
+#[repr(C)]
+#[derive(Clone, Copy, Debug, Default, PartialEq, Eq)]
+pub struct ImportWalk {
+    /// Where it stands; at the start that of the library.
+    pub imports: Imports,
+    /// The sections of its last RVAs.
+    pub kept: KeptSections,
+}
+const _: () = assert!(core::mem::size_of::<ImportWalk>() == 32);
+
 /// A DLL that an image imports from, `IMAGE_IMPORT_DESCRIPTOR`.
 #[repr(C)]
 #[derive(Clone, Copy, Debug, Default, PartialEq, Eq)]
@@ -1727,6 +1764,30 @@ pub struct DelayedFunctions {
     pub spare: u32,
 }
 const _: () = assert!(core::mem::size_of::<DelayedFunctions>() == 24);
+
+/// A walk over the DLLs.
+///
+/// It starts as `PE_C_EMPTY` with what [`pe_c_delay_imports`] returns.
+#[repr(C)]
+#[derive(Clone, Copy, Debug, Default, PartialEq, Eq)]
+pub struct DelayImportWalk {
+    /// Those of the directory that are left.
+    pub entries: Range,
+    /// The sections of its last RVAs.
+    pub kept: KeptSections,
+}
+const _: () = assert!(core::mem::size_of::<DelayImportWalk>() == 24);
+
+/// A walk over what is imported of a DLL.
+#[repr(C)]
+#[derive(Clone, Copy, Debug, Default, PartialEq, Eq)]
+pub struct DelayedFunctionWalk {
+    /// Where it stands; at the start that of the DLL.
+    pub functions: DelayedFunctions,
+    /// The sections of its last RVAs.
+    pub kept: KeptSections,
+}
+const _: () = assert!(core::mem::size_of::<DelayedFunctionWalk>() == 32);
 
 /// A DLL that is loaded later.
 #[repr(C)]
@@ -1938,6 +1999,19 @@ pub struct ResourceWalk {
     pub name: ResourceEntry,
 }
 const _: () = assert!(core::mem::size_of::<ResourceWalk>() == 80);
+
+/// A walk over leaves.
+///
+/// It starts as `PE_C_EMPTY` with what [`pe_c_resource_leaves`] returns.
+#[repr(C)]
+#[derive(Clone, Copy, Debug, Default, PartialEq, Eq)]
+pub struct LeafWalk {
+    /// Where it stands.
+    pub leaves: ResourceWalk,
+    /// The sections of its last RVAs.
+    pub kept: KeptSections,
+}
+const _: () = assert!(core::mem::size_of::<LeafWalk>() == 88);
 
 /// A directory of the tree, `IMAGE_RESOURCE_DIRECTORY`.
 #[repr(C)]
@@ -2981,11 +3055,11 @@ extern "C" {
     /// offset, [`pe_c_overlay`] and the lists of their names. Few calls, and images with few sections, as most, gain
     /// nothing by it. No entries, and [`DONE`], where no section is searched: in an image as loaded, and where the file
     /// alignment is not a power of two. An index in the view that is passed makes no difference. An index of other
-    /// sections gives wrong offsets, and no other harm. With an index a plan and a list keep no sections, and need
-    /// none; nor do they under 32 sections or fewer, which are searched for less. Else a step over the records of a
-    /// plan tests the section or two that its walk keeps, and a list the RVAs near its last ones, and they search all
-    /// of them only for an RVA elsewhere; all other steps search all for each RVA. A section that may share an RVA with
-    /// an earlier one, whose size is rounded up to a page, is not kept.
+    /// sections gives wrong offsets, and no other harm. With an index a walk keeps no sections, and needs none; nor
+    /// does it under 32 sections or fewer, which are searched for less. Else a call over exports, imports, delay
+    /// imports, resources or the records of a plan tests the section or two that its walk keeps, and searches all of
+    /// them only for an RVA elsewhere; all other calls search all for each RVA. A section that may share an RVA with an
+    /// earlier one, whose size is rounded up to a page, is not kept.
     ///
     /// Errors: [`ROOM`] where the array has too few entries; then `written` is how many it has to have.
     pub fn pe_c_index(view: *const View, room: *mut IndexEntry, entries: usize, written: *mut u64) -> u32;
@@ -3149,11 +3223,6 @@ extern "C" {
     ///
     /// Errors: [`Error::UNMAPPED`]; [`Error::DEBUG_BOUNDS`] in strict mode.
     pub fn pe_c_first_debug_entry(view: *const View, data_type: u32, out: *mut DebugEntry) -> u32;
-    /// Returns the symbol key: the record of the first CodeView entry, if it is one of PDB 7.0.
-    ///
-    /// [`NOTHING`] also without such an entry. Errors: those of [`pe_c_first_debug_entry`], then those of
-    /// [`pe_c_symbol_key_of`].
-    pub fn pe_c_symbol_key(view: *const View, out: *mut Key) -> u32;
     /// Returns the symbol key of a CodeView record that stands alone, as a minidump has one of each module: no other
     /// debug data is read, and no damage there is an error.
     ///
@@ -3914,16 +3983,6 @@ extern "C" {
     ///
     /// Error: [`Error::SHORT`].
     pub fn pe_c_bound_imports(view: *const View, out: *mut Range) -> u32;
-    /// Returns the fixed file information.
-    ///
-    /// [`NOTHING`] also where version information has none. A damaged string is an error too: without the strings the
-    /// same is read by [`pe_c_fixed_version_in`], of the first 92 bytes of what [`pe_c_version_blocks`] returns.
-    pub fn pe_c_fixed_version(view: *const View, out: *mut Version) -> u32;
-    /// Returns the value of a name, `PE_C_COMMENTS` .. `PE_C_SPECIAL_BUILD`: UTF-16 code units, little-endian, with the
-    /// zeros after the text, which ends at the first zero.
-    ///
-    /// [`NOTHING`] also without a string of that name, and for another number.
-    pub fn pe_c_version_text(view: *const View, name: u32, out: *mut Range) -> u32;
     /// Returns version information as a walk over its blocks, of which the first is all of it.
     ///
     /// Its content is not read yet, so the errors of version strings and of fixed file information are not among its
@@ -4267,7 +4326,7 @@ extern "C" {
     /// Errors: [`ROOM`]; [`Error::SHORT`] where the tables are not inside the bytes.
     pub fn pe_c_list_exports(
         view: *const View,
-        walk: *mut Exports,
+        walk: *mut ExportWalk,
         runs: *mut Run,
         number_of_runs: usize,
         entries: *mut Export,
@@ -4282,7 +4341,7 @@ extern "C" {
     /// [`pe_c_next_library`].
     pub fn pe_c_list_libraries(
         view: *const View,
-        walk: *mut Libraries,
+        walk: *mut LibraryWalk,
         runs: *mut Run,
         number_of_runs: usize,
         entries: *mut Library,
@@ -4294,7 +4353,7 @@ extern "C" {
     /// Errors: [`ROOM`]; those of [`pe_c_next_import`].
     pub fn pe_c_list_imports(
         view: *const View,
-        walk: *mut Imports,
+        walk: *mut ImportWalk,
         runs: *mut Run,
         number_of_runs: usize,
         entries: *mut Import,
@@ -4373,7 +4432,7 @@ extern "C" {
     /// Errors: [`ROOM`]; those of [`pe_c_next_resource_leaf`].
     pub fn pe_c_list_resource_leaves(
         view: *const View,
-        walk: *mut ResourceWalk,
+        walk: *mut LeafWalk,
         entries: *mut ResourceLeaf,
         number_of_entries: usize,
         written: *mut u64,
@@ -4418,7 +4477,7 @@ extern "C" {
     /// Errors: [`ROOM`]; those of [`pe_c_next_delay_import`].
     pub fn pe_c_list_delay_imports(
         view: *const View,
-        walk: *mut Range,
+        walk: *mut DelayImportWalk,
         runs: *mut Run,
         number_of_runs: usize,
         entries: *mut DelayImport,
@@ -4431,7 +4490,7 @@ extern "C" {
     /// Errors: [`ROOM`]; those of [`pe_c_next_delayed_function`].
     pub fn pe_c_list_delayed_functions(
         view: *const View,
-        walk: *mut DelayedFunctions,
+        walk: *mut DelayedFunctionWalk,
         runs: *mut Run,
         number_of_runs: usize,
         entries: *mut DelayedFunction,
@@ -5110,7 +5169,7 @@ pub unsafe extern "C" fn pe_c_next_arm64_code(
 #[rustfmt::skip]
 pub unsafe extern "C" fn pe_c_next_export(
     view: *const View,
-    walk: *mut Exports,
+    walk: *mut ExportWalk,
     out: *mut Export,
 ) -> u32 {
     let mut written = 0;
@@ -5132,7 +5191,7 @@ pub unsafe extern "C" fn pe_c_next_export(
 #[rustfmt::skip]
 pub unsafe extern "C" fn pe_c_next_library(
     view: *const View,
-    walk: *mut Libraries,
+    walk: *mut LibraryWalk,
     out: *mut Library,
 ) -> u32 {
     let mut written = 0;
@@ -5151,7 +5210,7 @@ pub unsafe extern "C" fn pe_c_next_library(
 #[rustfmt::skip]
 pub unsafe extern "C" fn pe_c_next_import(
     view: *const View,
-    walk: *mut Imports,
+    walk: *mut ImportWalk,
     out: *mut Import,
 ) -> u32 {
     let mut written = 0;
@@ -5173,7 +5232,7 @@ pub unsafe extern "C" fn pe_c_next_import(
 #[rustfmt::skip]
 pub unsafe extern "C" fn pe_c_next_delay_import(
     view: *const View,
-    walk: *mut Range,
+    walk: *mut DelayImportWalk,
     out: *mut DelayImport,
 ) -> u32 {
     let mut written = 0;
@@ -5193,7 +5252,7 @@ pub unsafe extern "C" fn pe_c_next_delay_import(
 #[rustfmt::skip]
 pub unsafe extern "C" fn pe_c_next_delayed_function(
     view: *const View,
-    walk: *mut DelayedFunctions,
+    walk: *mut DelayedFunctionWalk,
     out: *mut DelayedFunction,
 ) -> u32 {
     let mut written = 0;
@@ -5285,7 +5344,7 @@ pub unsafe extern "C" fn pe_c_next_version_block(
 #[rustfmt::skip]
 pub unsafe extern "C" fn pe_c_next_resource_leaf(
     view: *const View,
-    walk: *mut ResourceWalk,
+    walk: *mut LeafWalk,
     out: *mut ResourceLeaf,
 ) -> u32 {
     let mut written = 0;
@@ -5459,4 +5518,66 @@ pub unsafe extern "C" fn pe_c_symbol(
 ) -> u32 {
     let mut walk = SymbolWalk { table: unsafe { *table }, next: index };
     unsafe { pe_c_next_symbol(bytes, length, &mut walk, out) }
+}
+
+/// Returns the symbol key: the record of the first CodeView entry, if it is one of PDB 7.0.
+///
+/// [`NOTHING`] also without such an entry. Errors: those of [`pe_c_first_debug_entry`], then those of
+/// [`pe_c_symbol_key_of`].
+///
+/// # Safety
+///
+/// As of [`pe_c_first_debug_entry`] and [`pe_c_symbol_key_of`], which it calls.
+#[rustfmt::skip]
+pub unsafe extern "C" fn pe_c_symbol_key(
+    view: *const View,
+    out: *mut Key,
+) -> u32 {
+    let mut found = DebugEntry::default();
+    let result = unsafe { pe_c_first_debug_entry(view, 2, &mut found) };
+    if result == DONE { unsafe { pe_c_symbol_key_of((*view).bytes, (*view).length, (*(*view).image).mode, &mut found, out) } } else { result }
+}
+
+/// Returns the fixed file information.
+///
+/// [`NOTHING`] also where version information has none. A damaged string is an error too: without the strings the same
+/// is read by [`pe_c_fixed_version_in`], of the first 92 bytes of what [`pe_c_version_blocks`] returns.
+///
+/// Errors: those of [`pe_c_version_blocks`], then those of [`pe_c_fixed_version_in`].
+///
+/// # Safety
+///
+/// As of [`pe_c_version_blocks`] and [`pe_c_fixed_version_in`], which it calls.
+#[rustfmt::skip]
+pub unsafe extern "C" fn pe_c_fixed_version(
+    view: *const View,
+    out: *mut Version,
+) -> u32 {
+    let mut found = Range::default();
+    let result = unsafe { pe_c_version_blocks(view, &mut found) };
+    if result == DONE { unsafe { pe_c_fixed_version_in((*view).bytes, (*view).length, &mut found, out) } } else { result }
+}
+
+/// Returns the value of a name, `PE_C_COMMENTS` .. `PE_C_SPECIAL_BUILD`: UTF-16 code units, little-endian, with the
+/// zeros after the text, which ends at the first zero.
+///
+/// [`NOTHING`] also without a string of that name, and for another number.
+///
+/// Errors: those of [`pe_c_version_blocks`], then those of [`pe_c_version_text_in`].
+///
+/// # Safety
+///
+/// As of [`pe_c_version_blocks`] and [`pe_c_version_text_in`], which it calls.
+#[rustfmt::skip]
+pub unsafe extern "C" fn pe_c_version_text(
+    view: *const View,
+    name: u32,
+    out: *mut Range,
+) -> u32 {
+    if name > 11 {
+        return NOTHING;
+    }
+    let mut found = Range::default();
+    let result = unsafe { pe_c_version_blocks(view, &mut found) };
+    if result == DONE { unsafe { pe_c_version_text_in((*view).bytes, (*view).length, &mut found, name, out) } } else { result }
 }

@@ -53,6 +53,27 @@ pub(crate) fn next_of<W, T: Default>(
     Some(item)
 }
 
+/// Walks that keep sections, at their start.
+macro_rules! started_at {
+    ($($walk:ident { $place:ident: $kind:ident },)*) => { $(
+        impl From<sys::$kind> for sys::$walk {
+            /// The walk that starts there.
+            fn from($place: sys::$kind) -> Self {
+                sys::$walk { $place, kept: sys::KeptSections::default() }
+            }
+        }
+    )* };
+}
+
+started_at! {
+    ExportWalk { exports: Exports },
+    LibraryWalk { libraries: Libraries },
+    ImportWalk { imports: Imports },
+    DelayImportWalk { entries: Range },
+    DelayedFunctionWalk { functions: DelayedFunctions },
+    LeafWalk { leaves: ResourceWalk },
+}
+
 /// A walk over bytes.
 #[derive(Clone, Copy)]
 pub(crate) struct Walk<'a, W> {
@@ -298,9 +319,9 @@ impl<W: Copy, T: Copy + Default> ImageList<'_, '_, W, T> {
         self.step_of_few(|image, walk, items, written| unsafe { call(&image.view(), walk, items.as_mut_ptr(), ROOM, written) })
     }
 
-    /// Why the step that returned an error did, by the call that says so of such a step.
-    pub fn failure(&self, call: CallWith<*const W, sys::Failure>) -> Option<Failure> {
-        found(self.source.ask_of(call, self.refused.as_ref()?))
+    /// Why the step that returned an error did, by the call that says so of such a step, which takes where the walk stood.
+    pub fn failure<P>(&self, call: CallWith<*const P, sys::Failure>, place: impl FnOnce(&W) -> &P) -> Option<Failure> {
+        found(self.source.ask_of(call, place(self.refused.as_ref()?)))
     }
 
     /// The next item of a walk that may have so many names left, by the walk and how many it returned. Once those that were read

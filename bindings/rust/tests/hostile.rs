@@ -172,11 +172,11 @@ fn walks_over_imports_that_lie_end() {
     let length = bytes.len();
     let image = Image::parse(&bytes, Mode::Strict).unwrap();
     let view = view_of(&image);
-    for offset in lies(length as u64) {
+    for (offset, kept) in lies(length as u64).into_iter().flat_map(|it| KEPT.map(|kept| (it, kept))) {
         for is_over in [0, 1, u32::MAX] {
             let start = sys::Libraries { next: offset, is_over, spare: 9 };
             // SAFETY: the pointers and lengths are those of slices, and the records are lent for the call.
-            let first = first_of_all(length, start, |walk, out| unsafe {
+            let first = first_of_all(length, sys::LibraryWalk { libraries: start, kept }, |walk, out| unsafe {
                 sys::pe_c_next_library(&view, walk, out)
             });
             assert!(is_over == 0 || first == 100);
@@ -186,7 +186,7 @@ fn walks_over_imports_that_lie_end() {
             let left = sys::Range { offset, length: size };
             let start = sys::Imports { left, rva };
             // SAFETY: as above.
-            let first = first_of_all(length, start, |walk, out| unsafe {
+            let first = first_of_all(length, sys::ImportWalk { imports: start, kept }, |walk, out| unsafe {
                 sys::pe_c_next_import(&view, walk, out)
             });
             assert!(left.of(&bytes).is_some() || first == 2);
@@ -200,18 +200,18 @@ fn walks_over_delay_imports_and_streams_that_lie_end() {
     let length = bytes.len();
     let image = Image::parse(&bytes, Mode::Strict).unwrap();
     let view = view_of(&image);
-    for offset in lies(length as u64) {
+    for (offset, kept) in lies(length as u64).into_iter().flat_map(|it| KEPT.map(|kept| (it, kept))) {
         for size in lies(length as u64) {
             let range = sys::Range { offset, length: size };
             let there = range.of(&bytes).is_some();
             // SAFETY: the pointers and lengths are those of slices, and the records are lent for the call.
-            let first = first_of_all(length, range, |walk, out| unsafe {
+            let first = first_of_all(length, sys::DelayImportWalk { entries: range, kept }, |walk, out| unsafe {
                 sys::pe_c_next_delay_import(&view, walk, out)
             });
             assert!(there || first == 2);
             let start = sys::DelayedFunctions { left: range, attributes: size as u32, spare: 9 };
             // SAFETY: as above.
-            let first = first_of_all(length, start, |walk, out| unsafe {
+            let first = first_of_all(length, sys::DelayedFunctionWalk { functions: start, kept }, |walk, out| unsafe {
                 sys::pe_c_next_delayed_function(&view, walk, out)
             });
             assert!(there || first == 2);
@@ -244,11 +244,14 @@ fn walks_over_leaves_that_lie_end() {
             (sys::ResourceWalk { names: lie, resource_type: entry, ..whole }, is_in_tree),
             (sys::ResourceWalk { languages: lie, name: entry, ..whole }, is_in_tree),
         ] {
-            // SAFETY: the pointers and lengths are those of slices, and the records are lent for the call.
-            let first = first_of_all(length * length, walk, |walk, out| unsafe {
-                sys::pe_c_next_resource_leaf(&view, walk, out)
-            });
-            assert!(there || first == 2);
+            for kept in KEPT {
+                let start = sys::LeafWalk { leaves: walk, kept };
+                // SAFETY: the pointers and lengths are those of slices, and the records are lent for the call.
+                let first = first_of_all(length * length, start, |walk, out| unsafe {
+                    sys::pe_c_next_resource_leaf(&view, walk, out)
+                });
+                assert!(there || first == 2);
+            }
         }
     }
 }

@@ -101,9 +101,13 @@ fn items<W, T: Default>(mut walk: W, step: impl Fn(&mut W, &mut T) -> u32) -> Ve
     }
 }
 
-/// What the lists of a walk write.
-fn listed<W, T: Default + Clone>(mut walk: W, list: impl Fn(&mut W, &mut [T], &mut u64) -> u32) -> Vec<T> {
-    let (mut found, mut part) = (Vec::new(), vec![T::default(); 4096]);
+/// What the lists of a walk write, so many entries a call.
+fn listed<W, T: Default + Clone>(
+    mut walk: W,
+    room: usize,
+    list: impl Fn(&mut W, &mut [T], &mut u64) -> u32,
+) -> Vec<T> {
+    let (mut found, mut part) = (Vec::new(), vec![T::default(); room]);
     loop {
         let mut written = 0;
         if list(&mut walk, &mut part, &mut written) != sys::DONE || written == 0 {
@@ -131,43 +135,43 @@ type Items = (
     Vec<sys::Record>,
 );
 
-/// The items of an image by these sections, without an index of them.
-fn items_of(image: &Image, sections: &[sys::Section]) -> Items {
+/// The items of an image by these sections, without an index of them, so many a call: a list of one is a step.
+fn items_of(image: &Image, sections: &[sys::Section], room: usize) -> Items {
     let view = sys::View::of(image.bytes(), image.info(), sections, &[]);
     let (mut all, none) = (Items::default(), core::ptr::null_mut());
     if let Some(exports) = started(sys::pe_c_export_tables, &view) {
         // SAFETY: the view is of slices, and both records are lent for the call; so are those below.
-        all.0 = listed(exports, |walk, out, written| unsafe {
+        all.0 = listed(sys::ExportWalk::from(exports), room, |walk, out, written| unsafe {
             sys::pe_c_list_exports(&view, walk, none, 0, out.as_mut_ptr(), out.len(), written)
         });
     }
     if let Some(libraries) = started(sys::pe_c_import_libraries, &view) {
         // SAFETY: as above.
-        all.1 = listed(libraries, |walk, out, written| unsafe {
+        all.1 = listed(sys::LibraryWalk::from(libraries), room, |walk, out, written| unsafe {
             sys::pe_c_list_libraries(&view, walk, none, 0, out.as_mut_ptr(), out.len(), written)
         });
     }
     for library in &all.1 {
         // SAFETY: as above.
-        all.2.extend(listed(library.imports, |walk, out, written| unsafe {
+        all.2.extend(listed(sys::ImportWalk::from(library.imports), room, |walk, out, written| unsafe {
             sys::pe_c_list_imports(&view, walk, none, 0, out.as_mut_ptr(), out.len(), written)
         }));
     }
     if let Some(entries) = started(sys::pe_c_delay_imports, &view) {
         // SAFETY: as above.
-        all.3 = listed(entries, |walk, out, written| unsafe {
+        all.3 = listed(sys::DelayImportWalk::from(entries), room, |walk, out, written| unsafe {
             sys::pe_c_list_delay_imports(&view, walk, none, 0, out.as_mut_ptr(), out.len(), written)
         });
     }
     for dll in &all.3 {
         // SAFETY: as above.
-        all.4.extend(listed(dll.functions, |walk, out, written| unsafe {
+        all.4.extend(listed(sys::DelayedFunctionWalk::from(dll.functions), room, |walk, out, written| unsafe {
             sys::pe_c_list_delayed_functions(&view, walk, none, 0, out.as_mut_ptr(), out.len(), written)
         }));
     }
     if let Some(leaves) = started(sys::pe_c_resource_leaves, &view) {
         // SAFETY: as above.
-        all.5 = listed(leaves, |walk, out, written| unsafe {
+        all.5 = listed(sys::LeafWalk::from(leaves), room, |walk, out, written| unsafe {
             sys::pe_c_list_resource_leaves(&view, walk, out.as_mut_ptr(), out.len(), written)
         });
     }
@@ -204,9 +208,9 @@ fn with_chained_functions() -> Vec<u8> {
     made.image()
 }
 
-/// A list and a plan that keep the section of the RVA take no search: with one for each RVA these would take a minute.
+/// Lists, steps and a plan that keep the section of the RVA take no search: with one for each RVA these would take a minute.
 #[test]
-fn lists_and_plans_under_many_sections_take_no_longer_than_under_one() {
+fn walks_under_many_sections_take_no_longer_than_under_one() {
     let start = Instant::now();
     let mut counts = [0; 7];
     for bytes in [
@@ -221,8 +225,9 @@ fn lists_and_plans_under_many_sections_take_no_longer_than_under_one() {
         let image = Image::parse(&bytes, Mode::Strict).unwrap();
         assert_eq!(image.sections().len(), 1);
         let sections = [&vec![sys::Section::default(); 65_534], image.sections()].concat();
-        let found = items_of(&image, &sections);
-        assert!(found == items_of(&image, image.sections()));
+        let found = items_of(&image, &sections, 4096);
+        assert!(found == items_of(&image, &sections, 1));
+        assert!(found == items_of(&image, image.sections(), 4096));
         let own =
             [found.0.len(), found.1.len(), found.2.len(), found.3.len(), found.4.len(), found.5.len(), found.6.len()];
         for (count, more) in counts.iter_mut().zip(own) {

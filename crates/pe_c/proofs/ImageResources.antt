@@ -59,7 +59,7 @@ named_by true map b d r h =
     file_within b d.size (map d.offset_to_data) r (found.1 ∙ ap (λ (x : ByteRange). Ok x) (let same : ◌≡◌ {A = Result (Option ByteRange) Refusal} (Ok (Some found.0)) (Ok (Some r)) = found.2 in cc))
 named_by false map b d r h = absurd cc
 
-content_within : (map : ℕ → Option ℕ) (b body : List ℕ) (leaf : Result (Option ℕ) Refusal) (r : ByteRange) → Ok (Some r) ≡ (leaf >>= range_in map b body) → IsWithin b r
+pub content_within : (map : ℕ → Option ℕ) (b body : List ℕ) (leaf : Result (Option ℕ) Refusal) (r : ByteRange) → Ok (Some r) ≡ (leaf >>= range_in map b body) → IsWithin b r
 unfolding named_range
 content_within map b body (Err e) r h = absurd cc
 content_within map b body (Ok None) r h = absurd cc
@@ -67,7 +67,7 @@ content_within map b body (Ok (Some p)) r h = named_by (holds body p 16) map b (
 
 -- ---- version information
 
-content_is : (b : List ℕ) (c : ByteRange) → IsWithin b c → content_at b (range_of c) ≡ Ok c
+pub content_is : (b : List ℕ) (c : ByteRange) → IsWithin b c → content_at b (range_of c) ≡ Ok c
 content_is b c h = rw (held_if_inside b c.offset c.length h) refl
 
 value_by : (b : List ℕ) (outer : ByteRange) (r : Option ByteRange) (m : Option (List ℕ)) → IsWithin b outer → IsThere (bytes_in b outer) r m → HasOption (IsRange b) (option_map (λ r. range_of (inner outer r)) r) m

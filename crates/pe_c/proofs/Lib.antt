@@ -101,6 +101,7 @@ pub mod OneResources
 pub mod OneImage
 pub mod LibrariesOfCalls
 pub mod ImageWriters
+pub mod TwoCalls
 pub mod NearMaps
 pub mod NearLists
 mod StepFailures

@@ -1,34 +1,32 @@
 -- Lists that keep windows of the section map, or read a table once.
-use Rattle.std.proofs.Common.{◌≡◌, ℕ, List, length, Option, Result, Ok, sym, subst, ◌∙◌, ◌==◌}
+use Rattle.std.proofs.Common.{◌≡◌, ℕ, List, length, Option, Result, Ok, refl, sym, subst, ◌∙◌, ◌==◌}
 use Rattle.pe_core.specs.ExportAddresses.{AddressesView}
 use Rattle.pe_core.specs.Imports.{entry_size}
 use Rattle.pe_core.specs.Refusals.{Refusal, ◌>>=◌}
 use Rattle.pe_c.specs.Directories.{directory_number}
-use Rattle.pe_c.specs.DirectoryRuns.{StepsDelayLibraries, StepsDelayedFunctions}
-use Rattle.pe_c.specs.ResourceLeaves.{StepsLeaves, tree_number}
-use Rattle.pe_c.specs.declared.delay_imports.DelayLibrary.{DelayLibrary}
-use Rattle.pe_c.specs.declared.delay_imports.DelayedFunction.{DelayedFunction}
-use Rattle.pe_c.specs.declared.delay_imports.DelayedFunctions.{DelayedFunctions}
-use Rattle.pe_c.specs.declared.ranges.Range.{Range}
-use Rattle.pe_c.specs.declared.resource_leaves.ResourceLeaf.{ResourceLeaf}
-use Rattle.pe_c.specs.declared.resource_leaves.ResourceLeaves.{ResourceLeaves}
 use Rattle.pe_c.proofs.FilledLists.{StepsAs, hands_out_as, numbered_as}
+use Rattle.pe_c.proofs.KeptSections.{same_map}
 use Rattle.pe_c.specs.ExportAddresses.{addresses_in, exported_at, exported_in}
 use Rattle.pe_c.specs.Exports.{StepsExports}
 use Rattle.pe_c.specs.HandsOut.{result_number}
-use Rattle.pe_c.specs.Imports.{StepsImports, StepsLibraries}
+use Rattle.pe_c.specs.Imports.{StepsImports}
 use Rattle.pe_c.specs.LibraryFunctions.{StepsLibraryFunctions}
 use Rattle.pe_c.specs.LibraryImports.{StepsLibraryImports}
 use Rattle.pe_c.specs.Lists.{HandsOutList, Numbered, StepsByIndex}
-use Rattle.pe_c.specs.NearLists.{StepsKeptDelayLibraries, StepsKeptFunctions, StepsKeptLeaves, StepsKeptLibraries, StepsKeptLibraryFunctions, StepsNear, StepsNearExports, StepsNearImports, StepsNearLibraryImports}
+use Rattle.pe_c.specs.KeptSections.{ChangeNothing, StepsKept, no_sections}
+use Rattle.pe_c.specs.KeptWalks.{StepsKeptExports, StepsKeptImports}
+use Rattle.pe_c.specs.NearLists.{StepsKeptLibraryFunctions, StepsNear, StepsNearExports, StepsNearImports, StepsNearLibraryImports}
 use Rattle.pe_c.specs.Ranges.{bytes_at}
 use Rattle.pe_c.specs.Views.{map_of}
 use Rattle.pe_c.specs.declared.export_addresses.AddressTable.{AddressTable}
 use Rattle.pe_c.specs.declared.export_addresses.Exported.{Exported}
 use Rattle.pe_c.specs.declared.exports.Export.{Export}
+use Rattle.pe_c.specs.declared.exports.ExportWalk.{ExportWalk}
+use Rattle.pe_c.specs.declared.exports.Exports.{Exports}
 use Rattle.pe_c.specs.declared.imports.Import.{Import}
-use Rattle.pe_c.specs.declared.imports.Libraries.{Libraries}
-use Rattle.pe_c.specs.declared.imports.Library.{Library}
+use Rattle.pe_c.specs.declared.imports.ImportWalk.{ImportWalk}
+use Rattle.pe_c.specs.declared.imports.Imports.{Imports}
+use Rattle.pe_c.specs.declared.kept_sections.KeptSections.{KeptSections}
 use Rattle.pe_c.specs.declared.kept_sections.KeptWalk.{KeptWalk}
 use Rattle.pe_c.specs.declared.library_functions.LibraryFunction.{LibraryFunction}
 use Rattle.pe_c.specs.declared.library_functions.LibraryFunctions.{LibraryFunctions}
@@ -57,6 +55,35 @@ pub lists_exports : (v : View) (number : ℕ) (s t : NearExports) (old new : Lis
 lists_exports v number s t old new before written k h =
     near_lists result_number (λ (s : NearExports). s.names.view.now) (λ (s : NearExports). s.walk) (λ (v : View). StepsExports (map_of v) v.bytes.now) v number s t old new before written k h
 
+-- a step by the map of the view is one by sections that change nothing, which stay as they are
+steps_as_kept : {W P X R : Type 0} (place : W → P) (kept : W → KeptSections) (Steps : (ℕ → Option ℕ) → P → Result (Option X) R → P → Type 0) (v : View) (w u : W) (answer : Result (Option X) R) →
+    ChangeNothing v (kept w) → kept u ≡ kept w → Steps (map_of v) (place w) answer (place u) → StepsKept place kept Steps v w answer u
+steps_as_kept place kept Steps v w u answer h stays s =
+    record {
+      steps = subst (λ (m : ℕ → Option ℕ). Steps m (place w) answer (place u)) (sym (same_map v (kept w) h)) s;
+      right = λ r. subst (ChangeNothing v) (sym stays) r;
+      same = λ e. stays;
+      refused = λ r e. stays;
+    }
+
+-- a walk at its start, which keeps no sections
+abbrev exports_at : Exports → ExportWalk
+exports_at place = record { exports = place; kept = no_sections }
+
+abbrev imports_at : Imports → ImportWalk
+imports_at place = record { imports = place; kept = no_sections }
+
+-- a list by windows of a walk that keeps no sections is one of the walk
+pub lists_kept_exports : (v : View) (number : ℕ) (s t : NearExports) (k : KeptSections) (old new : List Export) (before written : ℕ) → s.names.view.now ≡ v → k ≡ no_sections →
+    HandsOutList (Numbered result_number StepsNearExports) number s t old new before written →
+    HandsOutList (Numbered result_number (StepsKeptExports v)) number (record { exports = s.walk; kept = k }) (record { exports = t.walk; kept = k }) old new before written
+lists_kept_exports v number s t k old new before written seen none h =
+    subst (λ (k : KeptSections). HandsOutList (Numbered result_number (StepsKeptExports v)) number (record { exports = s.walk; kept = k }) (record { exports = t.walk; kept = k }) old new before written) (sym none)
+    (hands_out_as (λ (p : Exports). p ≡ p) exports_at (Numbered result_number (StepsExports (map_of v) v.bytes.now)) (Numbered result_number (StepsKeptExports v))
+    (numbered_as result_number (λ (p : Exports). p ≡ p) exports_at (StepsExports (map_of v) v.bytes.now) (StepsKeptExports v)
+    (λ p q answer is step. (refl, steps_as_kept (λ (w : ExportWalk). w.exports) (λ (w : ExportWalk). w.kept) (λ (m : ℕ → Option ℕ). StepsExports m v.bytes.now) v (exports_at p) (exports_at q) answer (λ x. refl) refl step)))
+    (length old == 0) number s.walk t.walk old new before written refl (lists_exports v number s t old new before written seen h)).1
+
 -- the entries of an address table are those of its bytes
 pub lists_addresses : (offset : ℕ → Option ℕ) (b table : List ℕ) (t : AddressTable) (addresses : AddressesView) (number next after : ℕ) (old new : List Exported) (before written : ℕ) → bytes_at b t.addresses ≡ Ok table → addresses ≡ addresses_in t table →
     HandsOutList (Numbered result_number (StepsByIndex (λ i. Ok (exported_in offset b addresses i)))) number next after old new before written →
@@ -72,29 +99,15 @@ pub lists_imports : (v : View) (number : ℕ) (s t : NearImports) (old new : Lis
 lists_imports v number s t old new before written k h =
     near_lists result_number (λ (s : NearImports). s.names.view.now) (λ (s : NearImports). s.walk) (λ (v : View). StepsImports (map_of v) (entry_size (v.image.now.width == 64)) v.bytes.now) v number s t old new before written k h
 
-pub lists_libraries : (v : View) (number : ℕ) (s t : KeptWalk Libraries) (old new : List Library) (before written : ℕ) → s.names.view.now ≡ v →
-    HandsOutList (Numbered result_number StepsKeptLibraries) number s t old new before written →
-    HandsOutList (Numbered result_number (StepsLibraries (map_of v) (entry_size (v.image.now.width == 64)) v.bytes.now)) number s.walk t.walk old new before written
-lists_libraries v number s t old new before written k h =
-    near_lists result_number (λ (s : KeptWalk Libraries). s.names.view.now) (λ (s : KeptWalk Libraries). s.walk) (λ (v : View). StepsLibraries (map_of v) (entry_size (v.image.now.width == 64)) v.bytes.now) v number s t old new before written k h
-
-pub lists_delay_libraries : (v : View) (number : ℕ) (s t : KeptWalk Range) (old new : List DelayLibrary) (before written : ℕ) → s.names.view.now ≡ v →
-    HandsOutList (Numbered directory_number StepsKeptDelayLibraries) number s t old new before written →
-    HandsOutList (Numbered directory_number (StepsDelayLibraries (map_of v) v.bytes.now v.image.now)) number s.walk t.walk old new before written
-lists_delay_libraries v number s t old new before written k h =
-    near_lists directory_number (λ (s : KeptWalk Range). s.names.view.now) (λ (s : KeptWalk Range). s.walk) (λ (v : View). StepsDelayLibraries (map_of v) v.bytes.now v.image.now) v number s t old new before written k h
-
-pub lists_functions : (v : View) (number : ℕ) (s t : KeptWalk DelayedFunctions) (old new : List DelayedFunction) (before written : ℕ) → s.names.view.now ≡ v →
-    HandsOutList (Numbered directory_number StepsKeptFunctions) number s t old new before written →
-    HandsOutList (Numbered directory_number (StepsDelayedFunctions (map_of v) v.bytes.now v.image.now)) number s.walk t.walk old new before written
-lists_functions v number s t old new before written k h =
-    near_lists directory_number (λ (s : KeptWalk DelayedFunctions). s.names.view.now) (λ (s : KeptWalk DelayedFunctions). s.walk) (λ (v : View). StepsDelayedFunctions (map_of v) v.bytes.now v.image.now) v number s t old new before written k h
-
-pub lists_leaves : (v : View) (number : ℕ) (s t : KeptWalk ResourceLeaves) (old new : List ResourceLeaf) (before written : ℕ) → s.names.view.now ≡ v →
-    HandsOutList (Numbered tree_number StepsKeptLeaves) number s t old new before written →
-    HandsOutList (Numbered tree_number (StepsLeaves v.bytes.now (map_of v))) number s.walk t.walk old new before written
-lists_leaves v number s t old new before written k h =
-    near_lists tree_number (λ (s : KeptWalk ResourceLeaves). s.names.view.now) (λ (s : KeptWalk ResourceLeaves). s.walk) (λ (v : View). StepsLeaves v.bytes.now (map_of v)) v number s t old new before written k h
+pub lists_kept_imports : (v : View) (number : ℕ) (s t : NearImports) (k : KeptSections) (old new : List Import) (before written : ℕ) → s.names.view.now ≡ v → k ≡ no_sections →
+    HandsOutList (Numbered result_number StepsNearImports) number s t old new before written →
+    HandsOutList (Numbered result_number (StepsKeptImports v)) number (record { imports = s.walk; kept = k }) (record { imports = t.walk; kept = k }) old new before written
+lists_kept_imports v number s t k old new before written seen none h =
+    subst (λ (k : KeptSections). HandsOutList (Numbered result_number (StepsKeptImports v)) number (record { imports = s.walk; kept = k }) (record { imports = t.walk; kept = k }) old new before written) (sym none)
+    (hands_out_as (λ (p : Imports). p ≡ p) imports_at (Numbered result_number (StepsImports (map_of v) (entry_size (v.image.now.width == 64)) v.bytes.now)) (Numbered result_number (StepsKeptImports v))
+    (numbered_as result_number (λ (p : Imports). p ≡ p) imports_at (StepsImports (map_of v) (entry_size (v.image.now.width == 64)) v.bytes.now) (StepsKeptImports v)
+    (λ p q answer is step. (refl, steps_as_kept (λ (w : ImportWalk). w.imports) (λ (w : ImportWalk). w.kept) (λ (m : ℕ → Option ℕ). StepsImports m (entry_size (v.image.now.width == 64)) v.bytes.now) v (imports_at p) (imports_at q) answer (λ x. refl) refl step)))
+    (length old == 0) number s.walk t.walk old new before written refl (lists_imports v number s t old new before written seen h)).1
 
 pub lists_library_functions : (v : View) (number : ℕ) (s t : KeptWalk LibraryFunctions) (old new : List LibraryFunction) (before written : ℕ) → s.names.view.now ≡ v →
     HandsOutList (Numbered directory_number StepsKeptLibraryFunctions) number s t old new before written →

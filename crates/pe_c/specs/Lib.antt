@@ -85,6 +85,8 @@ pub mod ImageWrites
 pub mod NearMaps
 pub mod ExportWindows
 pub mod KeptSections
+pub mod KeptWalks
+pub mod TwoCalls
 pub mod NearLists
 pub mod StepFailures
 pub mod ResourceFailures

@@ -3,24 +3,13 @@ use Rattle.std.specs.Prelude.{◌≡◌, ◌==◌, Option, Result}
 use Rattle.pe_core.specs.Imports.{entry_size}
 use Rattle.pe_core.specs.Refusals.{Refusal}
 use Rattle.pe_directories.specs.DirectoryRefusals.{DirectoryRefusal}
-use Rattle.pe_resource.specs.Leaves.{TreeRefusal}
-use Rattle.pe_c.specs.DirectoryRuns.{StepsDelayLibraries, StepsDelayedFunctions}
-use Rattle.pe_c.specs.ResourceLeaves.{StepsLeaves}
-use Rattle.pe_c.specs.declared.delay_imports.DelayLibrary.{DelayLibrary}
-use Rattle.pe_c.specs.declared.delay_imports.DelayedFunction.{DelayedFunction}
-use Rattle.pe_c.specs.declared.delay_imports.DelayedFunctions.{DelayedFunctions}
-use Rattle.pe_c.specs.declared.ranges.Range.{Range}
-use Rattle.pe_c.specs.declared.resource_leaves.ResourceLeaf.{ResourceLeaf}
-use Rattle.pe_c.specs.declared.resource_leaves.ResourceLeaves.{ResourceLeaves}
 use Rattle.pe_c.specs.Exports.{StepsExports}
-use Rattle.pe_c.specs.Imports.{StepsImports, StepsLibraries}
+use Rattle.pe_c.specs.Imports.{StepsImports}
 use Rattle.pe_c.specs.LibraryFunctions.{StepsLibraryFunctions}
 use Rattle.pe_c.specs.LibraryImports.{StepsLibraryImports}
 use Rattle.pe_c.specs.Views.{map_of}
 use Rattle.pe_c.specs.declared.exports.Export.{Export}
 use Rattle.pe_c.specs.declared.imports.Import.{Import}
-use Rattle.pe_c.specs.declared.imports.Libraries.{Libraries}
-use Rattle.pe_c.specs.declared.imports.Library.{Library}
 use Rattle.pe_c.specs.declared.kept_sections.KeptWalk.{KeptWalk}
 use Rattle.pe_c.specs.declared.library_functions.LibraryFunction.{LibraryFunction}
 use Rattle.pe_c.specs.declared.library_functions.LibraryFunctions.{LibraryFunctions}
@@ -41,22 +30,6 @@ StepsNearExports = StepsNear (λ s. s.names.view.now) (λ s. s.walk) (λ v. Step
 -- over the imports of a library
 abbrev pub StepsNearImports : NearImports → Result (Option Import) Refusal → NearImports → Type 0
 StepsNearImports = StepsNear (λ s. s.names.view.now) (λ s. s.walk) (λ v. StepsImports (map_of v) (entry_size (v.image.now.width == 64)) v.bytes.now)
-
--- over libraries, by the sections that the list keeps
-abbrev pub StepsKeptLibraries : KeptWalk Libraries → Result (Option Library) Refusal → KeptWalk Libraries → Type 0
-StepsKeptLibraries = StepsNear (λ s. s.names.view.now) (λ s. s.walk) (λ v. StepsLibraries (map_of v) (entry_size (v.image.now.width == 64)) v.bytes.now)
-
--- over the DLLs of the delay import directory
-abbrev pub StepsKeptDelayLibraries : KeptWalk Range → Result (Option DelayLibrary) DirectoryRefusal → KeptWalk Range → Type 0
-StepsKeptDelayLibraries = StepsNear (λ s. s.names.view.now) (λ s. s.walk) (λ v. StepsDelayLibraries (map_of v) v.bytes.now v.image.now)
-
--- over what is imported of a DLL
-abbrev pub StepsKeptFunctions : KeptWalk DelayedFunctions → Result (Option DelayedFunction) DirectoryRefusal → KeptWalk DelayedFunctions → Type 0
-StepsKeptFunctions = StepsNear (λ s. s.names.view.now) (λ s. s.walk) (λ v. StepsDelayedFunctions (map_of v) v.bytes.now v.image.now)
-
--- over the leaves of a resource tree
-abbrev pub StepsKeptLeaves : KeptWalk ResourceLeaves → Result (Option ResourceLeaf) TreeRefusal → KeptWalk ResourceLeaves → Type 0
-StepsKeptLeaves = StepsNear (λ s. s.names.view.now) (λ s. s.walk) (λ v. StepsLeaves v.bytes.now (map_of v))
 
 -- over what is imported of all DLLs
 abbrev pub StepsKeptLibraryFunctions : KeptWalk LibraryFunctions → Result (Option LibraryFunction) DirectoryRefusal → KeptWalk LibraryFunctions → Type 0

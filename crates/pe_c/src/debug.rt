@@ -143,7 +143,7 @@ pub extern "C" fn pe_c_first_debug_entry(
 #[repr(C)]
 #[derive(Clone, Copy)]
 pub struct DebugRecords {
-    /// That of `pe_c_symbol_key`.
+    /// The symbol key of the first CodeView entry.
     pub key: SymbolKey,
     /// That of PDB 2.0 in the first CodeView entry.
     pub pdb20: Pdb20,
@@ -169,8 +169,7 @@ pub struct DebugRecords {
     pub characteristics_result: u32,
 }
 
-/// The symbol key of an entry, if there is one. Inlined, as what it calls: a key is read without copies.
-#[inline(always)]
+/// The symbol key of an entry, if there is one.
 fn key_at(view: &View, entry: Option<ImageDebugDirectory>) -> Result<Option<SymbolKey>>
     ensures { answer_of result
         ≡ of_entry (key_of view.now.bytes.now view.now.image.now.mode) entry }
@@ -179,27 +178,6 @@ fn key_at(view: &View, entry: Option<ImageDebugDirectory>) -> Result<Option<Symb
         Some(entry) => key_of(view.bytes, view.image.mode, &entry),
         None => Ok(None),
     }
-}
-
-#[inline(always)]
-fn first_key(view: &View) -> Result<Option<SymbolKey>>
-    ensures { answer_of result ≡ read_first key_of IMAGE_DEBUG_TYPE_CODEVIEW view.now.bytes.now
-        view.now.image.now (directory_sections view.now 6) }
-{
-    key_at(view, first_entry(view, IMAGE_DEBUG_TYPE_CODEVIEW)?)
-}
-
-/// Returns the key under which a symbol server files an image's symbols, of the first CodeView entry: `NOTHING` where
-/// there is no such entry, or its record is not one of PDB 7.0.
-///
-/// Errors: those of `pe_c_first_debug_entry`, then those of `pe_c_symbol_key_of`.
-#[unsafe(no_mangle)]
-pub extern "C" fn pe_c_symbol_key(view: &View, out: &mut SymbolKey) -> u32
-    ensures { HandsOutIf result out.old out.new
-        (read_first key_of IMAGE_DEBUG_TYPE_CODEVIEW view.now.bytes.now view.now.image.now
-        (directory_sections view.now 6)) }
-{
-    hand_out_some(first_key(view), out)
 }
 
 /// The record of PDB 2.0 of an entry, if there is one.

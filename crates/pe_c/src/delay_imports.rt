@@ -10,6 +10,7 @@ ghost use Rattle.pe_c.specs.DelayImports.{address_in, address_offset, library_of
 ghost use Rattle.pe_c.specs.Directories.{DirectoryHandsOut, left_after, step_of, table_at};
 ghost use Rattle.pe_c.specs.NearMaps.{IsWindow};
 ghost use Rattle.pe_c.specs.KeptSections.{ChangeNothing, map_kept};
+ghost use Rattle.pe_c.specs.KeptWalks.{StepsKeptDelayLibraries, StepsKeptFunctions};
 ghost use Rattle.pe_c.specs.Views.{directory_sections, map_of};
 
 use crate::directories::{Result, range_left, table_at};
@@ -40,13 +41,33 @@ pub struct DelayedFunctions {
     pub spare: u32,
 }
 
+/// A walk over the DLLs of the delay import directory.
+#[repr(C)]
+#[derive(Clone, Copy)]
+pub struct DelayWalk {
+    /// The entries that are left.
+    pub entries: Range,
+    /// The sections of its last RVAs.
+    pub kept: KeptSections,
+}
+
+/// A walk over what is imported of a DLL.
+#[repr(C)]
+#[derive(Clone, Copy)]
+pub struct DelayedFunctionWalk {
+    /// Where it stands.
+    pub functions: DelayedFunctions,
+    /// The sections of its last RVAs.
+    pub kept: KeptSections,
+}
+
 /// A DLL that is loaded when one of its functions is called first.
 #[repr(C)]
 #[derive(Clone, Copy)]
 pub struct DelayLibrary {
     /// The DLL's name: UTF-8, without its final zero.
     pub name: Range,
-    /// Where a walk over what is imported of it starts, for `pe_c_list_delayed_functions`.
+    /// Where a walk over what is imported of it starts, for `DelayedFunctionWalk`.
     pub functions: DelayedFunctions,
     /// The entry of the directory.
     pub descriptor: DelayImport,
@@ -169,8 +190,8 @@ fn library_of(names: &NamedView<'_>, kept: KeptSections, entry: DelayImport) -> 
     })
 }
 
-/// The next DLL of a walk. It is over after an error.
-pub fn next_library(
+/// The next DLL of a walk, by these sections first. It is over after an error.
+fn next_library(
     names: &NamedView<'_>,
     kept: KeptSections,
     walk: &mut Range,
@@ -279,6 +300,18 @@ pub fn next_library_kept(
     next_library(names, kept, walk)
 }
 
+/// One step of a walk.
+pub fn step_dll(names: &NamedView<'_>, walk: &mut DelayWalk) -> Result<Option<DelayLibrary>>
+    ensures { StepsKeptDelayLibraries names.now.view.now walk.old
+        (directory_answer (λ x. x) result) walk.new }
+{
+    let given = next_library(names, walk.kept, &mut walk.entries);
+    if let Ok(Some(library)) = &given {
+        walk.kept = kept_after_library(names.view, walk.kept, &library.descriptor);
+    }
+    given
+}
+
 /// The least number of a table that is an ordinal: its highest bit is set.
 fn ordinal_flag(is_64: bool) -> u64
     ensures { result ≡ ordinal_flag is_64 }
@@ -345,8 +378,8 @@ fn function_of(
     named_at(names, offset)
 }
 
-/// The next function of a walk, whose attributes and bytes left are these. It is over after an error.
-pub fn next_function(
+/// The next function of a walk, whose attributes and bytes left are these, by these sections first. It is over after an error.
+fn next_function(
     names: &NamedView<'_>,
     kept: KeptSections,
     attributes: u32,
@@ -455,4 +488,25 @@ pub fn next_function_kept(
         names.now.view.now.bytes.now names.now.view.now.image.now attributes left.old) }
 {
     next_function(names, kept, attributes, left)
+}
+
+/// One step of a walk over what is imported of a DLL.
+pub fn step_function(
+    names: &NamedView<'_>,
+    walk: &mut DelayedFunctionWalk,
+) -> Result<Option<DelayedFunction>>
+    ensures { StepsKeptFunctions names.now.view.now walk.old
+        (directory_answer (λ x. x) result) walk.new }
+{
+    let before = walk.functions;
+    let given = next_function(
+        names,
+        walk.kept,
+        before.attributes,
+        &mut walk.functions.left,
+    );
+    if let Ok(Some(function)) = &given {
+        walk.kept = kept_after_function(names.view, walk.kept, &before, function);
+    }
+    given
 }

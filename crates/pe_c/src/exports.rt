@@ -10,10 +10,13 @@ ghost use Rattle.pe_core.specs.Refusals.{ReturnsAs, answer_of};
 ghost use Rattle.pe_c.specs.HandsOut.{HandsOutIf};
 ghost use Rattle.pe_c.specs.Images.{export_directory};
 ghost use Rattle.pe_c.specs.Exports.{FindsNext, StepsExports, export_table, tables_at, tables_or_short, reported_entry, text_from, view_of, walk_over};
+ghost use Rattle.pe_c.specs.KeptSections.{ChangeNothing, map_kept};
+ghost use Rattle.pe_c.specs.KeptWalks.{StepsKeptExports};
 ghost use Rattle.pe_c.specs.Ranges.{or_no_bytes};
 ghost use Rattle.pe_c.specs.Views.{map_of};
 
 use crate::image::{EXPORT_TABLE, directory, is_absent};
+use crate::kept_sections::{KeptSections, keeps_sections, kept_after, map_kept};
 use crate::named_view::NamedView;
 use crate::ranges::{NO_BYTES, Range, range_from, slice_of};
 use crate::results::hand_out_some;
@@ -34,6 +37,16 @@ pub struct Exports {
     pub next: u64,
     /// The export directory: an RVA inside it is that of a forwarder's text.
     pub directory: DataDirectory,
+}
+
+/// A walk over exports.
+#[repr(C)]
+#[derive(Clone, Copy)]
+pub struct ExportWalk {
+    /// Where it stands.
+    pub exports: Exports,
+    /// The sections of its last RVAs.
+    pub kept: KeptSections,
 }
 
 /// An export that has a name.
@@ -152,20 +165,21 @@ pub fn forwarder_if(is_forwarder: bool, names: &NamedView<'_>, offset: Option<us
 /// table. Which are forwarders depends on the export directory.
 fn reported_entry(
     names: &NamedView<'_>,
+    kept: KeptSections,
     tables: &Tables<'_>,
     directory: DataDirectory,
     i: usize,
 ) -> Option<Export>
     requires { 4 * i + 4 ≤ length tables.now.names.now }
-    ensures { result ≡ reported_entry (map_of names.now.view.now)
+    ensures { result ≡ reported_entry (map_kept names.now.view.now kept)
         names.now.view.now.bytes.now directory (view_of tables.now) i }
 {
     let name_rva = read_u32(tables.names, 4 * i);
-    let offset = map_by(names.view, name_rva)?;
+    let offset = map_kept(names.view, kept, u64::from(name_rva))?;
     let name = names.text_at(offset)?;
     let ordinal = u16_at(tables.ordinals, 2 * i).ok()?;
     let rva = u32_at(tables.addresses, 4 * usize::from(ordinal)).ok()?;
-    let exported = map_by(names.view, rva);
+    let exported = map_kept(names.view, kept, u64::from(rva));
     let is_forwarder = lies_in(directory, rva);
     Some(Export {
         name: Range {
@@ -184,16 +198,17 @@ fn reported_entry(
 /// The first entry of the name table, from `from` on, that has an export, and the index after it.
 fn find_next(
     names: &NamedView<'_>,
+    kept: KeptSections,
     tables: &Tables<'_>,
     directory: DataDirectory,
     from: usize,
 ) -> Option<(Export, u64)>
-    ensures { FindsNext (reported_entry (map_of names.now.view.now)
+    ensures { FindsNext (reported_entry (map_kept names.now.view.now kept)
         names.now.view.now.bytes.now directory (view_of tables.now))
         from (length tables.now.names.now / 4) result }
 {
     for i in from..tables.names.len() / 4 {
-        if let Some(export) = reported_entry(names, tables, directory, i) {
+        if let Some(export) = reported_entry(names, kept, tables, directory, i) {
             return Some((export, i as u64 + 1));
         }
     }
@@ -211,9 +226,9 @@ pub fn tables_of<'a>(bytes: &'a [u8], walk: &Exports) -> Result<Tables<'a>>
     })
 }
 
-/// One step of a walk.
-pub fn step(names: &NamedView<'_>, walk: &mut Exports) -> Result<Option<Export>>
-    ensures { StepsExports (map_of names.now.view.now)
+/// One step of a walk, by these sections first.
+fn step(names: &NamedView<'_>, kept: KeptSections, walk: &mut Exports) -> Result<Option<Export>>
+    ensures { StepsExports (map_kept names.now.view.now kept)
         names.now.view.now.bytes.now walk.old (answer_of result) walk.new }
 {
     let count = walk.names.length / 4;
@@ -228,7 +243,7 @@ pub fn step(names: &NamedView<'_>, walk: &mut Exports) -> Result<Option<Export>>
             return Err(error);
         }
     };
-    match find_next(names, &tables, walk.directory, walk.next as usize) {
+    match find_next(names, kept, &tables, walk.directory, walk.next as usize) {
         Some((export, next)) => {
             walk.next = next;
             Ok(Some(export))
@@ -238,4 +253,41 @@ pub fn step(names: &NamedView<'_>, walk: &mut Exports) -> Result<Option<Export>>
             Ok(None)
         }
     }
+}
+
+/// The RVA of the name of the export before the next, if the table has it.
+fn name_rva_before(view: &View, walk: &Exports) -> Option<u32> {
+    let names = slice_of(view.bytes, &walk.names).ok()?;
+    let entry = (walk.next as usize).saturating_sub(1);
+    u32_at(names, entry.saturating_mul(4)).ok()
+}
+
+/// What a walk keeps after an export: the sections of what is exported and of its name.
+fn kept_after_export(
+    view: &View,
+    kept: KeptSections,
+    walk: &Exports,
+    export: &Export,
+) -> KeptSections
+    ensures { ChangeNothing view.now kept → ChangeNothing view.now result }
+{
+    if !keeps_sections(view) {
+        return kept;
+    }
+    let exported = kept_after(view, kept, export.rva);
+    match name_rva_before(view, walk) {
+        Some(name_rva) => kept_after(view, exported, name_rva),
+        None => exported,
+    }
+}
+
+/// One step of a walk.
+pub fn step_export(names: &NamedView<'_>, walk: &mut ExportWalk) -> Result<Option<Export>>
+    ensures { StepsKeptExports names.now.view.now walk.old (answer_of result) walk.new }
+{
+    let given = step(names, walk.kept, &mut walk.exports);
+    if let Ok(Some(export)) = &given {
+        walk.kept = kept_after_export(names.view, walk.kept, &walk.exports, export);
+    }
+    given
 }

@@ -9,16 +9,20 @@ ghost use Rattle.pe_core.specs.Refusals.{Returns, ReturnsAs, answer_of};
 ghost use Rattle.pe_core.specs.Text.{text_at};
 ghost use Rattle.pe_c.specs.HandsOut.{HandsOutIf};
 ghost use Rattle.pe_c.specs.KeptSections.{ChangeNothing, map_kept};
+ghost use Rattle.pe_c.specs.KeptWalks.{StepsKeptImports, StepsKeptLibraries};
 ghost use Rattle.pe_c.specs.NearMaps.{IsWindow};
 ghost use Rattle.pe_c.specs.Views.{map_of};
 ghost use Rattle.pe_c.specs.Imports.{import_at, import_step, libraries_at, library_at, library_of, library_step, named_reported};
 
 use crate::image::{IMPORT_TABLE, directory, is_absent};
-use crate::kept_sections::{KeptSections, keeps_sections, kept_after, map_kept, require_kept};
+use crate::kept_sections::{
+    KeptSections, NO_SECTIONS, keeps_sections, kept_after, map_kept, require_kept,
+};
 use crate::named_view::NamedView;
 use crate::near_map::{NO_WINDOW, Window, map_near};
 use crate::ranges::{NO_BYTES, Range, range_from};
 use crate::results::hand_out_some;
+use crate::step_failures::hint_rva;
 use crate::text_runs::Run;
 use crate::view::View;
 use crate::walks::next_entry;
@@ -54,13 +58,33 @@ pub struct Imports {
     pub rva: u64,
 }
 
+/// A walk over libraries.
+#[repr(C)]
+#[derive(Clone, Copy)]
+pub struct LibraryWalk {
+    /// Where it stands.
+    pub libraries: Libraries,
+    /// The sections of its last RVAs.
+    pub kept: KeptSections,
+}
+
+/// A walk over the imports of a library.
+#[repr(C)]
+#[derive(Clone, Copy)]
+pub struct ImportWalk {
+    /// Where it stands.
+    pub imports: Imports,
+    /// The sections of its last RVAs.
+    pub kept: KeptSections,
+}
+
 /// A library (DLL) that an image imports from, and the numbers of its record (`IMAGE_IMPORT_DESCRIPTOR`).
 #[repr(C)]
 #[derive(Clone, Copy)]
 pub struct Library {
     /// UTF-8, without its final zero.
     pub name: Range,
-    /// Where a walk over its imports starts, for `pe_c_list_imports`.
+    /// Where a walk over its imports starts, for `ImportWalk`.
     pub imports: Imports,
     /// RVA of its lookup table, or 0: then the address table is the list of its imports.
     pub lookup_table_rva: u32,
@@ -252,12 +276,12 @@ pub fn library_step_kept(
 }
 
 /// The import by name of an entry. Errors: `Unmapped` of the entry's RVA, `Short` of the hint, `ImportName`.
-fn named_import(names: &NamedView<'_>, entry: u64, rva: u64) -> Result<Import>
+fn named_import(names: &NamedView<'_>, kept: KeptSections, entry: u64, rva: u64) -> Result<Import>
     ensures { Returns result (named_reported
-        (map_of names.now.view.now) names.now.view.now.bytes.now entry rva) }
+        (map_kept names.now.view.now kept) names.now.view.now.bytes.now entry rva) }
 {
     let name_rva = (entry % 0x8000_0000) as u32;
-    let offset = names.view.file_offset(name_rva)?;
+    let offset = require_kept(names.view, kept, name_rva)?;
     let hint = u16_at(names.view.bytes, offset)?;
     let name = name_at(names, offset + SIZE_OF_HINT, name_rva)?;
     Ok(Import {
@@ -271,8 +295,8 @@ fn named_import(names: &NamedView<'_>, entry: u64, rva: u64) -> Result<Import>
 /// The import of an entry and its slot. With its highest bit set the low 16 bits of an entry are an ordinal; else its
 /// low 31 bits are the RVA of a hint and a name.
 #[tactic(auto, unfolding(pe_core::specs::Imports::import_of))]
-fn import_at(names: &NamedView<'_>, entry: u64, rva: u64) -> Result<Import>
-    ensures { Returns result (import_at (map_of names.now.view.now)
+fn import_at(names: &NamedView<'_>, kept: KeptSections, entry: u64, rva: u64) -> Result<Import>
+    ensures { Returns result (import_at (map_kept names.now.view.now kept)
         (entry_size (names.now.view.now.image.now.width == 64)) names.now.view.now.bytes.now entry rva) }
 {
     let highest = if names.view.image.width == 64 {
@@ -288,15 +312,20 @@ fn import_at(names: &NamedView<'_>, entry: u64, rva: u64) -> Result<Import>
             has_name: 0,
         });
     }
-    named_import(names, entry, rva)
+    named_import(names, kept, entry, rva)
 }
 
-/// One step over the imports of a library. Inlined in each of its callers, since a call costs a fifth of a step.
+/// One step over the imports of a library, by these sections first. Inlined in each of its callers, since a call costs a fifth of
+/// a step.
 #[inline(always)]
 #[tactic(auto, unfolding(crate::specs::Imports::import_step))]
-pub fn import_step(names: &NamedView<'_>, walk: &mut Imports) -> Result<Option<Import>>
+fn import_step(
+    names: &NamedView<'_>,
+    kept: KeptSections,
+    walk: &mut Imports,
+) -> Result<Option<Import>>
     ensures returned { (answer_of result, walk.new) ≡ import_step
-        (map_of names.now.view.now) (entry_size (names.now.view.now.image.now.width == 64)) names.now.view.now.bytes.now walk.old }
+        (map_kept names.now.view.now kept) (entry_size (names.now.view.now.image.now.width == 64)) names.now.view.now.bytes.now walk.old }
     ensures there { IfOk result (λ i. IfSome i (λ _. walk.old.left.offset
         + entry_size (names.now.view.now.image.now.width == 64) ≤ length names.now.view.now.bytes.now)) }
 {
@@ -306,7 +335,7 @@ pub fn import_step(names: &NamedView<'_>, walk: &mut Imports) -> Result<Option<I
         return Ok(None);
     };
     let entry = lookup_number(left, 0, is_64);
-    match import_at(names, entry, walk.rva) {
+    match import_at(names, kept, entry, walk.rva) {
         Ok(import) => {
             // A caller may pass any RVA.
             walk.rva = walk.rva.wrapping_add(size as u64);
@@ -317,6 +346,53 @@ pub fn import_step(names: &NamedView<'_>, walk: &mut Imports) -> Result<Option<I
             Err(error)
         }
     }
+}
+
+/// One step of a walk that keeps no sections.
+pub fn import_by_view(names: &NamedView<'_>, walk: &mut Imports) -> Result<Option<Import>>
+    ensures { (answer_of result, walk.new) ≡ import_step (map_of names.now.view.now)
+        (entry_size (names.now.view.now.image.now.width == 64)) names.now.view.now.bytes.now walk.old }
+{
+    import_step(names, NO_SECTIONS, walk)
+}
+
+/// One step of a walk over libraries.
+pub fn step_library(names: &NamedView<'_>, walk: &mut LibraryWalk) -> Result<Option<Library>>
+    ensures { StepsKeptLibraries names.now.view.now walk.old (answer_of result) walk.new }
+{
+    let (given, after) = library_step(names, walk.kept, walk.libraries);
+    walk.libraries = after;
+    if let Ok(Some(library)) = &given {
+        walk.kept = kept_after_library(names.view, walk.kept, library);
+    }
+    given
+}
+
+/// What a walk keeps after the import that it was at: the section of its hint.
+fn kept_after_import(
+    view: &View,
+    kept: KeptSections,
+    before: &Imports,
+    import: &Import,
+) -> KeptSections
+    ensures { ChangeNothing view.now kept → ChangeNothing view.now result }
+{
+    if import.has_name == 0 || !keeps_sections(view) {
+        return kept;
+    }
+    kept_after(view, kept, hint_rva(view, before))
+}
+
+/// One step of a walk over the imports of a library.
+pub fn step_import(names: &NamedView<'_>, walk: &mut ImportWalk) -> Result<Option<Import>>
+    ensures { StepsKeptImports names.now.view.now walk.old (answer_of result) walk.new }
+{
+    let before = walk.imports;
+    let given = import_step(names, walk.kept, &mut walk.imports);
+    if let Ok(Some(import)) = &given {
+        walk.kept = kept_after_import(names.view, walk.kept, &before, import);
+    }
+    given
 }
 
 /// One of the records that a walk may have left, by its index among them. None at the record that ends the directory.

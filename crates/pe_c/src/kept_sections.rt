@@ -9,7 +9,7 @@ ghost use Rattle.pe_core.specs.SectionMap.{mapped};
 ghost use Rattle.pe_frame.specs.SectionIndexes as indexes;
 ghost use Rattle.pe_c.specs.Images.{map_of_image};
 ghost use Rattle.pe_c.specs.SectionIndexes.{is_searched};
-ghost use Rattle.pe_c.specs.KeptSections.{ChangeNothing, HasAll, IsAlone, keeps_sections, map_kept};
+ghost use Rattle.pe_c.specs.KeptSections.{ChangeNothing, HasAll, IsAlone, keeps_sections, map_kept, no_sections};
 
 use crate::image::Image;
 use crate::named_view::NamedView;
@@ -38,6 +38,14 @@ pub const NO_SECTIONS: KeptSections = KeptSections {
     first: 0,
     second: 0,
 };
+
+/// Whether a walk keeps none.
+#[inline(always)]
+pub fn keeps_none(kept: &KeptSections) -> bool
+    ensures { result ≡ true → kept.now ≡ no_sections }
+{
+    kept.first == 0 && kept.second == 0
+}
 
 /// Walks over an image of so many sections keep none: to search them takes less than to test those that a walk keeps.
 const FEW: usize = 32;

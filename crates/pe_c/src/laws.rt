@@ -18,6 +18,7 @@ pub mod pdbs;
 pub mod results;
 pub mod signatures;
 pub mod te;
+pub mod two_calls;
 pub mod version_blocks;
 pub mod walks;
 

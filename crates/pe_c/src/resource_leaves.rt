@@ -11,7 +11,8 @@ ghost use Rattle.pe_resource.specs.LeafPositions.{leaf_start, tree_at, tree_view
 ghost use Rattle.pe_resource.specs.Leaves.{tree_answer};
 ghost use Rattle.pe_c.specs.HandsOut.{HandsOutIf};
 ghost use Rattle.pe_c.specs.Modes.{options_of};
-ghost use Rattle.pe_c.specs.KeptSections.{ChangeNothing, map_kept};
+ghost use Rattle.pe_c.specs.KeptSections.{map_kept};
+ghost use Rattle.pe_c.specs.KeptWalks.{StepsKeptLeaves};
 ghost use Rattle.pe_c.specs.Views.{directory_sections, map_of, may_map};
 ghost use Rattle.pe_c.specs.ResourceLeaves.{StartsLeaves, after_item, content_of, first_item, image_tree, items_left, leaf_reported, leaves_start, leaves_walk, name_in, position_of, walk_at};
 
@@ -74,6 +75,16 @@ pub struct ResourceLeaves {
     pub resource_type: ResourceEntry,
     /// The entry of the name that the languages are of.
     pub name: ResourceEntry,
+}
+
+/// A walk over the leaves of a resource tree.
+#[repr(C)]
+#[derive(Clone, Copy)]
+pub struct LeafWalk {
+    /// Where it stands.
+    pub leaves: ResourceLeaves,
+    /// The sections of its last RVAs.
+    pub kept: KeptSections,
 }
 
 fn byte_range(range: &Range) -> ByteRange
@@ -240,7 +251,7 @@ pub extern "C" fn pe_c_resource_leaves(view: &View, out: &mut ResourceLeaves) ->
     }
 }
 
-/// The next leaf of a walk. It is over after an error.
+/// The next leaf of a walk, by these sections first. It is over after an error.
 #[tactic(auto, using(crate::proofs::LeafRuns::over_has_none))]
 pub fn next_leaf(
     view: &View,
@@ -265,32 +276,16 @@ pub fn next_leaf(
     Ok(Some(leaf))
 }
 
-/// What a walk keeps after a step that returns this: the section of the content.
-pub fn kept_after_leaf(
+/// One step of a walk.
+pub fn step_leaf(
     view: &View,
-    kept: KeptSections,
-    given: &std::result::Result<Option<ResourceLeaf>, ResourceTreeError>,
-) -> KeptSections
-    ensures { ChangeNothing view.now kept → ChangeNothing view.now result }
-{
-    match given {
-        Ok(Some(leaf)) => kept_after(view, kept, leaf.rva),
-        _ => kept,
-    }
-}
-
-/// The next leaf of a walk that keeps sections which change no offset.
-pub fn next_leaf_kept(
-    view: &View,
-    kept: KeptSections,
-    walk: &mut ResourceLeaves,
+    walk: &mut LeafWalk,
 ) -> std::result::Result<Option<ResourceLeaf>, ResourceTreeError>
-    requires { ChangeNothing view.now kept }
-    ensures leaf { tree_answer result
-        ≡ first_item (items_left view.now.bytes.now (map_of view.now) walk.old) }
-    ensures left { items_left view.now.bytes.now (map_of view.now) walk.new
-        ≡ after_item (items_left view.now.bytes.now (map_of view.now) walk.old) }
-    ensures walk { walk.new ≡ leaves_walk view.now.bytes.now (map_of view.now) walk.old }
+    ensures { StepsKeptLeaves view.now walk.old (tree_answer result) walk.new }
 {
-    next_leaf(view, kept, walk)
+    let given = next_leaf(view, walk.kept, &mut walk.leaves);
+    if let Ok(Some(leaf)) = &given {
+        walk.kept = kept_after(view, walk.kept, leaf.rva);
+    }
+    given
 }

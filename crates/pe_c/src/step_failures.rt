@@ -28,7 +28,7 @@ use crate::failure_numbers::{
     failure_with, needed_at, needed_in, no_numbers, numbers, refused, refused_value, u16_there,
     u32_there,
 };
-use crate::imports::{Imports, Libraries, import_step, library_step_kept};
+use crate::imports::{Imports, Libraries, import_by_view, library_step_kept};
 use crate::kept_sections::NO_SECTIONS;
 use crate::named_view::NamedView;
 use crate::ranges::{Range, bytes_there};
@@ -156,7 +156,7 @@ fn import_failure(view: &View, walk: &Imports) -> Option<Failure>
         (entry_size (view.now.image.now.width == 64)) view.now.bytes.now walk.now).0) }
 {
     let mut after = *walk;
-    match refused(import_step(&NamedView::alone(view), &mut after)) {
+    match refused(import_by_view(&NamedView::alone(view), &mut after)) {
         Some(number) => Some(failure_with(number, import_numbers(view, walk, number))),
         None => None,
     }

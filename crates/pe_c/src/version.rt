@@ -12,17 +12,15 @@ ghost use Rattle.pe_resource.specs.Resources.{IsResourceEntry};
 ghost use Rattle.pe_c.specs.HandsOut.{HandsOutIf};
 ghost use Rattle.pe_c.specs.Images.{map_of_image};
 ghost use Rattle.pe_c.specs.Modes.{options_of};
-ghost use Rattle.pe_c.specs.Versions.{IsContentOf, HandsOutManifest, content_at, entry_range, fixed_at, fixed_in, HandsOutFixed, value_at, name_at, text_in, HandsOutText};
+ghost use Rattle.pe_c.specs.Versions.{IsContentOf, HandsOutManifest, content_at, entry_range, fixed_at, fixed_in, value_at, name_at, text_in};
 ghost use Rattle.pe_c.specs.Views.{map_of, may_map};
 
 use crate::image::{RESOURCE_TABLE, directory, is_absent};
 use crate::ranges::{Range, some_range};
-use crate::results::{NOTHING, hand_out_some, number_of, options};
+use crate::results::{hand_out_some, number_of, options};
 use crate::view::{View, sections_of};
 use pe_core::{ByteRange, DataDirectory, MappedBytes, Result, SectionTable, require_bytes};
-use pe_resource::{
-    RT_MANIFEST, RT_VERSION, ResourceData, ResourceDataEntry, VersionName, VsFixedFileInfo,
-};
+use pe_resource::{RT_MANIFEST, ResourceData, ResourceDataEntry, VersionName, VsFixedFileInfo};
 
 /// The range of the content of a data entry, by the sections that may map its RVA.
 pub fn range_by(
@@ -108,19 +106,6 @@ fn fixed_at(bytes: &[u8], content: Option<ByteRange>) -> Result<Option<VsFixedFi
     }
 }
 
-/// Reads the fixed file information: `NOTHING` without version information, or where it has none. Errors are those of
-/// `ResourceData::content_range`, then those of `VsFixedFileInfo::of_strings`.
-#[unsafe(no_mangle)]
-pub extern "C" fn pe_c_fixed_version(view: &View, out: &mut VsFixedFileInfo) -> u32
-    ensures { HandsOutFixed view.now.bytes.now view.now.image.now (may_map view.now)
-        view.now.image.now.mode result out.old out.new }
-{
-    match content_of(view, RT_VERSION) {
-        Ok(content) => hand_out_some(fixed_at(view.bytes, content), out),
-        Err(error) => number_of(&error),
-    }
-}
-
 /// The range of the value of a name in the version information at a range.
 fn value_at(bytes: &[u8], name: VersionName, content: Option<ByteRange>) -> Result<Option<Range>>
     requires { IfSome content (IsWithin bytes.now) }
@@ -156,24 +141,6 @@ fn name_at(number: u32) -> Option<VersionName>
         10 => Some(VersionName::ProductVersion),
         11 => Some(VersionName::SpecialBuild),
         _ => None,
-    }
-}
-
-/// Returns the range of the value of a name, by its number from 0 (`Comments`) to 11 (`SpecialBuild`): UTF-16 code
-/// units with the zeros after the text. `NOTHING` without version information, where it has no string of that name, and
-/// for a number above 11. Errors are those of `ResourceData::content_range`, then those of `VersionName::value_range`.
-#[unsafe(no_mangle)]
-pub extern "C" fn pe_c_version_text(view: &View, name: u32, out: &mut Range) -> u32
-    ensures { HandsOutText view.now.bytes.now view.now.image.now (may_map view.now)
-        view.now.image.now.mode
-        (name_at name) result out.old out.new }
-{
-    let Some(name) = name_at(name) else {
-        return NOTHING;
-    };
-    match content_of(view, RT_VERSION) {
-        Ok(content) => hand_out_some(value_at(view.bytes, name, content), out),
-        Err(error) => number_of(&error),
     }
 }
 
@@ -222,8 +189,8 @@ fn text_in(bytes: &[u8], content: &Range, name: Option<VersionName>) -> Result<O
     value_at(bytes, name, Some(content))
 }
 
-/// Returns the range of the value of a name in one version information, as `pe_c_version_text` does: `NOTHING` where it has no
-/// string of that name, and for a number above 11.
+/// Returns the range of the value of a name in one version information, by its number from 0 (`Comments`) to 11 (`SpecialBuild`): UTF-16
+/// code units with the zeros after the text. `NOTHING` where it has no string of that name, and for a number above 11.
 ///
 /// Errors: `SHORT` where `content` is not inside the bytes; those of `VersionName::value_range`.
 #[unsafe(no_mangle)]

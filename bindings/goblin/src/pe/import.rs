@@ -194,10 +194,11 @@ struct AllLeft {
 /// they have are taken from how many are left.
 fn libraries_of<'a, T: Bitfield<'a>>(
     view: View<'a, '_>,
-    mut walk: sys::Libraries,
+    walk: sys::Libraries,
     left: &mut AllLeft,
 ) -> error::Result<Vec<sys::Library>> {
     let (mut libraries, mut room) = (Vec::new(), raw::Names::<_, LIBRARIES_TAKEN>::of(view));
+    let mut walk = sys::LibraryWalk::from(walk);
     loop {
         let found = view.next_libraries(&mut walk, libraries.len(), &mut room)?;
         if found.is_empty() {

@@ -98,12 +98,12 @@ impl View<'_, '_> {
             return Ok(None);
         }
         let taken = if names.left > 0 { rest.min(FEW) } else { rest };
-        let mut part = *walk;
-        part.names.length = 4 * (part.next + taken as u64);
+        let mut part = sys::ExportWalk::from(*walk);
+        part.exports.names.length = 4 * (walk.next + taken as u64);
         let call = |runs: &mut [_], room: &mut [_]| Ok(self.list_exports(&mut part, runs, room)?);
         // An entry has a name and perhaps a forwarder's text.
         let found = names.fill(taken, 2, call, |it| it.name.length + it.forwarder.length)?;
-        walk.next = part.next;
+        walk.next = part.exports.next;
         let without = names.found(found).iter().filter(|it| it.is_forwarder != 0 && it.forwarder.length == 0).count();
         names.spend((taken.saturating_sub(found) + without).saturating_mul(self.bytes.len() / SKIPPED));
         Ok(Some(names.found(found)))
@@ -112,7 +112,7 @@ impl View<'_, '_> {
     /// The next libraries; none at the end.
     pub fn next_libraries<'r, const FEW: usize>(
         &self,
-        walk: &mut sys::Libraries,
+        walk: &mut sys::LibraryWalk,
         taken: usize,
         names: &'r mut Names<sys::Library, FEW>,
     ) -> error::Result<&'r [sys::Library]> {
@@ -120,7 +120,7 @@ impl View<'_, '_> {
         let most = (4 * taken).min(MOST_TOGETHER);
         let cost = |it: &sys::Library| it.name.length + it.imports.left.length;
         let before = *walk;
-        let refused = |it: Refusal| with_numbers(it.into(), self.library_failure(&before));
+        let refused = |it: Refusal| with_numbers(it.into(), self.library_failure(&before.libraries));
         let call = |runs: &mut [_], room: &mut [_]| self.list_libraries(walk, runs, room).map_err(refused);
         let found = names.fill(most, 2, call, cost)?;
         Ok(names.found(found))

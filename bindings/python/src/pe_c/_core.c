@@ -430,10 +430,10 @@ static uint32_t starts_table(Image *self, const pe_c_library *it, pe_c_imports *
 }
 
 /* The next import of such a table, which a zero entry ends. */
-static uint32_t next_of_table(Image *self, pe_c_imports *walk, pe_c_import *item)
+static uint32_t next_of_table(Image *self, pe_c_import_walk *walk, pe_c_import *item)
 {
     uint64_t entry = 0, size = self->info.width == 64 ? 8 : 4;
-    pe_c_range left = walk->left;
+    pe_c_range left = walk->imports.left;
     if (left.length < size)
         return PE_C_SHORT;
     memcpy(&entry, (const char *)self->view.buf + left.offset, size);
@@ -445,14 +445,14 @@ LISTED(list_imports, pe_c_list_imports(VIEW, walk, runs, run_count, items, most,
 /* The imports of a library: those that its address table names where its lookup table is unmapped. */
 static PyObject *imports_of(Image *self, Rows *outer, const pe_c_library *it)
 {
-    pe_c_imports walk = it->imports;
+    pe_c_import_walk walk = {.imports = it->imports};
     pe_c_import item = PE_C_EMPTY;
     Rows rows = rows_of(self, outer->budget);
     if (!has_unmapped_list(it)) {
         EACH_OF(&rows, pe_c_import, list_imports, &walk, ROW_OF(import));
         return inside(outer, &rows);
     }
-    rows.result = starts_table(self, it, &walk);
+    rows.result = starts_table(self, it, &walk.imports);
     EACH(&rows, next_of_table(self, &walk, &item), ROW_OF(import));
     return inside(outer, &rows);
 }
@@ -723,10 +723,9 @@ static void add_export(Rows *rows, const pe_c_address_table *table, const pe_c_e
 static void add_one_by_one(Rows *rows, const pe_c_exports *part, const pe_c_address_table *table, uint8_t *is_named)
 {
     Image *self = rows->image;
-    pe_c_exports walk = PE_C_EMPTY;
     pe_c_export named = PE_C_EMPTY;
     for (uint64_t i = 0; goes_on(rows) && i < part->names.length / 4; i++) {
-        walk = names_from(part, i, 1);
+        pe_c_export_walk walk = {.exports = names_from(part, i, 1)};
         uint32_t result = pe_c_next_export(VIEW, &walk, &named);
         if (result != PE_C_DONE && result != PE_C_NOTHING)
             rows->result = result;
@@ -747,7 +746,8 @@ static void add_named(Rows *rows, const pe_c_exports *all, const pe_c_address_ta
     uint64_t count, total = all->names.length / 4;
     for (uint64_t i = 0; i < total && goes_on(rows) && makes_room(rows, &chunk, sizeof(pe_c_export)); i += count) {
         count = total - i < chunk.most ? total - i : chunk.most;
-        pe_c_exports part = names_from(all, i, count), walk = part;
+        pe_c_exports part = names_from(all, i, count);
+        pe_c_export_walk walk = {.exports = part};
         takes_items(rows, &chunk, list_exports, &walk, count);
         if (rows->result != PE_C_DONE || chunk.count < count) {
             rows->result = PE_C_DONE;

@@ -1,18 +1,29 @@
 //! The law of the sections that a walk keeps: steps that test them first return what they return without them.
 
-ghost use Rattle.std.specs.Prelude.{◌≡◌, ◌<◌, length};
+ghost use Rattle.std.specs.Prelude.{◌≡◌, ◌==◌, ◌<◌, length};
+ghost use Rattle.pe_core.specs.Imports.{entry_size};
+ghost use Rattle.pe_c.specs.DirectoryRuns.{StepsDelayLibraries, StepsDelayedFunctions};
+ghost use Rattle.pe_c.specs.Exports.{StepsExports};
+ghost use Rattle.pe_c.specs.Imports.{StepsImports, StepsLibraries};
 ghost use Rattle.pe_c.specs.KeptSections.{ChangeNothing, ReturnsAsItKeeps, map_kept, no_sections};
 ghost use Rattle.pe_c.specs.Plans.{StepsPlan};
+ghost use Rattle.pe_c.specs.ResourceLeaves.{StepsLeaves};
 ghost use Rattle.pe_c.specs.Unwinding.{links_at};
 ghost use Rattle.pe_c.specs.Views.{map_of};
+ghost use Rattle.pe_c.specs.declared.delay_imports.DelayWalk.{DelayWalk};
+ghost use Rattle.pe_c.specs.declared.delay_imports.DelayedFunctionWalk.{DelayedFunctionWalk};
+ghost use Rattle.pe_c.specs.declared.exports.ExportWalk.{ExportWalk};
+ghost use Rattle.pe_c.specs.declared.imports.ImportWalk.{ImportWalk};
+ghost use Rattle.pe_c.specs.declared.imports.LibraryWalk.{LibraryWalk};
 ghost use Rattle.pe_c.specs.declared.kept_sections.KeptSections.{KeptSections};
 ghost use Rattle.pe_c.specs.declared.plan.PlanWalk.{PlanWalk};
 ghost use Rattle.pe_c.specs.declared.ranges.Range.{Range};
+ghost use Rattle.pe_c.specs.declared.resource_leaves.LeafWalk.{LeafWalk};
 ghost use Rattle.pe_c.specs.declared.view.View.{View};
 
-/// The walk of a plan keeps no section at its start, and what changes no offset after each step (`KeepsOn`), whatever the sections are.
-/// Such a walk maps RVAs as its view does: so each step returns what the laws of plans say of the view's map. A number past the last
-/// section is as none.
+/// A walk keeps no section at its start, and what changes no offset after each step (`StepsKept`, `KeepsOn`), whatever the sections are.
+/// Such a walk maps RVAs as its view does: so each step returns what the laws of walks, of lists and of failures say of the view's map.
+/// A number past the last section is as none.
 pub fn kept_sections_change_nothing()
     ensures none { (v : View) → ChangeNothing v no_sections }
     ensures maps { (v : View) (k : KeptSections) → ChangeNothing v k → map_kept v k ≡ map_of v }
@@ -20,8 +31,20 @@ pub fn kept_sections_change_nothing()
         length v.sections.now < k.second → ChangeNothing v k }
 {}
 
-/// So the steps of a whole plan, one after the other, return the records that the laws of plans say for where it stands.
+/// So the steps of a whole walk, one after the other, return the items that the laws of walks say for where it stands.
 pub fn walks_return_as_they_keep()
-    ensures { (table : Range) → ReturnsAsItKeeps (λ (w : PlanWalk). w.plan) (λ w. w.kept)
+    ensures exports { ReturnsAsItKeeps (λ (w : ExportWalk). w.exports) (λ w. w.kept)
+        (λ v m. StepsExports m v.bytes.now) }
+    ensures libraries { ReturnsAsItKeeps (λ (w : LibraryWalk). w.libraries) (λ w. w.kept)
+        (λ v m. StepsLibraries m (entry_size (v.image.now.width == 64)) v.bytes.now) }
+    ensures imports { ReturnsAsItKeeps (λ (w : ImportWalk). w.imports) (λ w. w.kept)
+        (λ v m. StepsImports m (entry_size (v.image.now.width == 64)) v.bytes.now) }
+    ensures delay_imports { ReturnsAsItKeeps (λ (w : DelayWalk). w.entries) (λ w. w.kept)
+        (λ v m. StepsDelayLibraries m v.bytes.now v.image.now) }
+    ensures delayed_functions { ReturnsAsItKeeps (λ (w : DelayedFunctionWalk). w.functions) (λ w. w.kept)
+        (λ v m. StepsDelayedFunctions m v.bytes.now v.image.now) }
+    ensures leaves { ReturnsAsItKeeps (λ (w : LeafWalk). w.leaves) (λ w. w.kept)
+        (λ v m. StepsLeaves v.bytes.now m) }
+    ensures plans { (table : Range) → ReturnsAsItKeeps (λ (w : PlanWalk). w.plan) (λ w. w.kept)
         (λ v m. StepsPlan v.bytes.now (links_at m v.bytes.now table)) }
 {}

@@ -5,11 +5,10 @@ ghost use Rattle.pe_core.specs.declared.section_table.SectionTable.{SectionTable
 ghost use Rattle.pe_c.specs.Arm64.{StepsArm64Codes, arm64_function_in};
 ghost use Rattle.pe_c.specs.DebugWalks.{StepsPogoEntries};
 ghost use Rattle.pe_c.specs.Directories.{directory_number};
-ghost use Rattle.pe_c.specs.DirectoryRuns.{StepsBlocks, StepsBoundImports, StepsDelayLibraries, StepsDelayedFunctions, StepsForwarders, StepsRelocations};
+ghost use Rattle.pe_c.specs.DirectoryRuns.{StepsBlocks, StepsBoundImports, StepsForwarders, StepsRelocations};
 ghost use Rattle.pe_c.specs.ExportAddresses.{exported_at};
-ghost use Rattle.pe_c.specs.Exports.{StepsExports};
 ghost use Rattle.pe_c.specs.HandsOut.{result_number};
-ghost use Rattle.pe_c.specs.Imports.{StepsImports, StepsLibraries};
+ghost use Rattle.pe_c.specs.KeptWalks.{StepsKeptDelayLibraries, StepsKeptExports, StepsKeptFunctions, StepsKeptImports, StepsKeptLeaves, StepsKeptLibraries};
 ghost use Rattle.pe_c.specs.LibraryFunctions.{StepsLibraryFunctions};
 ghost use Rattle.pe_c.specs.LibraryImports.{StepsLibraryImports};
 ghost use Rattle.pe_c.specs.Lists.{GiveLists, StepsByIndex, StepsVersionBlocks, if_there};
@@ -17,40 +16,36 @@ ghost use Rattle.pe_c.specs.NamedSymbols.{StepsNamedSymbols};
 ghost use Rattle.pe_c.specs.PdbModules.{StepsModules};
 ghost use Rattle.pe_c.specs.PdbSymbols.{StepsPdbSymbols};
 ghost use Rattle.pe_c.specs.Pdbs.{pdb_number};
-ghost use Rattle.pe_c.specs.ResourceLeaves.{StepsLeaves, tree_number};
+ghost use Rattle.pe_c.specs.ResourceLeaves.{tree_number};
 ghost use Rattle.pe_c.specs.SectionNames.{long_name_by_index};
 ghost use Rattle.pe_c.specs.Unwinding.{StepsCodes, function_in};
 ghost use Rattle.pe_c.specs.declared.export_addresses.AddressTable.{AddressTable};
 ghost use Rattle.pe_c.specs.declared.image.Image.{Image};
 ghost use Rattle.pe_c.specs.declared.ranges.Range.{Range};
+ghost use Rattle.pe_c.specs.declared.view.View.{View};
 
 /// Where the steps of a walk return some items, which the laws of walks say for each of them, a list call with room for `n`
 /// entries returns the first `n`, or all that come before the end or before an error, and the walk after it has the other items
 /// left. Where an error is the first item the call returns its number, and the walk is over. So calls one after the other, with
 /// room for any numbers of entries, return exactly the items, and then no entry. A call with room for one entry returns what a step
-/// does, and leaves the walk where that does: so do the functions for the next item that `pe.h` defines over lists.
+/// does, and leaves the walk where that does: so do the functions for the next item that `pe.h` defines over lists. A walk that keeps
+/// sections returns what it returns without them, by `walks_return_as_they_keep`.
 pub fn lists_are_what_steps_return()
     ensures codes { (b : List ℕ) → GiveLists result_number (StepsCodes b) }
     ensures arm64_codes { (b : List ℕ) → GiveLists result_number (StepsArm64Codes b) }
-    ensures exports { (offset : ℕ → Option ℕ) (b : List ℕ) →
-        GiveLists result_number (StepsExports offset b) }
-    ensures libraries { (offset : ℕ → Option ℕ) (w : ℕ) (b : List ℕ) →
-        GiveLists result_number (StepsLibraries offset w b) }
-    ensures imports { (offset : ℕ → Option ℕ) (w : ℕ) (b : List ℕ) →
-        GiveLists result_number (StepsImports offset w b) }
+    ensures exports { (v : View) → GiveLists result_number (StepsKeptExports v) }
+    ensures libraries { (v : View) → GiveLists result_number (StepsKeptLibraries v) }
+    ensures imports { (v : View) → GiveLists result_number (StepsKeptImports v) }
     ensures library_imports { (offset : ℕ → Option ℕ) (w : ℕ) (b : List ℕ) →
         GiveLists result_number (StepsLibraryImports offset w b) }
     ensures symbols { (b : List ℕ) (strings : Range) →
         GiveLists result_number (StepsNamedSymbols b strings) }
-    ensures leaves { (b : List ℕ) (offset : ℕ → Option ℕ) →
-        GiveLists tree_number (StepsLeaves b offset) }
+    ensures leaves { (v : View) → GiveLists tree_number (StepsKeptLeaves v) }
     ensures relocation_blocks { (b : List ℕ) → GiveLists directory_number (StepsBlocks b) }
     ensures relocations { (page : ℕ) (b : List ℕ) →
         GiveLists directory_number (StepsRelocations page b) }
-    ensures delay_imports { (offset : ℕ → Option ℕ) (b : List ℕ) (image : Image) →
-        GiveLists directory_number (StepsDelayLibraries offset b image) }
-    ensures delayed_functions { (offset : ℕ → Option ℕ) (b : List ℕ) (image : Image) →
-        GiveLists directory_number (StepsDelayedFunctions offset b image) }
+    ensures delay_imports { (v : View) → GiveLists directory_number (StepsKeptDelayLibraries v) }
+    ensures delayed_functions { (v : View) → GiveLists directory_number (StepsKeptFunctions v) }
     ensures library_functions { (offset : ℕ → Option ℕ) (b : List ℕ) (image : Image) →
         GiveLists directory_number (StepsLibraryFunctions offset b image) }
     ensures pogo_entries { (b : List ℕ) → GiveLists result_number (StepsPogoEntries b) }

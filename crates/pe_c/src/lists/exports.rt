@@ -3,8 +3,10 @@
 ghost use Rattle.std.specs.Prelude.{◌≡◌, Ok};
 ghost use Rattle.pe_core.specs.ExportAddresses.{addresses_view};
 ghost use Rattle.pe_c.specs.ExportAddresses.{exported_at, exported_in};
-ghost use Rattle.pe_c.specs.Exports.{StepsExports, tables_or_short, view_of};
+ghost use Rattle.pe_c.specs.Exports.{tables_or_short, view_of};
 ghost use Rattle.pe_c.specs.HandsOut.{result_number};
+ghost use Rattle.pe_c.specs.KeptSections.{no_sections};
+ghost use Rattle.pe_c.specs.KeptWalks.{StepsKeptExports};
 ghost use Rattle.pe_c.specs.Lists.{HandsOutList, Numbered, StepsByIndex};
 ghost use Rattle.pe_c.specs.NearLists.{StepsNearExports};
 ghost use Rattle.pe_c.specs.NearMaps.{IsWindow};
@@ -12,7 +14,8 @@ ghost use Rattle.pe_c.specs.Views.{map_of};
 
 use crate::export_addresses::{AddressTable, Exported, addresses_in, exported_at, exported_in};
 use crate::export_texts::{put_text_offsets, texts_cost_much};
-use crate::exports::{Export, Exports, Tables, step, tables_of};
+use crate::exports::{Export, ExportWalk, Exports, Tables, step_export, tables_of};
+use crate::kept_sections::keeps_none;
 use crate::lists::{Steps, hand_out_list, next_index, numbered};
 use crate::named_view::NamedView;
 use crate::near_exports::{NO_WINDOWS, NearExports, find_near};
@@ -69,50 +72,49 @@ impl<'a> Steps<NearExports<'a>, Export> for InTables {
     }
 }
 
-/// Lists the exports of a walk with these tables.
+/// Lists the exports of a walk that keeps no sections, with these tables.
 #[inline(always)]
 fn list_near(
     names: &NamedView<'_>,
     tables: &Tables<'_>,
-    walk: &mut Exports,
+    walk: &mut ExportWalk,
     entries: &mut [Export],
     written: &mut u64,
 ) -> u32
-    requires { tables_or_short names.now.view.now.bytes.now walk.old ≡ Ok (view_of tables.now) }
-    ensures { HandsOutList (Numbered result_number
-        (StepsExports (map_of names.now.view.now) names.now.view.now.bytes.now))
+    requires tables { tables_or_short names.now.view.now.bytes.now walk.old.exports
+        ≡ Ok (view_of tables.now) }
+    requires none { walk.old.kept ≡ no_sections }
+    ensures { HandsOutList (Numbered result_number (StepsKeptExports names.now.view.now))
         result walk.old walk.new entries.old entries.new written.old written.new }
 {
     let mut near = NearExports {
         names: *names,
         tables: *tables,
-        walk: *walk,
+        walk: walk.exports,
         windows: NO_WINDOWS,
     };
     let number = hand_out_list(&InTables, &mut near, entries, written);
-    *walk = near.walk;
+    walk.exports = near.walk;
     number
 }
 
-impl<'a> Steps<Exports, Export> for NamedView<'a> {
-    ghost steps = { λ s. Numbered result_number (StepsExports
-        (map_of s.view.now) s.view.now.bytes.now) };
+impl<'a> Steps<ExportWalk, Export> for NamedView<'a> {
+    ghost steps = { λ s. Numbered result_number (StepsKeptExports s.view.now) };
 
-    fn step(&self, walk: &mut Exports) -> Result<Option<Export>, u32> {
-        numbered(step(self, walk))
+    fn step(&self, walk: &mut ExportWalk) -> Result<Option<Export>, u32> {
+        numbered(step_export(self, walk))
     }
 }
 
-/// Lists the exports of a walk step by step: of one step, which no section near it makes faster, and of a walk whose tables are not
-/// inside the bytes, whose first step is refused.
+/// Lists the exports of a walk step by step: one, which no section near it makes faster, those of a walk that keeps sections, and those
+/// of a walk whose tables are not inside the bytes, whose first step is refused.
 fn list_steps(
     names: &NamedView<'_>,
-    walk: &mut Exports,
+    walk: &mut ExportWalk,
     entries: &mut [Export],
     written: &mut u64,
 ) -> u32
-    ensures { HandsOutList (Numbered result_number
-        (StepsExports (map_of names.now.view.now) names.now.view.now.bytes.now))
+    ensures { HandsOutList (Numbered result_number (StepsKeptExports names.now.view.now))
         result walk.old walk.new entries.old entries.new written.old written.new }
 {
     hand_out_list(names, walk, entries, written)
@@ -121,18 +123,17 @@ fn list_steps(
 /// Lists the exports of a walk.
 fn list_exports(
     names: &NamedView<'_>,
-    walk: &mut Exports,
+    walk: &mut ExportWalk,
     entries: &mut [Export],
     written: &mut u64,
 ) -> u32
-    ensures { HandsOutList (Numbered result_number
-        (StepsExports (map_of names.now.view.now) names.now.view.now.bytes.now))
+    ensures { HandsOutList (Numbered result_number (StepsKeptExports names.now.view.now))
         result walk.old walk.new entries.old entries.new written.old written.new }
 {
-    if entries.len() <= 1 {
+    if entries.len() <= 1 || !keeps_none(&walk.kept) {
         return list_steps(names, walk, entries, written);
     }
-    match tables_of(names.view.bytes, walk) {
+    match tables_of(names.view.bytes, &walk.exports) {
         Ok(tables) => list_near(names, &tables, walk, entries, written),
         Err(_) => list_steps(names, walk, entries, written),
     }
@@ -158,16 +159,16 @@ fn texts_of<'a>(view: &'a View<'a>, walk: &Exports, runs: &'a mut [Run]) -> Name
 #[unsafe(no_mangle)]
 pub extern "C" fn pe_c_list_exports(
     view: &View,
-    walk: &mut Exports,
+    walk: &mut ExportWalk,
     runs: &mut [Run],
     entries: &mut [Export],
     written: &mut u64,
 ) -> u32
-    ensures { HandsOutList (Numbered result_number
-        (StepsExports (map_of view.now) view.now.bytes.now))
+    ensures { HandsOutList (Numbered result_number (StepsKeptExports view.now))
         result walk.old walk.new entries.old entries.new written.old written.new }
 {
-    list_exports(&texts_of(view, walk, runs), walk, entries, written)
+    let names = texts_of(view, &walk.exports, runs);
+    list_exports(&names, walk, entries, written)
 }
 
 /// Steps over the entries of an address table.

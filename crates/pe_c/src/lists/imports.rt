@@ -1,18 +1,17 @@
 //! Lists of the libraries that an image imports from, and of the imports of each.
 
-ghost use Rattle.std.specs.Prelude.{◌≡◌, ◌==◌};
-ghost use Rattle.pe_core.specs.Imports.{entry_size};
+ghost use Rattle.std.specs.Prelude.{◌≡◌};
 ghost use Rattle.pe_c.specs.HandsOut.{result_number};
-ghost use Rattle.pe_c.specs.Imports.{StepsImports, StepsLibraries};
+ghost use Rattle.pe_c.specs.KeptSections.{no_sections};
+ghost use Rattle.pe_c.specs.KeptWalks.{StepsKeptImports, StepsKeptLibraries};
 ghost use Rattle.pe_c.specs.Lists.{HandsOutList, Numbered};
-ghost use Rattle.pe_c.specs.NearLists.{StepsKeptLibraries, StepsNearImports};
-ghost use Rattle.pe_c.specs.Views.{map_of};
+ghost use Rattle.pe_c.specs.NearLists.{StepsNearImports};
 
 use crate::imports::{
-    Import, Imports, Libraries, Library, import_step, kept_after_library_step, library_step_kept,
-    put_entry_names, put_library_lists, put_library_names,
+    Import, ImportWalk, Libraries, Library, LibraryWalk, put_entry_names, put_library_lists,
+    put_library_names, step_import, step_library,
 };
-use crate::kept_sections::{KeptWalk, NO_SECTIONS};
+use crate::kept_sections::keeps_none;
 use crate::lists::{Steps, hand_out_list, numbered};
 use crate::named_view::NamedView;
 use crate::near_imports::{NearImports, step_near};
@@ -21,58 +20,25 @@ use crate::ranges::bytes_there;
 use crate::text_runs::Run;
 use crate::view::View;
 
-/// Steps over libraries in a list.
-#[derive(Clone, Copy)]
-struct InDirectory;
+impl<'a> Steps<LibraryWalk, Library> for NamedView<'a> {
+    ghost steps = { λ s. Numbered result_number (StepsKeptLibraries s.view.now) };
 
-impl<'a> Steps<KeptWalk<'a, Libraries>, Library> for InDirectory {
-    ghost steps = { λ s. Numbered result_number StepsKeptLibraries };
-
-    fn step(&self, list: &mut KeptWalk<'a, Libraries>) -> Result<Option<Library>, u32> {
-        let KeptWalk {
-            names,
-            walk,
-            kept,
-            ..
-        } = *list;
-        let (given, walk) = library_step_kept(&names, kept, walk);
-        let kept = kept_after_library_step(names.view, kept, &given);
-        *list = KeptWalk { names, walk, kept };
-        numbered(given)
-    }
-}
-
-impl<'a> Steps<Libraries, Library> for NamedView<'a> {
-    ghost steps = { λ s. Numbered result_number (StepsLibraries (map_of s.view.now)
-        (entry_size (s.view.now.image.now.width == 64)) s.view.now.bytes.now) };
-
-    fn step(&self, walk: &mut Libraries) -> Result<Option<Library>, u32> {
-        let (given, after) = library_step_kept(self, NO_SECTIONS, *walk);
-        *walk = after;
-        numbered(given)
+    fn step(&self, walk: &mut LibraryWalk) -> Result<Option<Library>, u32> {
+        numbered(step_library(self, walk))
     }
 }
 
 /// Lists the libraries of a walk.
 fn list_libraries(
     names: &NamedView<'_>,
-    walk: &mut Libraries,
+    walk: &mut LibraryWalk,
     entries: &mut [Library],
     written: &mut u64,
 ) -> u32
-    ensures { HandsOutList (Numbered result_number
-        (StepsLibraries (map_of names.now.view.now)
-        (entry_size (names.now.view.now.image.now.width == 64)) names.now.view.now.bytes.now))
+    ensures { HandsOutList (Numbered result_number (StepsKeptLibraries names.now.view.now))
         result walk.old walk.new entries.old entries.new written.old written.new }
 {
-    let mut list = KeptWalk {
-        names: *names,
-        walk: *walk,
-        kept: NO_SECTIONS,
-    };
-    let number = hand_out_list(&InDirectory, &mut list, entries, written);
-    *walk = list.walk;
-    number
+    hand_out_list(names, walk, entries, written)
 }
 
 /// An image of which the names and lists of the next libraries are read together: a half of the room is for each.
@@ -95,20 +61,19 @@ fn named_libraries<'a>(view: &'a View<'a>, walk: &Libraries, room: &'a mut [Run]
 #[unsafe(no_mangle)]
 pub extern "C" fn pe_c_list_libraries(
     view: &View,
-    walk: &mut Libraries,
+    walk: &mut LibraryWalk,
     runs: &mut [Run],
     entries: &mut [Library],
     written: &mut u64,
 ) -> u32
-    ensures { HandsOutList (Numbered result_number
-        (StepsLibraries (map_of view.now)
-        (entry_size (view.now.image.now.width == 64)) view.now.bytes.now))
+    ensures { HandsOutList (Numbered result_number (StepsKeptLibraries view.now))
         result walk.old walk.new entries.old entries.new written.old written.new }
 {
-    if runs.is_empty() && entries.len() <= 1 {
-        return hand_out_list(&NamedView::alone(view), walk, entries, written);
+    if runs.is_empty() {
+        return list_libraries(&NamedView::alone(view), walk, entries, written);
     }
-    list_libraries(&named_libraries(view, walk, runs), walk, entries, written)
+    let names = named_libraries(view, &walk.libraries, runs);
+    list_libraries(&names, walk, entries, written)
 }
 
 /// Steps over imports in a list.
@@ -132,36 +97,50 @@ impl<'a> Steps<NearImports<'a>, Import> for InLibrary {
     }
 }
 
-impl<'a> Steps<Imports, Import> for NamedView<'a> {
-    ghost steps = { λ s. Numbered result_number (StepsImports (map_of s.view.now)
-        (entry_size (s.view.now.image.now.width == 64)) s.view.now.bytes.now) };
+impl<'a> Steps<ImportWalk, Import> for NamedView<'a> {
+    ghost steps = { λ s. Numbered result_number (StepsKeptImports s.view.now) };
 
-    fn step(&self, walk: &mut Imports) -> Result<Option<Import>, u32> {
-        numbered(import_step(self, walk))
+    fn step(&self, walk: &mut ImportWalk) -> Result<Option<Import>, u32> {
+        numbered(step_import(self, walk))
     }
 }
 
-/// Lists the imports of a walk.
+/// Lists the imports of a walk that keeps no sections.
 #[tactic(auto, using(crate::proofs::NearMaps::no_window))]
-fn list_imports(
+fn list_near(
     names: &NamedView<'_>,
-    walk: &mut Imports,
+    walk: &mut ImportWalk,
     entries: &mut [Import],
     written: &mut u64,
 ) -> u32
-    ensures { HandsOutList (Numbered result_number (StepsImports
-        (map_of names.now.view.now)
-        (entry_size (names.now.view.now.image.now.width == 64)) names.now.view.now.bytes.now))
+    requires { walk.old.kept ≡ no_sections }
+    ensures { HandsOutList (Numbered result_number (StepsKeptImports names.now.view.now))
         result walk.old walk.new entries.old entries.new written.old written.new }
 {
     let mut near = NearImports {
         names: *names,
-        walk: *walk,
+        walk: walk.imports,
         hints: NO_WINDOW,
     };
     let number = hand_out_list(&InLibrary, &mut near, entries, written);
-    *walk = near.walk;
+    walk.imports = near.walk;
     number
+}
+
+/// Lists the imports of a walk step by step: one, for which no window is made, and those of a walk that keeps sections.
+fn list_imports(
+    names: &NamedView<'_>,
+    walk: &mut ImportWalk,
+    entries: &mut [Import],
+    written: &mut u64,
+) -> u32
+    ensures { HandsOutList (Numbered result_number (StepsKeptImports names.now.view.now))
+        result walk.old walk.new entries.old entries.new written.old written.new }
+{
+    if entries.len() > 1 && keeps_none(&walk.kept) {
+        return list_near(names, walk, entries, written);
+    }
+    hand_out_list(names, walk, entries, written)
 }
 
 /// Lists the imports of a library, as `pe_c_next_import` returns them, and moves the walk past them. The names are read together: with
@@ -174,21 +153,19 @@ fn list_imports(
 #[unsafe(no_mangle)]
 pub extern "C" fn pe_c_list_imports(
     view: &View,
-    walk: &mut Imports,
+    walk: &mut ImportWalk,
     runs: &mut [Run],
     entries: &mut [Import],
     written: &mut u64,
 ) -> u32
-    ensures { HandsOutList (Numbered result_number
-        (StepsImports (map_of view.now)
-        (entry_size (view.now.image.now.width == 64)) view.now.bytes.now))
+    ensures { HandsOutList (Numbered result_number (StepsKeptImports view.now))
         result walk.old walk.new entries.old entries.new written.old written.new }
 {
-    if runs.is_empty() && entries.len() <= 1 {
-        return hand_out_list(&NamedView::alone(view), walk, entries, written);
+    if runs.is_empty() {
+        return list_imports(&NamedView::alone(view), walk, entries, written);
     }
     let mut hints = NO_WINDOW;
-    let left = bytes_there(view.bytes, &walk.left);
+    let left = bytes_there(view.bytes, &walk.imports.left);
     let count = put_entry_names(view, left, &mut hints, runs);
     let names = NamedView::together(view, &mut runs[..count]);
     list_imports(&names, walk, entries, written)

@@ -2,74 +2,32 @@
 
 ghost use Rattle.std.specs.Prelude.{◌≡◌};
 ghost use Rattle.pe_c.specs.HandsOut.{result_number};
+ghost use Rattle.pe_c.specs.KeptWalks.{StepsKeptLeaves};
 ghost use Rattle.pe_c.specs.Lists.{HandsOutList, Numbered, StepsVersionBlocks};
-ghost use Rattle.pe_c.specs.NearLists.{StepsKeptLeaves};
-ghost use Rattle.pe_c.specs.ResourceLeaves.{StepsLeaves, tree_number};
-ghost use Rattle.pe_c.specs.Views.{map_of};
+ghost use Rattle.pe_c.specs.ResourceLeaves.{tree_number};
 
-use crate::kept_sections::{KeptWalk, NO_SECTIONS};
 use crate::lists::{Steps, hand_out_list, numbered};
-use crate::named_view::NamedView;
 use crate::ranges::Range;
-use crate::resource_leaves::{ResourceLeaf, ResourceLeaves, kept_after_leaf, next_leaf_kept};
+use crate::resource_leaves::{LeafWalk, ResourceLeaf, step_leaf};
 use crate::results::number_of_tree;
 use crate::version_blocks::{VersionBlock, next_block};
 use crate::view::View;
 
-/// Steps over the leaves of a resource tree in a list.
+/// Steps over the leaves of a resource tree.
 #[derive(Clone, Copy)]
-struct InTree;
+struct Leaves<'a> {
+    view: &'a View<'a>,
+}
 
-impl<'a> Steps<KeptWalk<'a, ResourceLeaves>, ResourceLeaf> for InTree {
-    ghost steps = { λ s. Numbered tree_number StepsKeptLeaves };
+impl<'a> Steps<LeafWalk, ResourceLeaf> for Leaves<'a> {
+    ghost steps = { λ s. Numbered tree_number (StepsKeptLeaves s.view.now) };
 
-    fn step(&self, list: &mut KeptWalk<'a, ResourceLeaves>) -> Result<Option<ResourceLeaf>, u32> {
-        let KeptWalk {
-            names,
-            mut walk,
-            kept,
-            ..
-        } = *list;
-        let given = next_leaf_kept(names.view, kept, &mut walk);
-        let kept = kept_after_leaf(names.view, kept, &given);
-        *list = KeptWalk { names, walk, kept };
-        match given {
+    fn step(&self, walk: &mut LeafWalk) -> Result<Option<ResourceLeaf>, u32> {
+        match step_leaf(self.view, walk) {
             Ok(leaf) => Ok(leaf),
             Err(error) => Err(number_of_tree(&error)),
         }
     }
-}
-
-impl<'a> Steps<ResourceLeaves, ResourceLeaf> for NamedView<'a> {
-    ghost steps = { λ s. Numbered tree_number (StepsLeaves s.view.now.bytes.now (map_of s.view.now)) };
-
-    fn step(&self, walk: &mut ResourceLeaves) -> Result<Option<ResourceLeaf>, u32> {
-        match next_leaf_kept(self.view, NO_SECTIONS, walk) {
-            Ok(leaf) => Ok(leaf),
-            Err(error) => Err(number_of_tree(&error)),
-        }
-    }
-}
-
-/// Lists the leaves of a walk.
-fn list_leaves(
-    names: &NamedView<'_>,
-    walk: &mut ResourceLeaves,
-    entries: &mut [ResourceLeaf],
-    written: &mut u64,
-) -> u32
-    ensures { HandsOutList (Numbered tree_number
-        (StepsLeaves names.now.view.now.bytes.now (map_of names.now.view.now)))
-        result walk.old walk.new entries.old entries.new written.old written.new }
-{
-    let mut list = KeptWalk {
-        names: *names,
-        walk: *walk,
-        kept: NO_SECTIONS,
-    };
-    let number = hand_out_list(&InTree, &mut list, entries, written);
-    *walk = list.walk;
-    number
 }
 
 /// Lists the leaves of a resource tree, as `pe_c_next_resource_leaf` returns them, and moves the walk past them.
@@ -78,19 +36,14 @@ fn list_leaves(
 #[unsafe(no_mangle)]
 pub extern "C" fn pe_c_list_resource_leaves(
     view: &View,
-    walk: &mut ResourceLeaves,
+    walk: &mut LeafWalk,
     entries: &mut [ResourceLeaf],
     written: &mut u64,
 ) -> u32
-    ensures { HandsOutList (Numbered tree_number
-        (StepsLeaves view.now.bytes.now (map_of view.now)))
+    ensures { HandsOutList (Numbered tree_number (StepsKeptLeaves view.now))
         result walk.old walk.new entries.old entries.new written.old written.new }
 {
-    let names = NamedView::alone(view);
-    if entries.len() <= 1 {
-        return hand_out_list(&names, walk, entries, written);
-    }
-    list_leaves(&names, walk, entries, written)
+    hand_out_list(&Leaves { view }, walk, entries, written)
 }
 
 /// Steps over blocks of version information.

@@ -6,16 +6,15 @@ use Rattle.pe_c.proofs.laws.lists.lists_are_what_steps_return.Goals as goal
 use Rattle.pe_c.specs.Arm64.{StepsArm64Codes, arm64_function_in}
 use Rattle.pe_c.specs.DebugWalks.{StepsPogoEntries}
 use Rattle.pe_c.specs.Directories.{directory_number}
-use Rattle.pe_c.specs.DirectoryRuns.{StepsBlocks, StepsBoundImports, StepsDelayLibraries, StepsDelayedFunctions, StepsForwarders, StepsRelocations}
+use Rattle.pe_c.specs.DirectoryRuns.{StepsBlocks, StepsBoundImports, StepsForwarders, StepsRelocations}
 use Rattle.pe_c.specs.ExportAddresses.{exported_at}
-use Rattle.pe_c.specs.Exports.{StepsExports}
 use Rattle.pe_c.specs.HandsOut.{result_number}
-use Rattle.pe_c.specs.Imports.{StepsImports, StepsLibraries}
+use Rattle.pe_c.specs.KeptWalks.{StepsKeptDelayLibraries, StepsKeptExports, StepsKeptFunctions, StepsKeptImports, StepsKeptLeaves, StepsKeptLibraries}
 use Rattle.pe_c.specs.LibraryFunctions.{StepsLibraryFunctions}
 use Rattle.pe_c.specs.LibraryImports.{StepsLibraryImports}
 use Rattle.pe_c.specs.Lists.{StepsByIndex, StepsVersionBlocks, if_there}
 use Rattle.pe_c.specs.NamedSymbols.{StepsNamedSymbols}
-use Rattle.pe_c.specs.ResourceLeaves.{StepsLeaves, tree_number}
+use Rattle.pe_c.specs.ResourceLeaves.{tree_number}
 use Rattle.pe_c.specs.SectionNames.{long_name_by_index}
 use Rattle.pe_c.specs.Unwinding.{StepsCodes, function_in}
 
@@ -26,13 +25,13 @@ pub returns-clause-arm64_codes : goal.returns-clause-arm64_codes
 returns-clause-arm64_codes c b = give_lists result_number (StepsArm64Codes b)
 
 pub returns-clause-exports : goal.returns-clause-exports
-returns-clause-exports c offset b = give_lists result_number (StepsExports offset b)
+returns-clause-exports c v = give_lists result_number (StepsKeptExports v)
 
 pub returns-clause-libraries : goal.returns-clause-libraries
-returns-clause-libraries c offset w b = give_lists result_number (StepsLibraries offset w b)
+returns-clause-libraries c v = give_lists result_number (StepsKeptLibraries v)
 
 pub returns-clause-imports : goal.returns-clause-imports
-returns-clause-imports c offset w b = give_lists result_number (StepsImports offset w b)
+returns-clause-imports c v = give_lists result_number (StepsKeptImports v)
 
 pub returns-clause-library_imports : goal.returns-clause-library_imports
 returns-clause-library_imports c offset w b = give_lists result_number (StepsLibraryImports offset w b)
@@ -41,7 +40,7 @@ pub returns-clause-symbols : goal.returns-clause-symbols
 returns-clause-symbols c b strings = give_lists result_number (StepsNamedSymbols b strings)
 
 pub returns-clause-leaves : goal.returns-clause-leaves
-returns-clause-leaves c b offset = give_lists tree_number (StepsLeaves b offset)
+returns-clause-leaves c v = give_lists tree_number (StepsKeptLeaves v)
 
 pub returns-clause-relocation_blocks : goal.returns-clause-relocation_blocks
 returns-clause-relocation_blocks c b = give_lists directory_number (StepsBlocks b)
@@ -50,10 +49,10 @@ pub returns-clause-relocations : goal.returns-clause-relocations
 returns-clause-relocations c page b = give_lists directory_number (StepsRelocations page b)
 
 pub returns-clause-delay_imports : goal.returns-clause-delay_imports
-returns-clause-delay_imports c offset b image = give_lists directory_number (StepsDelayLibraries offset b image)
+returns-clause-delay_imports c v = give_lists directory_number (StepsKeptDelayLibraries v)
 
 pub returns-clause-delayed_functions : goal.returns-clause-delayed_functions
-returns-clause-delayed_functions c offset b image = give_lists directory_number (StepsDelayedFunctions offset b image)
+returns-clause-delayed_functions c v = give_lists directory_number (StepsKeptFunctions v)
 
 pub returns-clause-library_functions : goal.returns-clause-library_functions
 returns-clause-library_functions c offset b image = give_lists directory_number (StepsLibraryFunctions offset b image)

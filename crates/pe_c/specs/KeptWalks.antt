@@ -1,0 +1,48 @@
+-- Steps of the walks that keep sections: of each the step of where it stands, by a map of RVAs that has these sections first.
+use Rattle.std.specs.Prelude.{◌==◌, Option, Result}
+use Rattle.pe_core.specs.Imports.{entry_size}
+use Rattle.pe_core.specs.Refusals.{Refusal}
+use Rattle.pe_directories.specs.DirectoryRefusals.{DirectoryRefusal}
+use Rattle.pe_resource.specs.Leaves.{TreeRefusal}
+use Rattle.pe_c.specs.DirectoryRuns.{StepsDelayLibraries, StepsDelayedFunctions}
+use Rattle.pe_c.specs.Exports.{StepsExports}
+use Rattle.pe_c.specs.Imports.{StepsImports, StepsLibraries}
+use Rattle.pe_c.specs.KeptSections.{StepsKept}
+use Rattle.pe_c.specs.ResourceLeaves.{StepsLeaves}
+use Rattle.pe_c.specs.declared.delay_imports.DelayLibrary.{DelayLibrary}
+use Rattle.pe_c.specs.declared.delay_imports.DelayWalk.{DelayWalk}
+use Rattle.pe_c.specs.declared.delay_imports.DelayedFunction.{DelayedFunction}
+use Rattle.pe_c.specs.declared.delay_imports.DelayedFunctionWalk.{DelayedFunctionWalk}
+use Rattle.pe_c.specs.declared.exports.Export.{Export}
+use Rattle.pe_c.specs.declared.exports.ExportWalk.{ExportWalk}
+use Rattle.pe_c.specs.declared.imports.Import.{Import}
+use Rattle.pe_c.specs.declared.imports.ImportWalk.{ImportWalk}
+use Rattle.pe_c.specs.declared.imports.Library.{Library}
+use Rattle.pe_c.specs.declared.imports.LibraryWalk.{LibraryWalk}
+use Rattle.pe_c.specs.declared.resource_leaves.LeafWalk.{LeafWalk}
+use Rattle.pe_c.specs.declared.resource_leaves.ResourceLeaf.{ResourceLeaf}
+use Rattle.pe_c.specs.declared.view.View.{View}
+
+-- over exports
+abbrev pub StepsKeptExports : View → ExportWalk → Result (Option Export) Refusal → ExportWalk → Type 0
+StepsKeptExports v = StepsKept (λ (w : ExportWalk). w.exports) (λ (w : ExportWalk). w.kept) (λ m. StepsExports m v.bytes.now) v
+
+-- over libraries
+abbrev pub StepsKeptLibraries : View → LibraryWalk → Result (Option Library) Refusal → LibraryWalk → Type 0
+StepsKeptLibraries v = StepsKept (λ (w : LibraryWalk). w.libraries) (λ (w : LibraryWalk). w.kept) (λ m. StepsLibraries m (entry_size (v.image.now.width == 64)) v.bytes.now) v
+
+-- over the imports of a library
+abbrev pub StepsKeptImports : View → ImportWalk → Result (Option Import) Refusal → ImportWalk → Type 0
+StepsKeptImports v = StepsKept (λ (w : ImportWalk). w.imports) (λ (w : ImportWalk). w.kept) (λ m. StepsImports m (entry_size (v.image.now.width == 64)) v.bytes.now) v
+
+-- over the DLLs of the delay import directory
+abbrev pub StepsKeptDelayLibraries : View → DelayWalk → Result (Option DelayLibrary) DirectoryRefusal → DelayWalk → Type 0
+StepsKeptDelayLibraries v = StepsKept (λ (w : DelayWalk). w.entries) (λ (w : DelayWalk). w.kept) (λ m. StepsDelayLibraries m v.bytes.now v.image.now) v
+
+-- over what is imported of a DLL
+abbrev pub StepsKeptFunctions : View → DelayedFunctionWalk → Result (Option DelayedFunction) DirectoryRefusal → DelayedFunctionWalk → Type 0
+StepsKeptFunctions v = StepsKept (λ (w : DelayedFunctionWalk). w.functions) (λ (w : DelayedFunctionWalk). w.kept) (λ m. StepsDelayedFunctions m v.bytes.now v.image.now) v
+
+-- over the leaves of a resource tree
+abbrev pub StepsKeptLeaves : View → LeafWalk → Result (Option ResourceLeaf) TreeRefusal → LeafWalk → Type 0
+StepsKeptLeaves v = StepsKept (λ (w : LeafWalk). w.leaves) (λ (w : LeafWalk). w.kept) (λ m. StepsLeaves v.bytes.now m) v
