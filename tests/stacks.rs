@@ -13,7 +13,8 @@ use pe_frame::{Memory, MemoryPiece, StackFrame, WalkEnd, Way};
 use pe_minidump::{Dump, DumpError, FixedFileInfo, Location, MemoryDescriptor, Module, Thread};
 use pe_stacks::{
     IndexedMemory, IndexedModules, MemoryRuns, ModuleImage, RangeEntry, Stacks, ThreadFrames,
-    is_image_of, memory_and_stacks, memory_pieces, put_memory_runs, thread_context_arm64, thread_context_x64,
+    is_image_of, memory_and_stacks, memory_pieces, put_memory_runs, thread_context_arm64,
+    thread_context_x64,
 };
 use std::alloc::{AllocError, Global};
 use std::test::Fail;

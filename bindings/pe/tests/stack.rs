@@ -320,9 +320,16 @@ fn without_images_and_lists_a_stack_is_walked_by_ranges_of_modules() {
     let bytes = made::dump_of(&streams, &data);
     let (said, status) = said_of("stack-ranges", &bytes, &[]);
     let thread = &said["threads"][0];
-    let frames: Vec<_> =
-        thread["frames"].as_array().unwrap().iter().map(|it| json!([it["offset"], it["way"], it["is_guess"]])).collect();
-    assert_eq!((json!(frames), &thread["end"]), (json!([[0x123, "top", false], [0x44, "leaf", true]]), &json!("no-module")));
+    let frames: Vec<_> = thread["frames"]
+        .as_array()
+        .unwrap()
+        .iter()
+        .map(|it| json!([it["offset"], it["way"], it["is_guess"]]))
+        .collect();
+    assert_eq!(
+        (json!(frames), &thread["end"]),
+        (json!([[0x123, "top", false], [0x44, "leaf", true]]), &json!("no-module"))
+    );
     assert_eq!((status, &said["memory"]["pieces"], &said["memory"]["bytes"]), (LOST, &json!(1), &json!(16)));
     let folder = Folder::new("stack-ranges-text");
     let (out, _, _) = run(&["stack", &folder.file("a.dmp", &bytes)]);
