@@ -34,6 +34,7 @@ HAZARDS = {
     "a leaf twice": (0.03, "resource is not sorted after the one before it"),
     # Drawn with the slack: the section has more data in the file than pages in memory, and as many pages would end after the image.
     "data that reach past the image": (0, "section shares bytes or pages with the resource section or headers, or is after it"),
+    "debug entries past the image": (0, "the entry point, a directory or a base relocation leads where the resources go"),
 }
 # Without a directory there are no resources, and where there are none nothing is in their section.
 ALONE = "no resource directory, and a section at RVA 0"
@@ -291,6 +292,8 @@ class Made:
         if has("debug entries in the slack"):
             owner, at = self.own, len(self.own.content) - 0x200
         owner.content[at:at + len(entries)] = entries
+        if owner.rva + at >= self.size_of_image:
+            self.hazards.add("debug entries past the image")
         self.directories[DEBUG] = owner.rva + at, len(entries)
 
     def relocate(self):

@@ -8,7 +8,7 @@ const PKCS_SIGNED_DATA = 2, NAME = 4096;
 // ---- object identifiers and algorithms
 
 const DIGESTS = { MD5: 'MD5', SHA1: 'SHA-1', SHA256: 'SHA-256', SHA384: 'SHA-384', SHA512: 'SHA-512' };
-const OIDS = Object.fromEntries(Object.entries(constants).filter(([name]) => name.startsWith('PE_C_OID_'))
+const OIDS = Object.fromEntries(Object.entries(constants).filter(([name]) => name.startsWith('PE_C_OID_') && name !== 'PE_C_OID_OTHER')
   .map(([name, number]) => [number, name.slice('PE_C_OID_'.length)]));
 
 /** The numbers of an object identifier with dots; `?` stands for one that is truncated or has more than 64 bits. */

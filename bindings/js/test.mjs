@@ -299,6 +299,11 @@ test('by whom a signature is', () => {
   assert.deepEqual(signer, {
     subject: 'CN=A,OU=Two+O=Probe,C=DE', issuer: 'CN=R', serial_hex: '0403', digest_algorithm: 'SHA-256', time_stamp: '2023-11-14T22:13:20Z',
   });
+  // An algorithm that the library knows no name of, wherever it stands.
+  const bytes = Buffer.from(file('signature')), sha256 = Buffer.from([6, 9, 0x60, 0x86, 0x48, 1, 0x65, 3, 4, 2, 1]);
+  for (let at = bytes.indexOf(sha256); at >= 0; at = bytes.indexOf(sha256)) bytes[at + 10] = 0x7F;
+  const [{ signer: other }] = factsOf(library, new Uint8Array(bytes), 'a.dll').certificates;
+  assert.equal(other.digest_algorithm, '2.16.840.1.101.3.4.2.127');
 });
 
 // The rows of a signature, attached and detached again, as the calls above have them.
