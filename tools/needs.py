@@ -81,6 +81,9 @@ GROUPS = {
     "page": by_hand("the page in Chromium", **{"node": "nodejs", "chromium": "chromium", "rustc 1.81": RUSTC}),
     "pdb": by_hand("names and lines of pe by PDB files", **{"clang": "clang", "lld-link": "lld", "llvm-pdbutil": "llvm",
                                                              "llvm-symbolizer": "llvm"}),
+    "packages": by_hand("packages on bare trees", **{
+        "mmdebstrap": "mmdebstrap", "unshare": "util-linux", "rpm2cpio": "rpm2cpio", "cpio": "cpio", "module ensurepip": "python3-venv",
+        "npm": "npm", "node": "nodejs", "chromium": "chromium", "rustc 1.81": RUSTC, WINE: "wine64", "gcc": "gcc", "clang": "clang"}),
     "notebook": by_hand("notebooks", **{"chromium": "chromium", "jupyter-nbconvert": "jupyter-nbconvert",
                                         "module ipykernel": "python3-ipykernel"}),
     "chromium": by_hand("the library in a page", **TRIAL, **WASM, **{"node": "nodejs", "clang": "clang", "chromium": "chromium"}),

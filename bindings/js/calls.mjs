@@ -34,7 +34,8 @@ const FIRST = 16, MORE = 8, MOST = 1 << 16, BYTES_AN_ITEM = 64;
 
 let memoryIn, ownIn;
 /** The memory of what makes calls, and the arguments that it passes itself, for the files of this package. */
-export const memoryOf = (caller) => memoryIn(caller), ownOf = (caller) => ownIn(caller);
+export const memoryOf = (caller) => memoryIn(caller);
+export const ownOf = (caller) => ownIn(caller);
 
 /** An instance, and what stands in its memory for each call: `own` has these arguments, addresses and lengths, by the names
  * of their parameters. */

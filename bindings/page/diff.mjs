@@ -131,8 +131,8 @@ function regionsOf(bytes, facts) {
     ...facts.sections.map((it) => [`section ${sectionName(it)}`, it.file_offset, it.file_offset + it.file_size])];
   const within = (it) => Math.min(it, bytes.length), last = Math.max(...named.map((it) => within(it[2])));
   if (directories + 40 <= sections && u32(bytes, directories - 4) > 4) {
-    const start = u32(bytes, directories + 32);
-    if (start) named.push(['certificates', start, start + u32(bytes, directories + 36)]);
+    const start = u32(bytes, directories + 32), size = u32(bytes, directories + 36);
+    if (start || size) named.push(['certificates', start, start + size]);
   }
   named.sort((one, other) => within(one[1]) - within(other[1]));
   const cover = [];
@@ -152,6 +152,10 @@ function unlike(one, other) {
   for (let i = Math.min(one.length, other.length) - 1; i >= 0; i -= 1) count += one[i] !== other[i];
   return count;
 }
+
+/** Two files of which one is no image, as one region. */
+export const wholeFiles = ([one, other]) => [{ name: 'file', before: one.length, after: other.length, different: unlike(one, other) }]
+  .filter((it) => it.different);
 
 /** The regions of two files that differ, in the order of their names. */
 export function regions(contents, facts) {

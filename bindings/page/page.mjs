@@ -4,7 +4,7 @@
 import { Library } from './library.mjs';
 import { factsOf } from './facts.mjs';
 import { dumpFacts } from './crash.mjs';
-import { addHashes, differences, escaped, regions, sectionName, shown } from './diff.mjs';
+import { addHashes, differences, escaped, regions, sectionName, shown, wholeFiles } from './diff.mjs';
 import { functionRows } from './functions.mjs';
 import { module as encoded } from './module.mjs';
 
@@ -313,11 +313,19 @@ function showDifferences(names, found, bytes) {
     bytes.map((it) => [it.name, it.before, it.after, it.different].map(String)));
 }
 
-/** Compares two files that were read. Returns what differs, in facts and in bytes, or null where a file cannot be read again. */
+const isImage = ({ facts }) => !facts.error && !facts.dump;
+
+/** Compares two files that were read, their bytes alone where one is no image. Returns what differs, in facts and in bytes, or null where
+ * a file cannot be read again. */
 async function compare(pair) {
-  const contents = [];
+  const contents = [], names = pair.map((it) => it.file.name);
   try {
     for (const { file } of pair) contents.push(new Uint8Array(await file.arrayBuffer()));
+    if (!pair.every(isImage)) {
+      const found = { differences: [], regions: wholeFiles(contents) };
+      showDifferences(names, found.differences, found.regions);
+      return found;
+    }
     for (const [i, { facts }] of pair.entries()) await addHashes(facts, contents[i]);
     const library = await compiled, images = contents.map((it) => library.open(it, { mode: PERMISSIVE }));
     const rows = await functionRows(images, contents);
@@ -327,13 +335,13 @@ async function compare(pair) {
     return null;
   }
   const facts = pair.map((it) => it.facts), found = { differences: differences(...facts), regions: regions(contents, facts) };
-  showDifferences(pair.map((it) => it.file.name), found.differences, found.regions);
+  showDifferences(names, found.differences, found.regions);
   return found;
 }
 
 // ---- all files
 
-const isImage = ({ facts }) => facts !== null && !facts.error && !facts.dump;
+const isRead = ({ facts }) => facts !== null;
 // The only file that is shown, beside which another can come; and the number of the run that reads files.
 let alone = [], runs = 0;
 
@@ -352,8 +360,8 @@ async function readAll(files, shown = []) {
     all.push({ file, facts });
   }
   window.facts = all.map((it) => it.facts);
-  window.differences = all.length === 2 && all.every(isImage) ? await compare(all) : null;
-  alone = all.length === 1 && isImage(all[0]) ? all : [];
+  window.differences = all.length === 2 && all.every(isRead) ? await compare(all) : null;
+  alone = all.length === 1 && isRead(all[0]) ? all : [];
   byId('beside').hidden = !alone.length;
   byId('state').textContent = `${count(files.length, 'file')}, read in ${Math.round(performance.now() - from).toLocaleString('en')} ms`;
   document.body.dataset.done = 'yes';
