@@ -66,6 +66,9 @@ GROUPS = {
                     **{"module distributed": "python3-distributed", "module pandas": "python3-pandas"}),
     "jsonschema": of_gate("the schema of pe's JSON", **{"module jsonschema": "python3-jsonschema"}),
     "pefile": of_gate("the values of the Python module beside pefile's", **{"module pefile": "python3-pefile"}),
+    "scripts": by_hand("programs over pefile as they are", **{
+        "module pefile": "python3-pefile", "module icoextract": "python3-icoextract",
+        "/usr/share/games/renpy/launcher/game/change_icon.py": "renpy"}),
     "mypy": of_gate("the types of the Python module", **{"module mypy": "mypy"}),
     "linux-arm64": of_gate("the library for linux-arm64", **TRIAL, **{
         "aarch64-linux-gnu-gcc": "gcc-aarch64-linux-gnu", "libc.a of aarch64-linux-gnu-gcc": "libc6-dev-arm64-cross",

@@ -7,6 +7,7 @@ import gc
 import hashlib
 import importlib.util
 import json
+import multiprocessing
 import mmap
 import os
 import pickle
@@ -59,6 +60,12 @@ def all_of(image):
         except pe_c.Error as error:
             found.append(str(error.number))
     return found
+
+
+def rows_of(path):
+    """Rows of an image that can be pickled."""
+    with pe_c.open(path) as image:
+        return [image.exports, image.imports, image.functions, image.relocations]
 
 
 class Values(unittest.TestCase):
@@ -427,6 +434,32 @@ class Buffers(unittest.TestCase):
         self.assertEqual(os.waitpid(child, 0)[1], 0)
         copied = pickle.loads(pickle.dumps(image.exports))
         self.assertEqual((copied, copied.error), (image.exports, None))
+
+    def test_processes_that_are_spawned(self):
+        """They take paths, and return rows, which are pickled."""
+        names = ["exports", "imports", "functions", "relocations"]
+        with multiprocessing.get_context("spawn").Pool(2) as pool:
+            found = pool.map(rows_of, map(path_of, names))
+        self.assertEqual(found, [rows_of(path_of(it)) for it in names])
+        self.assertTrue(any(found[0]) and any(found[1]) and any(found[2]) and any(found[3]))
+
+    def test_ten_thousand_opens(self):
+        """Half of them are never closed: no file stays open, and memory stays flat."""
+        def held():
+            with open("/proc/self/statm") as file:
+                return len(os.listdir("/proc/self/fd")), int(file.read().split()[1])
+        for i in range(10_000):
+            if i == 1000:
+                gc.collect()
+                files, pages = held()
+            image = pe_c.open(path_of("exports"))
+            self.assertEqual(image.headers.number_of_sections, len(image.sections))
+            if i % 2:
+                image.close()
+        gc.collect()
+        now = held()
+        self.assertEqual(now[0], files)
+        self.assertLess(now[1] - pages, 300)
 
     def test_subinterpreters(self):
         if sys.version_info >= (3, 12):
