@@ -81,7 +81,6 @@ pub mod IndexHalves
 pub mod IndexFound
 pub mod IndexMaps
 pub mod IndexedCalls
-pub mod RecordCodes
 pub mod CodeBytes
 pub mod SplitRooms
 mod TextRuns
