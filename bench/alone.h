@@ -71,8 +71,8 @@ static uint64_t count_functions(const pe_c_view *view, const pe_c_range *table)
         for (size_t i = 0; i < written; i++) {
             uint64_t some = 0;
             count++;
-            if (count < view->length &&
-                pe_c_record_codes(view, table, functions[i].unwind, &record, codes, CODES, &some) == PE_C_DONE)
+            if (count < view->length && pe_c_unwind_record(view, table, functions[i].unwind, &record) == PE_C_DONE &&
+                pe_c_list_codes(view->bytes, view->length, &record.codes, codes, CODES, &some) == PE_C_DONE)
                 count += some;
         }
     }

@@ -96,14 +96,16 @@ static uint64_t read_codes(void)
     uint64_t count = 0;
     for (uint64_t i = 0; i < number_of_functions; i++) {
         uint64_t written = 0;
+        if (pe_c_unwind_record(&view, &table, functions[i].unwind, &record) != PE_C_DONE)
+            continue;
         if (way != STEPS) {
-            if (pe_c_record_codes(&view, &table, functions[i].unwind, &record, codes, 255, &written) == PE_C_DONE)
-                count += written;
-        } else if (pe_c_unwind_record(&view, &table, functions[i].unwind, &record) == PE_C_DONE) {
+            if (pe_c_list_codes(view.bytes, view.length, &record.codes, codes, 255, &written) != PE_C_DONE)
+                written = 0;
+        } else {
             while (pe_c_next_code(view.bytes, view.length, &record.codes, &codes[written]) == PE_C_DONE)
                 written++;
-            count += written;
         }
+        count += written;
     }
     return count;
 }

@@ -218,7 +218,6 @@
  * lists in one call
  *   pe_c_list_functions             Lists the functions of a table as pe_c_function_at reads them, from the index `next` ..
  *   pe_c_list_codes                 Lists the unwind codes of a walk
- *   pe_c_record_codes               Returns the unwind record of an unwind RVA as pe_c_unwind_record does, and lists its codes
  *   pe_c_all_codes                  Lists all codes of a record, of which these are the bytes of its codes alone
  *   pe_c_list_arm64_functions       Lists the functions of an ARM64 table as pe_c_arm64_function_at reads them, from the ..
  *   pe_c_list_arm64_codes           Lists the ARM64 unwind codes of a walk
@@ -3377,13 +3376,6 @@ uint32_t pe_c_list_functions(const uint8_t *bytes, size_t length, const pe_c_ran
 /* Lists the unwind codes of a walk. Errors: PE_C_ROOM; those of pe_c_next_code. */
 uint32_t pe_c_list_codes(const uint8_t *bytes, size_t length, pe_c_walk *walk, pe_c_code *entries, size_t number_of_entries,
                          uint64_t *written) PE_C_RESULT(3, 6);
-
-/* Returns the unwind record of an unwind RVA as pe_c_unwind_record does, and lists its codes: out->codes is the walk after
- * them. A record has at most 255 codes.
- * Errors, after which `out` is unchanged too: those of pe_c_unwind_record; PE_C_ROOM; of the first code those of
- * pe_c_next_code. */
-uint32_t pe_c_record_codes(const pe_c_view *view, const pe_c_range *table, uint32_t unwind, pe_c_record *out,
-                           pe_c_code *codes, size_t number_of_codes, uint64_t *written) PE_C_RESULT(1, 2, 4, 7);
 
 /* Lists all codes of a record, of which these are the bytes of its codes alone. It keeps no walk: `written` is set after an
  * error and after PE_C_ROOM too, to the number of codes before it, which are written. A record has at most 255 codes.

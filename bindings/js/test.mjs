@@ -813,9 +813,8 @@ test('functions and codes in one call', () => {
     assert.throws(() => image.call(`pe_c_list_${kind}functions`, { table, next: -1, entries: [{}] }), RangeError);
   }
   const image = opened('functions'), table = image.functionTable(), [{ unwind }] = image.functions();
-  const [record] = image.records({ unwind }), codes = [{}, {}, {}, {}], all = [...image.codes(record)];
-  const made = image.call('pe_c_record_codes', { table, unwind, codes });
-  assert.deepEqual([made.written, codes.slice(0, 3), all.length], [3n, all, 3]);
+  const [record] = image.records({ unwind }), all = [...image.codes(record)];
+  assert.equal(all.length, 3);
   assert.deepEqual(listed(image, 'pe_c_list_codes', { walk: structuredClone(record.codes) }), all);
   const { left, version, frame_register } = record.codes, entries = [{}, {}, {}, {}];
   const count = library.file(image.slice(left)).call('pe_c_all_codes', { form: { version, frame_register }, entries });

@@ -193,7 +193,11 @@ static void walk_x64(const struct file *file)
             record_x64(file, &record);
         pe_c_code codes[8] = PE_C_EMPTY;
         uint64_t coded = 0;
-        CALL(pe_c_record_codes, codes, VIEW, &table, function.unwind, &record, codes, 8, &coded);
+        pe_c_record whole = PE_C_EMPTY;
+        uint32_t listed = TARGET_CALL(pe_c_unwind_record)(VIEW, &table, function.unwind, &whole);
+        if (listed == PE_C_DONE)
+            listed = TARGET_CALL(pe_c_list_codes)(BYTES, &whole.codes, codes, 8, &coded);
+        note(number_of_pe_c_list_codes, listed, &codes, sizeof codes);
         add(coded);
         CALL(pe_c_unwind_record, record, VIEW, &table, function.unwind, &record);
         pe_c_range left = record.codes.left;

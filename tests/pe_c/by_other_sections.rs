@@ -86,7 +86,6 @@ use crate::lists::delay_imports::pe_c_list_delay_imports;
 use crate::lists::delay_imports::pe_c_list_delayed_functions;
 use crate::lists::exports::pe_c_list_exports;
 use crate::lists::imports::pe_c_list_imports;
-use crate::lists::x64::pe_c_record_codes;
 use crate::load_config::pe_c_load_config;
 use crate::load_config::pe_c_load_config_field;
 use crate::loaded::pe_c_relocate;
@@ -101,7 +100,6 @@ use crate::step_failures::arm64::pe_c_arm64_record_failure;
 use crate::step_failures::unwinding::pe_c_unwind_record_failure;
 use crate::tls::pe_c_tls;
 use crate::tls::pe_c_tls_callbacks;
-use crate::unwinding::Code;
 use crate::unwinding::pe_c_function_table;
 use crate::unwinding::pe_c_unwind_record;
 use crate::version::pe_c_manifest;
@@ -683,19 +681,6 @@ fn x64_records(rt: HostRuntime) -> Result<(), Fail> {
         (answer, out.size_of_prolog)
     });
     assert_eq!(rt; record, (DONE, 9));
-    let with_codes = by_second(&bytes, &image, |view| {
-        let mut codes = [Code {
-            code_offset: 7,
-            operation: 7,
-            operand: 7,
-            from_frame: 7,
-            value: 7,
-        }];
-        let (mut out, mut written) = (no_record(), 77);
-        let answer = pe_c_record_codes(view, &table, 0x10E0, &mut out, &mut codes, &mut written);
-        (answer, out.size_of_prolog)
-    });
-    assert_eq!(rt; with_codes, (DONE, 9));
     // The entry is at offset 10h, and not at 410h.
     let failure = by_second(&bytes, &image, |view| {
         let mut out = NO_FAILURE;

@@ -6,11 +6,10 @@ use super::made::{
 };
 use super::steps::pe_c_function_at;
 use crate::image::Image;
-use crate::lists::x64::pe_c_record_codes;
 use crate::ranges::Range;
 use crate::results::{DONE, NOTHING};
 use crate::unwinding::{
-    Code, CodeWalk, UnwindRecord, pe_c_find_function, pe_c_function_table, pe_c_next_scope,
+    CodeWalk, UnwindRecord, pe_c_find_function, pe_c_function_table, pe_c_next_scope,
     pe_c_scope_table, pe_c_unwind_record,
 };
 use pe_images::put;
@@ -351,53 +350,5 @@ fn scopes_in_turn(rt: HostRuntime) -> Result<(), Fail> {
     let mut cut = range(8, 31);
     assert_eq!(rt; step(&mut cut), (DONE, first, [24, 15]));
     assert_eq!(rt; step(&mut cut), (SHORT, NO_SCOPE, OVER));
-    Ok(())
-}
-
-/// A record and its codes: an allocation of 40 bytes at 4, a push of the register 5 at 1. With room for one of them the walk of the
-/// record has the other left; after an error nothing is written.
-#[test]
-fn records_with_their_codes(rt: HostRuntime) -> Result<(), Fail> {
-    let bytes = with_records(rt.alloc())?;
-    let (image, sections) = (image(X64), sections());
-    let view = view(&bytes, &image, &sections);
-    let none = Code {
-        code_offset: 90,
-        operation: 91,
-        operand: 92,
-        from_frame: 93,
-        value: 94,
-    };
-    let numbers = [0, 0, 0, 4, 0, 0];
-    let untouched = UNTOUCHED_FIELDS;
-    for (unwind, room, answer, count, fields, first, second) in [
-        (
-            0x1030,
-            1,
-            DONE,
-            1,
-            ([0x36, 2, 1, 0], numbers, OVER, NO_FUNCTION),
-            [4, 1, 0],
-            [90, 91, 92],
-        ),
-        (
-            0x1078,
-            3,
-            UNWIND_VERSION,
-            77,
-            untouched,
-            [90, 91, 92],
-            [90, 91, 92],
-        ),
-    ] {
-        let (mut out, mut codes, mut written) = (no_record(), [none; 3], 77);
-        let table = range(0, 0x30);
-        let codes_of = &mut codes[..room];
-        let number = pe_c_record_codes(&view, &table, unwind, &mut out, codes_of, &mut written);
-        assert_eq!(rt; (number, written), (answer, count));
-        assert_eq!(rt; fields_of(out), fields);
-        let of = |code: Code| [code.code_offset, code.operation, code.operand];
-        assert_eq!(rt; (of(codes[0]), of(codes[1])), (first, second));
-    }
     Ok(())
 }

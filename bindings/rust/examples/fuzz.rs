@@ -629,12 +629,7 @@ fn read_by_lies(bytes: &[u8], random: &mut Random, seen: &mut Seen) {
     }
     bound!(pe_c_list_bound_imports, BoundImport);
     bound!(pe_c_list_bound_forwarders, BoundForwarder);
-    let (mut record, mut codes, mut written) = (sys::Record::default(), [sys::Code::default(); 3], 0);
-    let room = few as usize % 4;
-    // SAFETY: as above.
-    unsafe { sys::pe_c_record_codes(&view, &range, few % 512, &mut record, codes.as_mut_ptr(), room, &mut written) };
-    assert!(written <= room as u64 && codes[written as usize..].iter().all(|it| *it == sys::Code::default()));
-    let mut codes = [sys::Code::default(); 3];
+    let (mut codes, mut written, room) = ([sys::Code::default(); 3], 0, few as usize % 4);
     let form = sys::CodeForm { version: few as u8, frame_register: (few >> 8) as u8 };
     // SAFETY: as above.
     unsafe { sys::pe_c_all_codes(bytes.as_ptr(), bytes.len(), &form, codes.as_mut_ptr(), room, &mut written) };

@@ -4262,22 +4262,6 @@ extern "C" {
         number_of_entries: usize,
         written: *mut u64,
     ) -> u32;
-    /// Returns the unwind record of an unwind RVA as [`pe_c_unwind_record`] does, and lists its codes: `out->codes` is
-    /// the walk after them.
-    ///
-    /// A record has at most 255 codes.
-    ///
-    /// Errors, after which `out` is unchanged too: those of [`pe_c_unwind_record`]; [`ROOM`]; of the first code those
-    /// of [`pe_c_next_code`].
-    pub fn pe_c_record_codes(
-        view: *const View,
-        table: *const Range,
-        unwind: u32,
-        out: *mut Record,
-        codes: *mut Code,
-        number_of_codes: usize,
-        written: *mut u64,
-    ) -> u32;
     /// Lists all codes of a record, of which these are the bytes of its codes alone.
     ///
     /// It keeps no walk: `written` is set after an error and after [`ROOM`] too, to the number of codes before it,

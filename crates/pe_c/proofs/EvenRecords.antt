@@ -12,7 +12,7 @@ use Rattle.pe_core.specs.declared.section_table.SectionTable.{SectionTable}
 use Rattle.pe_c.specs.Images.{map_of_image}
 use Rattle.pe_c.specs.Ranges.{bytes_at}
 use Rattle.pe_c.specs.HandsOut.{HandsOut}
-use Rattle.pe_c.specs.Unwinding.{FindsOffset, FollowsToRecord, HandsOutRecord, flat_record_at, links_at}
+use Rattle.pe_c.specs.Unwinding.{FindsOffset, HandsOutRecord, flat_record_at, links_at}
 use Rattle.pe_c.specs.declared.ranges.Range.{Range}
 use Rattle.pe_c.specs.declared.results.TheConstants.{DONE}
 use Rattle.pe_c.specs.declared.unwinding.UnwindRecord.{UnwindRecord}
@@ -50,10 +50,6 @@ near_offset offset b table u p entries inside even here =
 -- without an index the map is that of the sections
 pub by_sections : (v : View) (u p : ℕ) → true ≡ (length v.index.now == 0) → map_of_image v.image.now v.sections.now u ≡ Some p → map_of v u ≡ Some p
 by_sections v u p none here = ap (λ (s : List SectionTable). map_of_image v.image.now s u) (all_sections v.sections.now v.index.now u none) ∙ here
-
--- a record at the offset that is found is that of the RVA
-pub near_follows : (b : List ℕ) (links : Result Table Refusal) (u p : ℕ) (r : UnwindRecord) → FindsOffset links u (Ok p) → flat_record_at b p ≡ Ok r → FollowsToRecord b links u (Ok r)
-near_follows b links u p r found e = (Ok p, found, sym e)
 
 -- the record at the offset that is found is handed out
 pub near_done : (b : List ℕ) (links : Result Table Refusal) (u p : ℕ) (old new : UnwindRecord) → FindsOffset links u (Ok p) → flat_record_at b p ≡ Ok new → HandsOutRecord b links u DONE old new

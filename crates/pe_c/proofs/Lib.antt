@@ -82,7 +82,6 @@ pub mod IndexHalves
 pub mod IndexFound
 pub mod IndexMaps
 pub mod IndexedCalls
-pub mod RecordCodes
 pub mod CodeBytes
 mod TextRuns
 pub mod ImageFields

@@ -473,45 +473,6 @@ fn hand_out_far(view: &View, table: &Range, unwind: u32, out: &mut UnwindRecord)
     }
 }
 
-/// What a record is before it is read.
-const NO_RECORD: UnwindRecord = UnwindRecord {
-    codes: CodeWalk {
-        left: NO_BYTES,
-        version: 0,
-        frame_register: 0,
-        spare: [0; 6],
-    },
-    handler_data: NO_BYTES,
-    handler: 0,
-    chained: NO_FUNCTION,
-    is_chained: 0,
-    frame_register_offset: 0,
-    size_of_prolog: 0,
-    handler_kind: 0,
-    spare: [0; 6],
-};
-
-/// The record of an even unwind RVA, where a section maps it and it is chained to no other. Nearly all records are such.
-#[inline(always)]
-#[tactic(auto, using(crate::proofs::EvenRecords::near_follows))]
-pub fn near_record(view: &View, table: &Range, unwind: u32) -> Option<UnwindRecord>
-    ensures { IfSome result (λ r. FollowsToRecord view.now.bytes.now (links_at (map_of view.now) view.now.bytes.now table.now) unwind
-        (Ok r)) }
-{
-    let offset = match near_offset(view, table, unwind) {
-        Some(offset) => offset,
-        None => even_offset(view, table, unwind)?,
-    };
-    let mut record = NO_RECORD;
-    if put_plain(view.bytes, offset, &mut record) {
-        return Some(record);
-    }
-    if put_handled(view.bytes, offset, &mut record) {
-        return Some(record);
-    }
-    None
-}
-
 /// Reads the unwind record of an unwind RVA, which is a field of a function of the table at this range. An odd RVA is a
 /// link to another entry of the table; links are followed to their end.
 ///

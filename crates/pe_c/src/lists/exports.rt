@@ -130,13 +130,12 @@ fn list_exports(
     ensures { HandsOutList (Numbered result_number (StepsKeptExports names.now.view.now))
         result walk.old walk.new entries.old entries.new written.old written.new }
 {
-    if entries.len() <= 1 || !keeps_none(&walk.kept) {
-        return list_steps(names, walk, entries, written);
+    if entries.len() > 1 && keeps_none(&walk.kept) {
+        if let Ok(tables) = tables_of(names.view.bytes, &walk.exports) {
+            return list_near(names, &tables, walk, entries, written);
+        }
     }
-    match tables_of(names.view.bytes, &walk.exports) {
-        Ok(tables) => list_near(names, &tables, walk, entries, written),
-        Err(_) => list_steps(names, walk, entries, written),
-    }
+    list_steps(names, walk, entries, written)
 }
 
 /// An image of which the texts of the next exports are read together, if they cost much else.

@@ -7,17 +7,13 @@ ghost use Rattle.pe_c.specs.CodeBytes.{HasCodes, IsFrequent, PutsCodes, ReturnsA
 ghost use Rattle.pe_c.specs.HandsOut.{result_number};
 ghost use Rattle.pe_c.specs.Lists.{HandsOutList, Numbered, StepsByIndex, by_number, if_there};
 ghost use Rattle.pe_c.specs.Ranges.{bytes_at};
-ghost use Rattle.pe_c.specs.RecordCodes.{HandsOutAll, HandsOutRecordCodes, PutsRecordCodes, code_stream};
-ghost use Rattle.pe_c.specs.Unwinding.{StepsCodes, flat_answer, function_in, links_at};
-ghost use Rattle.pe_c.specs.Views.{map_of};
+ghost use Rattle.pe_c.specs.RecordCodes.{HandsOutAll, code_stream};
+ghost use Rattle.pe_c.specs.Unwinding.{StepsCodes, flat_answer, function_in};
 
 use crate::lists::{Steps, hand_out_list, if_there, next_index};
 use crate::ranges::{Range, slice_of};
 use crate::results::{DONE, ROOM, number_of};
-use crate::unwinding::{
-    Code, CodeWalk, UnwindRecord, flat, function_in, near_record, next_code, plain, read_record,
-};
-use crate::view::View;
+use crate::unwinding::{Code, CodeWalk, flat, function_in, next_code, plain};
 use pe_core::read_u16;
 use pe_unwind::{Register, RuntimeFunction, UnwindCode, UnwindCodeIterator};
 
@@ -338,56 +334,6 @@ pub extern "C" fn pe_c_list_codes(
         result walk.old walk.new entries.old entries.new written.old written.new }
 {
     list_codes(bytes, walk, entries, written)
-}
-
-/// Lists the codes of a record, and writes it to `out` with the walk after them.
-#[inline(always)]
-fn hand_out_codes(
-    bytes: &[u8],
-    record: &UnwindRecord,
-    out: &mut UnwindRecord,
-    codes: &mut [Code],
-    written: &mut u64,
-) -> u32
-    ensures { PutsRecordCodes bytes.now (Ok record.now)
-        result out.old out.new codes.old codes.new written.old written.new }
-{
-    let mut walk = record.codes;
-    let number = list_codes(bytes, &mut walk, codes, written);
-    if number == DONE {
-        *out = UnwindRecord {
-            codes: walk,
-            ..*record
-        };
-    }
-    number
-}
-
-/// Reads the unwind record of an unwind RVA, as `pe_c_unwind_record` does, and lists its codes, as `pe_c_list_codes` does: `out` is
-/// the record, whose walk is moved past the codes that are written. A record has at most 255 codes.
-///
-/// Errors, after which `out` is unchanged too: those of `pe_c_unwind_record`; `ROOM` where `codes` is empty; of the first code those
-/// of `pe_c_next_code`.
-#[unsafe(no_mangle)]
-pub extern "C" fn pe_c_record_codes(
-    view: &View,
-    table: &Range,
-    unwind: u32,
-    out: &mut UnwindRecord,
-    codes: &mut [Code],
-    written: &mut u64,
-) -> u32
-    ensures { HandsOutRecordCodes view.now.bytes.now
-        (links_at (map_of view.now) view.now.bytes.now table.now) unwind
-        result out.old out.new codes.old codes.new written.old written.new }
-{
-    if let Some(record) = near_record(view, table, unwind) {
-        return hand_out_codes(view.bytes, &record, out, codes, written);
-    }
-    match read_record(view.bytes, table, view, unwind) {
-        Ok(record) => hand_out_codes(view.bytes, &record, out, codes, written),
-        Err(error) => number_of(&error),
-    }
 }
 
 /// Lists the codes that are left of a record, after so many, and returns what `pe_c_all_codes` does. Out of line, since few records
