@@ -10,10 +10,9 @@ use pe_pdb::{
     CodeLine, Contribution, DBI_STREAM, DEBUG_S_FILECHKSMS, DEBUG_S_INLINEELINES, Dbi,
     FileChecksum, FunctionId, ID_STREAM, INFO_STREAM, InlineFrames, InlineRow, InlineRows,
     InlineSite, InlineStack, InlineeLine, LF_FUNC_ID, LF_STRING_ID, LineEntry, LineIndex,
-    MOST_INLINED, ModuleIndex,
-    ModuleRange, Modules, Msf, NAMES_STREAM, Names, PdbError, S_INLINESITE, S_INLINESITE2,
-    SectionContributions, SectionHeaders, Subsections, SymbolRecord, TypeRecords, named_stream,
-    string_id,
+    MOST_INLINED, ModuleIndex, ModuleRange, Modules, Msf, NAMES_STREAM, Names, PdbError,
+    S_INLINESITE, S_INLINESITE2, SectionContributions, SectionHeaders, Subsections, SymbolRecord,
+    TypeRecords, named_stream, string_id,
 };
 use std::alloc::{AllocError, Global};
 use std::test::Fail;
@@ -406,7 +405,11 @@ fn inlined_functions_are_those_that_pdbutil_lists(rt: HostRuntime) -> Result<(),
         assert_eq!(rt; stack.frames().len(), count);
         for frame in stack.frames() {
             count -= 1;
-            assert!(rt; listed.get(count).is_some_and(|it| it.0 == frame.record_offset));
+            assert!(rt;
+                listed
+                    .get(count)
+                    .is_some_and(|it| it.0 == frame.record_offset)
+            );
         }
     }
     Ok(())
@@ -719,10 +722,16 @@ fn ids_are_those_that_pdbutil_lists(rt: HostRuntime) -> Result<(), Fail> {
         Err(_) => Some(usize::MAX),
     };
     for index in 0..10 {
-        assert_eq!(rt; start(&room, 0x1000 + index), Some(room[index as usize] as usize));
+        assert_eq!(rt;
+            start(&room, 0x1000 + index),
+            Some(room[index as usize] as usize)
+        );
     }
     assert_eq!(rt; (start(&room, 0xFFF), start(&room, 0x100A)), (None, None));
-    assert_eq!(rt; (start(&room[..1], 0x1001), start(&[0, 1 << 40], 0x1001)), (None, Some(usize::MAX)));
+    assert_eq!(rt;
+        (start(&room[..1], 0x1001), start(&[0, 1 << 40], 0x1001)),
+        (None, Some(usize::MAX))
+    );
     let twice = SymbolRecord::parse(ids.records, 0)?.content;
     assert_eq!(rt; FunctionId::parse(twice)?.type_index, 0x1001);
     // shows: pe_pdb/src/ids.rt put_starts Room

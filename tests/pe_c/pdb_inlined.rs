@@ -34,6 +34,7 @@ const NO_FRAME: PdbInlined = PdbInlined {
 };
 
 /// The streams that inlined functions are read of.
+#[derive(Drop)]
 struct Streams {
     bytes: Vec<u8>,
     module: PdbModule,
@@ -66,12 +67,24 @@ fn procedure_at(streams: &Streams, rva: u32) -> (u32, PdbSymbol) {
 }
 
 /// The result, how many there are, and the first two.
-fn inlined_at(streams: &Streams, rva: u32, ids: &[u8], starts: &[u64]) -> (u32, u64, [PdbInlined; 2]) {
+fn inlined_at(
+    streams: &Streams,
+    rva: u32,
+    ids: &[u8],
+    starts: &[u64],
+) -> (u32, u64, [PdbInlined; 2]) {
     let (mut room, mut written) = ([NO_FRAME; 2], 9);
     let (_, procedure) = procedure_at(streams, rva);
     let (bytes, module) = (&streams.bytes, &streams.module);
     let result = pe_c_find_pdb_inlined(
-        bytes, module, &procedure, rva, ids, starts, &mut room, &mut written,
+        bytes,
+        module,
+        &procedure,
+        rva,
+        ids,
+        starts,
+        &mut room,
+        &mut written,
     );
     (result, written, room)
 }
@@ -98,10 +111,19 @@ fn inlined_functions_are_those_that_pdbutil_lists(rt: HostRuntime) -> Result<(),
     let (twice, clamp) = (b"twice".as_slice(), b"clamp".as_slice());
     let cases: [(u32, &[Listed<'_>]); 7] = [
         (0x1004, &[]),
-        (0x1005, &[(clamp, 0x1001, 2, 5, 0x1B), (twice, 0x1000, 7, 5, 0x1B)]),
-        (0x101F, &[(clamp, 0x1001, 2, 5, 0x1B), (twice, 0x1000, 7, 5, 0x1B)]),
+        (
+            0x1005,
+            &[(clamp, 0x1001, 2, 5, 0x1B), (twice, 0x1000, 7, 5, 0x1B)],
+        ),
+        (
+            0x101F,
+            &[(clamp, 0x1001, 2, 5, 0x1B), (twice, 0x1000, 7, 5, 0x1B)],
+        ),
         (0x1020, &[(clamp, 0x1001, 2, 0x20, 0x12)]),
-        (0x1049, &[(clamp, 0x1001, 2, 9, 0x1B), (twice, 0x1000, 7, 9, 0x1B)]),
+        (
+            0x1049,
+            &[(clamp, 0x1001, 2, 9, 0x1B), (twice, 0x1000, 7, 9, 0x1B)],
+        ),
         (0x1065, &[(twice, 0x1000, 8, 0x24, 2)]),
         (0x1066, &[]),
     ];
@@ -157,29 +179,60 @@ fn names_and_lines_are_refused_alone(rt: HostRuntime) -> Result<(), Fail> {
     let whole = streams.ids.clone()?;
     let results = |streams: &Streams, ids: &[u8], starts: &[u64]| {
         let (result, written, room) = inlined_at(streams, 0x1005, ids, starts);
-        (result, written, room[0].name_result, room[0].line_result, room[0].line)
+        (
+            result,
+            written,
+            room[0].name_result,
+            room[0].line_result,
+            room[0].line,
+        )
     };
-    assert_eq!(rt; results(&streams, &whole, &starts), (DONE, 2, DONE, DONE, 2));
+    assert_eq!(rt;
+        results(&streams, &whole, &starts),
+        (DONE, 2, DONE, DONE, 2)
+    );
     assert_eq!(rt; results(&streams, &[], &[]), (DONE, 2, SHORT, DONE, 2));
-    assert_eq!(rt; results(&streams, &whole[..60], &starts), (DONE, 2, PDB_RECORD_TRUNCATED, DONE, 2));
-    assert_eq!(rt; results(&streams, &whole, &starts[..1]), (DONE, 2, NOTHING, DONE, 2));
+    assert_eq!(rt;
+        results(&streams, &whole[..60], &starts),
+        (DONE, 2, PDB_RECORD_TRUNCATED, DONE, 2)
+    );
+    assert_eq!(rt;
+        results(&streams, &whole, &starts[..1]),
+        (DONE, 2, NOTHING, DONE, 2)
+    );
     // The start of a record that is a text, and one outside.
-    assert_eq!(rt; results(&streams, &whole, &[0, starts[5]]), (DONE, 2, NOTHING, DONE, 2));
-    assert_eq!(rt; results(&streams, &whole, &[0, u64::MAX]), (DONE, 2, SHORT, DONE, 2));
+    assert_eq!(rt;
+        results(&streams, &whole, &[0, starts[5]]),
+        (DONE, 2, NOTHING, DONE, 2)
+    );
+    assert_eq!(rt;
+        results(&streams, &whole, &[0, u64::MAX]),
+        (DONE, 2, SHORT, DONE, 2)
+    );
     // The first subsection of lines is that of inlined functions, or is truncated.
     let lines = streams.module.lines;
     streams.module.lines = range(of_range(lines)[0], 7);
-    assert_eq!(rt; results(&streams, &whole, &starts), (DONE, 2, DONE, SHORT, 0));
+    assert_eq!(rt;
+        results(&streams, &whole, &starts),
+        (DONE, 2, DONE, SHORT, 0)
+    );
     streams.module.lines = range(of_range(lines)[0], 0);
-    assert_eq!(rt; results(&streams, &whole, &starts), (DONE, 2, DONE, NOTHING, 0));
+    assert_eq!(rt;
+        results(&streams, &whole, &starts),
+        (DONE, 2, DONE, NOTHING, 0)
+    );
     streams.module.lines = range(of_range(lines)[0], 1 << 20);
-    assert_eq!(rt; results(&streams, &whole, &starts), (DONE, 2, DONE, SHORT, 0));
+    assert_eq!(rt;
+        results(&streams, &whole, &starts),
+        (DONE, 2, DONE, SHORT, 0)
+    );
     Ok(())
 }
 
 #[test]
 fn ids_that_are_not_whole_are_refused(rt: HostRuntime) -> Result<(), Fail> {
-    let ids = streams(rt.alloc())?.ids;
+    let streams = streams(rt.alloc())?;
+    let ids = &streams.ids;
     let refused = |ids: &[u8]| {
         let (mut starts, mut count) = ([9u64; 10], 9);
         let result = pe_c_pdb_ids(ids, &mut starts, &mut count);
@@ -204,7 +257,11 @@ fn nested(alloc: Global, count: usize) -> Result<Streams, AllocError> {
         let at = 8 + 20 * index;
         put(
             &mut bytes,
-            &[(at, b"\x12\0\x4D\x11"), (at + 12, &[index as u8]), (at + 16, b"\x0C\x08\0")],
+            &[
+                (at, b"\x12\0\x4D\x11"),
+                (at + 12, &[index as u8]),
+                (at + 16, b"\x0C\x08\0"),
+            ],
         );
     }
     let length = bytes.len() as u64;
@@ -229,8 +286,16 @@ fn nested_at(streams: &Streams, rva: u32, room: &mut [PdbInlined]) -> (u32, u64)
         ..NO_SYMBOL
     };
     let (bytes, module) = (&streams.bytes, &streams.module);
-    let result =
-        pe_c_find_pdb_inlined(bytes, module, &procedure, rva, &[], &[], room, &mut written);
+    let result = pe_c_find_pdb_inlined(
+        bytes,
+        module,
+        &procedure,
+        rva,
+        &[],
+        &[],
+        room,
+        &mut written,
+    );
     (result, written)
 }
 
@@ -246,7 +311,10 @@ fn more_than_64_functions_are_refused(rt: HostRuntime) -> Result<(), Fail> {
     // An RVA before that of the procedure counts as its start.
     assert_eq!(rt; nested_at(&deep, 0, &mut room), (DONE, 64));
     let deeper = nested(rt.alloc(), 65)?;
-    assert_eq!(rt; nested_at(&deeper, 0x1007, &mut room), (PDB_INLINE_DEPTH, 9));
+    assert_eq!(rt;
+        nested_at(&deeper, 0x1007, &mut room),
+        (PDB_INLINE_DEPTH, 9)
+    );
     assert_eq!(rt; nested_at(&deeper, 0x1008, &mut room), (DONE, 0));
     Ok(())
 }
@@ -278,7 +346,10 @@ fn a_record_that_is_refused_refuses_the_inlined_functions(rt: HostRuntime) -> Re
 #[test]
 fn contributions_are_those_that_pdbutil_lists(rt: HostRuntime) -> Result<(), Fail> {
     let file = pdb(rt.alloc())?;
-    let (dbi, sections) = (stream(rt.alloc(), &file, 3)?, stream(rt.alloc(), &file, 10)?);
+    let (dbi, sections) = (
+        stream(rt.alloc(), &file, 3)?,
+        stream(rt.alloc(), &file, 10)?,
+    );
     let (mut room, mut written) = ([ModuleRange::default(); 9], 9);
     let part = range(292, 228);
     assert_eq!(rt;
@@ -294,7 +365,10 @@ fn contributions_are_those_that_pdbutil_lists(rt: HostRuntime) -> Result<(), Fai
     for (range, wanted) in room.iter().zip(listed) {
         assert_eq!(rt; (range.start, range.size, range.module_index), wanted);
     }
-    assert_eq!(rt; (written, room[7].start, room[7].size, room[8].size), (8, 0x300C, 24, 0));
+    assert_eq!(rt;
+        (written, room[7].start, room[7].size, room[8].size),
+        (8, 0x300C, 24, 0)
+    );
     written = 9;
     let mut other = dbi.clone()?;
     put(&mut other, &[(292, b"\0")]);

@@ -173,6 +173,7 @@ fn pdb_of_lies(bytes: &[u8], random: &mut Random, number: u64) {
     let sections = &bytes[..length.min(few as usize % 400) / 40 * 40];
     symbols_of_lies(bytes, sections, random, number);
     lines_of_lies(bytes, sections, random, number);
+    inlined_of_lies(bytes, sections, random, number);
     if let Ok(pdb) = pe_c::Pdb::parse(bytes) {
         let _ = (pdb.publics(), pdb.modules());
         if let Ok(symbolizer) = pdb.symbolizer() {
@@ -206,6 +207,41 @@ fn symbols_of_lies(bytes: &[u8], sections: &[u8], random: &mut Random, number: u
         let (mut walk, entries) = (range, modules.as_mut_ptr());
         let result = sys::pe_c_list_pdb_modules(at, length, &mut walk, entries, 3, &mut written);
         assert!(result == sys::DONE || walk == sys::Range::default());
+    }
+}
+
+/// Makes the calls that read inlined functions, on the bytes as each of the streams, with wrong ranges and starts.
+fn inlined_of_lies(bytes: &[u8], sections: &[u8], random: &mut Random, number: u64) {
+    let (at, length, few, mut written) = (bytes.as_ptr(), bytes.len(), random.edge(number) as u32, 9);
+    let mut range = || sys::Range { offset: random.edge(number) % 4096, length: random.edge(number) };
+    let module = sys::PdbModule { symbols: range(), lines: range(), ..sys::PdbModule::default() };
+    let procedure = sys::PdbSymbol { range: range(), rva: few / 2, ..sys::PdbSymbol::default() };
+    let (contributions, starts) = (range(), [few.into(), 0, u64::MAX]);
+    let (mut ids, mut frames, mut ranges) =
+        ([7; 3], [sys::PdbInlined::default(); 3], [sys::PdbModuleRange::default(); 3]);
+    // SAFETY: as in `pdb_of_lies`.
+    unsafe {
+        let result = sys::pe_c_pdb_ids(at, length, ids.as_mut_ptr(), 3, &mut written);
+        assert!(result == sys::DONE || ids == [7; 3]);
+        let room = frames.as_mut_ptr();
+        let result = sys::pe_c_find_pdb_inlined(
+            at,
+            length,
+            &module,
+            &procedure,
+            few,
+            at,
+            length,
+            starts.as_ptr(),
+            3,
+            room,
+            3,
+            &mut written,
+        );
+        assert!(result == sys::DONE || frames == [sys::PdbInlined::default(); 3]);
+        let (headers, size, room) = (sections.as_ptr(), sections.len(), ranges.as_mut_ptr());
+        let result = sys::pe_c_pdb_module_ranges(at, length, &contributions, headers, size, room, 3, &mut written);
+        assert!(result == sys::DONE || ranges == [sys::PdbModuleRange::default(); 3]);
     }
 }
 

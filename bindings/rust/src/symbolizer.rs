@@ -183,6 +183,36 @@ impl Read {
         let name = name.of(names).filter(|_| number == sys::DONE)?;
         Some(String::from_utf8_lossy(name).into_owned())
     }
+
+    /// Writes the functions that are inlined at an RVA of a procedure to a room: the result, and how many there are.
+    fn inlined(
+        &self,
+        module: &sys::PdbModule,
+        (procedure, rva): (&sys::PdbSymbol, u32),
+        ids: Option<&Ids>,
+        room: &mut [PdbInlined],
+    ) -> (u32, usize) {
+        let (bytes, mut written) = (&self.symbols.bytes, 0);
+        let (ids, starts): (&[u8], &[u64]) = ids.map_or((&[], &[]), |it| (&it.bytes, &it.starts));
+        // SAFETY: as above, and the room overlaps no other argument.
+        let number = unsafe {
+            sys::pe_c_find_pdb_inlined(
+                bytes.as_ptr(),
+                bytes.len(),
+                module,
+                procedure,
+                rva,
+                ids.as_ptr(),
+                ids.len(),
+                starts.as_ptr(),
+                starts.len(),
+                room.as_mut_ptr(),
+                room.len(),
+                &mut written,
+            )
+        };
+        (number, written as usize)
+    }
 }
 
 impl Ids {
@@ -341,29 +371,15 @@ impl Symbolizer<'_> {
         procedure: &sys::PdbSymbol,
         rva: u32,
     ) -> Result<Vec<PdbInlined>, Error> {
-        let record = sys::PdbModule { symbols: module.symbols(), lines: module.lines(), ..sys::PdbModule::default() };
-        let find = |ids: &[u8], starts: &[u64], room: &mut [PdbInlined]| {
-            let (bytes, mut written) = (&read.symbols.bytes, 0);
-            // SAFETY: as above, and the room overlaps no other argument.
-            let number = unsafe {
-                let (at, length, of_ids, size) = (bytes.as_ptr(), bytes.len(), ids.as_ptr(), ids.len());
-                let (starts, count, entries) = (starts.as_ptr(), starts.len(), room.len());
-                let room = room.as_mut_ptr();
-                sys::pe_c_find_pdb_inlined(
-                    at, length, &record, procedure, rva, of_ids, size, starts, count, room, entries, &mut written,
-                )
-            };
-            (number, written as usize)
-        };
+        let module = sys::PdbModule { symbols: module.symbols(), lines: module.lines(), ..sys::PdbModule::default() };
+        let find = |ids: Option<&Ids>, room: &mut [PdbInlined]| read.inlined(&module, (procedure, rva), ids, room);
         // Most RVAs have none: the ids are read when one has.
-        if find(&[], &[], &mut []).0 == sys::DONE {
+        if find(None, &mut []).0 == sys::DONE {
             return Ok(Vec::new());
         }
+        let ids = self.ids.get_or_init(|| Ids::of(self.pdb)).as_ref().ok();
         let mut room = [PdbInlined::default(); MOST_INLINED];
-        let (number, count) = match self.ids.get_or_init(|| Ids::of(self.pdb)) {
-            Ok(ids) => find(&ids.bytes, &ids.starts, &mut room),
-            Err(_) => find(&[], &[], &mut room),
-        };
+        let (number, count) = find(ids, &mut room);
         Error::of(number).map(|()| room[..count].to_vec())
     }
 

@@ -150,7 +150,10 @@ fn inlined_functions_are_those_that_pdbutil_prints() {
     let (clamp, twice) = (("clamp", Some("c.h"), Some(2), true), ("twice", Some("c.h"), Some(7), true));
     let frames = symbolizer.frames(0x1005);
     assert_eq!(placed(&frames), [clamp, twice, ("entry", Some("c.c"), Some(4), false)]);
-    assert_eq!((frames[0].function_rva, frames[0].offset, frames[0].column, frames[0].is_public), (0x1000, 5, None, false));
+    assert_eq!(
+        (frames[0].function_rva, frames[0].offset, frames[0].column, frames[0].is_public),
+        (0x1000, 5, None, false)
+    );
     assert_eq!(placed(&symbolizer.frames(0x1020)), [clamp, ("entry", Some("c.c"), Some(5), false)]);
     let twice = ("twice", Some("c.h"), Some(8), true);
     assert_eq!(placed(&symbolizer.frames(0x1065)), [twice, ("helper", Some("c.c"), Some(9), false)]);

@@ -213,11 +213,7 @@ fn name_put(inlined: PdbInlined, found: &Result<Option<FunctionName>>) -> PdbInl
 }
 
 /// One with the line of a row.
-fn line_put(
-    inlined: PdbInlined,
-    row: &InlineRow,
-    found: &Result<Option<InlineeLine>>,
-) -> PdbInlined
+fn line_put(inlined: PdbInlined, row: &InlineRow, found: &Result<Option<InlineeLine>>) -> PdbInlined
     ensures { result ≡ line_put inlined row.now (pdb_answer found.now) }
 {
     match found {
@@ -272,7 +268,12 @@ fn put_inlined(
 }
 
 /// Those that have an RVA of a procedure.
-fn stack_at(bytes: &[u8], module: &PdbModule, procedure: &PdbSymbol, rva: u32) -> Result<InlineStack>
+fn stack_at(
+    bytes: &[u8],
+    module: &PdbModule,
+    procedure: &PdbSymbol,
+    rva: u32,
+) -> Result<InlineStack>
     ensures { PdbReturns stack_view result (stack_at bytes.now module.now procedure.now rva) }
 {
     let records = up_to(bytes, &module.symbols)?;
