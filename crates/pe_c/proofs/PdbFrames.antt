@@ -1,7 +1,7 @@
 -- Inlined functions of a PDB with other names, and with other lines.
 use Rattle.std.proofs.Common.{◌≡◌, ℕ, List, [], ◌∷◌, map, Option, Some, None, Result, Ok, Err, refl, ap, ◌∙◌, sym}
 use Rattle.pe_core.specs.Refusals.{◌>>=◌}
-use Rattle.pe_pdb.specs.Ids.{TypesView, types_of}
+use Rattle.pe_pdb.specs.Ids.{types_of}
 use Rattle.pe_pdb.specs.Inlinees.{inline_line}
 use Rattle.pe_pdb.specs.Refusals.{PdbRefusal}
 use Rattle.pe_pdb.specs.declared.inline_rows.InlineRow.{InlineRow}
@@ -9,7 +9,7 @@ use Rattle.pe_pdb.specs.declared.inline_walk.InlineFrame.{InlineFrame}
 use Rattle.pe_pdb.specs.declared.inlinee.InlineeLine.{InlineeLine}
 use Rattle.pe_pdb.specs.declared.inlinee.SourceLine.{SourceLine}
 use Rattle.pe_c.specs.PdbFrames.{Named, Placed, all_named, all_placed, named, placed, with_lines}
-use Rattle.pe_c.specs.PdbInlined.{bare, id_name, inlined_by, inlined_functions, inlinee_in, inlinees_at, line_put, name_put, source_put, stack_at}
+use Rattle.pe_c.specs.PdbInlined.{bare, inlined_by, inlined_functions, inlinee_in, inlinees_at, line_put, name_found, name_put, source_put, stack_at}
 use Rattle.pe_c.specs.declared.pdb.inlined.FunctionName.{FunctionName}
 use Rattle.pe_c.specs.declared.pdb.inlined.PdbInlined.{PdbInlined}
 use Rattle.pe_c.specs.declared.pdb.modules.PdbModule.{PdbModule}
@@ -59,17 +59,14 @@ found_same view f g same (Err r) = refl
 pub lines_alone : (b : List ℕ) (m : PdbModule) (s : PdbSymbol) (rva : ℕ) (ids starts other_ids other_starts : List ℕ) →
     all_placed (inlined_functions b m s rva ids starts) ≡ all_placed (inlined_functions b m s rva other_ids other_starts)
 lines_alone b m s rva ids starts other_ids other_starts =
-    let name = λ (t : Result TypesView PdbRefusal) (from : List ℕ) (f : InlineFrame). t >>= λ t. id_name t from f.inlinee in
-    let line = λ (f : InlineFrame). inlinee_in (inlinees_at b m.lines) f.inlinee in
     found_same placed (inlined_by (inlinees_at b m.lines) (types_of ids) starts) (inlined_by (inlinees_at b m.lines) (types_of other_ids) other_starts)
-    (λ f. line_placed (bare f) (name (types_of ids) starts f) f.row (line f) ∙ sym (line_placed (bare f) (name (types_of other_ids) other_starts f) f.row (line f)))
+    (λ f. line_placed (bare f) (name_found (types_of ids) starts f.inlinee) f.row (inlinee_in (inlinees_at b m.lines) f.inlinee) ∙ sym (line_placed (bare f) (name_found (types_of other_ids) other_starts f.inlinee) f.row (inlinee_in (inlinees_at b m.lines) f.inlinee)))
     (stack_at b m s rva)
 
 pub names_alone : (b : List ℕ) (m : PdbModule) (s : PdbSymbol) (rva : ℕ) (ids starts : List ℕ) (lines : Range) →
     all_named (inlined_functions b m s rva ids starts) ≡ all_named (inlined_functions b (with_lines m lines) s rva ids starts)
 names_alone b m s rva ids starts lines =
-    let name = λ (f : InlineFrame). types_of ids >>= λ t. id_name t starts f.inlinee in
     found_same named (inlined_by (inlinees_at b m.lines) (types_of ids) starts) (inlined_by (inlinees_at b lines) (types_of ids) starts)
-    (λ f. line_named (name_put (bare f) (name f)) f.row (inlinee_in (inlinees_at b m.lines) f.inlinee)
-    ∙ sym (line_named (name_put (bare f) (name f)) f.row (inlinee_in (inlinees_at b lines) f.inlinee)))
+    (λ f. line_named (name_put (bare f) (name_found (types_of ids) starts f.inlinee)) f.row (inlinee_in (inlinees_at b m.lines) f.inlinee)
+    ∙ sym (line_named (name_put (bare f) (name_found (types_of ids) starts f.inlinee)) f.row (inlinee_in (inlinees_at b lines) f.inlinee)))
     (stack_at b m s rva)

@@ -65,6 +65,10 @@ name_in t starts (Some s) = function_name t starts s
 abbrev pub id_name : TypesView → List ℕ → ℕ → Result (Option FunctionName) PdbRefusal
 id_name t starts id = record_by t starts id >>= name_in t starts
 
+-- of a stream that may be refused
+abbrev pub name_found : Result TypesView PdbRefusal → List ℕ → ℕ → Result (Option FunctionName) PdbRefusal
+name_found ids starts id = ids >>= λ t. id_name t starts id
+
 -- ---- lines
 
 -- the lines of the inlined functions of a module: the first such subsection
@@ -118,7 +122,7 @@ line_put x row (Err refusal) = record x { line_result = pdb_number refusal }
 -- one as callers get it: by the lines of inlined functions, the stream of ids and the starts of its records
 abbrev pub inlined_by : Result (Option (List ℕ)) PdbRefusal → Result TypesView PdbRefusal → List ℕ → InlineFrame → PdbInlined
 inlined_by inlinees ids starts f =
-    line_put (name_put (bare f) (ids >>= λ t. id_name t starts f.inlinee)) f.row (inlinee_in inlinees f.inlinee)
+    line_put (name_put (bare f) (name_found ids starts f.inlinee)) f.row (inlinee_in inlinees f.inlinee)
 
 -- those that have an RVA of a procedure, by the symbols of its module
 abbrev pub stack_at : List ℕ → PdbModule → PdbSymbol → ℕ → Result (List InlineFrame) PdbRefusal

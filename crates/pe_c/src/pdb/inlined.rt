@@ -4,13 +4,12 @@
 
 ghost use Rattle.std.specs.Prelude.{◌≡◌, ◌+◌, ◌<◌, ◌≤◌, ◌^◌, IfOk, drop, length, map, take};
 ghost use Rattle.std.specs.Option.{option_map};
-ghost use Rattle.pe_core.specs.Refusals.{◌>>=◌};
 ghost use Rattle.pe_pdb.specs.Ids.{types_view};
 ghost use Rattle.pe_pdb.specs.InlineStacks.{stack_view};
 ghost use Rattle.pe_pdb.specs.Refusals.{PdbReturns};
 ghost use Rattle.pe_pdb.specs.Symbols.{symbol_view};
 ghost use Rattle.pe_pdb.specs.Walks.{step_view};
-ghost use Rattle.pe_c.specs.PdbInlined.{HandsOutIds, HandsOutInlined, bare, function_name, id_name, ids_in, inlined_by, inlined_functions, inlinee_in, inlinees_at, line_put, name_put, scope_range, stack_at, text_range};
+ghost use Rattle.pe_c.specs.PdbInlined.{HandsOutIds, HandsOutInlined, bare, function_name, id_name, ids_in, inlined_by, inlined_functions, inlinee_in, inlinees_at, line_put, name_found, name_put, scope_range, stack_at, text_range};
 ghost use Rattle.pe_c.specs.Pdbs.{pdb_answer};
 
 use crate::pdb::index::up_to;
@@ -145,7 +144,7 @@ fn name_found(
     id: u32,
 ) -> Result<Option<FunctionName>>
     requires { IfOk ids.now (λ t. t.offset + length t.records.now < 2 ^ 63) }
-    ensures { pdb_answer result ≡ (step_view types_view ids.now >>= λ t. id_name t starts.now id) }
+    ensures { pdb_answer result ≡ name_found (step_view types_view ids.now) starts.now id }
 {
     match ids {
         Ok(ids) => id_name(ids, starts, id),
