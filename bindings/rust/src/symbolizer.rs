@@ -248,8 +248,11 @@ impl Symbolizer<'_> {
     }
 
     fn procedures(&self, stream: u16, module: &PdbModule, left: &mut usize) -> Result<Symbols, Error> {
-        let bytes = self.pdb.stream(stream.into())?;
-        *left = left.checked_sub(bytes.len()).ok_or(Error::PDB_STREAM_SIZE)?;
+        // Once there are too many bytes no stream is copied: of a hostile file each module may have a long one.
+        let bytes = if *left > 0 { self.pdb.stream(stream.into())? } else { return Err(Error::PDB_STREAM_SIZE) };
+        let rest = left.checked_sub(bytes.len());
+        *left = rest.unwrap_or_default();
+        rest.ok_or(Error::PDB_STREAM_SIZE)?;
         Symbols::of(PROCEDURES, bytes, module.symbols(), self.sections)
     }
 

@@ -103,7 +103,8 @@ class _Functions:
             if module.stream is None:
                 continue
             try:
-                stream = pdb.stream(module.stream)
+                # Once there are too many bytes no stream is copied: of a hostile file each module may have a long one.
+                stream = pdb.stream(module.stream) if left >= 0 else b""
                 left -= len(stream)
                 if left < 0:
                     raise error_of(Kind.PDB_STREAM_SIZE, "module")
