@@ -155,7 +155,7 @@ def long_stream(size):
     made = Msf()
     made.streams[INFO], made.streams[SECTIONS] = info(()), sections()
     made.streams.append(b"")
-    count = size // 4
+    count = min(size // 4, 2**32 // BLOCK - 1)
     made.blocks[MODULE] = [1] * count
     made.sizes[MODULE] = BLOCK * count
     made.streams[DBI] = dbi(module(MODULE, 64, 0))

@@ -81,6 +81,7 @@ GROUPS = {
     "page": by_hand("the page in Chromium", **{"node": "nodejs", "chromium": "chromium", "rustc 1.81": RUSTC}),
     "pdb": by_hand("names and lines of pe by PDB files", **{"clang": "clang", "lld-link": "lld", "llvm-pdbutil": "llvm",
                                                              "llvm-symbolizer": "llvm"}),
+    "breakpad": by_hand("symbol files of pe by LLDB", **{"clang": "clang", "lld-link": "lld", "lldb-19": "lldb-19"}),
     "notebook": by_hand("notebooks", **{"chromium": "chromium", "jupyter-nbconvert": "jupyter-nbconvert",
                                         "module ipykernel": "python3-ipykernel"}),
     "chromium": by_hand("the library in a page", **TRIAL, **WASM, **{"node": "nodejs", "clang": "clang", "chromium": "chromium"}),
