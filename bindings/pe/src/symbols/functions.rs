@@ -97,7 +97,13 @@ impl Functions {
         let found = procedures.iter().filter_map(|it| {
             let (start, name) = (it.rva?, shown(&it.name));
             let end = start.saturating_add(it.size);
-            (end > start && !name.is_empty()).then_some(Function { start, end, name, module: Some(module), is_multiple: false })
+            (end > start && !name.is_empty()).then_some(Function {
+                start,
+                end,
+                name,
+                module: Some(module),
+                is_multiple: false,
+            })
         });
         self.functions.extend(found);
     }
