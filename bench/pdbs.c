@@ -33,14 +33,17 @@ static Bytes content_of(const char *path)
     return all;
 }
 
-/* A copy of a stream, no bytes where it is refused. What is left of the bytes that are read falls. */
+/* A copy of a stream, no bytes where it is refused. What is left of the bytes that may be read falls. */
 static Bytes stream_of(Bytes file, const uint64_t *starts, size_t count, uint32_t number, uint64_t *left)
 {
     Bytes stream = {NULL, 0};
     uint64_t length = 0;
-    if (!*left || pe_c_pdb_stream(file.bytes, file.length, starts, count, number, NULL, 0, &length) != PE_C_ROOM || length > *left)
+    if (!*left || pe_c_pdb_stream(file.bytes, file.length, starts, count, number, NULL, 0, &length) != PE_C_ROOM)
         return stream;
-    *left -= length;
+    /* Once one is too long none is opened: that alone reads the list of its blocks. */
+    *left = length > *left ? 0 : *left - length;
+    if (!*left)
+        return stream;
     stream = (Bytes){room_of(length, 1), length};
     if (pe_c_pdb_stream(file.bytes, file.length, starts, count, number, stream.bytes, length, &length) != PE_C_DONE)
         stream.length = 0;
