@@ -326,6 +326,13 @@ class Pdb(Reader):
             return None
         return PdbFrame(public.name, public.rva, rva - public.rva, "public", None, None, None)
 
+    def _cost_of(self, found: PdbFrame | None) -> int:
+        """How many bytes of names were read to find it: of a file whose name is refused as much as all names."""
+        if found is None:
+            return 0
+        file = len(found.file) if found.file is not None else len(self._names[0]) if found.line else 0
+        return len(found.name) + file
+
     @property
     def warnings(self) -> tuple[ImageWarning, ...]:
         """What is damaged, a warning each; and that a tool moved the code. It reads the lines of all modules."""
