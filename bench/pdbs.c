@@ -1,128 +1,127 @@
-/* Reads a PDB: pdbs FILE CALL MOST
- *
- * By the CALL `parse` what the PDB says of itself is read MOST times, by `starts` where all its streams are; by `index` and `lines` the
- * index of the public functions, and that of the lines of the first module, is made as often, and by `ids` that of the stream of ids.
- * By `symbol` so many RVAs of its procedures are looked up, by `line` their lines, by `inlined` the functions that are inlined there.
- * How many entries, RVAs or functions there are is printed. */
-#include "reading.h"
+/* Reads all that pe.h reads of a PDB: bench/pdbs says what it measures by it. It prints how much there was. */
+#include <stdio.h>
+#include <stdlib.h>
+#include "pe.h"
 
-#include <string.h>
+enum { READINGS = 4, RVAS = 10000, AT_ONCE = 1024 };
 
-enum { STREAM = 1 << 26, ENTRIES = 1 << 20 };
-
-static uint8_t sections[1 << 16], symbols[STREAM], module_bytes[STREAM], dbi[STREAM], ids[STREAM];
-static uint64_t index_room[ENTRIES], starts[ENTRIES], id_starts[ENTRIES];
-static pe_c_pdb_line_entry lines[ENTRIES];
-
-/* What is read of a PDB before the calls that are counted. */
+/* Bytes with their length. */
 typedef struct {
-    const uint8_t *bytes;
+    uint8_t *bytes;
     size_t length;
-    pe_c_pdb_info info;
-    pe_c_pdb_module module;
-    uint64_t sections_length, symbols_length, module_length, ids_length, entries, line_entries, id_entries;
-} pdb;
+} Bytes;
 
-static uint64_t stream(const pdb *it, uint32_t number, uint8_t *room)
+static void *room_of(size_t count, size_t size)
 {
-    uint64_t written = 0;
-    return pe_c_pdb_stream(it->bytes, it->length, NULL, 0, number, room, STREAM, &written) == PE_C_DONE ? written : 0;
+    void *room = calloc(count + 1, size);
+    if (!room)
+        exit(3);
+    return room;
 }
 
-static uint64_t index_of(uint32_t kind, const uint8_t *bytes, uint64_t length, const pe_c_range *range, const pdb *it)
+static Bytes content_of(const char *path)
 {
-    uint64_t count = 0;
-    const uint32_t result = pe_c_pdb_index(kind, bytes, length, range, sections, it->sections_length, index_room, ENTRIES, &count);
-    return result == PE_C_DONE ? count : 0;
+    FILE *file = fopen(path, "rb");
+    if (!file || fseek(file, 0, SEEK_END) != 0)
+        exit(3);
+    Bytes all = {NULL, (size_t)ftell(file)};
+    rewind(file);
+    all.bytes = room_of(all.length, 1);
+    if (fread(all.bytes, 1, all.length, file) != all.length)
+        exit(3);
+    fclose(file);
+    return all;
 }
 
-static uint64_t lines_of(const pdb *it)
+/* A copy of a stream, no bytes where it is refused. What is left of the bytes that may be read falls. */
+static Bytes stream_of(Bytes file, const uint64_t *starts, size_t count, uint32_t number, uint64_t *left)
 {
-    uint64_t count = 0;
-    const uint32_t result = pe_c_pdb_lines(module_bytes, it->module_length, &it->module.lines, sections, it->sections_length, lines,
-                                           ENTRIES, &count);
-    return result == PE_C_DONE ? count : 0;
+    Bytes stream = {NULL, 0};
+    uint64_t length = 0;
+    if (!*left || pe_c_pdb_stream(file.bytes, file.length, starts, count, number, NULL, 0, &length) != PE_C_ROOM)
+        return stream;
+    /* Once one is too long none is opened: that alone reads the list of its blocks. */
+    *left = length > *left ? 0 : *left - length;
+    if (!*left)
+        return stream;
+    stream = (Bytes){room_of(length, 1), length};
+    if (pe_c_pdb_stream(file.bytes, file.length, starts, count, number, stream.bytes, length, &length) != PE_C_DONE)
+        stream.length = 0;
+    return stream;
 }
 
-static uint64_t ids_of(const pdb *it)
+/* Lists the symbols, makes an index of a kind and looks up by it. */
+static uint64_t read_symbols(uint32_t kind, Bytes stream, pe_c_range symbols, Bytes sections)
 {
-    uint64_t count = 0;
-    return pe_c_pdb_ids(ids, it->ids_length, id_starts, ENTRIES, &count) == PE_C_DONE ? count : 0;
-}
-
-/* Reads the PDB, with the first module, and makes its indexes. Returns whether that is done. */
-static int read_pdb(pdb *it)
-{
-    uint64_t written = 0;
-    if (pe_c_pdb(it->bytes, it->length, &it->info) != PE_C_DONE)
-        return 0;
-    uint64_t dbi_length = stream(it, 3, dbi);
-    pe_c_range walk = it->info.modules;
-    if (pe_c_list_pdb_modules(dbi, dbi_length, &walk, &it->module, 1, &written) != PE_C_DONE)
-        return 0;
-    it->sections_length = stream(it, it->info.section_headers, sections);
-    it->symbols_length = stream(it, it->info.symbol_stream, symbols);
-    it->module_length = stream(it, it->module.stream, module_bytes);
-    it->ids_length = stream(it, 4, ids);
-    it->line_entries = lines_of(it);
-    it->id_entries = ids_of(it);
-    it->entries = index_of(PE_C_PDB_PROCEDURES, module_bytes, it->module_length, &it->module.symbols, it);
-    return it->entries > 0;
-}
-
-/* Looks up an RVA. Returns how much is found. */
-static uint64_t look_up(const pdb *it, const char *call, uint32_t rva)
-{
+    static pe_c_pdb_symbol entries[AT_ONCE];
     pe_c_pdb_symbol found = PE_C_EMPTY;
-    pe_c_pdb_line line = PE_C_EMPTY;
-    pe_c_pdb_inlined frames[64];
-    uint64_t written = 0;
-    if (strcmp(call, "line") == 0)
-        return pe_c_find_pdb_line(lines, it->line_entries, rva, &line) == PE_C_DONE;
-    if (pe_c_find_pdb_symbol(PE_C_PDB_PROCEDURES, module_bytes, it->module_length, sections, it->sections_length, index_room,
-                             it->entries, rva, &found) != PE_C_DONE)
+    uint64_t written = 0, all = 0;
+    pe_c_range walk = symbols;
+    while (pe_c_list_pdb_symbols(stream.bytes, stream.length, sections.bytes, sections.length, &walk, entries, AT_ONCE, &written)
+           == PE_C_DONE && written)
+        all += written;
+    if (pe_c_pdb_index(kind, stream.bytes, stream.length, &symbols, sections.bytes, sections.length, NULL, 0, &written) != PE_C_ROOM)
+        return all;
+    uint64_t *index = room_of(written, sizeof *index);
+    if (pe_c_pdb_index(kind, stream.bytes, stream.length, &symbols, sections.bytes, sections.length, index, written, &written)
+        == PE_C_DONE)
+        for (uint32_t i = 0; i < RVAS; i++)
+            all += pe_c_find_pdb_symbol(kind, stream.bytes, stream.length, sections.bytes, sections.length, index, written,
+                                        0x1000 + 4 * i, &found) == PE_C_DONE;
+    free(index);
+    return all;
+}
+
+static uint64_t read_lines(Bytes stream, pe_c_range lines, Bytes sections, Bytes names)
+{
+    pe_c_range files = PE_C_EMPTY, name = PE_C_EMPTY;
+    pe_c_pdb_line found = PE_C_EMPTY;
+    uint64_t written = 0, all = 0;
+    if (pe_c_pdb_files(stream.bytes, stream.length, &lines, &files) != PE_C_DONE)
+        files = (pe_c_range)PE_C_EMPTY;
+    if (pe_c_pdb_lines(stream.bytes, stream.length, &lines, sections.bytes, sections.length, NULL, 0, &written) != PE_C_ROOM)
         return 0;
-    if (strcmp(call, "symbol") == 0)
-        return 1;
-    pe_c_find_pdb_inlined(module_bytes, it->module_length, &it->module, &found, rva, ids, it->ids_length, id_starts, it->id_entries,
-                          frames, 64, &written);
-    return written;
+    pe_c_pdb_line_entry *index = room_of(written, sizeof *index);
+    if (pe_c_pdb_lines(stream.bytes, stream.length, &lines, sections.bytes, sections.length, index, written, &written) == PE_C_DONE)
+        for (uint32_t i = 0; i < RVAS; i++)
+            if (pe_c_find_pdb_line(index, written, 0x1000 + 4 * i, &found) == PE_C_DONE)
+                /* The name of a file is read to its end, so that few are. */
+                all += i % 1000 || pe_c_pdb_file_name(stream.bytes, stream.length, &files, names.bytes, names.length, found.file, &name)
+                                   == PE_C_DONE;
+    free(index);
+    return all + written;
 }
 
-/* Makes a call on the whole PDB. Returns how many entries it has. */
-static uint64_t make(const pdb *it, const char *call)
+int main(int count, char **words)
 {
-    pe_c_pdb_info info = PE_C_EMPTY;
-    uint64_t written = 0;
-    if (strcmp(call, "parse") == 0)
-        return pe_c_pdb(it->bytes, it->length, &info) == PE_C_DONE ? info.number_of_streams : 0;
-    if (strcmp(call, "starts") == 0)
-        return pe_c_pdb_starts(it->bytes, it->length, starts, ENTRIES, &written) == PE_C_DONE ? written : 0;
-    if (strcmp(call, "lines") == 0)
-        return lines_of(it);
-    if (strcmp(call, "ids") == 0)
-        return ids_of(it);
-    const pe_c_range all = {0, it->symbols_length};
-    return index_of(PE_C_PDB_PUBLICS, symbols, it->symbols_length, &all, it);
-}
-
-int main(int argc, char **argv)
-{
-    static pdb it;
-    if (argc != 4)
+    if (count != 2)
         return 2;
-    const char *call = argv[2];
-    const uint64_t most = strtoull(argv[3], NULL, 10);
-    it.bytes = read_all(argv[1], &it.length);
-    if (it.bytes == NULL || !read_pdb(&it))
+    Bytes file = content_of(words[1]);
+    pe_c_pdb_info pdb = PE_C_EMPTY;
+    if (pe_c_pdb(file.bytes, file.length, &pdb) != PE_C_DONE)
         return 1;
-    const int is_lookup = strcmp(call, "symbol") == 0 || strcmp(call, "line") == 0 || strcmp(call, "inlined") == 0;
-    uint64_t count = 0;
-    for (uint64_t turn = 0; turn < most; turn++) {
-        /* Eight bytes after the start of one procedure after the other. */
-        const uint32_t rva = (uint32_t)(index_room[turn * 7919 % it.entries] >> 32) + 8;
-        count += is_lookup ? look_up(&it, call, rva) : make(&it, call);
-    }
-    printf("%llu\n", (unsigned long long)count);
+    uint64_t *starts = room_of(pdb.number_of_streams, sizeof *starts), written = 0, all = 0, left = READINGS * (uint64_t)file.length;
+    if (pe_c_pdb_starts(file.bytes, file.length, starts, pdb.number_of_streams, &written) != PE_C_DONE)
+        return 1;
+    size_t streams = (size_t)written;
+#define STREAM(number) stream_of(file, starts, streams, number, &left)
+    Bytes sections = STREAM(pdb.section_headers), symbols = STREAM(pdb.symbol_stream), dbi = STREAM(3), info = STREAM(1);
+    uint32_t number = 0;
+    Bytes names = {NULL, 0};
+    if (pe_c_pdb_named_stream(info.bytes, info.length, (const uint8_t *)"/names", 6, &number) == PE_C_DONE)
+        names = STREAM(number);
+    all += read_symbols(PE_C_PDB_PUBLICS, symbols, (pe_c_range){0, symbols.length}, sections);
+    pe_c_range walk = pdb.modules;
+    static pe_c_pdb_module modules[AT_ONCE];
+    while (pe_c_list_pdb_modules(dbi.bytes, dbi.length, &walk, modules, AT_ONCE, &written) == PE_C_DONE && written)
+        for (uint64_t i = 0; i < written; i++) {
+            Bytes stream = STREAM(modules[i].stream);
+            if (!stream.length)
+                continue;
+            all += read_symbols(PE_C_PDB_PROCEDURES, stream, modules[i].symbols, sections);
+            all += read_lines(stream, modules[i].lines, sections, names);
+            free(stream.bytes);
+        }
+    printf("%llu\n", (unsigned long long)all);
     return 0;
 }

@@ -251,7 +251,8 @@ export class Pdb extends File {
     for (const module of refusedIn(this.#errors, 'modules', () => this.modules()) ?? []) {
       if (module.stream === null) continue;
       const symbols = refusedIn(this.#errors, module.name, () => {
-        const bytes = this.stream(module.stream);
+        // Once there are too many bytes no stream is copied: of a hostile file each module may have a long one.
+        const bytes = left < 0 ? [] : this.stream(module.stream);
         left -= bytes.length;
         if (left < 0) throw this.refused('pe_c_pdb_stream', 'PE_C_PDB_STREAM_SIZE');
         return new Symbols(memoryOf(this), bytes, 1, module.symbols, this.#sectionHeaders());

@@ -12,6 +12,7 @@ use crate::page::Style;
 use crate::streams::complaint;
 use crate::Status;
 use frames::{size_of, ToldFrame};
+pub use lists::Left;
 use lists::{Function, Lists, Module, Stream};
 use pe_c::{Error, Guid, Pdb, Symbolizer};
 use serde::Serialize;

@@ -88,8 +88,10 @@ fn names_of_an_image() {
     let zeros = "0".repeat(33);
     assert_eq!(
         said,
-        format!("MODULE windows x86_64 {zeros} exports.dll\nINFO CODE_ID 000000006000 exports.dll\n\
-                 PUBLIC 1004 0 second\nPUBLIC 90000 0 first\n")
+        format!(
+            "MODULE windows x86_64 {zeros} exports.dll\nINFO CODE_ID 000000006000 exports.dll\n\
+                 PUBLIC 1004 0 second\nPUBLIC 90000 0 first\n"
+        )
     );
 }
 
@@ -104,7 +106,11 @@ fn what_is_refused_is_told_and_nothing_is_written() {
     let another = folder.file("another.pdb", &other);
     let none = folder.file("none.exe", &made::with_exports());
     for (words, why, wanted) in [
-        (vec![&exe, "--pdb", &another], format!("of another build: C4AAF6DF{}, and the image names {KEY}", &KEY[8..]), 1),
+        (
+            vec![&exe, "--pdb", &another],
+            format!("of another build: C4AAF6DF{}, and the image names {KEY}", &KEY[8..]),
+            1,
+        ),
         (vec![&none, "--pdb", &pdb], "it names no PDB".to_string(), 1),
         (vec![&exe, "--pdb", &exe], "not a PDB 7.0 (PDB_MAGIC)".to_string(), 1),
         (vec![&pdb, "--pdb", &pdb], "invalid magic number (BAD_MAGIC)".to_string(), 1),
@@ -120,14 +126,18 @@ fn what_is_refused_is_told_and_nothing_is_written() {
     damaged[at + 7] = 0x7F;
     let damaged = folder.file("damaged.pdb", &damaged);
     let (_, complaints, status) = run(&["symbols", &exe, &out, "--pdb", &damaged]);
-    assert!(complaints.contains("lines of ") && complaints.contains("PDB_RECORD_TRUNCATED") && status == 1, "{complaints}");
+    assert!(
+        complaints.contains("lines of ") && complaints.contains("PDB_RECORD_TRUNCATED") && status == 1,
+        "{complaints}"
+    );
     let written = fs::read_to_string(&out).unwrap();
     assert!(written.contains("FUNC 1000 1f 0 middle\nFUNC 1020 15 0 reads\n"), "{written}");
 }
 
 /// The frames of the first thread of the dump, by symbols, with what is said of the PDB of its module.
 fn stack(folder: &Folder, places: &str) -> (Value, Value) {
-    let words = ["stack", &folder.path("crash.dmp"), "--json", "--images", &folder.path("crash.exe"), "--symbols", places];
+    let words =
+        ["stack", &folder.path("crash.dmp"), "--json", "--images", &folder.path("crash.exe"), "--symbols", places];
     let (out, complaints, status) = run(&words);
     assert_eq!((complaints.as_str(), status), ("", 0));
     let said: Value = serde_json::from_str(&out).unwrap();
@@ -140,7 +150,11 @@ fn symbol_files_name_what_a_pdb_does() {
     let folder = folder("breakpad-read");
     let (wanted, _) = stack(&folder, &folder.path("crash.pdb"));
     let text = symbols(&[&folder.path("crash.exe"), "--pdb", &folder.path("crash.pdb"), "-"]);
-    for place in [format!("s/crash.pdb/{KEY}/crash.sym"), format!("s/CRASH.PDB/{}/Crash.SYM", KEY.to_lowercase()), "s/crash.sym".into()] {
+    for place in [
+        format!("s/crash.pdb/{KEY}/crash.sym"),
+        format!("s/CRASH.PDB/{}/Crash.SYM", KEY.to_lowercase()),
+        "s/crash.sym".into(),
+    ] {
         let path = folder.0.join(&place);
         fs::create_dir_all(path.parent().unwrap()).unwrap();
         fs::write(&path, &text).unwrap();
@@ -179,14 +193,21 @@ fn symbol_files_that_are_not_read() {
     let folder = folder("breakpad-not-read");
     let of = |text: &str| stack(&folder, &folder.file("crash.sym", text.as_bytes())).1;
     let other = of("MODULE windows x86_64 C4AAF6DE03F43CF24C4C44205044422E2 crash.pdb\n");
-    assert_eq!((&other["state"], &other["found_key"]), (&json!("another-build"), &json!("C4AAF6DE03F43CF24C4C44205044422E2")));
+    assert_eq!(
+        (&other["state"], &other["found_key"]),
+        (&json!("another-build"), &json!("C4AAF6DE03F43CF24C4C44205044422E2"))
+    );
     for (text, why) in [
         (format!("MODULE windows x86_64 {KEY} crash.pdb\nFUNC 1 1 0 a\nFUNC 1g 1 0 a\n"), "line 3: invalid number"),
         (format!("MODULE windows x86_64 {KEY} crash.pdb\n1 1 1 1\n"), "line 2: a line of no function"),
         ("MODULE x\n".to_string(), "line 1: the line MODULE has not four parts and a name"),
     ] {
         let said = of(&text);
-        assert_eq!((&said["state"], &said["reason"], &said["frames"]), (&json!("not-read"), &json!(why), &json!(0)), "{text}");
+        assert_eq!(
+            (&said["state"], &said["reason"], &said["frames"]),
+            (&json!("not-read"), &json!(why), &json!(0)),
+            "{text}"
+        );
     }
 }
 
@@ -210,7 +231,11 @@ impl Machine<'_> {
             let value = match part {
                 "+" | "-" => {
                     let (right, left) = (stack.pop().unwrap(), stack.pop().unwrap());
-                    if part == "+" { left.wrapping_add(right) } else { left.wrapping_sub(right) }
+                    if part == "+" {
+                        left.wrapping_add(right)
+                    } else {
+                        left.wrapping_sub(right)
+                    }
                 }
                 "^" => self.word(stack.pop().unwrap()),
                 ".cfa" => cfa.unwrap(),
@@ -334,15 +359,19 @@ fn stack_cfi_leads_to_the_same_callers() {
         let (out, _, _) = run(&["stack", &dump, "--json", "--registers", "--images", &image]);
         let said: Value = serde_json::from_str(&out).unwrap();
         let frames = said["threads"][0]["frames"].as_array().unwrap();
-        let registers = |it: &Value| -> BTreeMap<String, u64> { serde_json::from_value(it["registers"].clone()).unwrap() };
+        let registers =
+            |it: &Value| -> BTreeMap<String, u64> { serde_json::from_value(it["registers"].clone()).unwrap() };
         let machine = Machine { registers: registers(&frames[0]), memory: &stack };
         let found = caller(&text, &machine);
-        let Some(next) = frames.get(1).filter(|it| ["records", "leaf", "interrupt"].contains(&it["way"].as_str().unwrap())) else {
+        let Some(next) =
+            frames.get(1).filter(|it| ["records", "leaf", "interrupt"].contains(&it["way"].as_str().unwrap()))
+        else {
             continue;
         };
         assert_eq!(found, registers(next), "{rva:x}");
         compared += 1;
-        changed += usize::from(found["rbp"] != machine.registers["rbp"]) + usize::from(found["rbx"] != machine.registers["rbx"]);
+        changed += usize::from(found["rbp"] != machine.registers["rbp"])
+            + usize::from(found["rbx"] != machine.registers["rbx"]);
     }
     assert!(compared > 140 && changed > 60, "{compared} {changed}");
 }

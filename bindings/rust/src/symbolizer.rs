@@ -278,9 +278,11 @@ impl Symbolizer<'_> {
     }
 
     fn read_stream(&self, stream: u16, module: &PdbModule) -> Result<Read, Error> {
-        let bytes = self.pdb.stream(stream.into())?;
-        let left = self.left.get().checked_sub(bytes.len()).ok_or(Error::PDB_STREAM_SIZE)?;
-        self.left.set(left);
+        // Once there are too many bytes no stream is copied: of a hostile file each module may have a long one.
+        let bytes = if self.left.get() > 0 { self.pdb.stream(stream.into())? } else { return Err(Error::PDB_STREAM_SIZE) };
+        let rest = self.left.get().checked_sub(bytes.len());
+        self.left.set(rest.unwrap_or_default());
+        rest.ok_or(Error::PDB_STREAM_SIZE)?;
         let symbols = Symbols::of(PROCEDURES, bytes, module.symbols(), self.sections)?;
         let lines = Lines::of(&symbols.bytes, &module.lines(), self.sections);
         Ok(Read { symbols, lines, inlined_error: Cell::new(None) })

@@ -88,6 +88,24 @@ fn lines_are_those_that_pdbutil_prints() {
     assert_eq!(line(0x108C), (None, None, None));
 }
 
+/// As `llvm-pdbutil dump -l` prints the two modules.
+#[test]
+fn lines_of_a_module_are_listed() {
+    let bytes = made::pdb();
+    let pdb = Pdb::parse(&bytes).unwrap();
+    let (modules, names) = (pdb.modules().unwrap(), pdb.source_names().unwrap());
+    let found = pdb.lines(&modules[1], &names).unwrap();
+    let rows: Vec<_> = found.lines.iter().map(|it| (it.rva, it.file, it.line, it.column)).collect();
+    let row = |rva, file, line| (rva, Some(file), Some(line), None);
+    assert_eq!(
+        rows,
+        [row(0x1050, 0, 4), row(0x1058, 0, 5), row(0x1065, 1, 900), row(0x1071, 0, 9), row(0x1080, 0, 1), row(0x1085, 0, 2)]
+    );
+    assert_eq!((found.files, found.is_limited), (vec!["b.c".to_owned(), "generated\\else.inc".to_owned()], false));
+    assert_eq!(found.lines[0].code_size, 0x2D);
+    assert_eq!(pdb.lines(&modules[2], &names).unwrap().lines, []);
+}
+
 #[test]
 fn damaged_lines_cost_themselves_alone() {
     let mut bytes = made::pdb();
@@ -103,6 +121,9 @@ fn damaged_lines_cost_themselves_alone() {
     let [damaged] = &symbolizer.damaged()[..] else { panic!("{:?}", symbolizer.damaged()) };
     assert_eq!((damaged.name.as_str(), damaged.has_names), ("b.obj", true));
     assert_eq!(damaged.error, Error::PDB_RECORD_TRUNCATED);
+    let (modules, names) = (pdb.modules().unwrap(), pdb.source_names().unwrap());
+    assert_eq!(pdb.lines(&modules[1], &names).unwrap_err(), Error::PDB_RECORD_TRUNCATED);
+    assert_eq!(pdb.lines(&modules[0], &names).unwrap().files, ["a.c"]);
 }
 
 #[test]

@@ -60,22 +60,31 @@ pub struct Lists {
     pub error: Option<Refusal>,
 }
 
-/// How many bytes of streams may still be read.
-struct Left(usize);
+/// How many bytes of streams may still be read. Once one was longer none is read.
+pub struct Left(usize);
 
 impl Left {
-    /// The length of a stream, which is read once more later.
-    fn takes(&mut self, pdb: &Pdb<'_>, number: u32) -> Result<usize, Error> {
-        let length = pdb.stream(number)?.len();
-        self.0 = self.0.checked_sub(length).ok_or(Error::PDB_STREAM_SIZE)?;
-        Ok(length)
+    /// Those of a PDB.
+    pub fn of(pdb: &Pdb<'_>) -> Left {
+        Left(pdb.bytes().len().saturating_mul(READINGS))
+    }
+
+    /// The length of a stream, which is read once more later. To open one costs the list of the directory's blocks too.
+    pub fn takes(&mut self, pdb: &Pdb<'_>, number: u32) -> Result<usize, Error> {
+        let info = pdb.info();
+        let directory = 4 * (info.number_of_streams as usize + info.number_of_blocks as usize);
+        self.0 = self.0.saturating_sub(4 * (directory / (info.block_size as usize).max(1)));
+        let length = if self.0 > 0 { pdb.stream(number)?.len() } else { return Err(Error::PDB_STREAM_SIZE) };
+        let rest = self.0.checked_sub(length);
+        self.0 = rest.unwrap_or_default();
+        rest.map(|_| length).ok_or(Error::PDB_STREAM_SIZE)
     }
 }
 
 impl Lists {
     pub fn of(pdb: &Pdb<'_>, asked: Asked<'_>) -> Lists {
         let mut lists = Lists::default();
-        let mut left = Left(pdb.bytes().len().saturating_mul(READINGS));
+        let mut left = Left::of(pdb);
         let modules = match pdb.modules() {
             Ok(modules) => modules,
             Err(error) if pdb.dbi().is_ok() => {
@@ -160,7 +169,7 @@ fn function_of(symbol: &PdbSymbol, module: Option<usize>) -> Option<Function> {
 
 /// All streams, with what is known of their contents.
 fn streams_of(pdb: &Pdb<'_>, modules: &[PdbModule]) -> Vec<Stream> {
-    let mut left = Left(pdb.bytes().len().saturating_mul(READINGS));
+    let mut left = Left::of(pdb);
     let mut contents: BTreeMap<u32, String> = BTreeMap::new();
     let mut put = |number: u16, what: &str| contents.insert(number.into(), what.to_string());
     for module in modules.iter().rev() {

@@ -115,7 +115,8 @@ pub fn key_of(bytes: &[u8]) -> Result<&str, Refused> {
 
 /// The name of the symbol file of a PDB: in place of `.pdb` it has `.sym`.
 pub fn name_of(pdb: &str) -> String {
-    let stem = pdb.len().checked_sub(4).filter(|&it| pdb.is_char_boundary(it) && pdb[it..].eq_ignore_ascii_case(".pdb"));
+    let stem =
+        pdb.len().checked_sub(4).filter(|&it| pdb.is_char_boundary(it) && pdb[it..].eq_ignore_ascii_case(".pdb"));
     format!("{}.sym", &pdb[..stem.unwrap_or(pdb.len())])
 }
 
@@ -156,7 +157,9 @@ impl<'b> SymbolFile<'b> {
         // Of several at one address it says that.
         let rest_of_symbol = rest.strip_prefix("m ").unwrap_or(rest);
         match kind {
-            "FILE" => parts(rest).and_then(|([index], name)| Ok(self.files.insert(number(index, 10)?, name))).map(|_| ()),
+            "FILE" => {
+                parts(rest).and_then(|([index], name)| Ok(self.files.insert(number(index, 10)?, name))).map(|_| ())
+            }
             "INLINE_ORIGIN" => {
                 parts(rest).and_then(|([index], name)| Ok(self.origins.insert(number(index, 10)?, name))).map(|_| ())
             }
@@ -226,14 +229,23 @@ impl<'b> SymbolFile<'b> {
     pub fn frames(&self, rva: u32) -> Vec<Named<'b>> {
         let after = self.functions.partition_point(|it| it.start <= rva);
         let function = after.checked_sub(1).and_then(|it| self.functions.get(it)).filter(|it| rva < it.end);
-        let Some(function) = function.filter(|it| !it.name.is_empty()) else { return self.public(rva).into_iter().collect() };
+        let Some(function) = function.filter(|it| !it.name.is_empty()) else {
+            return self.public(rva).into_iter().collect();
+        };
         let mut frames = Vec::new();
         let rows = &self.rows[function.lines.clone()];
-        let row = rows.partition_point(|it| it.start <= rva).checked_sub(1).map(|it| rows[it]).filter(|it| rva < it.end);
+        let row =
+            rows.partition_point(|it| it.start <= rva).checked_sub(1).map(|it| rows[it]).filter(|it| rva < it.end);
         let mut place = row.map(|it| (it.file, it.line));
         let mut named = |name, place: Option<(u32, u32)>| {
             let file = place.and_then(|it| self.files.get(&it.0).copied());
-            frames.push(Named { name, start: function.start, file, line: place.map(|it| it.1).filter(|it| *it > 0), is_public: false });
+            frames.push(Named {
+                name,
+                start: function.start,
+                file,
+                line: place.map(|it| it.1).filter(|it| *it > 0),
+                is_public: false,
+            });
         };
         for it in self.inlined_at(function, rva).iter().rev() {
             named(self.origins.get(&it.origin).copied().unwrap_or("?"), place);
@@ -292,9 +304,8 @@ mod tests {
              FUNC m 1000 10 0 main(int, char**)\nINLINE 0 7 1 3 1004 4 1008 8\nINLINE 1 9 2 4 100c 4\n\
              1000 8 5 1\n1008 4 6 2\r\n100c 4 8 2\nPUBLIC 1800 0 after it\nSTACK CFI INIT 1000 10 .cfa: $rsp 8 +\n";
         let deep = "deep+c@b c.h:8<in lined+c@b c.h:9<main(int, char**)+c@a.c:7";
-        let wanted = format!(
-            " main(int, char**)+0@a.c:5 in lined+8@b c.h:6<main(int, char**)+8@a.c:7 {deep}  after it+800!"
-        );
+        let wanted =
+            format!(" main(int, char**)+0@a.c:5 in lined+8@b c.h:6<main(int, char**)+8@a.c:7 {deep}  after it+800!");
         assert_eq!(parsed(lines), Ok(wanted));
         assert_eq!(key_of(format!("MODULE Linux x86 {KEY} x\n").as_bytes()), Ok(KEY));
     }
@@ -316,7 +327,11 @@ mod tests {
         ] {
             assert_eq!(parsed(lines).err(), why.map(|why| Refused { line, why }), "{lines}");
         }
-        for text in ["MODULE a b", "MODULE windows x86 C4AA a.pdb\n", "MODULE windows x86 C4AAF6DE03F43CF24C4C44205044422EG1 a\n"] {
+        for text in [
+            "MODULE a b",
+            "MODULE windows x86 C4AA a.pdb\n",
+            "MODULE windows x86 C4AAF6DE03F43CF24C4C44205044422EG1 a\n",
+        ] {
             assert_eq!(SymbolFile::parse(text.as_bytes()).err(), Some(Refused { line: 1, why: Why::Module }), "{text}");
         }
         let text = [format!("MODULE windows x86 {KEY} a\n\n").as_bytes(), b"FILE 1 \xff\n"].concat();
@@ -325,7 +340,10 @@ mod tests {
 
     #[test]
     fn a_symbol_file_has_the_name_of_its_pdb() {
-        assert_eq!(["a.pdb", "A.PDB", "libx.so", "é", ".pdb"].map(name_of), ["a.sym", "A.sym", "libx.so.sym", "é.sym", ".sym"]);
+        assert_eq!(
+            ["a.pdb", "A.PDB", "libx.so", "é", ".pdb"].map(name_of),
+            ["a.sym", "A.sym", "libx.so.sym", "é.sym", ".sym"]
+        );
     }
 
     /// Any bytes are read or refused, and each answer is of the file.

@@ -6,11 +6,10 @@
 use super::{in_line, SymbolFile};
 use crate::demangle::both_names;
 use crate::facts::Refusal;
+use crate::pdb::Left;
 use pe_c::{CodeAddress, Error, Image, Pdb, PdbLine, PdbLines, PdbModule, PdbSymbol, SourceNames};
 use std::collections::{BTreeMap, BTreeSet};
 
-/// How many times the bytes of a file are read for its streams: those of a hostile one may share their blocks.
-const READINGS: usize = 4;
 /// `IMAGE_SYM_CLASS_EXTERNAL` and `IMAGE_SYM_CLASS_STATIC`, and the type of a function.
 const CLASSES: [u8; 2] = [2, 3];
 const FUNCTION: u16 = 0x20;
@@ -73,15 +72,11 @@ impl Functions {
             refused("modules", error);
             Vec::new()
         });
-        let sections = pdb.stream(pdb.info().section_headers.into()).map_or(0, |it| it.len());
-        let mut left = pdb.bytes().len().saturating_mul(READINGS);
+        let mut left = Left::of(pdb);
         for (index, module) in modules.iter().enumerate() {
             let Some(stream) = module.stream else { continue };
-            let size = pdb.stream(stream.into()).map(|it| it.len() + sections);
-            let is_left = size.and_then(|it| left.checked_sub(it).ok_or(Error::PDB_STREAM_SIZE));
-            match is_left.and_then(|rest| Ok((rest, pdb.procedures(module)?))) {
-                Ok((rest, procedures)) => {
-                    left = rest;
+            match left.takes(pdb, stream.into()).and_then(|_| pdb.procedures(module)) {
+                Ok(procedures) => {
                     found.add_procedures(&procedures, index);
                     if let Some(error) = procedures.iter().find_map(|it| it.error) {
                         refused(&module.name, error);
@@ -102,7 +97,13 @@ impl Functions {
         let found = procedures.iter().filter_map(|it| {
             let (start, name) = (it.rva?, shown(&it.name));
             let end = start.saturating_add(it.size);
-            (end > start && !name.is_empty()).then_some(Function { start, end, name, module: Some(module), is_multiple: false })
+            (end > start && !name.is_empty()).then_some(Function {
+                start,
+                end,
+                name,
+                module: Some(module),
+                is_multiple: false,
+            })
         });
         self.functions.extend(found);
     }

@@ -82,6 +82,15 @@ fn records_of<'a>(functions: &Functions<'_, 'a>, function: Function) -> Result<V
     Ok(records)
 }
 
+/// How many steps it took to read the records of a function. A link may lead through the whole table, and so may one that is refused.
+fn cost_of(functions: &Functions<'_, '_>, function: Function, found: &Result<Vec<Read<'_>>, String>) -> usize {
+    let records = found.as_deref().unwrap_or_default();
+    let is_link = |it: &Function| it.unwind % 2 == 1;
+    let chained = records.iter().filter_map(|it| it.record.chained()).filter(is_link).count();
+    let links = usize::from(is_link(&function)) + chained + usize::from(found.is_err());
+    records.iter().map(|it| it.codes.len() + 1).sum::<usize>() + links * functions.len() as usize
+}
+
 /// Writes a function: first what holds at its start, and then what changes in its prolog.
 fn put_function(
     functions: &Functions<'_, '_>,
@@ -89,8 +98,9 @@ fn put_function(
     file: &mut SymbolFile,
     left: &mut usize,
 ) -> Result<(), String> {
-    let records = records_of(functions, function)?;
-    *left = left.saturating_sub(records.iter().map(|it| it.codes.len() + 1).sum());
+    let found = records_of(functions, function);
+    *left = left.saturating_sub(cost_of(functions, function, &found));
+    let records = found?;
     let Some((own, others)) = records.split_first() else { return Ok(()) };
     let mut start = Rules::at_call();
     others.iter().rev().for_each(|it| start.run(it, |_| true));

@@ -439,7 +439,7 @@ class Dump(Reader):
                     names.is_limited = True
                     return
                 found = known[at] = pdb.find(*at)
-                self._left -= 1 + (0 if found is None else (len(found.name) + len(found.file or "")) // BYTES_A_FRAME)
+                self._left -= 1 + pdb._cost_of(found) // BYTES_A_FRAME
             found = known[at]
             is_own = found and (found.source != "public" or is_in_function(image, rva - at[1], found.start))
             if found and is_own is not False:

@@ -103,7 +103,8 @@ class _Functions:
             if module.stream is None:
                 continue
             try:
-                stream = pdb.stream(module.stream)
+                # Once there are too many bytes no stream is copied: of a hostile file each module may have a long one.
+                stream = pdb.stream(module.stream) if left >= 0 else b""
                 left -= len(stream)
                 if left < 0:
                     raise error_of(Kind.PDB_STREAM_SIZE, "module")
@@ -324,6 +325,13 @@ class Pdb(Reader):
         if public is None or public.rva is None:
             return None
         return PdbFrame(public.name, public.rva, rva - public.rva, "public", None, None, None)
+
+    def _cost_of(self, found: PdbFrame | None) -> int:
+        """How many bytes of names were read to find it: of a file whose name is refused as much as all names."""
+        if found is None:
+            return 0
+        file = len(found.file) if found.file is not None else len(self._names[0]) if found.line else 0
+        return len(found.name) + file
 
     @property
     def warnings(self) -> tuple[ImageWarning, ...]:
