@@ -17,7 +17,9 @@ macro_rules! reader {
     ($name:ident, $goblin:ident) => {
         mod $name {
             use super::*;
-            use $goblin::pe::{exception::ExceptionData, export::Export, import::Import, section_table::SectionTable, PE};
+            use $goblin::pe::{
+                exception::ExceptionData, export::Export, import::Import, section_table::SectionTable, PE,
+            };
 
             pub fn read(bytes: &[u8], what: &str) -> usize {
                 let Ok(pe) = black_box(PE::parse(bytes)) else { return 0 };
@@ -81,7 +83,10 @@ mod iterators {
         // goblin leaves out an export whose RVA is 0, and so does the crate.
         let exports = image.exports().map_or(0, |all| all.flatten().filter(|it| black_box(it).rva != 0).count());
         let libraries = image.libraries().into_iter().flatten().flatten();
-        exports + libraries.map(|it| it.imports().flatten().filter(|it| black_box(it).rva != u64::MAX).count()).sum::<usize>()
+        exports
+            + libraries
+                .map(|it| it.imports().flatten().filter(|it| black_box(it).rva != u64::MAX).count())
+                .sum::<usize>()
     }
 }
 
