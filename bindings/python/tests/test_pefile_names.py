@@ -383,6 +383,7 @@ class Gaps(unittest.TestCase):
         editor.set(6, 4, 0x409, struct.pack("<HHHHHHH", 1, 0xD800, 1, 0xD800, 1, 0xD800, 1) + b"a\0")
         pe = ours.PE(data=editor.write())
         self.assertEqual(pe.get_resources_strings(), ["one", "\u20ac"])
+        self.assertIn("          [STRINGS]\n                33: one\n                34: \\u20ac\n", pe.dump_info())
         tables = next(it for it in pe.DIRECTORY_ENTRY_RESOURCE.entries if it.id == 6).directory.entries
         self.assertEqual([it.directory.strings for it in tables], [{33: "one", 34: "\u20ac"}, {}])
         if SPEC:

@@ -65,7 +65,7 @@ pub struct Exports<'i, 'a> {
 }
 
 /// How many entries of the name table a call takes where each text is read by itself.
-const ROOM: usize = 16;
+const ROOM: usize = 32;
 
 /// How many texts that are not there count as the image.
 const SKIPPED: usize = 64;

@@ -66,6 +66,17 @@
 //!   [`Stack`], [`Registers`] or a [`MemoryPiece`], has all its fields.
 //! - The feature `serde` has records implement `Serialize`, also with fields of `pe.h`: names are texts with U+FFFD for what is not UTF-8,
 //!   contents hexadecimal digits, GUIDs texts, errors their texts.
+//!
+//! ```
+//! # #[cfg(feature = "serde")] {
+//! # let bytes: &[u8] = include_bytes!(concat!(env!("CARGO_MANIFEST_DIR"), "/../../crates/peinfo/data/i.bin"));
+//! let image = pe_c::Image::parse(bytes, pe_c::Mode::Strict)?;
+//! let section = serde_json::to_value(image.sections()[0]).expect("a record");
+//! assert_eq!((section["name"].as_str(), section["virtual_address"].as_u64()), (Some(".rdata"), Some(0x1000)));
+//! # }
+//! # Ok::<(), pe_c::Error>(())
+//! ```
+//!
 //! - `{:?}` of a record prints names as texts, up to 256 bytes of each, and contents by how many bytes they have: never the file.
 //! - An `offset` counts bytes from the start of the image's bytes: a file offset, or in a module in memory an RVA.
 //! - The docs of a call list its errors in the order in which they are tested.
@@ -96,6 +107,11 @@
 #![warn(unsafe_op_in_unsafe_fn)]
 
 extern crate alloc;
+
+/// The program of README, as a test of documents.
+#[cfg(doctest)]
+#[doc = include_str!("../README.md")]
+struct Readme;
 
 mod arm64;
 mod bound_imports;

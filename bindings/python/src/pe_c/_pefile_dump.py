@@ -247,6 +247,14 @@ def _entry_lines(entry: _names.ResourceDirEntryData, level: int) -> typing.Itera
     yield from _indented(entry.struct.dump(), 2 if level == 0 else 6)
 
 
+def _strings_lines(strings: dict[int, str]) -> typing.Iterator[str]:
+    """The texts of a string table by their ids."""
+    if strings:
+        yield f"{' ' * 10}[STRINGS]"
+        yield from (f"{' ' * 12}{number:6d}: {text.encode('unicode-escape', 'backslashreplace').decode('ascii')}"
+                    for number, text in sorted(strings.items()))
+
+
 def _resources_lines(root: _names.ResourceDirData) -> typing.Iterator[str]:
     yield from root.struct.dump()
     for kind in root.entries:
@@ -259,6 +267,7 @@ def _resources_lines(root: _names.ResourceDirData) -> typing.Iterator[str]:
                     yield from _indented(name.directory.struct.dump(), 8)
                     for it in name.directory.entries:
                         yield from _language_lines(it)
+                    yield from _strings_lines(name.directory.__dict__.get("strings", {}))
             yield ""
     yield ""
 

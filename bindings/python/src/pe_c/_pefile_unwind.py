@@ -5,6 +5,7 @@ they mean, and not both flags of handlers. The structure of a code is known wher
 as compilers write them."""
 from __future__ import annotations
 
+import functools
 import struct
 import typing
 from typing import Any
@@ -18,6 +19,11 @@ _REGISTERS = {number: name for name, number in _tables.registers}
 _XMM = 17
 _HEADER = ("UNWIND_INFO", ("B:3,Version", "B:5,Flags", "B,SizeOfProlog", "B,CountOfCodes", "B:4,FrameRegister", "B:4,FrameOffset"))
 _SHORTEST = "the codes of this record do not fill it in their shortest forms, and the library for C does not return which form each has"
+
+
+@functools.lru_cache(maxsize=64)
+def _slots(format: Format) -> int:
+    return StructureWithBitfields(format).sizeof() // 2
 
 
 class PrologEpilogOp:
@@ -45,7 +51,7 @@ class PrologEpilogOp:
 
     def length_in_code_structures(self, unw_code: Any = None, unw_info: Any = None) -> int:
         """How many UNWIND_CODE structures the code occupies."""
-        return StructureWithBitfields(self._format()).sizeof() // 2
+        return _slots(self._format())
 
     def is_valid(self) -> bool:
         return True
@@ -241,9 +247,9 @@ def _codes(info: UnwindInfo, codes: typing.Sequence[Any], offset: int) -> list[P
     plain = (_plain(it, info) for it in codes if it.operation != _EPILOG)
     found = [*_epilogs([it for it in codes if it.operation == _EPILOG]), *(it for it in plain if it is not None)]
     lengths = [it.length_in_code_structures() for it in found]
-    at = 4
+    at, is_full = 4, sum(lengths) == info.CountOfCodes
     for it, length in zip(found, lengths):
-        if sum(lengths) == info.CountOfCodes:
+        if is_full:
             it._offset, it._data = offset + at, info._whole[at:at + 2 * length]
         at += 2 * length
     return found

@@ -6,6 +6,15 @@ use core::fmt;
 
 /// Why an element of a signature is refused, and where. Signatures are written by DER, as elements of a tag, a length and a content,
 /// in each other; a call reads the elements that its type has, and refuses the first that is not as the grammar has it.
+///
+/// ```
+/// use pe_c::{Error, Signature};
+///
+/// // A SET, where a signature starts with a SEQUENCE.
+/// let refused = Signature::parse(&[0x31, 0]).unwrap_err();
+/// assert_eq!((refused.error, refused.offset), (Error::SIGNATURE_TAG, 0));
+/// assert_eq!((refused.value, refused.expected), (0x31, 0x30));
+/// ```
 #[derive(Clone, Copy, Debug, PartialEq, Eq)]
 pub struct SignatureError {
     /// What is wrong: one of the constants of [`Error`] that start with `SIGNATURE_`.
