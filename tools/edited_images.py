@@ -32,7 +32,8 @@ HAZARDS = {
     "two directories": (0.02, "image has no resource directory"),
     "a language by a name": (0.03, "resource has a range outside of the array, or an id or language above 65,535"),
     "a leaf twice": (0.03, "resource is not sorted after the one before it"),
-    # Drawn with the slack: the section has more data in the file than pages in memory, and as many pages would end after the image.
+    # These two come with the slack: the section has more data in the file than pages in memory, and as many pages would end after the
+    # image; and the debug entries are there.
     "data that reach past the image": (0, "section shares bytes or pages with the resource section or headers, or is after it"),
     "debug entries past the image": (0, "the entry point, a directory or a base relocation leads where the resources go"),
 }
@@ -219,7 +220,7 @@ def record_of(chance):
 class Made:
     def __init__(self, chance):
         self.chance = chance
-        self.hazards = {name for name, (often, _) in HAZARDS.items() if chance.random() < often}
+        self.hazards = {name for name, (often, _) in HAZARDS.items() if often and chance.random() < often}
         if ALONE in self.hazards:
             self.hazards -= OF_SECTION
         elif "two directories" in self.hazards:

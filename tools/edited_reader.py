@@ -19,7 +19,8 @@ Section = collections.namedtuple("Section", "name size rva raw pointer flags")
 class Read:
     def __init__(self, bytes_):
         self.bytes = bytes_
-        start = self.at("<I", 60)[0] + 4
+        self.start = self.at("<I", 60)[0]
+        start = self.start + 4
         self.fields = dict(zip(COFF, self.at("<HHIIIHH", start)))
         optional, is_wide = start + 20, self.at("<H", start + 20)[0] == 0x20B
         form = "<HBB5I" + ("Q" if is_wide else "II") + "II6HIIIIHH" + ("QQQQ" if is_wide else "IIII") + "II"
@@ -30,6 +31,7 @@ class Read:
         self.directories += [(0, 0)] * (16 - len(self.directories))
         table = optional + self.fields["SizeOfOptionalHeader"]
         self.sections = [self.section(table + 40 * index) for index in range(self.fields["NumberOfSections"])]
+        self.table_end = table + 40 * len(self.sections)
 
     def at(self, form, place):
         return struct.unpack_from(form, self.bytes, place)
