@@ -84,9 +84,9 @@ static uint64_t look_up(const pdb *it, const char *call, uint32_t rva)
         return 0;
     if (strcmp(call, "symbol") == 0)
         return 1;
-    pe_c_find_pdb_inlined(module_bytes, it->module_length, &it->module, &found, rva, ids, it->ids_length, id_starts, it->id_entries,
-                          frames, 64, &written);
-    return written;
+    const uint32_t result = pe_c_find_pdb_inlined(module_bytes, it->module_length, &it->module, &found, rva, ids, it->ids_length,
+                                                  id_starts, it->id_entries, frames, 64, &written);
+    return result == PE_C_DONE ? written : 0;
 }
 
 /* Makes a call on the whole PDB. Returns how many entries it has. */
