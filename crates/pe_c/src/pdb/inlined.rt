@@ -313,6 +313,10 @@ pub extern "C" fn pe_c_find_pdb_inlined(
     if frames.len() > room.len() {
         return ROOM;
     }
+    // Most RVAs have none: the lines of a module are many.
+    if frames.is_empty() {
+        return DONE;
+    }
     let inlinees = inlinees_at(bytes, &module.lines);
     put_inlined(&inlinees, &TypeRecords::parse(ids), starts, frames, room);
     DONE
