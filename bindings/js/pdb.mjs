@@ -6,6 +6,8 @@ import { PeError, width } from './memory.mjs';
 
 const INFO_STREAM = 1, DBI_STREAM = 3, NO_STREAM = 0xFFFF;
 const S_PUB32 = 0x110E, PROCEDURES = [0x110F, 0x1110, 0x1146, 0x1147];
+// How many times the bytes of streams are read for the names of files.
+const READINGS = 4;
 // Lines that say of code that it has none.
 const NO_LINES = [0, 0xF00F00, 0xFEEFEE];
 const utf8 = new TextDecoder('utf-8', { ignoreBOM: true });
@@ -100,13 +102,21 @@ class Symbols extends File {
     return found && this.#lineOf(found);
   }
 
+  /** All lines. The names of files of a hostile module may be far longer together than their streams: then those after a bound are null. */
   allLines() {
     const [at, count] = this.#lines, found = memoryOf(this).readAll('pe_c_pdb_line_entry', Number(at), Number(count));
-    return found.map((it) => this.#lineOf(it.line));
+    let left = READINGS * (this.length + Number(this.#names[1]));
+    const lines = found.map(({ line }) => {
+      const isKnown = this.#last.file === line.file, told = this.#lineOf(isKnown || left > 0 ? line : { ...line, file: null });
+      if (!isKnown) left -= told.file?.length ?? Number(this.#names[1]);
+      return told;
+    });
+    return Object.assign(lines, { isLimited: left <= 0 });
   }
 
   #lineOf({ rva, code_size: codeSize, file, line, column }) {
-    return { rva, codeSize, file: this.#fileName(file), line: NO_LINES.includes(line) ? null : line, column: column || null };
+    const path = file === null ? null : this.#fileName(file);
+    return { rva, codeSize, file: path, line: NO_LINES.includes(line) ? null : line, column: column || null };
   }
 
   /** The path of a source file, or null where it is refused. Most lines have the file of the one before. */
@@ -219,7 +229,7 @@ export class Pdb extends File {
 
   /** The lines of a module, by their RVAs; of several at one RVA the last counts. */
   lines(module) {
-    if (module.stream === null) return [];
+    if (module.stream === null) return Object.assign([], { isLimited: false });
     const sections = this.#sectionHeaders(), names = this.#fileNames(), memory = memoryOf(this);
     return lent(memory, () => {
       const symbols = new Symbols(memory, this.stream(module.stream), 1, {}, sections);

@@ -1065,6 +1065,7 @@ test('a PDB names functions and lines', () => {
     [['helper', 0x1050, 45, 0x1110], ['local', 0x1080, 12, 0x110F]]);
   assert.deepEqual(pdb.lines(own).map((it) => [it.rva, it.file, it.line]), [[0x1050, 'b.c', 4], [0x1058, 'b.c', 5],
     [0x1065, 'generated\\else.inc', 900], [0x1071, 'b.c', 9], [0x1080, 'b.c', 1], [0x1085, 'b.c', 2]]);
+  assert.deepEqual([pdb.lines(own).isLimited, pdb.lines({ ...own, stream: null }).length], [false, 0]);
   const found = (rva, options) => Object.values(pdb.find(rva, options) ?? {});
   assert.deepEqual(found(0x1048), ['entry', 0x1000, 0x48, 'procedure', 'a.c', 6, null]);
   assert.deepEqual(found(0x1065), ['helper', 0x1050, 0x15, 'procedure', 'generated\\else.inc', 900, null]);
