@@ -1,8 +1,8 @@
 //! The functions of x64 images, their unwind records and scope tables.
 
 use super::made::{
-    ARM64, EXCEPTION_SIZE, FUNCTION_INDEX, OVER, SHORT, UNTOUCHED, UNWIND_VERSION, X64, directory,
-    having, image, of_range, range, sections, untouched, view, words,
+    ARM64, EXCEPTION_SIZE, FUNCTION_INDEX, OVER, SHORT, UNTOUCHED, X64, directory, having, image,
+    of_range, range, sections, untouched, view, words,
 };
 use super::steps::pe_c_function_at;
 use crate::image::Image;
