@@ -445,7 +445,6 @@ fn inlined_functions_have_a_limit(rt: HostRuntime) -> Result<(), Fail> {
     assert_eq!(rt; left, 0);
     assert!(rt; InlineStack::new(&deep, 0, 8)?.frames().is_empty());
     let deeper = nested(rt.alloc(), MOST_INLINED + 1)?;
-    // shows: pe_pdb/src/inline_stack.rt new InlineDepth
     let refused = |offset| match InlineStack::new(&deeper, 0, offset) {
         Ok(_) => None,
         Err(error) => Some(error),
