@@ -155,7 +155,8 @@ fn what_base_relocations_change_stays() {
 fn contents_that_resources_share_are_bounded() {
     let folder = Folder::new("edits-shared");
     let made = |count: u32| {
-        let mut tree = vec![0, 0, 0, 1 << 16, 10, 1 << 31 | 24, 0, 0, 0, 1 << 16, 1, 1 << 31 | 48, 0, 0, 0, count << 16];
+        let mut tree =
+            vec![0, 0, 0, 1 << 16, 10, 1 << 31 | 24, 0, 0, 0, 1 << 16, 1, 1 << 31 | 48, 0, 0, 0, count << 16];
         tree.extend((0..count).flat_map(|it| [it + 1, 64 + 8 * count]));
         tree.extend([0x1000 + 80 + 8 * count, 24_000, 0, 0]);
         let section = [words(&tree), vec![b'x'; 24_000]].concat();
@@ -194,7 +195,8 @@ fn block(key: &str, value: &[u8], kind: u16, children: &[Vec<u8>]) -> Vec<u8> {
 /// Version information with blocks that few readers know: this version of the file, and these values of the string `OWN`.
 fn version(number: u8, values: [&str; 2], more: &[Vec<u8>]) -> Vec<u8> {
     let text = |it: &str| it.encode_utf16().chain([0]).flat_map(u16::to_le_bytes).collect::<Vec<u8>>();
-    let inner = block("Inner", &[1, 2, 3, 4], 0, &[block("Deep", &[5, 6, 7, 8], 0, &[block("Deeper", &[9, 9], 0, &[])])]);
+    let inner =
+        block("Inner", &[1, 2, 3, 4], 0, &[block("Deep", &[5, 6, 7, 8], 0, &[block("Deeper", &[9, 9], 0, &[])])]);
     let first = [block("OWN", &text(values[0]), 1, &[inner.clone()]), block("binary", &[7, 0, 7, 0], 0, &[])];
     let second = [block("Comments", &text("stays"), 1, &[]), block("own", &text(values[1]), 1, &[])];
     let tables = |it: &[Vec<u8>]| [block("040904b0", b"", 1, &[it, more].concat())];
@@ -205,7 +207,8 @@ fn version(number: u8, values: [&str; 2], more: &[Vec<u8>]) -> Vec<u8> {
         block("StringFileInfo", b"", 1, &tables(&second)),
         block("VarFileInfo", b"", 1, &pairs),
     ];
-    let fixed = [&words(&[0xFEEF_04BD, 0x1_0000, 0, u32::from(number) << 16, 7, 7]), &[0xA5; 28][..], &[1, 2, 3, 4]].concat();
+    let fixed =
+        [&words(&[0xFEEF_04BD, 0x1_0000, 0, u32::from(number) << 16, 7, 7]), &[0xA5; 28][..], &[1, 2, 3, 4]].concat();
     block("VS_VERSION_INFO", &fixed, 0, &infos)
 }
 

@@ -623,16 +623,17 @@ static uint32_t first_te_key(Image *self, pe_c_key *out)
 ONE(te_symbol_key, pe_c_key, first_te_key(self, &item), ROW_OF(key))
 LISTED(list_symbols, pe_c_list_symbols(BYTES, walk, runs, run_count, items, most, count))
 
-/* The COFF symbols, whose names are read together. A name that is refused ends the list before its symbol; a string table that is,
- * the list before the first. */
+/* The COFF symbols, whose names are read together. A name that is refused ends the list before its symbol. In facts a string table that
+ * is refused refuses all of them, as in `pe`. */
 METHOD(symbols)
 {
     OPEN_OWN
     pe_c_named_symbol_walk walk = PE_C_EMPTY;
     Chunk chunk = {NULL, NULL, 0, 0};
+    walk.strings = self->strings;
     rows = rows_of(self, &budget);
     uint32_t result = pe_c_coff_symbols(BYTES, &self->coff, &walk.symbols), strings = PE_C_NOTHING;
-    if (result == PE_C_DONE)
+    if (result == PE_C_DONE && self->is_exact)
         strings = pe_c_coff_strings(BYTES, &self->coff, &walk.strings);
     starts(&rows, strings == PE_C_NOTHING ? result : strings);
     while (next_items(&rows, &chunk, sizeof(pe_c_named_symbol), list_symbols, &walk))
