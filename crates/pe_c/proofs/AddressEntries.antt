@@ -4,7 +4,7 @@ use Rattle.std.specs.Prelude.{◌==◌, if◌then◌else◌}
 use Rattle.std.specs.Option.{option_and_then, option_map}
 use Rattle.pe_core.specs.Bytes.{holds, le, record_at}
 use Rattle.pe_core.specs.ExportAddresses.{AddressesView, address_at, address_with, forwarder_text, lies_in}
-use Rattle.pe_core.specs.Exports.{ExportDataView, ExportView, export_data_at, image_name, named_export, table_at, table_entry, text_at_address}
+use Rattle.pe_core.specs.Exports.{ExportDataView, export_data_at, image_name, named_export, table_at, table_entry, text_at_address}
 use Rattle.pe_core.specs.Records.{export_directory}
 use Rattle.pe_core.specs.Refusals.{Refusal, ◌>>=◌}
 use Rattle.pe_core.specs.SectionMap.{mapped}

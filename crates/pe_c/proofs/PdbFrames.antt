@@ -5,10 +5,9 @@ use Rattle.pe_pdb.specs.Ids.{types_of}
 use Rattle.pe_pdb.specs.Inlinees.{inline_line}
 use Rattle.pe_pdb.specs.Refusals.{PdbRefusal}
 use Rattle.pe_pdb.specs.declared.inline_rows.InlineRow.{InlineRow}
-use Rattle.pe_pdb.specs.declared.inline_walk.InlineFrame.{InlineFrame}
 use Rattle.pe_pdb.specs.declared.inlinee.InlineeLine.{InlineeLine}
 use Rattle.pe_pdb.specs.declared.inlinee.SourceLine.{SourceLine}
-use Rattle.pe_c.specs.PdbFrames.{Named, Placed, all_named, all_placed, named, placed, with_lines}
+use Rattle.pe_c.specs.PdbFrames.{all_named, all_placed, named, placed, with_lines}
 use Rattle.pe_c.specs.PdbInlined.{bare, inlined_by, inlined_functions, inlinee_in, inlinees_at, line_put, name_found, name_put, source_put, stack_at}
 use Rattle.pe_c.specs.declared.pdb.inlined.FunctionName.{FunctionName}
 use Rattle.pe_c.specs.declared.pdb.inlined.PdbInlined.{PdbInlined}

@@ -1,5 +1,5 @@
 -- All bytes of a stream of a PDB, put to the start of a room.
-use Rattle.std.proofs.Common.{◌≡◌, ℕ, ◌+◌, ◌-◌, ◌≤◌, ◌∙◌, refl, ap, sym, arith, List, length, rules}
+use Rattle.std.proofs.Common.{◌≡◌, ℕ, ◌+◌, ◌-◌, ◌∙◌, ap, arith, List, length}
 use Rattle.std.specs.Prelude.{◌++◌, take, drop}
 use Rattle.std.proofs.lemmas.List.{take_all}
 use Rattle.pe_core.specs.Bytes.{range, splice}

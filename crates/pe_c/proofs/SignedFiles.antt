@@ -1,5 +1,5 @@
 -- Files with other certificates, as numbers. pe_sign writes a file and then what was there, as a splice at 0 does.
-use Rattle.std.proofs.Common.{◌≡◌, ℕ, ◌+◌, ◌++◌, Bool, true, false, List, [], ◌∷◌, length, drop, Result, Ok, Err, refl, ap, sym, ◌∙◌, subst, arith, if◌then◌else◌}
+use Rattle.std.proofs.Common.{◌≡◌, ℕ, ◌+◌, ◌++◌, Bool, true, false, List, length, drop, Result, Ok, Err, refl, ap, sym, ◌∙◌, subst, arith, if◌then◌else◌}
 use Rattle.std.specs.Prelude.{nat_le}
 use Rattle.pe_core.specs.Bytes.{splice}
 use Rattle.pe_core.specs.Header.{HeaderView}

@@ -1,7 +1,7 @@
 -- What refuses a call as a number, and the numbers of that failure. An offset, a start or an end is the offset of the failure, bytes
 -- that are needed are its needed bytes, and any other number is its value; of a relocation's kind the RVA is the offset. A kind of
 -- failure that has none here is all zeros.
-use Rattle.std.specs.Prelude.{◌≡◌, ℕ, ◌==◌, ◌||◌, List, [], true, Option, Some, None, Result, Ok, Err, if◌then◌else◌}
+use Rattle.std.specs.Prelude.{◌≡◌, ℕ, ◌==◌, ◌||◌, List, true, Option, Some, None, Result, Ok, Err, if◌then◌else◌}
 use Rattle.pe_core.specs.Bytes.{holds, le}
 use Rattle.pe_core.specs.Refusals.{Refusal}
 use Rattle.pe_directories.specs.DirectoryRefusals.{DirectoryRefusal}

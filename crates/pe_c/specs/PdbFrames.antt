@@ -1,5 +1,5 @@
 -- What laws say of the frames of a PDB.
-use Rattle.std.specs.Prelude.{ℕ, List, map, Result, Ok, Err}
+use Rattle.std.specs.Prelude.{ℕ, List, map, Result, Ok}
 use Rattle.pe_core.specs.Refusals.{◌>>=◌}
 use Rattle.pe_pdb.specs.Refusals.{PdbRefusal}
 use Rattle.pe_c.specs.declared.pdb.inlined.PdbInlined.{PdbInlined}

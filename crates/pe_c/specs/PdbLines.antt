@@ -1,5 +1,5 @@
 -- Indexes of the lines of a module of a PDB, which a caller keeps, and the names of source files. Every list of entries is legal.
-use Rattle.std.specs.Prelude.{◌≡◌, ℕ, ◌+◌, ◌==◌, Bool, true, false, List, [], ◌∷◌, drop, length, nat_le, take, Option, Some, None, Result, Ok, Err, if◌then◌else◌}
+use Rattle.std.specs.Prelude.{◌≡◌, ℕ, ◌+◌, Bool, true, false, List, drop, length, nat_le, take, Option, Some, None, Result, Ok, Err}
 use Rattle.std.specs.List.Sorted.{IsNonDecreasingBy}
 use Rattle.std.specs.Option.{option_map}
 use Rattle.pe_core.specs.Refusals.{◌>>=◌}

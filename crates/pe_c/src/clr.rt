@@ -44,7 +44,7 @@ pub struct MetadataStreams {
 #[repr(C)]
 #[derive(Clone, Copy)]
 pub struct Metadata {
-    /// The field of the version text, as `v4.0.30319`: UTF-8 up to the first zero, and the zeros that fill it up.
+    /// The field of the version text, as `v4.0.30319`, and the zeros that fill it up. Whether it is UTF-8 is not tested.
     pub version: Range,
     /// A walk for `pe_c_next_metadata_stream`, at its start, with the range of the metadata.
     pub streams: MetadataStreams,
