@@ -361,7 +361,7 @@ fn contributions_are_those_that_pdbutil_lists(rt: HostRuntime) -> Result<(), Fai
         pe_c_pdb_module_ranges(&dbi, &part, &sections, &mut room, &mut written),
         DONE
     );
-    let listed = [(0x1000, 73, 0), (0x1050, 45, 1), (0x1080, 12, 1)];
+    let listed = [(0x1000, 73, 0), (0x1050, 60, 1), (0x2000, 56, 2)];
     for (range, wanted) in room.iter().zip(listed) {
         assert_eq!(rt; (range.start, range.size, range.module_index), wanted);
     }

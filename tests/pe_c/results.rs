@@ -221,6 +221,11 @@ fn results_have_texts(rt: HostRuntime) {
     check_text(&rt, 622, "records of a PDB have 4 GB or more");
     check_text(&rt, 624, "unknown version of the section contributions");
     check_text(&rt, 626, "annotation of an inlined function truncated");
+    check_text(
+        &rt,
+        627,
+        "more than 64 inlined functions at one offset of a procedure",
+    );
     for unknown in [
         39,
         99,
@@ -238,7 +243,7 @@ fn results_have_texts(rt: HostRuntime) {
         550,
         561,
         600,
-        627,
+        628,
         u32::MAX,
     ] {
         check_text(&rt, unknown, "unknown result");
@@ -258,7 +263,7 @@ fn texts_differ(rt: HostRuntime) {
             || 513 < number && number < 551
             || 560 < number && number < 601
     };
-    for one in 0..=626 {
+    for one in 0..=627 {
         for other in 0..one {
             if is_other(one) || is_other(other) {
                 continue;
