@@ -1043,7 +1043,7 @@ test('a PDB, its streams, modules and symbols', () => {
   assert.equal(library.file(names).utf8(path), 'generated\\else.inc');
   const ranges = Array.from({ length: 8 }, () => ({})), contributions = info.contributions;
   assert.equal(dbi.call('pe_c_pdb_module_ranges', { contributions, sections, room: ranges }), 8n);
-  assert.deepEqual(ranges[1], { start: 0x1050, size: 45, module_index: 1 });
+  assert.deepEqual(ranges[1], { start: 0x1050, size: 60, module_index: 1 });
   assert.equal(refused(() => library.file(file('imports')).call('pe_c_pdb')).constant, 'PE_C_PDB_MAGIC');
 });
 

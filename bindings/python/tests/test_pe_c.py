@@ -15,6 +15,7 @@ import random
 import re
 import resource
 import struct
+import shutil
 import subprocess
 import sys
 import tempfile
@@ -702,6 +703,7 @@ class Readme(unittest.TestCase):
             for name in ("x86_dll", "resources", "functions", "debug"):
                 with open(os.path.join(room, f"{name}.dll"), "wb") as file:
                     file.write(bytes_of(name))
+            shutil.copy(os.path.join(IMAGES, "t.pdb"), room)
             for sample in samples:
                 done = subprocess.run([sys.executable, "-c", f"import sys; sys.path[:] = {sys.path!r}\n{sample}"], cwd=room,
                                       capture_output=True, text=True, timeout=60)
