@@ -1,9 +1,9 @@
 // A program that uses each public name of the package's types, with the sample of tools/try_js, which compiles both by tsc --strict and
 // asks whether a name is missing.
 import { abi, constants, load, results, version, type Bytes, type Coff, type Dump, type DumpLists, type ExportedFunction, type File,
-  type FunctionName, type Image, type ImportedFunction, type ImportedLibrary, type Library, type Lists, type Module, type PeError,
-  type Process, type Resource, type Rows, type Signature, type Signer, type Symbols, type TeImage, type Version, type VersionBlock,
-  type VersionInfo } from 'pe-c';
+  type FunctionName, type Image, type ImportedFunction, type ImportedLibrary, type Library, type Lists, type Module, type Pdb,
+  type PdbFrame, type PdbLine, type PdbModule, type PdbSymbol, type PeError, type Process, type Resource, type Rows, type Signature,
+  type Signer, type Symbols, type TeImage, type Version, type VersionBlock, type VersionInfo } from 'pe-c';
 import { facts, factsOf, kindOf, type Facts } from 'pe-c/facts';
 
 /** What is imported and exported, as values and as records. */
@@ -90,6 +90,19 @@ function walked(library: Library, bytes: Bytes): unknown[] {
   return [frames.map((it) => it.way), process.images, process.damaged, process.call('pe_c_next_frame', { walk: { registers: { rip: 1n }, remaining: 1 } })];
 }
 
+/** What a PDB names. */
+function named(library: Library, bytes: Bytes): unknown[] {
+  const pdb: Pdb = library.openPdb(bytes), modules: PdbModule[] = pdb.modules(), publics: PdbSymbol[] = pdb.publics();
+  const found: unknown[] = [pdb.info.age, pdb.key.age, pdb.isMoved, pdb.damaged.map((it) => it.part), pdb.stream(1)];
+  for (const it of modules) {
+    const lines: PdbLine[] = pdb.lines(it);
+    found.push(lines.map((line) => [line.rva, line.codeSize, line.file, line.line, line.column]));
+    publics.push(...pdb.procedures(it));
+  }
+  const frame: PdbFrame | null = pdb.find(0x1048, { isReturn: true });
+  return [...found, publics.map((it) => [it.section, it.sectionOffset, it.isFunction]), frame && [frame.source, frame.start]];
+}
+
 /** Other files, and what the package says of itself. */
 function others(library: Library, bytes: Bytes): unknown[] {
   const object: Coff = library.openObject(bytes), te: TeImage = library.openTe(bytes), file: File = library.file(bytes);
@@ -104,5 +117,5 @@ export async function main(bytes: Bytes): Promise<unknown[]> {
   const said: Facts = facts(image, 'a.dll'), refused = factsOf(library, bytes, 'a.dll', { mode: 1 }), kind = kindOf(new Uint8Array(2));
   const digest: Uint8Array = await image.digest('SHA-512');
   return [names(image), parts(image), versions(image), signatures(image), written(library, image, digest), dumped(library, bytes),
-    walked(library, bytes), others(library, bytes), said.sections.length, refused.error, kind];
+    walked(library, bytes), named(library, bytes), others(library, bytes), said.sections.length, refused.error, kind];
 }

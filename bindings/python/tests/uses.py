@@ -201,6 +201,21 @@ def others(folder: str) -> list[object]:
     return [*found, stack.end, pe_c.__version__]
 
 
+def named(folder: str) -> list[object]:
+    with pe_c.Pdb.open(os.path.join(folder, "t.pdb")) as pdb:
+        info: pe_c.PdbInfo = pdb.info
+        modules: pe_c.Part[pe_c.PdbModule] = pdb.modules
+        publics: pe_c.Part[pe_c.PdbSymbol] = pdb.publics
+        procedures: pe_c.Part[pe_c.PdbSymbol] = pdb.procedures(modules[0])
+        lines: pe_c.Part[pe_c.PdbLine] = pdb.lines(modules[0])
+        frame: pe_c.PdbFrame | None = pdb.find(0x1048)
+        found: list[object] = [info, pdb.guid, pdb.age, pdb.is_moved, pdb.stream(1), publics, procedures, lines, pdb.functions]
+        if frame:
+            place: tuple[str | None, int | None, int | None] = frame.file, frame.line, frame.column
+            found += [place, frame.name, frame.source, frame.start, frame.offset]
+        return [*found, pdb.matches(pe_c.open(os.path.join(folder, "editable.exe")))]
+
+
 def by_names(path: str) -> str:
     with pefile.PE(path, fast_load=True) as pe:
         structure: pefile.Structure = pe.FILE_HEADER
@@ -221,7 +236,7 @@ def main(folder: str) -> int:
                 count += lists(image) + len(records(image)) + len(versions(image)) + len(hashes(image)) + unwinding(image)
                 count += len(signatures(image)) + len(image.facts()) + len(image.to_dict()) + len(by_names(path))
     image = pe_c.open(os.path.join(folder, "editable.exe"))
-    count += len(written(image, b"content")) + len(typed_records(image)) + len(others(folder)) + len(ROWS)
+    count += len(written(image, b"content")) + len(typed_records(image)) + len(others(folder)) + len(named(folder)) + len(ROWS)
     try:
         report: pe_c.Report = image.report("/no/such/program")
         count += len(report.page) + len(pe_c.Report.of(image.memory, "a.exe", "pe").page)
