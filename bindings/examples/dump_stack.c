@@ -56,7 +56,8 @@ static uint32_t read_stacks(void)
         pe_c_dump_location at = thread.stack.memory;
         if (result == PE_C_DONE && at.rva != 0 && at.rva < dump_length) {
             uint64_t there = at.size < dump_length - at.rva ? at.size : dump_length - at.rva;
-            pieces[piece_count++] = (pe_c_memory_piece){thread.stack.start_of_memory_range, at.rva, there};
+            pe_c_memory_piece own = {thread.stack.start_of_memory_range, at.rva, there};
+            pieces[piece_count++] = own;
         }
     }
     return result;
