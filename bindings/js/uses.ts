@@ -1,8 +1,9 @@
 // A program that uses each public name of the package's types, with the sample of tools/try_js, which compiles both by tsc --strict and
 // asks whether a name is missing.
 import { abi, constants, load, results, version, type Bytes, type Coff, type Dump, type DumpLists, type ExportedFunction, type File,
-  type FunctionName, type Image, type ImportedFunction, type ImportedLibrary, type Library, type Lists, type Module, type PeError,
-  type Process, type Resource, type Rows, type Signature, type Signer, type Symbols, type TeImage, type Version, type VersionBlock,
+  type FunctionName, type Image, type ImportedFunction, type ImportedLibrary, type Library, type Lists, type Module, type Pdb,
+  type PdbFrame, type PdbLine, type PdbModule, type PdbSymbol, type PeError, type Process,
+  type Resource, type Rows, type Signature, type Signer, type Symbols, type TeImage, type Version, type VersionBlock,
   type VersionInfo } from 'pe-c';
 import { facts, factsOf, kindOf, type Facts } from 'pe-c/facts';
 
@@ -90,6 +91,15 @@ function walked(library: Library, bytes: Bytes): unknown[] {
   return [frames.map((it) => it.way), process.images, process.damaged, process.call('pe_c_next_frame', { walk: { registers: { rip: 1n }, remaining: 1 } })];
 }
 
+function databases(library: Library, bytes: Bytes): unknown[] {
+  const pdb: Pdb = library.openPdb(bytes), [module]: PdbModule[] = pdb.modules(), own: PdbFrame | null = pdb.find(1);
+  const symbols: PdbSymbol[] = [...pdb.publics(), ...pdb.procedures(module)], lines: PdbLine[] = pdb.lines(module);
+  const frames: PdbFrame[] = pdb.frames(1, { isReturn: true }), isLimited: boolean = pdb.frames(1).isLimited;
+  return [isLimited, frames.map((it) => [it.name, it.start, it.offset, it.source, it.file, it.line, it.column, it.isInlined]), own,
+    symbols.map((it) => [it.section, it.sectionOffset, it.isFunction, it.error]), lines.map((it) => it.codeSize), pdb.isMoved, pdb.key,
+    pdb.damaged.map((it) => [it.part, it.error.call]), pdb.stream(1), pdb.info];
+}
+
 /** Other files, and what the package says of itself. */
 function others(library: Library, bytes: Bytes): unknown[] {
   const object: Coff = library.openObject(bytes), te: TeImage = library.openTe(bytes), file: File = library.file(bytes);
@@ -104,5 +114,5 @@ export async function main(bytes: Bytes): Promise<unknown[]> {
   const said: Facts = facts(image, 'a.dll'), refused = factsOf(library, bytes, 'a.dll', { mode: 1 }), kind = kindOf(new Uint8Array(2));
   const digest: Uint8Array = await image.digest('SHA-512');
   return [names(image), parts(image), versions(image), signatures(image), written(library, image, digest), dumped(library, bytes),
-    walked(library, bytes), others(library, bytes), said.sections.length, refused.error, kind];
+    walked(library, bytes), databases(library, bytes), others(library, bytes), said.sections.length, refused.error, kind];
 }

@@ -14,6 +14,7 @@ import pickle
 import random
 import re
 import resource
+import shutil
 import struct
 import subprocess
 import sys
@@ -702,6 +703,8 @@ class Readme(unittest.TestCase):
             for name in ("x86_dll", "resources", "functions", "debug"):
                 with open(os.path.join(room, f"{name}.dll"), "wb") as file:
                     file.write(bytes_of(name))
+            for name in ("t.pdb", "inlined.pdb"):
+                shutil.copy(os.path.join(IMAGES, name), room)
             for sample in samples:
                 done = subprocess.run([sys.executable, "-c", f"import sys; sys.path[:] = {sys.path!r}\n{sample}"], cwd=room,
                                       capture_output=True, text=True, timeout=60)
