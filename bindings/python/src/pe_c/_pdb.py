@@ -130,17 +130,22 @@ class _Functions:
         # Of several at one RVA, as a linker folds equal ones, that of the last module counts.
         self._starts = sorted(rva << 32 | number for number, it in self.modules.items() for rva in it.starts())
 
+    def _module_at(self, rva: int) -> int | None:
+        """The number of the module that may have an RVA, by the last procedure that starts at it or before it."""
+        index = bisect.bisect_right(self._starts, rva << 32 | 0xFFFFFFFF) - 1
+        return None if index < 0 else self._starts[index] & 0xFFFFFFFF
+
     def procedure(self, rva: int) -> tuple[PdbSymbol, int] | None:
         """The procedure that has an RVA, and the number of its module."""
-        index = bisect.bisect_right(self._starts, rva << 32 | 0xFFFFFFFF) - 1
-        if index < 0:
-            return None
-        module = self._starts[index] & 0xFFFFFFFF
-        found = self.modules[module].find(rva)
-        return None if found is None else (found, module)
+        module = self._module_at(rva)
+        found = None if module is None else self.modules[module].find(rva)
+        return None if module is None or found is None else (found, module)
 
-    def inlined(self, rva: int, number: int) -> _Inlined:
-        """The functions that are inlined at an RVA of a procedure of a module. Most RVAs have none: the ids are read when one has."""
+    def inlined(self, rva: int) -> _Inlined:
+        """The functions that are inlined at an RVA of a procedure. Most RVAs have none: the ids are read when one has."""
+        number = self._module_at(rva)
+        if number is None:
+            return (), 0, False
         lines, module = self.lines(number), self.modules[number]
         words = rva, _pair(self._pdb.modules[number].lines)
         files = lines.files, self._pdb._names[0]
@@ -372,17 +377,14 @@ class Pdb(Reader):
         why those that are inlined, or a name or a line of one, are refused; so does `warnings`. Where files have names that are longer
         together than the PDB accounts for, as in a hostile one, some have no file, and it `is_limited`."""
         own, known = self.find(rva, is_return), self._functions
-        found = known.procedure(rva - is_return) if own and own.source == "procedure" and isinstance(known, _Functions) else None
-        if own is None or found is None or isinstance(known, Error):
+        if own is None or own.source == "public" or isinstance(known, Error):
             return Part(() if own is None else (own,))
-        rows, number, is_limited = known.inlined(rva - is_return, found[1])
+        rows, number, is_limited = known.inlined(rva - is_return)
         inlined = (PdbFrame(name, own.start, own.offset, own.source, file, line, None, True) for name, file, line, *_ in rows or ())
         return self._part_of(((*inlined, own), number, is_limited), f"inlined functions at 0x{rva:x}")
 
-    def _cost_of(self, found: PdbFrame | None) -> int:
+    def _cost_of(self, found: PdbFrame) -> int:
         """How many bytes of names were read to find it: of a file whose name is refused as much as all names."""
-        if found is None:
-            return 0
         file = len(found.file) if found.file is not None else len(self._names[0]) if found.line else 0
         return len(found.name) + file
 
