@@ -4,10 +4,12 @@ import { File, memoryOf, ownOf, placed } from './calls.mjs';
 import { constants } from './layouts.mjs';
 import { PeError, width } from './memory.mjs';
 
-const INFO_STREAM = 1, DBI_STREAM = 3, NO_STREAM = 0xFFFF;
+const INFO_STREAM = 1, DBI_STREAM = 3, ID_STREAM = 4, NO_STREAM = 0xFFFF;
 const S_PUB32 = 0x110E, PROCEDURES = [0x110F, 0x1110, 0x1146, 0x1147];
 // How many times the bytes of streams are read for the names of files.
 const READINGS = 4;
+// How many inlined functions an RVA has at most.
+const MOST_INLINED = 64;
 // Lines that say of code that it has none.
 const NO_LINES = [0, 0xF00F00, 0xFEEFEE];
 const utf8 = new TextDecoder('utf-8', { ignoreBOM: true });
@@ -102,6 +104,34 @@ class Symbols extends File {
     return found && this.#lineOf(found);
   }
 
+  /** The functions that are inlined at an RVA of a procedure of a module, the innermost first. `ids` are the addresses and lengths of the
+   * bytes of the stream of ids and of where its records start; of their files those after a bound are null, as of all lines. */
+  inlined({ symbols, lines }, rva, ids) {
+    const memory = memoryOf(this);
+    const found = lent(memory, () => this.#inlinedAt({ symbols, lines }, rva, ids));
+    let left = READINGS * (this.length + Number(this.#names[1]));
+    const told = found.map((it) => {
+      const hasLine = it.line_result === constants.PE_C_DONE && this.#files !== undefined, isLeft = left > 0;
+      const file = hasLine && isLeft ? this.#fileName(it.file) : null;
+      if (hasLine) left -= file?.length ?? Number(this.#names[1]);
+      return { ...it, file, line: it.line_result === constants.PE_C_DONE ? it.line : null };
+    });
+    return Object.assign(told, { isLimited: left <= 0 });
+  }
+
+  #inlinedAt(module, rva, ids) {
+    const memory = memoryOf(this), { bytes, length } = ownOf(this);
+    const [at, procedure, room, count] = [width('pe_c_pdb_module'), width('pe_c_pdb_symbol'), MOST_INLINED * width('pe_c_pdb_inlined'), 8]
+      .map((it) => memory.reserve(it));
+    memory.write('pe_c_pdb_module', at, module);
+    const words = [this.#kind, bytes, length, ...this.#sections, ...this.#index, rva, BigInt(procedure)];
+    if (memory.make('pe_c_find_pdb_symbol', words) !== constants.PE_C_DONE) return [];
+    const more = [rva, ...ids, BigInt(room), BigInt(MOST_INLINED), BigInt(count)];
+    const result = memory.make('pe_c_find_pdb_inlined', [bytes, length, BigInt(at), BigInt(procedure), ...more]);
+    memory.isDone('pe_c_find_pdb_inlined', result);
+    return memory.readAll('pe_c_pdb_inlined', room, Number(memory.read('uint64_t', count)));
+  }
+
   /** All lines. The names of files of a hostile module may be far longer together than their streams: then those after a bound are null. */
   allLines() {
     const [at, count] = this.#lines, found = memoryOf(this).readAll('pe_c_pdb_line_entry', Number(at), Number(count));
@@ -140,6 +170,9 @@ export class Pdb extends File {
   #names = null;
   #publics;
   #functions = null;
+  // The bytes of the stream of ids and where its records start, once an RVA has an inlined function; and the parts that `frames` refused.
+  #ids = null;
+  #said = new Set();
   // What is refused of what was read.
   #errors = [];
 
@@ -269,7 +302,7 @@ export class Pdb extends File {
       });
       if (!symbols) continue;
       for (const rva of symbols.starts()) starts.push([rva, found.length]);
-      found.push(symbols);
+      found.push({ module, symbols });
       refusedIn(this.#errors, `lines of ${module.name}`, () => symbols.readLines(module.lines, this.#fileNames()));
     }
     // Of several at one RVA, as a linker folds equal ones, that of the last module counts.
@@ -287,23 +320,72 @@ export class Pdb extends File {
     return this.#errors.slice();
   }
 
-  /** The function at an RVA and its line, or null: see index.d.ts. */
-  find(rva, { isReturn = false } = {}) {
-    const at = rva - Number(isReturn), { starts, modules } = this.#read();
-    if (!(at >= 0 && at <= 0xFFFFFFFF)) return null;
+  /** The module that may have an RVA, by the last procedure that starts at it or before it, with its symbols; or null. */
+  #moduleAt(at) {
+    const { starts, modules } = this.#read();
     let low = 0, high = starts.length;
     while (low < high) {
       const middle = low + high >> 1;
       if (starts[middle][0] <= at) low = middle + 1;
       else high = middle;
     }
-    const module = low ? modules[starts[low - 1][1]] : null, found = module?.find(at) ?? null;
-    const symbols = found ? module : this.#publics, symbol = found ?? this.#publics?.find(at);
+    return low ? modules[starts[low - 1][1]] : null;
+  }
+
+  /** The function at an RVA and its line, or null: see index.d.ts. */
+  find(rva, { isReturn = false } = {}) {
+    const at = rva - Number(isReturn);
+    if (!(at >= 0 && at <= 0xFFFFFFFF)) return null;
+    const own = this.#moduleAt(at)?.symbols, found = own?.find(at) ?? null;
+    const symbols = found ? own : this.#publics, symbol = found ?? this.#publics?.find(at);
     if (!symbol) return null;
-    const line = found && module.line(at), none = { file: null, line: null, column: null };
+    const line = found && own.line(at), none = { file: null, line: null, column: null };
     const { file, line: number, column } = line && line.line !== null ? line : none;
     return { name: symbols.utf8(symbol.name), start: symbol.rva, offset: rva - symbol.rva,
-      source: found ? 'procedure' : 'public', file, line: number, column };
+      source: found ? 'procedure' : 'public', file, line: number, column, isInlined: false };
+  }
+
+  /** The functions at an RVA, the innermost first: see index.d.ts. */
+  frames(rva, options = {}) {
+    const own = this.find(rva, options), at = rva - Number(options.isReturn ?? false);
+    const found = own?.source === 'procedure' ? this.#inlined(this.#moduleAt(at), at) : Object.assign([], { isLimited: false });
+    const inlined = found.map(({ name, file, line }) => ({ ...own, name, file, line, column: null, isInlined: true }));
+    return Object.assign(own ? [...inlined, own] : [], { isLimited: found.isLimited });
+  }
+
+  /** The functions that are inlined at an RVA of a procedure of a module. Most RVAs have none: the ids are read when one has. */
+  #inlined({ module, symbols }, at) {
+    const part = `inlined functions of ${module.name}`, none = Object.assign([], { isLimited: false });
+    return this.#once(part, () => {
+      if (!this.#ids && !symbols.inlined(module, at, [0n, 0n, 0n, 0n]).length) return none;
+      this.#ids ??= this.#readIds();
+      const [bytes, length] = this.#ids, found = symbols.inlined(module, at, this.#ids), memory = memoryOf(this);
+      const text = ({ offset, length: size }) => memory.textAt(Number(bytes + offset), Number(size), utf8);
+      for (const it of found) {
+        it.name = it.name_result === constants.PE_C_DONE ? [it.scope, it.name].filter((one) => one.length).map(text).join('::') : '';
+        // Without ids no function has a name, which is said once.
+        for (const result of length ? [it.line_result, it.name_result] : [it.line_result]) {
+          this.#once(part, () => memoryOf(this).isDone('pe_c_find_pdb_inlined', result));
+        }
+      }
+      return found;
+    }) ?? none;
+  }
+
+  /** The bytes of the stream of ids and where its records start, as addresses and lengths: of no length where it is refused. */
+  #readIds() {
+    return this.#once('names of inlined functions', () => {
+      const memory = memoryOf(this), bytes = Object.values(placed(memory, this.stream(ID_STREAM)));
+      return [...bytes, ...listed(memory, 'pe_c_pdb_ids', 'uint64_t', bytes)];
+    }) ?? [0n, 0n, 0n, 0n];
+  }
+
+  /** What `make` returns, or null where it is refused: of each part `damaged` has the first error. */
+  #once(part, make) {
+    const errors = [], found = refusedIn(errors, part, make);
+    if (errors.length && !this.#said.has(part)) this.#errors.push(...errors);
+    if (errors.length) this.#said.add(part);
+    return found;
   }
 }
 

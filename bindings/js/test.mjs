@@ -1067,10 +1067,10 @@ test('a PDB names functions and lines', () => {
     [0x1065, 'generated\\else.inc', 900], [0x1071, 'b.c', 9], [0x1080, 'b.c', 1], [0x1085, 'b.c', 2]]);
   assert.deepEqual([pdb.lines(own).isLimited, pdb.lines({ ...own, stream: null }).length], [false, 0]);
   const found = (rva, options) => Object.values(pdb.find(rva, options) ?? {});
-  assert.deepEqual(found(0x1048), ['entry', 0x1000, 0x48, 'procedure', 'a.c', 6, null]);
-  assert.deepEqual(found(0x1065), ['helper', 0x1050, 0x15, 'procedure', 'generated\\else.inc', 900, null]);
-  assert.deepEqual(found(0x104F), ['entry', 0x1000, 0x4F, 'public', null, null, null]);
-  assert.deepEqual(found(0x1050, { isReturn: true }), ['entry', 0x1000, 0x50, 'public', null, null, null]);
+  assert.deepEqual(found(0x1048), ['entry', 0x1000, 0x48, 'procedure', 'a.c', 6, null, false]);
+  assert.deepEqual(found(0x1065), ['helper', 0x1050, 0x15, 'procedure', 'generated\\else.inc', 900, null, false]);
+  assert.deepEqual(found(0x104F), ['entry', 0x1000, 0x4F, 'public', null, null, null, false]);
+  assert.deepEqual(found(0x1050, { isReturn: true }), ['entry', 0x1000, 0x50, 'public', null, null, null, false]);
   assert.deepEqual(found(0xFFFFFFFF).slice(0, 2), ['helper', 0x1050]);
   assert.deepEqual([0xFFF, -1, 2 ** 32, NaN].map((it) => pdb.find(it)), [null, null, null, null]);
   assert.deepEqual([pdb.damaged, pdb.isMoved, pdb.stream(3).length], [[], false, 717]);
@@ -1096,8 +1096,64 @@ test('what is damaged of a PDB costs its own names', () => {
   assert.equal(refused(() => library.openPdb(new Uint8Array(3))).constant, 'PE_C_SHORT');
 });
 
+/** The PDB with inlined functions, with another byte in a stream that has one block or consecutive ones. */
+const inlinedPdb = (stream, at, byte) => {
+  const bytes = readFileSync(join(folder, 'inlined.pdb')), own = Buffer.from(library.openPdb(bytes).stream(stream));
+  bytes[bytes.indexOf(own) + at] = byte;
+  return library.openPdb(bytes);
+};
+const placed = (found) => found.map((it) => [it.name, it.file, it.line, it.isInlined]);
+
+// By what llvm-pdbutil and llvm-symbolizer print of the PDB of tests/pdb/c.c.
+test('a PDB has the functions that are inlined', () => {
+  const pdb = library.openPdb(readFileSync(join(folder, 'inlined.pdb')));
+  const clamp = ['clamp', 'c.h', 2, true], found = pdb.frames(0x1005);
+  assert.deepEqual(placed(pdb.frames(0x1004)), [['entry', 'c.c', 3, false]]);
+  assert.deepEqual(placed(found), [clamp, ['twice', 'c.h', 7, true], ['entry', 'c.c', 4, false]]);
+  assert.deepEqual(found.map((it) => [it.start, it.offset, it.source]), Array(3).fill([0x1000, 5, 'procedure']));
+  assert.deepEqual([found[0].column, found[2], found.isLimited], [null, pdb.find(0x1005), false]);
+  assert.deepEqual(placed(pdb.frames(0x1020)), [clamp, ['entry', 'c.c', 5, false]]);
+  assert.deepEqual(placed(pdb.frames(0x1065)), [['twice', 'c.h', 8, true], ['helper', 'c.c', 9, false]]);
+  assert.deepEqual(placed(pdb.frames(0x1005, { isReturn: true })), [['entry', 'c.c', 3, false]]);
+  assert.deepEqual([0xFFF, -1, 2 ** 32, NaN].map((it) => pdb.frames(it).length), [0, 0, 0, 0]);
+  assert.deepEqual(pdb.damaged, []);
+  assert.deepEqual([...pdbWith().frames(0x104F)], [pdbWith().find(0x104F)]);
+});
+
+// By the same, with the calls of pe.h alone.
+test('the calls that find inlined functions', () => {
+  const whole = library.openPdb(readFileSync(join(folder, 'inlined.pdb'))), [module] = whole.modules();
+  const ids = library.file(whole.stream(4)), own = library.file(whole.stream(module.stream)), sections = whole.stream(whole.info.section_headers);
+  assert.equal(refused(() => ids.call('pe_c_pdb_ids', { room: [] })).constant, 'PE_C_ROOM');
+  const starts = Array.from({ length: 10 }, () => 0n), index = [0n, 0n], kind = constants.PE_C_PDB_PROCEDURES;
+  assert.equal(ids.call('pe_c_pdb_ids', { room: starts }), BigInt(starts.length));
+  own.call('pe_c_pdb_index', { kind, symbols: module.symbols, sections, room: index });
+  const procedure = own.call('pe_c_find_pdb_symbol', { kind, sections, index, rva: 0x1005 }), room = [{}, {}];
+  const given = { module: { symbols: module.symbols, lines: module.lines }, procedure, rva: 0x1005, ids: whole.stream(4), starts, room };
+  assert.equal(own.call('pe_c_find_pdb_inlined', given), 2n);
+  assert.deepEqual(room.map((it) => [ids.utf8(it.name), it.line]), [['clamp', 2], ['twice', 7]]);
+});
+
+test('what is damaged of inlined functions costs them alone', () => {
+  const said = (pdb) => pdb.damaged.map(({ part, error }) => [part, error.constant]);
+  const ids = inlinedPdb(4, 56, 1), annotation = inlinedPdb(11, 192 + 16, 14), entry = ['entry', 'c.c', 4, false];
+  assert.deepEqual([ids.frames(0x1004).length, said(ids)], [1, []]);
+  for (let i = 0; i < 2; i++) {
+    assert.deepEqual(placed(ids.frames(0x1005)), [['', 'c.h', 2, true], ['', 'c.h', 7, true], entry]);
+    assert.deepEqual(said(ids), [['names of inlined functions', 'PE_C_PDB_RECORD_SIZE']]);
+    assert.deepEqual(placed(annotation.frames(0x1005)), [entry]);
+    assert.deepEqual(said(annotation).map(([, constant]) => constant), ['PE_C_PDB_ANNOTATION']);
+  }
+  assert.match(annotation.damaged[0].part, /^inlined functions of ./);
+  assert.equal(annotation.frames(0x1065).length, 2);
+});
+
 test('of a damaged PDB nothing but a PeError is thrown', () => {
-  const bytes = new Uint8Array(readFileSync(join(folder, 't.pdb')));
+  for (const name of ['t.pdb', 'inlined.pdb']) damagedPdbs(name);
+});
+
+function damagedPdbs(name) {
+  const bytes = new Uint8Array(readFileSync(join(folder, name)));
   let seed = 83, read = 0;
   const random = (below) => (seed = (Math.imul(seed, 1103515245) + 12345) >>> 0) % below;
   for (let i = 0; i < 100; i++) {
@@ -1105,15 +1161,15 @@ test('of a damaged PDB nothing but a PeError is thrown', () => {
     for (let j = 0; j < 3; j++) changed[[random(64), MODULE + random(bytes.length - MODULE), random(bytes.length)][j]] = random(256);
     try {
       const pdb = library.openPdb(changed);
-      for (let rva = 0xFF0; rva < 0x10A0; rva += 7) assert(pdb.find(rva)?.name !== '');
+      for (let rva = 0xFF0; rva < 0x10A0; rva += 7) assert(pdb.find(rva)?.name !== '' && pdb.frames(rva).at(-1)?.name !== '');
       read += pdb.damaged.length === 0;
       for (const it of pdb.modules()) pdb.lines(it), pdb.procedures(it);
     } catch (error) {
       if (!(error instanceof PeError)) throw error;
     }
   }
-  assert(read > 10, `${read}`);
-});
+  assert(read > 10, `${name} ${read}`);
+}
 
 /** A minidump whose exception's stream has 4 bytes. */
 function withoutException(bytes) {

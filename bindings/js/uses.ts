@@ -2,8 +2,9 @@
 // asks whether a name is missing.
 import { abi, constants, load, results, version, type Bytes, type Coff, type Dump, type DumpLists, type ExportedFunction, type File,
   type FunctionName, type Image, type ImportedFunction, type ImportedLibrary, type Library, type Lists, type Module, type Pdb,
-  type PdbFrame, type PdbLine, type PdbModule, type PdbSymbol, type PeError, type Process, type Resource, type Rows, type Signature,
-  type Signer, type Symbols, type TeImage, type Version, type VersionBlock, type VersionInfo } from 'pe-c';
+  type PdbFrame, type PdbLine, type PdbModule, type PdbSymbol, type PeError, type Process,
+  type Resource, type Rows, type Signature, type Signer, type Symbols, type TeImage, type Version, type VersionBlock,
+  type VersionInfo } from 'pe-c';
 import { facts, factsOf, kindOf, type Facts } from 'pe-c/facts';
 
 /** What is imported and exported, as values and as records. */
@@ -90,17 +91,13 @@ function walked(library: Library, bytes: Bytes): unknown[] {
   return [frames.map((it) => it.way), process.images, process.damaged, process.call('pe_c_next_frame', { walk: { registers: { rip: 1n }, remaining: 1 } })];
 }
 
-/** What a PDB names. */
-function named(library: Library, bytes: Bytes): unknown[] {
-  const pdb: Pdb = library.openPdb(bytes), modules: PdbModule[] = pdb.modules(), publics: PdbSymbol[] = pdb.publics();
-  const found: unknown[] = [pdb.info.age, pdb.key.age, pdb.isMoved, pdb.damaged.map((it) => it.part), pdb.stream(1)];
-  for (const it of modules) {
-    const lines: PdbLine[] = pdb.lines(it);
-    found.push(lines.map((line) => [line.rva, line.codeSize, line.file, line.line, line.column]));
-    publics.push(...pdb.procedures(it));
-  }
-  const frame: PdbFrame | null = pdb.find(0x1048, { isReturn: true });
-  return [...found, publics.map((it) => [it.section, it.sectionOffset, it.isFunction]), frame && [frame.source, frame.start]];
+function databases(library: Library, bytes: Bytes): unknown[] {
+  const pdb: Pdb = library.openPdb(bytes), [module]: PdbModule[] = pdb.modules(), own: PdbFrame | null = pdb.find(1);
+  const symbols: PdbSymbol[] = [...pdb.publics(), ...pdb.procedures(module)], lines: PdbLine[] = pdb.lines(module);
+  const frames: PdbFrame[] = pdb.frames(1, { isReturn: true }), isLimited: boolean = pdb.frames(1).isLimited;
+  return [isLimited, frames.map((it) => [it.name, it.start, it.offset, it.source, it.file, it.line, it.column, it.isInlined]), own,
+    symbols.map((it) => [it.section, it.sectionOffset, it.isFunction, it.error]), lines.map((it) => it.codeSize), pdb.isMoved, pdb.key,
+    pdb.damaged.map((it) => [it.part, it.error.call]), pdb.stream(1), pdb.info];
 }
 
 /** Other files, and what the package says of itself. */
@@ -117,5 +114,5 @@ export async function main(bytes: Bytes): Promise<unknown[]> {
   const said: Facts = facts(image, 'a.dll'), refused = factsOf(library, bytes, 'a.dll', { mode: 1 }), kind = kindOf(new Uint8Array(2));
   const digest: Uint8Array = await image.digest('SHA-512');
   return [names(image), parts(image), versions(image), signatures(image), written(library, image, digest), dumped(library, bytes),
-    walked(library, bytes), named(library, bytes), others(library, bytes), said.sections.length, refused.error, kind];
+    walked(library, bytes), databases(library, bytes), others(library, bytes), said.sections.length, refused.error, kind];
 }

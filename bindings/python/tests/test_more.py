@@ -696,7 +696,7 @@ class Names(unittest.TestCase):
         image = self.image(((b"last", 0x5010, 0x20, 2),))
         names = _functions.Names((image._core, pe_c.Image(bytes_of("exports.bin"))._core),
                                  _functions.Places([(BASE, 0x5018), (BASE + 0x5018, 0x1004)]))
-        rows = [pe_c.StackFrame((Stacks().registers(BASE + rva, 0), 0, 0, is_return, 0, 0, False, None, None, None, None))
+        rows = [pe_c.StackFrame((Stacks().registers(BASE + rva, 0), 0, 0, is_return, 0, 0, False, None, None, None, None, ()))
                 for rva, is_return in ((0x5018, True), (0x5018, False), (0x5018 + 0x1004, True), (0x5018 + 0x1004, False))]
         asked = names.unread(rows)
         self.assertEqual(asked, {0: [(0x5018, True)], 1: [(0, False), (0x1004, True)]})

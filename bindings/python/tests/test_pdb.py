@@ -41,6 +41,10 @@ def names(found):
     return found and (found.name, found.start, found.offset, found.source)
 
 
+def placed(found):
+    return [(it.name, it.file, it.line, it.is_inlined) for it in found]
+
+
 class Files(unittest.TestCase):
     def test_identity(self):
         pdb = Pdb(content("t.pdb"))
@@ -158,6 +162,75 @@ class Damaged(unittest.TestCase):
                 self.assertTrue(found is None or (found.name and found.start + found.offset == rva))
 
 
+class Inlined(unittest.TestCase):
+    """By what llvm-pdbutil and llvm-symbolizer print of the PDB of tests/pdb/c.c."""
+
+    def test_frames(self):
+        pdb = Pdb(content("inlined.pdb"))
+        self.assertEqual(placed(pdb.frames(0x1004)), [("entry", "c.c", 3, False)])
+        clamp, twice = ("clamp", "c.h", 2, True), ("twice", "c.h", 7, True)
+        found = pdb.frames(0x1005)
+        self.assertEqual(placed(found), [clamp, twice, ("entry", "c.c", 4, False)])
+        self.assertEqual([(it.start, it.offset, it.source) for it in found], [(0x1000, 5, "procedure")] * 3)
+        self.assertEqual((found[0].column, found[-1]), (None, pdb.find(0x1005)))
+        self.assertEqual(placed(pdb.frames(0x1020)), [clamp, ("entry", "c.c", 5, False)])
+        self.assertEqual(placed(pdb.frames(0x1065)), [("twice", "c.h", 8, True), ("helper", "c.c", 9, False)])
+        # Of a return address the byte before it counts.
+        self.assertEqual(placed(pdb.frames(0x1005, is_return=True)), [("entry", "c.c", 3, False)])
+        self.assertEqual([pdb.frames(it).check() for it in (0xFFF, -1, 2**32, 2**70)], [()] * 4)
+        self.assertEqual((found.error, found.is_limited, pdb.warnings), (None, False, ()))
+
+    def test_a_public_function_has_none(self):
+        pdb = Pdb(content("t.pdb"))
+        self.assertEqual((pdb.frames(0x104F), placed(pdb.frames(0x1048))), ((pdb.find(0x104F),), [("entry", "a.c", 6, False)]))
+
+    def changed(self, stream, at, number):
+        """The PDB with another byte in a stream that has one block or consecutive ones."""
+        whole = bytearray(content("inlined.pdb"))
+        whole[whole.index(Pdb(bytes(whole)).stream(stream)) + at] = number
+        return Pdb(bytes(whole))
+
+    def warned(self, pdb):
+        return [(it.kind, it.part, it.error.kind) for it in pdb.warnings]
+
+    def test_ids_that_are_refused_cost_names_alone(self):
+        pdb = self.changed(4, 56, 1)
+        found = pdb.frames(0x1004)
+        self.assertEqual((len(found), found.error, pdb.warnings), (1, None, ()))
+        found = pdb.frames(0x1005)
+        self.assertEqual(placed(found), [("", "c.h", 2, True), ("", "c.h", 7, True), ("entry", "c.c", 4, False)])
+        self.assertEqual(self.warned(pdb), [(WarningKind.DAMAGED, "names of inlined functions", Kind.PDB_RECORD_SIZE)])
+
+    def test_an_annotation_that_is_refused_costs_the_inlined_functions(self):
+        pdb = self.changed(11, 192 + 16, 14)
+        found = pdb.frames(0x1005)
+        self.assertEqual((placed(found), found.error.kind), ([("entry", "c.c", 4, False)], Kind.PDB_ANNOTATION))
+        (warning,) = self.warned(pdb)
+        self.assertEqual((warning[0], warning[2]), (WarningKind.DAMAGED, Kind.PDB_ANNOTATION))
+        self.assertRegex(warning[1], "^inlined functions of .")
+        self.assertEqual((len(pdb.frames(0x1065)), len(pdb.warnings)), (2, 1))
+
+    def test_damaged_files(self):
+        """Whatever is damaged, nothing but an Error is raised, and each frame is in the function that `find` finds."""
+        whole, chance, several = content("inlined.pdb"), random.Random(84), 0
+        module = whole.index(Pdb(whole).stream(11))
+        for _ in range(int(os.environ.get("PE_C_DAMAGED", "300"))):
+            changed = bytearray(whole)
+            for _ in range(chance.randint(1, 3)):
+                changed[chance.choice((module + chance.randrange(700), chance.randrange(len(whole))))] = chance.randrange(256)
+            try:
+                pdb = Pdb(bytes(changed))
+            except pe_c.Error:
+                continue
+            for rva in range(0xFF0, 0x10A0, 5):
+                found = pdb.frames(rva)
+                self.assertEqual(found[-1:], (pdb.find(rva),) if found else ())
+                self.assertTrue(all(it.is_inlined and it.start == found[-1].start for it in found[:-1]))
+                several += len(found) > 1
+            pdb.warnings
+        self.assertGreater(several, 100)
+
+
 class Stacks(unittest.TestCase):
     """By the dump of a crash of a program of known lines."""
 
@@ -190,11 +263,15 @@ class Stacks(unittest.TestCase):
         self.assertEqual([(it.function.name, it.function.offset, it.function.source, it.file, it.line) for it in stack.frames],
                          [("reads", 0xF, "procedure", "crash.cpp", 8), ("middle", 0xE, "procedure", "generated\\else.inc", 900),
                           ("app::outer<int>", 0xE, "procedure", "crash.cpp", 25), ("entry", 0xE, "procedure", "crash.cpp", 31)])
+        # Those that are inlined, the innermost first, by the sources.
+        self.assertEqual([[(it.name, it.file, it.line) for it in frame.inlined] for frame in stack.frames],
+                         [[("geo::load", "shapes.h", 5), ("geo::twice", "shapes.h", 9)], [], [("app::through", "crash.cpp", 21)], []])
         self.assertEqual(stack.warnings, ())
         one = self.dump.stack(self.dump.threads[0], lambda _: self.image, symbols=self.folder)
         self.assertEqual(one.frames, stack.frames)
         # Without a folder no PDB is looked for.
-        self.assertEqual([(it.function, it.line) for it in self.dump.stacks(lambda _: self.image)[0].frames], [(None, None)] * 4)
+        self.assertEqual([(it.function, it.line, it.inlined) for it in self.dump.stacks(lambda _: self.image)[0].frames],
+                         [(None, None, ())] * 4)
 
     def test_where_a_pdb_is_found(self):
         lower = KEY.lower()

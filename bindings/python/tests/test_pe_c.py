@@ -14,8 +14,8 @@ import pickle
 import random
 import re
 import resource
-import struct
 import shutil
+import struct
 import subprocess
 import sys
 import tempfile
@@ -520,24 +520,25 @@ class Allocations(unittest.TestCase):
                 self.fails_in_turn(lambda: core.unwind_records(function.unwind))
 
     def test_calls_of_pdb_files(self):
-        with open(os.path.join(IMAGES, "t.pdb"), "rb") as file:
+        with open(os.path.join(IMAGES, "inlined.pdb"), "rb") as file:
             pdb = pe_c._core.image(file.read(), 1, True, 3, False)[0]
         info, starts = pdb.pdb()[0], pdb.pdb_starts()[0]
         stream = lambda number: pdb.pdb_stream(starts, number)[0]
         of = lambda number: pe_c._core.image(stream(number), 0, False, 3, False)[0]
         sections, modules = stream(info.section_headers), (info.modules.offset, info.modules.length)
-        first = of(3).pdb_modules(*modules)[0][1]
+        first, ids = of(3).pdb_modules(*modules)[0][0], of(4)
         symbols, lines = (first.symbols.offset, first.symbols.length), (first.lines.offset, first.lines.length)
         core, names = of(first.stream), stream(of(1).pdb_named_stream(b"/names")[0])
         index, line_index, files = core.pdb_index(1, sections, *symbols)[0], core.pdb_line_index(sections, *lines)[0], core.pdb_files(*lines)[0]
         for name, arguments in (("pdb_symbols", (sections, *symbols)), ("pdb_index", (1, sections, *symbols)), ("pdb_files", lines),
                                 ("pdb_line_index", (sections, *lines)), ("pdb_lines", (line_index, *files, names)),
-                                ("pdb_find", (1, sections, index, 0x108B)), ("pdb_find_line", (line_index, *files, names, 0x108B))):
+                                ("pdb_find", (1, sections, index, 0x1005)), ("pdb_find_line", (line_index, *files, names, 0x1005)),
+                                ("pdb_inlined", (sections, index, (*symbols, *lines), 0x1005, stream(4), ids.pdb_ids()[0], files, names))):
             found = getattr(core, name)(*arguments)
             self.assertTrue(found[0] and not found[1], name)
             self.fails_in_turn(lambda: getattr(core, name)(*arguments))
         for call in (pdb.pdb, pdb.pdb_starts, lambda: pdb.pdb_is_of(info.guid, 1), lambda: pdb.pdb_stream(starts, 3),
-                     lambda: dbi.pdb_modules(*modules), lambda: names_of.pdb_named_stream(b"/names")):
+                     lambda: dbi.pdb_modules(*modules), lambda: names_of.pdb_named_stream(b"/names"), ids.pdb_ids):
             dbi, names_of = of(3), of(1)
             self.fails_in_turn(call)
 
@@ -703,7 +704,8 @@ class Readme(unittest.TestCase):
             for name in ("x86_dll", "resources", "functions", "debug"):
                 with open(os.path.join(room, f"{name}.dll"), "wb") as file:
                     file.write(bytes_of(name))
-            shutil.copy(os.path.join(IMAGES, "t.pdb"), room)
+            for name in ("t.pdb", "inlined.pdb"):
+                shutil.copy(os.path.join(IMAGES, name), room)
             for sample in samples:
                 done = subprocess.run([sys.executable, "-c", f"import sys; sys.path[:] = {sys.path!r}\n{sample}"], cwd=room,
                                       capture_output=True, text=True, timeout=60)

@@ -22,7 +22,8 @@ ROWS: tuple[type[tuple[object, ...]], ...] = (
     pe_c.LoadConfig, pe_c.GuardEntry, pe_c.RelocationBlock, pe_c.Relocation, pe_c.ClrHeader, pe_c.Metadata, pe_c.MetadataStream,
     pe_c.DumpHeader, pe_c.DumpLocation, pe_c.DumpEntry, pe_c.DumpStack, pe_c.DumpThread, pe_c.DumpVersion, pe_c.DumpModule,
     pe_c.DumpThreadName, pe_c.DumpUnloadedModule, pe_c.DumpThreadInfo, pe_c.DumpHandle, pe_c.DumpRegion, pe_c.DumpException,
-    pe_c.DumpSystem, pe_c.DumpTimes, pe_c.DumpPower, pe_c.DumpProcess, pe_c.DumpPiece, pe_c.Context, pe_c.Arm64Context)
+    pe_c.DumpSystem, pe_c.DumpTimes, pe_c.DumpPower, pe_c.DumpProcess, pe_c.DumpPiece, pe_c.Context, pe_c.Arm64Context, pe_c.PdbInfo,
+    pe_c.PdbModule, pe_c.PdbSymbol, pe_c.PdbLine)
 
 
 def lists(image: pe_c.Image) -> int:
@@ -189,6 +190,19 @@ def dumped(dump: pe_c.Dump) -> list[object]:
     return [*parts, stacks]
 
 
+def databases(folder: str, image: pe_c.Image) -> list[object]:
+    pdb = pe_c.Pdb.open(os.path.join(folder, "inlined.pdb"))
+    info: pe_c.PdbInfo = pdb.info
+    modules: pe_c.Part[pe_c.PdbModule] = pdb.modules
+    named: pe_c.Part[pe_c.PdbSymbol] = pdb.procedures(modules[0])
+    lines: pe_c.Part[pe_c.PdbLine] = pdb.lines(modules[0])
+    own: pe_c.PdbFrame | None = pdb.find(0x1005)
+    frames: pe_c.Part[pe_c.PdbFrame] = pdb.frames(0x1005, is_return=True)
+    found: list[object] = [(it.name, it.start, it.offset, it.source, it.file, it.line, it.column, it.is_inlined) for it in frames]
+    return [*found, info, named, lines, own, pdb.guid, pdb.age, pdb.machine, pdb.is_moved, pdb.matches(image), pdb.publics, pdb.functions,
+            pdb.stream(1), pdb.symbol_path("a.pdb"), pdb.warnings]
+
+
 def others(folder: str) -> list[object]:
     with pe_c.Coff.open(os.path.join(folder, "object.obj")) as coff, pe_c.Te.open(os.path.join(folder, "te_image.te")) as te:
         headers: tuple[pe_c.CoffHeader, pe_c.TeHeader] = coff.header, te.header
@@ -199,21 +213,6 @@ def others(folder: str) -> list[object]:
     registers = pe_c.Registers((tuple(range(16)), (0,) * 32, 0x1000))
     stack: pe_c.Stack = pe_c.walk(registers, [(0x1000, 0x10000)], bytes(64), [(0x20000, 0, 64)], 4)
     return [*found, stack.end, pe_c.__version__]
-
-
-def named(folder: str) -> list[object]:
-    with pe_c.Pdb.open(os.path.join(folder, "t.pdb")) as pdb:
-        info: pe_c.PdbInfo = pdb.info
-        modules: pe_c.Part[pe_c.PdbModule] = pdb.modules
-        publics: pe_c.Part[pe_c.PdbSymbol] = pdb.publics
-        procedures: pe_c.Part[pe_c.PdbSymbol] = pdb.procedures(modules[0])
-        lines: pe_c.Part[pe_c.PdbLine] = pdb.lines(modules[0])
-        frame: pe_c.PdbFrame | None = pdb.find(0x1048)
-        found: list[object] = [info, pdb.guid, pdb.age, pdb.is_moved, pdb.stream(1), publics, procedures, lines, pdb.functions]
-        if frame:
-            place: tuple[str | None, int | None, int | None] = frame.file, frame.line, frame.column
-            found += [place, frame.name, frame.source, frame.start, frame.offset]
-        return [*found, pdb.matches(pe_c.open(os.path.join(folder, "editable.exe")))]
 
 
 def by_names(path: str) -> str:
@@ -236,7 +235,7 @@ def main(folder: str) -> int:
                 count += lists(image) + len(records(image)) + len(versions(image)) + len(hashes(image)) + unwinding(image)
                 count += len(signatures(image)) + len(image.facts()) + len(image.to_dict()) + len(by_names(path))
     image = pe_c.open(os.path.join(folder, "editable.exe"))
-    count += len(written(image, b"content")) + len(typed_records(image)) + len(others(folder)) + len(named(folder)) + len(ROWS)
+    count += len(written(image, b"content")) + len(typed_records(image)) + len(others(folder)) + len(databases(folder, image)) + len(ROWS)
     try:
         report: pe_c.Report = image.report("/no/such/program")
         count += len(report.page) + len(pe_c.Report.of(image.memory, "a.exe", "pe").page)

@@ -1523,7 +1523,7 @@ static PyMethodDef methods[] = {
     WITH_ONE(mapped),
     WITHOUT(pdb_starts), WITH_SOME(pdb_is_of), WITH_SOME(pdb_stream), WITH_SOME(pdb_modules), WITH_SOME(pdb_named_stream),
     WITH_SOME(pdb_symbols), WITH_SOME(pdb_index), WITH_SOME(pdb_find), WITH_SOME(pdb_line_index), WITH_SOME(pdb_files),
-    WITH_SOME(pdb_lines), WITH_SOME(pdb_find_line),
+    WITH_SOME(pdb_lines), WITH_SOME(pdb_find_line), WITHOUT(pdb_ids), WITH_SOME(pdb_inlined),
     {NULL, NULL, 0, NULL}};
 static PyGetSetDef getters[] = {{"memory", (getter)get_memory, NULL, NULL, NULL},
                                 {"closed", (getter)get_closed, NULL, NULL, NULL}, {NULL, NULL, NULL, NULL, NULL}};

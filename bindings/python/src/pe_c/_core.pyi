@@ -3,6 +3,8 @@ from typing import Any, Final, final
 
 from _typeshed import ReadableBuffer, structseq
 
+from ._pdb import PdbFrame
+
 @final
 class Range(structseq[Any], tuple[int, int]):
     __match_args__: Final = ('offset', 'length',)
@@ -682,8 +684,8 @@ class Registers(structseq[Any], tuple[tuple[int, ...], tuple[int, ...], int]):
     def rip(self) -> int: ...
 
 @final
-class StackFrame(structseq[Any], tuple[Registers, int, int, bool, int, int, bool, FunctionName | None, str | None, int | None, int | None]):
-    __match_args__: Final = ('registers', 'address', 'way', 'has_called', 'end', 'error', 'is_guess', 'function', 'file', 'line', 'column',)
+class StackFrame(structseq[Any], tuple[Registers, int, int, bool, int, int, bool, FunctionName | None, str | None, int | None, int | None, tuple[PdbFrame, ...]]):
+    __match_args__: Final = ('registers', 'address', 'way', 'has_called', 'end', 'error', 'is_guess', 'function', 'file', 'line', 'column', 'inlined',)
     @property
     def registers(self) -> Registers: ...
     @property
@@ -706,6 +708,8 @@ class StackFrame(structseq[Any], tuple[Registers, int, int, bool, int, int, bool
     def line(self) -> int | None: ...
     @property
     def column(self) -> int | None: ...
+    @property
+    def inlined(self) -> tuple[PdbFrame, ...]: ...
 
 @final
 class Arm64Function(structseq[Any], tuple[int, int]):
@@ -794,8 +798,8 @@ class Arm64Registers(structseq[Any], tuple[tuple[int, ...], tuple[int, ...], int
     def pc(self) -> int: ...
 
 @final
-class Arm64StackFrame(structseq[Any], tuple[Arm64Registers, int, int, bool, int, int, bool, FunctionName | None, str | None, int | None, int | None]):
-    __match_args__: Final = ('registers', 'address', 'way', 'has_called', 'end', 'error', 'is_guess', 'function', 'file', 'line', 'column',)
+class Arm64StackFrame(structseq[Any], tuple[Arm64Registers, int, int, bool, int, int, bool, FunctionName | None, str | None, int | None, int | None, tuple[PdbFrame, ...]]):
+    __match_args__: Final = ('registers', 'address', 'way', 'has_called', 'end', 'error', 'is_guess', 'function', 'file', 'line', 'column', 'inlined',)
     @property
     def registers(self) -> Arm64Registers: ...
     @property
@@ -818,6 +822,8 @@ class Arm64StackFrame(structseq[Any], tuple[Arm64Registers, int, int, bool, int,
     def line(self) -> int | None: ...
     @property
     def column(self) -> int | None: ...
+    @property
+    def inlined(self) -> tuple[PdbFrame, ...]: ...
 
 @final
 class ExportTable(structseq[Any], tuple[str | None, int, Directory, int]):
@@ -1742,6 +1748,10 @@ class Image:
     def pdb_lines(self, index: bytes, offset: int, length: int, names: bytes, /) -> tuple[tuple[PdbLine, ...] | None, int, bool]: ...
     def pdb_find_line(self, index: bytes, offset: int, length: int, names: bytes, rva: int,
                       /) -> tuple[PdbLine | None, int, bool]: ...
+    def pdb_ids(self) -> tuple[bytes | None, int, bool]: ...
+    def pdb_inlined(self, sections: bytes, index: bytes, module: tuple[int, int, int, int], rva: int, ids: bytes, starts: bytes,
+                    files: tuple[int, int], names: bytes,
+                    /) -> tuple[tuple[tuple[str, str | None, int | None, int, int], ...] | None, int, bool]: ...
     def dump_runs(self) -> tuple[bytes | None, int, bool]: ...
     def mapped(self, difference: int, /) -> tuple[bytes | None, int, bool]: ...
     def edited(self, records: bytes, data: bytes, /) -> tuple[bytes | None, int, bool]: ...

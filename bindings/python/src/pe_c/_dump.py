@@ -431,17 +431,18 @@ class Dump(Reader):
 
     def _name_frames(self, frames: list[AnyFrame], wanted: Wanted, pdb: Pdb, names: Names) -> None:
         """Puts their functions to the frames of a PDB, each address once, as long as the names do not cost too much."""
-        known: dict[tuple[int, bool], PdbFrame | None] = {}
+        known: dict[tuple[int, bool], Part[PdbFrame]] = {}
         for number, rva, image in wanted.frames:
             at = rva, frames[number].has_called
             if at not in known:
                 if self._left <= 0:
                     names.is_limited = True
                     return
-                found = known[at] = pdb.find(*at)
-                self._left -= 1 + pdb._cost_of(found) // BYTES_A_FRAME
+                found = known[at] = pdb.frames(*at)
+                names.is_limited = names.is_limited or found.is_limited
+                self._left -= max(len(found), 1) + sum(map(pdb._cost_of, found)) // BYTES_A_FRAME
             found = known[at]
-            is_own = found and (found.source != "public" or is_in_function(image, rva - at[1], found.start))
+            is_own = found and (found[-1].source != "public" or is_in_function(image, rva - at[1], found[-1].start))
             if found and is_own is not False:
                 frames[number] = name_of(frames[number], found, is_own is None)
 

@@ -12,7 +12,7 @@ from ._core import Arm64StackFrame, FunctionName, StackFrame
 from ._kinds import Kind
 from ._part import Error, error_of
 
-AnyFrame = StackFrame | Arm64StackFrame
+AnyFrame = typing.Union[StackFrame, Arm64StackFrame]
 # An RVA, and whether it is a return address.
 Address = tuple[int, bool]
 # The tables of which names are read, in the order of the rows of `name_tables`.
@@ -122,4 +122,4 @@ class Names:
         for frame in frames:
             place = self.place_of(frame) if frame.function is None else None
             name = self._read.get(place) if place is not None else None
-            yield frame if name is None else type(frame)((*frame[:-4], name, *frame[-3:]))
+            yield frame if name is None else type(frame)((*frame[:-5], name, *frame[-4:]))

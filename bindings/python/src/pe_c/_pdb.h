@@ -255,3 +255,76 @@ static PyObject *pdb_find_line(Image *self, PyObject *arguments)
     Py_XDECREF(files.name);
     return answer(found, &rows);
 }
+
+/* ---- inlined functions, of the stream of a module. `ids` are the bytes of the stream of ids, and `starts` what pdb_ids returned */
+
+/* pdb_ids() returns where the records of the stream of ids start: the numbers of pe_c_pdb_ids, in bytes. */
+METHOD(pdb_ids)
+{
+    PyObject *found = NULL;
+    OPEN_OWN
+    TO_ROOM(uint64_t, pe_c_pdb_ids(BYTES, room, most, &count));
+    return answer(found, &rows);
+}
+
+/* How many inlined functions an RVA has at most. */
+enum { MOST_INLINED = 64 };
+
+/* The name of an inlined function, with the namespace that it is in: empty where nothing names it. */
+static PyObject *inlined_name(const pe_c_pdb_inlined *it, PyObject *ids)
+{
+    const char *bytes = PyBytes_AsString(ids);
+    if (it->name_result != PE_C_DONE)
+        return PyUnicode_FromString("");
+    PyObject *name = PyUnicode_DecodeUTF8(bytes + it->name.offset, (Py_ssize_t)it->name.length, "backslashreplace");
+    if (!name || !it->scope.length)
+        return name;
+    PyObject *scope = PyUnicode_DecodeUTF8(bytes + it->scope.offset, (Py_ssize_t)it->scope.length, "backslashreplace");
+    PyObject *whole = scope ? PyUnicode_FromFormat("%U::%U", scope, name) : NULL;
+    Py_XDECREF(scope);
+    Py_DECREF(name);
+    return whole;
+}
+
+/* An inlined function: its name, file and line, and why its name and its line are refused. Where the budget is over it has no file. */
+static PyObject *inlined_row(Image *self, Rows *rows, Files *files, const pe_c_pdb_inlined *it, PyObject *ids)
+{
+    int has_line = it->line_result == PE_C_DONE;
+    PyObject *file = has_line ? file_name(self, rows, files, it->file) : NULL;
+    PyObject *name = PyErr_Occurred() ? NULL : inlined_name(it, ids);
+    PyObject *line = name ? OPTIONAL(has_line, N(it->line)) : NULL;
+    if (!line) {
+        Py_XDECREF(name);
+        return NULL;
+    }
+    return Py_BuildValue("(NONII)", name, file ? file : Py_None, line, it->name_result == PE_C_NOTHING ? PE_C_DONE : it->name_result,
+                         it->line_result == PE_C_NOTHING ? PE_C_DONE : it->line_result);
+}
+
+/* pdb_inlined(sections, index, module, rva, ids, starts, files, names) lists the functions that are inlined at an RVA of a procedure of
+ * such an index, the innermost first. `module` has the ranges of its symbols and lines, and `files` that of its source files. */
+static PyObject *pdb_inlined(Image *self, PyObject *arguments)
+{
+    PyObject *sections, *index, *ids, *starts, *names;
+    unsigned int rva;
+    unsigned long long of[4], at, length;
+    if (!PyArg_ParseTuple(arguments, "SS(KKKK)ISS(KK)S", &sections, &index, &of[0], &of[1], &of[2], &of[3], &rva, &ids, &starts, &at,
+                          &length, &names))
+        return NULL;
+    OPEN_OWN
+    Files files = files_of(at, length, names);
+    pe_c_pdb_module module = {.symbols = {of[0], of[1]}, .lines = {of[2], of[3]}};
+    pe_c_pdb_symbol procedure = PE_C_EMPTY;
+    pe_c_pdb_inlined room[MOST_INLINED];
+    uint64_t count = 0;
+    budget.bytes += 4 * (uint64_t)files.length;
+    rows = rows_of(self, &budget);
+    rows.result = pe_c_find_pdb_symbol(PE_C_PDB_PROCEDURES, BYTES, ALL_OF(uint8_t, sections), ALL_OF(uint64_t, index), rva, &procedure);
+    if (rows.result == PE_C_DONE)
+        rows.result = pe_c_find_pdb_inlined(BYTES, &module, &procedure, rva, ALL_OF(uint8_t, ids), ALL_OF(uint64_t, starts), room,
+                                            MOST_INLINED, &count);
+    for (uint64_t i = 0; rows.result == PE_C_DONE && rows.list && i < count; i++)
+        append(&rows, inlined_row(self, &rows, &files, &room[i], ids));
+    Py_XDECREF(files.name);
+    return finished(&rows);
+}

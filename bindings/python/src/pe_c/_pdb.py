@@ -16,19 +16,24 @@ from ._reader import BYTES, AnyFile, Reader, content_of
 if TYPE_CHECKING:
     import _typeshed
 
-INFO_STREAM, DBI_STREAM, NO_STREAM = 1, 3, 0xFFFF
+INFO_STREAM, DBI_STREAM, ID_STREAM, NO_STREAM = 1, 3, 4, 0xFFFF
 # What an index has: public functions, or procedures that have code.
 PUBLICS, PROCEDURES = 0, 1
 MOVED = "a tool moved the code of the image after it was linked (OMAP): RVAs are those before that"
+
+
+# Of each inlined function its name, file and line, and why its name and its line are refused; and what a call says besides.
+_Inlined = tuple[typing.Optional[tuple[tuple[str, typing.Optional[str], typing.Optional[int], int, int], ...]], int, bool]
 
 
 class PdbFrame(typing.NamedTuple):
     """A function at an RVA, and where in its source."""
 
     name: str
-    """of a procedure as in the source, of a public symbol as linkers have it: those of C++ and Rust mangled"""
+    """of a procedure as in the source, of a public symbol as linkers have it: those of C++ and Rust mangled. Of an inlined one as in the
+    source, with its namespace, but without its class; empty where the PDB does not have it"""
     start: int
-    """the RVA of the function"""
+    """the RVA of the function; of an inlined one that of the procedure that has its code"""
     offset: int
     """how far after it the address is"""
     source: str
@@ -36,9 +41,11 @@ class PdbFrame(typing.NamedTuple):
     file: str | None
     """the path of the source file; None where nothing says it"""
     line: int | None
-    """from 1 on"""
+    """from 1 on; of a function that the one of the frame before is inlined in, that of the call"""
     column: int | None
     """from 1 on; mostly None"""
+    is_inlined: bool = False
+    """whether the function is inlined into that of the next frame"""
 
 
 def _core_of(stream: bytes) -> _core.Image:
@@ -70,6 +77,10 @@ class _Symbols:
         found, _, _ = self.core.pdb_find(self._kind, self._sections, self._index, rva)
         return found if found is not None and found.name else None
 
+    def inlined(self, rva: int, lines: tuple[int, int], ids: tuple[bytes, bytes], files: tuple[tuple[int, int], bytes]) -> _Inlined:
+        """The functions that are inlined at an RVA of a procedure, the innermost first."""
+        return self.core.pdb_inlined(self._sections, self._index, (*self._range, *lines), rva, *ids, *files)
+
 
 class _Lines:
     """The lines of a module. None is found where they are refused."""
@@ -79,14 +90,14 @@ class _Lines:
         files, number, _ = core.pdb_files(*lines)
         index, other, _ = core.pdb_line_index(sections, *lines)
         self.error = number or other
-        self._files, self._index = files or (0, 0), index or b""
+        self.files, self._index = files or (0, 0), index or b""
 
     def all(self) -> tuple[tuple[PdbLine, ...] | None, int, bool]:
-        rows, number, is_limited = self._core.pdb_lines(self._index, *self._files, self._names)
+        rows, number, is_limited = self._core.pdb_lines(self._index, *self.files, self._names)
         return rows, self.error or number, is_limited
 
     def find(self, rva: int) -> PdbLine | None:
-        return self._core.pdb_find_line(self._index, *self._files, self._names, rva)[0]
+        return self._core.pdb_find_line(self._index, *self.files, self._names, rva)[0]
 
 
 class _Functions:
@@ -98,6 +109,11 @@ class _Functions:
         self.refused: dict[int, int] = {}
         self.modules: dict[int, _Symbols] = {}
         self._lines: dict[int, _Lines] = {}
+        # The stream of ids and where its records start, once an RVA has an inlined function; why it is refused; and why the inlined
+        # functions of a module are, of the first RVA that was asked for.
+        self._ids: tuple[bytes, bytes] | None = None
+        self.ids_error = 0
+        self.inlined_errors: dict[int, int] = {}
         left = len(pdb.memory)
         for number, module in enumerate(pdb.modules):
             if module.stream is None:
@@ -114,14 +130,44 @@ class _Functions:
         # Of several at one RVA, as a linker folds equal ones, that of the last module counts.
         self._starts = sorted(rva << 32 | number for number, it in self.modules.items() for rva in it.starts())
 
+    def _module_at(self, rva: int) -> int | None:
+        """The number of the module that may have an RVA, by the last procedure that starts at it or before it."""
+        index = bisect.bisect_right(self._starts, rva << 32 | 0xFFFFFFFF) - 1
+        return None if index < 0 else self._starts[index] & 0xFFFFFFFF
+
     def procedure(self, rva: int) -> tuple[PdbSymbol, int] | None:
         """The procedure that has an RVA, and the number of its module."""
-        index = bisect.bisect_right(self._starts, rva << 32 | 0xFFFFFFFF) - 1
-        if index < 0:
-            return None
-        module = self._starts[index] & 0xFFFFFFFF
-        found = self.modules[module].find(rva)
-        return None if found is None else (found, module)
+        module = self._module_at(rva)
+        found = None if module is None else self.modules[module].find(rva)
+        return None if module is None or found is None else (found, module)
+
+    def inlined(self, rva: int) -> _Inlined:
+        """The functions that are inlined at an RVA of a procedure. Most RVAs have none: the ids are read when one has."""
+        number = self._module_at(rva)
+        if number is None:
+            return (), 0, False
+        lines, module = self.lines(number), self.modules[number]
+        words = rva, _pair(self._pdb.modules[number].lines)
+        files = lines.files, self._pdb._names[0]
+        if self._ids is None:
+            if module.inlined(*words, (b"", b""), files)[:2] == ((), 0):
+                return (), 0, False
+            self._ids = self._read_ids()
+        found, refused, is_limited = module.inlined(*words, self._ids, files)
+        # Without ids no function has a name, which the PDB says once.
+        refused = refused or next((it for *_, name, line in found or () for it in (line, 0 if self.ids_error else name) if it), 0)
+        if refused:
+            self.inlined_errors.setdefault(number, refused)
+        return found, refused, is_limited
+
+    def _read_ids(self) -> tuple[bytes, bytes]:
+        try:
+            stream = self._pdb.stream(ID_STREAM)
+            starts, self.ids_error, _ = _core_of(stream).pdb_ids()
+            return (b"", b"") if starts is None else (stream, starts)
+        except Error as error:
+            self.ids_error = error.number
+            return b"", b""
 
     def lines(self, number: int) -> _Lines:
         """The lines of a module whose procedures were read, which are read when they are asked for."""
@@ -326,21 +372,32 @@ class Pdb(Reader):
             return None
         return PdbFrame(public.name, public.rva, rva - public.rva, "public", None, None, None)
 
-    def _cost_of(self, found: PdbFrame | None) -> int:
+    def frames(self, rva: int, is_return: bool = False) -> Part[PdbFrame]:
+        """The functions at an RVA, the innermost first: those that are inlined there, 64 at most, and then what `find` returns. `error` says
+        why those that are inlined, or a name or a line of one, are refused; so does `warnings`. Where files have names that are longer
+        together than the PDB accounts for, as in a hostile one, some have no file, and it `is_limited`."""
+        own, known = self.find(rva, is_return), self._functions
+        if own is None or own.source == "public" or isinstance(known, Error):
+            return Part(() if own is None else (own,))
+        rows, number, is_limited = known.inlined(rva - is_return)
+        inlined = (PdbFrame(name, own.start, own.offset, own.source, file, line, None, True) for name, file, line, *_ in rows or ())
+        return self._part_of(((*inlined, own), number, is_limited), f"inlined functions at 0x{rva:x}")
+
+    def _cost_of(self, found: PdbFrame) -> int:
         """How many bytes of names were read to find it: of a file whose name is refused as much as all names."""
-        if found is None:
-            return 0
         file = len(found.file) if found.file is not None else len(self._names[0]) if found.line else 0
         return len(found.name) + file
 
     @property
     def warnings(self) -> tuple[ImageWarning, ...]:
-        """What is damaged, a warning each; and that a tool moved the code. It reads the lines of all modules."""
+        """What is damaged, a warning each; and that a tool moved the code. It reads the lines of all modules; of inlined functions it has
+        what `frames` was refused so far."""
         found = [ImageWarning(WarningKind.SYMBOLS, "PDB", MOVED, None, self.path)] if self.is_moved else []
         errors = [self.modules.error, self._publics if isinstance(self._publics, Error) else None]
         known = self._functions
         if isinstance(known, _Functions):
             errors += self._module_errors(known)
+            errors += [error_of(known.ids_error, "names of inlined functions", self.path)] if known.ids_error else []
         if self._names[1]:
             errors.append(error_of(self._names[1], "names of source files", self.path))
         return tuple(found + [ImageWarning(WarningKind.DAMAGED, it.part, it.text, it, self.path) for it in errors if it])
@@ -356,4 +413,5 @@ class Pdb(Reader):
                 rows, refused, _ = known.modules[number].all()
                 add(refused or next((it.error for it in rows or () if it.error), 0), "symbols")
                 add(known.lines(number).error, "lines")
+                add(known.inlined_errors.get(number, 0), "inlined functions")
         return errors

@@ -1125,6 +1125,7 @@ static PyStructSequence_Field row_stack_walk_fields[] = {
     {"file", "the path of the source file, as a PDB has it; None where none says it"},
     {"line", "the line in it, from 1 on"},
     {"column", "the column, from 1 on; mostly None"},
+    {"inlined", "the functions that are inlined there, the innermost first, by a PDB"},
     {NULL, NULL}};
 
 static PyObject *row_stack_walk(Image *self, Rows *rows, const pe_c_stack_walk *it)
@@ -1143,8 +1144,9 @@ static PyObject *row_stack_walk(Image *self, Rows *rows, const pe_c_stack_walk *
         Py_NewRef(Py_None),
         Py_NewRef(Py_None),
         Py_NewRef(Py_None),
+        PyTuple_New(0),
     };
-    return filled(self, ROW_STACK_WALK, items, 11);
+    return filled(self, ROW_STACK_WALK, items, 12);
 }
 
 static PyStructSequence_Field row_arm64_function_fields[] = {
@@ -1293,6 +1295,7 @@ static PyStructSequence_Field row_arm64_stack_walk_fields[] = {
     {"file", "the path of the source file, as a PDB has it; None where none says it"},
     {"line", "the line in it, from 1 on"},
     {"column", "the column, from 1 on; mostly None"},
+    {"inlined", "the functions that are inlined there, the innermost first, by a PDB"},
     {NULL, NULL}};
 
 static PyObject *row_arm64_stack_walk(Image *self, Rows *rows, const pe_c_arm64_stack_walk *it)
@@ -1311,8 +1314,9 @@ static PyObject *row_arm64_stack_walk(Image *self, Rows *rows, const pe_c_arm64_
         Py_NewRef(Py_None),
         Py_NewRef(Py_None),
         Py_NewRef(Py_None),
+        PyTuple_New(0),
     };
-    return filled(self, ROW_ARM64_STACK_WALK, items, 11);
+    return filled(self, ROW_ARM64_STACK_WALK, items, 12);
 }
 
 static PyStructSequence_Field row_address_table_fields[] = {
@@ -2545,14 +2549,14 @@ static const PyStructSequence_Desc row_kinds[] = {
     [ROW_RECORD] = {"pe_c._core.UnwindRecord", "An x64 unwind record, UNWIND_INFO.", row_record_fields, 9},
     [ROW_CODE] = {"pe_c._core.UnwindCode", "An x64 unwind code, UNWIND_CODE.", row_code_fields, 5},
     [ROW_REGISTERS] = {"pe_c._core.Registers", "The registers of a thread that unwinding restores.", row_registers_fields, 3},
-    [ROW_STACK_WALK] = {"pe_c._core.StackFrame", "A walk of a stack on x64, and the frame that was returned last. For a walk from the start set the registers to those of the thread, `remaining` to how many frames are wanted at most, and all else to 0.", row_stack_walk_fields, 11},
+    [ROW_STACK_WALK] = {"pe_c._core.StackFrame", "A walk of a stack on x64, and the frame that was returned last. For a walk from the start set the registers to those of the thread, `remaining` to how many frames are wanted at most, and all else to 0.", row_stack_walk_fields, 12},
     [ROW_ARM64_FUNCTION] = {"pe_c._core.Arm64Function", "An entry of the ARM64 function table.", row_arm64_function_fields, 2},
     [ROW_ARM64_PACKED] = {"pe_c._core.Arm64Packed", "Packed unwind data of an ARM64 function. The fields mean nothing unless is_packed.", row_arm64_packed_fields, 8},
     [ROW_ARM64_RECORD] = {"pe_c._core.Arm64Record", "An ARM64 unwind record (.xdata).", row_arm64_record_fields, 7},
     [ROW_ARM64_SCOPE] = {"pe_c._core.Arm64Scope", "An epilog scope: where an epilog of an ARM64 function is, and where its codes are.", row_arm64_scope_fields, 4},
     [ROW_ARM64_CODE] = {"pe_c._core.Arm64Code", "An ARM64 unwind code.", row_arm64_code_fields, 6},
     [ROW_ARM64_REGISTERS] = {"pe_c._core.Arm64Registers", "The registers of a thread on ARM64 that unwinding restores.", row_arm64_registers_fields, 4},
-    [ROW_ARM64_STACK_WALK] = {"pe_c._core.Arm64StackFrame", "A walk of a stack on ARM64, and the frame that was returned last, as pe_c_stack_walk.", row_arm64_stack_walk_fields, 11},
+    [ROW_ARM64_STACK_WALK] = {"pe_c._core.Arm64StackFrame", "A walk of a stack on ARM64, and the frame that was returned last, as pe_c_stack_walk.", row_arm64_stack_walk_fields, 12},
     [ROW_ADDRESS_TABLE] = {"pe_c._core.ExportTable", "The export directory's table of RVAs, which has all exports by their index, also those without a name.", row_address_table_fields, 4},
     [ROW_EXPORTED] = {"pe_c._core.Export", "An export by its index.", row_exported_fields, 6},
     [ROW_EXPORT_FIELDS] = {"pe_c._core.ExportDirectory", "The export directory itself, IMAGE_EXPORT_DIRECTORY.", row_export_fields_fields, 11},

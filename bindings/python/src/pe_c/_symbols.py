@@ -155,7 +155,8 @@ def is_in_function(image: _core.Image | None, rva: int, start: int) -> bool | No
     return part.begin <= start or whole.begin == start
 
 
-def name_of(frame: AnyFrame, found: PdbFrame, is_nearest: bool) -> AnyFrame:
-    """The frame with its function and its line."""
-    function = FunctionName((found.name, found.start, found.offset, found.source, is_nearest))
-    return type(frame)((*frame[:-4], function, found.file, found.line, found.column))
+def name_of(frame: AnyFrame, found: typing.Sequence[PdbFrame], is_nearest: bool) -> AnyFrame:
+    """The frame with its function and its line, and those that are inlined there."""
+    *inlined, own = found
+    function = FunctionName((own.name, own.start, own.offset, own.source, is_nearest))
+    return type(frame)((*frame[:-5], function, own.file, own.line, own.column, tuple(inlined)))
