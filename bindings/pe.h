@@ -4509,11 +4509,11 @@ uint32_t pe_c_pdb_module_ranges(const uint8_t *bytes, size_t length, const pe_c_
 uint32_t pe_c_pdb_ids(const uint8_t *bytes, size_t length, uint64_t *room, size_t entries, uint64_t *written) PE_C_RESULT(5);
 
 /* Writes the inlined functions whose code is at an RVA to the start of `room`, the innermost first: each is inlined in the one
- * after it, and the last in the procedure. None where the RVA is of the procedure alone. `bytes` are those of the stream of
- * `module`, and `procedure` is what pe_c_find_pdb_symbol found in it. `ids` are the bytes of the stream of ids, and `starts` what
- * pe_c_pdb_ids wrote: with another start a function has another name, or none. Without ids the functions have lines alone. There is
- * always room in 64 entries. A call reads the records of the procedure, and for each function found those of the module's
- * inlined functions up to its own.
+ * after it, and the last in the procedure. None where the RVA is of the procedure alone; an RVA before the procedure counts as its
+ * start. `bytes` are those of the stream of `module`, and `procedure` is what pe_c_find_pdb_symbol found in it. `ids` are the bytes
+ * of the stream of ids, and `starts` what pe_c_pdb_ids wrote: with another start a function has another name, or none. Without ids
+ * the functions have lines alone. There is always room in 64 entries. A call reads the records of the procedure, and for each
+ * function found those of the module's inlined functions up to its own.
  * Errors: PE_C_SHORT where the symbols of the module are not inside the bytes; PE_C_SHORT, PE_C_PDB_RECORD_SIZE,
  * PE_C_PDB_RECORD_TRUNCATED of a record from that of the procedure to its end; of that of an inlined function PE_C_SHORT,
  * PE_C_PDB_ANNOTATION; PE_C_PDB_INLINE_DEPTH; PE_C_ROOM. */

@@ -5059,11 +5059,11 @@ extern "C" {
     /// Writes the inlined functions whose code is at an RVA to the start of `room`, the innermost first: each is
     /// inlined in the one after it, and the last in the procedure.
     ///
-    /// None where the RVA is of the procedure alone. `bytes` are those of the stream of `module`, and `procedure` is
-    /// what [`pe_c_find_pdb_symbol`] found in it. `ids` are the bytes of the stream of ids, and `starts` what
-    /// [`pe_c_pdb_ids`] wrote: with another start a function has another name, or none. Without ids the functions have
-    /// lines alone. There is always room in 64 entries. A call reads the records of the procedure, and for each
-    /// function found those of the module's inlined functions up to its own.
+    /// None where the RVA is of the procedure alone; an RVA before the procedure counts as its start. `bytes` are those
+    /// of the stream of `module`, and `procedure` is what [`pe_c_find_pdb_symbol`] found in it. `ids` are the bytes of
+    /// the stream of ids, and `starts` what [`pe_c_pdb_ids`] wrote: with another start a function has another name, or
+    /// none. Without ids the functions have lines alone. There is always room in 64 entries. A call reads the records
+    /// of the procedure, and for each function found those of the module's inlined functions up to its own.
     ///
     /// Errors: [`Error::SHORT`] where the symbols of the module are not inside the bytes; [`Error::SHORT`],
     /// [`Error::PDB_RECORD_SIZE`], [`Error::PDB_RECORD_TRUNCATED`] of a record from that of the procedure to its end;
