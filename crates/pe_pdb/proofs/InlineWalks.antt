@@ -1,10 +1,10 @@
 -- Walks over the annotations and the rows of an inlined function, and over the functions that have an offset.
-use Rattle.std.proofs.Common.{◌≡◌, ℕ, ◌+◌, ◌-◌, ◌<◌, ◌≤◌, Bool, true, false, List, [], ◌∷◌, length, Option, Some, None, Result, Ok, Err, refl, ap, sym, ◌∙◌, arith}
+use Rattle.std.proofs.Common.{◌≡◌, ℕ, ◌+◌, ◌<◌, ◌≤◌, Bool, true, false, List, [], ◌∷◌, length, Option, Some, None, Result, Ok, Err, refl, ap, sym, ◌∙◌, arith}
 use Rattle.std.proofs.lemmas.Bool.Decides.{nat_tests}
 use Rattle.std.specs.Prelude.{◌==◌, nat_le, nat_lt, if◌then◌else◌}
 use Rattle.pe_core.specs.Bytes.{le, holds}
 use Rattle.pe_core.specs.Refusals.{outcome}
-use Rattle.pe_pdb.specs.Annotations.{annotation_at, annotations, closed, ended, has_offset, kept, last_with, moved, number_at, number_size, number_value, row_from, rows_of, starts_row}
+use Rattle.pe_pdb.specs.Annotations.{annotation_at, annotations, closed, ended, found_in, kept, last_with, moved, number_at, number_size, number_value, row_from, rows_of, starts_row}
 use Rattle.pe_pdb.specs.InlineWalks.{started}
 use Rattle.pe_pdb.specs.InlineSites.{followed, frames_in, step_of}
 use Rattle.pe_pdb.specs.Refusals.{PdbRefusal, Annotation as Refused}
@@ -129,9 +129,20 @@ pub last_end : (x : ℕ) (found : Option InlineRow) (rows : List (Result InlineR
 unfolding last_with
 last_end x found rows is = ap (λ (l : List (Result InlineRow PdbRefusal)). last_with x found l) is
 
-pub last_more : (x : ℕ) (found : Option InlineRow) (rows more : List (Result InlineRow PdbRefusal)) (r : InlineRow) → rows ≡ Ok r ∷ more → last_with x found rows ≡ last_with x (if has_offset x r then Some r else found) more
+-- a row that is closed, if there is one
+pub last_ended : (x : ℕ) (found : Option InlineRow) (last : Option OpenRow) (next : ℕ) (more : List (Result InlineRow PdbRefusal)) → last_with x found (ended last next more) ≡ last_with x (found_in last next x found) more
 unfolding last_with
-last_more x found rows more r is = ap (λ (l : List (Result InlineRow PdbRefusal)). last_with x found l) is
+last_ended x found None next more = refl
+last_ended x found (Some r) next more = refl
+
+pub row_closed : (x : ℕ) (found out : Option InlineRow) (c next : Cursor) (last : Option OpenRow) (a : Annotation) (row : OpenRow) (more : List (Result Annotation PdbRefusal)) →
+    next ≡ moved c a → row ≡ row_from a next → out ≡ found_in last next.offset x found →
+    last_with x found (ended last (moved c a).offset (rows_of (moved c a) (Some (row_from a (moved c a))) more)) ≡ last_with x out (rows_of next (Some row) more)
+row_closed x found out c next last a row more at is closes =
+    ap (λ (k : Cursor). last_with x found (ended last k.offset (rows_of k (Some (row_from a k)) more))) (sym at)
+    ∙ last_ended x found last next.offset (rows_of next (Some (row_from a next)) more)
+    ∙ ap (λ (o : Option InlineRow). last_with x o (rows_of next (Some (row_from a next)) more)) (sym closes)
+    ∙ ap (λ (r : OpenRow). last_with x out (rows_of next (Some r) more)) (sym is)
 
 pub last_refused : (x : ℕ) (found : Option InlineRow) (rows more : List (Result InlineRow PdbRefusal)) (r : PdbRefusal) → rows ≡ Err r ∷ more → last_with x found rows ≡ Err r
 unfolding last_with

@@ -125,3 +125,8 @@ last_with x found (Err r ∷ more) = Err r
 -- the row of an offset
 abbrev pub row_at : List ℕ → ℕ → Result (Option InlineRow) PdbRefusal
 row_at b x = last_with x None (inline_rows b)
+
+-- a row that has an offset, if the next one starts at another, else the one that was found before it
+abbrev pub found_in : Option OpenRow → ℕ → ℕ → Option InlineRow → Option InlineRow
+found_in None next x found = found
+found_in (Some r) next x found = if has_offset x (closed r next) then Some (closed r next) else found

@@ -2,9 +2,10 @@
 //! that of the procedure. Records of symbols nest: what starts a scope is ended by `S_END` or another such record. The offsets of
 //! parents and ends that they have too are not followed.
 
-ghost use Rattle.std.specs.Prelude.{◌≡◌, ◌-◌, ◌^◌, ◌<◌, ◌≤◌, ◌+◌, Ok, length};
+ghost use Rattle.std.specs.Prelude.{◌≡◌, ◌-◌, ◌^◌, ◌<◌, ◌≤◌, ◌+◌, ◌||◌, true, false, Ok, length};
 ghost use Rattle.std.specs.Iterator.{at_most};
 ghost use Rattle.pe_pdb.specs.InlineSites.{after_end, after_inner, after_part, after_skipped, frame_of, frames_in, frames_left, inline_frames, is_block, is_end, is_site, step_of};
+ghost use Rattle.pe_pdb.specs.Procedures.{is_procedure};
 ghost use Rattle.pe_pdb.specs.Refusals.{PdbReturns};
 ghost use Rattle.pe_pdb.specs.Symbols.{symbol_view, symbols};
 ghost use Rattle.pe_pdb.specs.Walks.{Takes};
@@ -36,6 +37,13 @@ fn is_block(kind: u16) -> bool
     ensures { result ≡ is_block kind }
 {
     matches!(kind, 0x1102 | 0x1103 | 0x1132)
+}
+
+/// Whether a record is of a kind that starts and ends nothing, as most are: those of variables, and of where these are.
+fn is_variable(kind: u16) -> bool
+    ensures { result ≡ true → (is_end kind || is_block kind || is_procedure kind || is_site kind) ≡ false }
+{
+    matches!(kind, 0x1133..=0x1145)
 }
 
 impl Scopes {
@@ -144,6 +152,9 @@ impl<'a> InlineFrames<'a> {
             s.skipped + s.parts ≤ self.now.scopes.skipped + self.now.scopes.parts + 1 }
     {
         let scopes = self.scopes;
+        if is_variable(record.kind) {
+            return Ok(Step::On(scopes));
+        }
         if is_end(record.kind) {
             if scopes.skipped == 0 && scopes.parts == 0 {
                 return Ok(Step::Over);

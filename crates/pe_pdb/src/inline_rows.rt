@@ -6,7 +6,7 @@
 
 ghost use Rattle.std.specs.Prelude.{◌≡◌, ◌+◌, ◌-◌, ◌<◌, ◌≤◌, ◌^◌, length, is_some};
 ghost use Rattle.std.specs.Iterator.{at_most};
-ghost use Rattle.pe_pdb.specs.Annotations.{advance, closed, inline_rows, has_offset, kept, length_to, moved, moved_line, row_at, row_from, rows_left, starts_row};
+ghost use Rattle.pe_pdb.specs.Annotations.{advance, closed, found_in, inline_rows, has_offset, kept, length_to, moved, moved_line, row_at, row_from, rows_left, starts_row};
 ghost use Rattle.pe_pdb.specs.InlineWalks.{rows_bound};
 ghost use Rattle.pe_pdb.specs.Refusals.{PdbReturns};
 ghost use Rattle.pe_pdb.specs.Walks.{Takes};
@@ -21,6 +21,13 @@ pub(crate) struct Cursor {
     pub(crate) line: u32,
     pub(crate) file: Option<u32>,
 }
+
+/// Where they start.
+const START: Cursor = Cursor {
+    offset: 0,
+    line: 0,
+    file: None,
+};
 
 /// A row that was started, with its length if an annotation gave it one.
 #[derive(Clone, Copy, Debug, PartialEq)]
@@ -168,11 +175,7 @@ impl<'a> InlineRows<'a> {
         InlineRows {
             bytes: annotations,
             next: 0,
-            cursor: Cursor {
-                offset: 0,
-                line: 0,
-                file: None,
-            },
+            cursor: START,
             last: None,
         }
     }
@@ -183,14 +186,37 @@ impl<'a> InlineRows<'a> {
         ensures { PdbReturns (λ r. r) result (row_at annotations.now offset) }
     {
         let mut found = None;
-        let mut rows = InlineRows::new(annotations);
-        while let Some(row) = rows.next() {
-            let row = row?;
-            if row.has(offset) {
-                found = Some(row);
+        let mut last = None;
+        let mut cursor = START;
+        let mut next = 0;
+        // Each row is closed where the next one starts, in place of a walk over rows, which takes twice as long.
+        while next < annotations.len() {
+            let (annotation, end) = Annotation::parse(annotations, next)?;
+            next = end;
+            cursor = cursor.moved(&annotation);
+            if starts_row(&annotation) {
+                found = found_in(last, cursor.offset, offset, found);
+                last = Some(OpenRow::new(&annotation, cursor));
+            } else {
+                last = kept(&annotation, last);
             }
         }
-        Ok(found)
+        Ok(found_in(last, 0, offset, found))
+    }
+}
+
+/// A row that has an offset, if the next one starts at another, else the one that was found before it.
+fn found_in(
+    row: Option<OpenRow>,
+    next: u32,
+    offset: u32,
+    found: Option<InlineRow>,
+) -> Option<InlineRow>
+    ensures { result ≡ found_in row next offset found }
+{
+    match row {
+        Some(row) if row.closed(next).has(offset) => Some(row.closed(next)),
+        _ => found,
     }
 }
 

@@ -2,9 +2,8 @@
 //! `DEBUG_S_INLINEELINES` of a module. The lines of `InlineRow` count from the line of the function's record, whose file is that of
 //! rows without one.
 
-ghost use Rattle.std.specs.Prelude.{◌≡◌, ◌+◌, ◌≤◌, ◌<◌, ◌==◌, length, IfOk};
-ghost use Rattle.pe_core.specs.Bytes.{le};
-ghost use Rattle.pe_pdb.specs.Inlinees.{inline_line, inlinee_at, inlinee_end, inlinee_of, inlinee_row};
+ghost use Rattle.std.specs.Prelude.{◌≡◌, ◌+◌, ◌≤◌, ◌<◌, length, IfOk};
+ghost use Rattle.pe_pdb.specs.Inlinees.{inline_line, inlinee_at, inlinee_of, inlinee_row};
 ghost use Rattle.pe_pdb.specs.Refusals.{PdbReturns};
 
 use crate::error::{PdbError, Result};
@@ -39,12 +38,18 @@ pub struct SourceLine {
     pub line: u32,
 }
 
-/// Where the record at an offset ends, whose 12 bytes are known to be there.
-fn inlinee_end(extended: bool, bytes: &[u8], offset: usize) -> Result<usize>
-    requires { offset + 12 ≤ length bytes.now }
-    ensures value { PdbReturns (λ n. n) result (inlinee_end extended bytes.now offset) }
-    ensures after { IfOk result (λ n. offset < n) }
+/// Where the record at an offset ends.
+#[tactic(auto, unfolding(crate::specs::Inlinees::inlinee_at))]
+fn record_end(extended: bool, bytes: &[u8], offset: usize) -> Result<usize>
+    ensures value { PdbReturns (λ end. (inlinee_row bytes.now offset, end)) result (inlinee_at extended bytes.now offset) }
+    ensures after { IfOk result (λ end. (offset < end) × (offset + 12 ≤ length bytes.now)) }
 {
+    if bytes.len() < SIZE_OF_RECORD || offset > bytes.len() - SIZE_OF_RECORD {
+        return Err(PdbError::Short {
+            needed: SIZE_OF_RECORD,
+            length: bytes.len().saturating_sub(offset),
+        });
+    }
     let start = offset + SIZE_OF_RECORD;
     if !extended {
         return Ok(start);
@@ -67,25 +72,17 @@ fn inlinee_end(extended: bool, bytes: &[u8], offset: usize) -> Result<usize>
 }
 
 impl InlineeLine {
-    /// The record at an offset, and where it ends.
-    #[tactic(auto, unfolding(crate::specs::Inlinees::inlinee_at, crate::specs::Inlinees::inlinee_row))]
-    fn parse(extended: bool, bytes: &[u8], offset: usize) -> Result<(InlineeLine, usize)>
-        ensures value { PdbReturns (λ r. r) result (inlinee_at extended bytes.now offset) }
-        ensures after { IfOk result (λ r. offset < r.1) }
+    /// The record at an offset, whose 12 bytes are known to be there.
+    #[tactic(auto, unfolding(crate::specs::Inlinees::inlinee_row))]
+    fn at(bytes: &[u8], offset: usize) -> InlineeLine
+        requires { offset + 12 ≤ length bytes.now }
+        ensures { result ≡ inlinee_row bytes.now offset }
     {
-        if bytes.len() < SIZE_OF_RECORD || offset > bytes.len() - SIZE_OF_RECORD {
-            return Err(PdbError::Short {
-                needed: SIZE_OF_RECORD,
-                length: bytes.len().saturating_sub(offset),
-            });
-        }
-        let end = inlinee_end(extended, bytes, offset)?;
-        let line = InlineeLine {
+        InlineeLine {
             inlinee: read_u32(bytes, offset),
             file: read_u32(bytes, offset + 4),
             line: read_u32(bytes, offset + 8),
-        };
-        Ok((line, end))
+        }
     }
 
     /// Where the function with an id is in the source, by the content of `DEBUG_S_INLINEELINES`: its first record. `None` where
@@ -103,7 +100,8 @@ impl InlineeLine {
         let extended = read_u32(content, 0) == 1;
         let mut next = 4;
         while next < content.len() {
-            let (line, end) = InlineeLine::parse(extended, content, next)?;
+            let end = record_end(extended, content, next)?;
+            let line = InlineeLine::at(content, next);
             if line.inlinee == inlinee {
                 return Ok(Some(line));
             }

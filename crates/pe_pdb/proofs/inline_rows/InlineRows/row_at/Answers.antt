@@ -1,36 +1,46 @@
-use Rattle.std.proofs.Common.{◌≡◌, ℕ, Bool, ◌∷◌, Some, Result, Err, true, false, rules, ap, sym, ◌∙◌}
-use Rattle.std.specs.Prelude.{if◌then◌else◌}
-use Rattle.pe_pdb.specs.Annotations.{last_with, row_at, rows_left}
+use Rattle.std.proofs.Common.{◌≡◌, ℕ, [], ◌∷◌, Option, Ok, Err, true, false, refl, arith, rules, ap, sym, ◌∙◌}
+use Rattle.pe_pdb.specs.Annotations.{annotations, found_in, last_with, row_at, starts_row}
 use Rattle.pe_pdb.specs.Refusals.{pdb_kind_of}
-use Rattle.pe_pdb.specs.Walks.{step_view}
-use Rattle.pe_pdb.specs.declared.error.PdbError.{PdbError}
 use Rattle.pe_pdb.specs.declared.inline_rows.InlineRow.{InlineRow}
-use Rattle.pe_pdb.proofs.InlineWalks.{last_end, last_more, last_refused}
+use Rattle.pe_pdb.proofs.InlineWalks.{last_end, last_ended, last_refused, not_started, row_closed, rows_end, rows_on, rows_refused, rows_started}
 use Rattle.pe_pdb.proofs.inline_rows.InlineRows.row_at.Goals as goal
 
-pub returns-in_err-row : goal.returns-in_err-row
-returns-in_err-row c =
+pub returns-in_err-annotation : goal.returns-in_err-annotation
+returns-in_err-annotation c =
+    let l = c.loop-next in
     let x : ℕ = c.args.offset in
-    let more = rows_left c.next.new.self in
-    let e = c.in-Some.ensures.steps ∙ ap (λ (k : Result InlineRow PdbError). step_view (λ (x : InlineRow). x) k ∷ more) c.in_err-row.was in
-    let refused : row_at c.args.annotations.now x ≡ Err (pdb_kind_of c.in_err-row.field-0.0) = c.loop-row.invariant ∙ last_refused x c.loop-row.found (rows_left c.loop-row.rows) more (pdb_kind_of c.in_err-row.field-0.0) e in
+    let b = c.args.annotations.now in
+    let kind = pdb_kind_of c.in_err-annotation.field-0.0 in
+    let refused : row_at b x ≡ Err kind =
+    l.invariant ∙ ap (last_with x l.found) (rows_refused b l.next l.cursor l.last kind c.loop-next-test.true c.in_err-annotation.ensures.value) ∙ last_refused x l.found (Err kind ∷ []) [] kind refl in
     search rules
 
-pub loop-row-preserved-then-has : goal.loop-row-preserved-then-has
-loop-row-preserved-then-has c =
+pub loop-next-preserved-then-starts_row : goal.loop-next-preserved-then-starts_row
+loop-next-preserved-then-starts_row c =
+    let l = c.loop-next in
     let x : ℕ = c.args.offset in
-    let more = rows_left c.next.new.self in
-    let e = c.in-Some.ensures.steps ∙ ap (λ (k : Result InlineRow PdbError). step_view (λ (x : InlineRow). x) k ∷ more) c.in_ok-row.was in
-    c.loop-row.invariant ∙ last_more x c.loop-row.found (rows_left c.loop-row.rows) more c.in_ok-row.row e
-    ∙ ap (λ (t : Bool). last_with x (if t then Some c.in_ok-row.row else c.loop-row.found) more) (sym c.has.ensures ∙ c.if-has.true)
+    let b = c.args.annotations.now in
+    let a = c.in_ok-annotation.annotation in
+    let q = c.in_ok-annotation.end in
+    let starts : starts_row a ≡ true = sym c.starts_row.ensures ∙ c.if-starts_row.true in
+    l.invariant ∙ ap (last_with x l.found) (rows_started b l.next l.cursor l.last a q c.loop-next-test.true c.in_ok-annotation.ensures.value starts)
+    ∙ row_closed x l.found c.found_in-found.result l.cursor c.moved-cursor.result l.last a c.new.result (annotations b q) c.moved-cursor.ensures c.new.ensures c.found_in-found.ensures
 
-pub loop-row-preserved : goal.loop-row-preserved
-loop-row-preserved c =
+pub loop-next-preserved : goal.loop-next-preserved
+loop-next-preserved c =
+    let l = c.loop-next in
     let x : ℕ = c.args.offset in
-    let more = rows_left c.next.new.self in
-    let e = c.in-Some.ensures.steps ∙ ap (λ (k : Result InlineRow PdbError). step_view (λ (x : InlineRow). x) k ∷ more) c.in_ok-row.was in
-    c.loop-row.invariant ∙ last_more x c.loop-row.found (rows_left c.loop-row.rows) more c.in_ok-row.row e
-    ∙ ap (λ (t : Bool). last_with x (if t then Some c.in_ok-row.row else c.loop-row.found) more) (sym c.has.ensures ∙ c.if-has.false)
+    let b = c.args.annotations.now in
+    let a = c.in_ok-annotation.annotation in
+    let q = c.in_ok-annotation.end in
+    let starts : starts_row a ≡ false = sym c.starts_row.ensures ∙ c.if-starts_row.false in
+    l.invariant ∙ ap (last_with x l.found) (rows_on b l.next l.cursor l.last a q c.loop-next-test.true c.in_ok-annotation.ensures.value starts
+    ∙ not_started l.cursor c.moved-cursor.result l.last c.kept-last.result a (annotations b q) c.moved-cursor.ensures c.kept-last.ensures)
 
 pub returns : goal.returns
-returns c = c.loop-row.invariant ∙ last_end c.args.offset c.loop-row.found (rows_left c.loop-row.rows) (c.in_default.ensures.steps.0)
+returns c =
+    let l = c.loop-next in
+    let x : ℕ = c.args.offset in
+    let b = c.args.annotations.now in
+    l.invariant ∙ ap (last_with x l.found) (rows_end b l.next l.cursor l.last (omega arith)) ∙ last_ended x l.found l.last 0 [] ∙ last_end x (found_in l.last 0 x l.found) [] refl
+    ∙ ap (λ (o : Option InlineRow). Ok o) (sym c.found_in.ensures)

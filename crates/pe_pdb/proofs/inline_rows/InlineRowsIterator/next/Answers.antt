@@ -1,4 +1,4 @@
-use Rattle.std.proofs.Common.{◌≡◌, ◌-◌, ◌≤◌, length, List, [], ◌∷◌, Option, Some, None, Result, Ok, Err, true, false, arith, rules, ap, sym, ◌∙◌}
+use Rattle.std.proofs.Common.{◌≡◌, ◌≤◌, length, List, [], ◌∷◌, Option, Some, None, Result, Ok, Err, true, false, arith, rules, ap, sym, ◌∙◌}
 use Rattle.pe_pdb.specs.Annotations.{annotations, ended, rows_left, rows_of, starts_row}
 use Rattle.pe_pdb.specs.InlineWalks.{started}
 use Rattle.pe_pdb.specs.Refusals.{PdbRefusal, pdb_kind_of}
