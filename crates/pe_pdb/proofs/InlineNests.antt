@@ -1,12 +1,12 @@
 -- The records of the inlined functions that have an offset nest.
-use Rattle.std.proofs.Common.{◌≡◌, ℕ, zero, suc, ◌+◌, ◌-◌, ◌<◌, Bool, true, false, List, [], ◌∷◌, ◌++◌, Option, Some, None, Result, Ok, Err, refl, ap, sym, subst, ◌∙◌, arith, ltb, leb}
+use Rattle.std.proofs.Common.{◌≡◌, ℕ, ◌+◌, ◌-◌, ◌<◌, Bool, true, false, List, [], ◌∷◌, Option, Some, None, Result, Ok, Err, refl, ap, sym, ◌∙◌, arith, ltb}
 use Rattle.std.proofs.lemmas.Bool.Decides.{nat_tests}
 use Rattle.std.specs.Option.{option_map}
 use Rattle.std.specs.Prelude.{◌==◌, ◌&&◌, ◌||◌, if◌then◌else◌}
 use Rattle.pe_core.specs.Refusals.{◌>>=◌}
 use Rattle.pe_pdb.specs.Annotations.{has_offset, last_with, row_at}
 use Rattle.pe_pdb.specs.InlineNests.{RowsHave, SitesNest, keep_open, open_after, starts_scope}
-use Rattle.pe_pdb.specs.InlineSites.{InlineSiteView, after_end, after_inner, after_part, after_skipped, followed, found_or_skipped, frame_of, frames_in, inline_site_of, is_block, is_end, is_site, no_scopes, step_of}
+use Rattle.pe_pdb.specs.InlineSites.{after_end, after_inner, after_part, after_skipped, followed, found_or_skipped, frame_of, frames_in, inline_site_of, is_block, is_end, is_site, no_scopes, step_of}
 use Rattle.pe_pdb.specs.Procedures.{is_procedure}
 use Rattle.pe_pdb.specs.Refusals.{PdbRefusal}
 use Rattle.pe_pdb.specs.Symbols.{Symbol}
@@ -14,7 +14,7 @@ use Rattle.pe_pdb.specs.declared.inline_rows.InlineRow.{InlineRow}
 use Rattle.pe_pdb.specs.declared.inline_walk.InlineFrame.{InlineFrame}
 use Rattle.pe_pdb.specs.declared.inline_walk.Scopes.{Scopes}
 use Rattle.pe_pdb.specs.declared.inline_walk.Step.{Step}
-use Rattle.pe_pdb.specs.declared.inline_walk.Step.TheVariants.{Over, On, Found}
+use Rattle.pe_pdb.specs.declared.inline_walk.Step.TheVariants.{Over, On}
 use Rattle.pe_pdb.proofs.RecordWalks.{both}
 
 abbrev Records : Type 0

@@ -21,3 +21,5 @@ pub mod InlineNests
 pub mod Inlinees
 pub mod RecordStarts
 pub mod WrittenAnnotations
+pub mod Halves
+pub mod Frames

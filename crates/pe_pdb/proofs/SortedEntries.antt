@@ -1,5 +1,5 @@
 -- A room that has just as many entries as were put into it.
-use Rattle.std.proofs.Common.{◌≡◌, ℕ, ◌≤◌, List, length, take, Result, Ok, ap, sym, ◌∙◌, arith}
+use Rattle.std.proofs.Common.{◌≡◌, ℕ, List, length, take, Result, Ok, ap, sym, ◌∙◌, arith}
 use Rattle.std.proofs.lemmas.List.{take_all}
 use Rattle.pe_pdb.specs.Refusals.{PdbRefusal}
 use Rattle.pe_pdb.specs.SymbolEntries.{count_of}

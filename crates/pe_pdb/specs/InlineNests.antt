@@ -1,5 +1,5 @@
 -- What laws say of the inlined functions that have an offset: how their records nest.
-use Rattle.std.specs.Prelude.{◌≡◌, ℕ, ◌+◌, ◌-◌, ◌&&◌, ◌||◌, Bool, true, false, List, [], ◌∷◌, ◌++◌, nat_lt, Option, Some, Result, Ok, Err, if◌then◌else◌}
+use Rattle.std.specs.Prelude.{◌≡◌, ℕ, ◌+◌, ◌-◌, ◌&&◌, ◌||◌, Bool, true, false, List, [], ◌∷◌, ◌++◌, nat_lt, Some, Result, Ok, Err, if◌then◌else◌}
 use Rattle.pe_pdb.specs.Annotations.{has_offset}
 use Rattle.pe_pdb.specs.InlineSites.{frame_of, is_block, is_end, is_site}
 use Rattle.pe_pdb.specs.Procedures.{is_procedure}

@@ -12,6 +12,7 @@ pub mod Modules
 pub mod Publics
 pub mod Procedures
 pub mod SymbolEntries
+pub mod Lookups
 pub mod SymbolIndexes
 pub mod Lines
 pub mod Checksums
@@ -29,3 +30,4 @@ pub mod Ids
 pub mod WrittenAnnotations
 pub mod Contributions
 pub mod ModuleIndexes
+pub mod Frames

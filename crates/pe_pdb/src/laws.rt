@@ -1,21 +1,26 @@
 //! What the definitions that contracts cite say together.
 
-ghost use Rattle.std.specs.Prelude.{◌≡◌, ◌↔◌, ℕ, ◌+◌, ◌++◌, ◌∷◌, ◌-◌, ◌*◌, ◌/◌, ◌^◌, ◌<◌, ◌≤◌, [], length, nat_le, take, List, Ok, Option, Result, Some, if◌then◌else◌, true};
+ghost use Rattle.std.specs.Prelude.{◌≡◌, ◌↔◌, ℕ, ◌+◌, ◌++◌, ◌∷◌, ◌-◌, ◌*◌, ◌/◌, ◌^◌, ◌<◌, ◌≤◌, [], length, map, nat_le, take, List, Ok, Option, Result, Some, if◌then◌else◌, true};
 ghost use Rattle.std.specs.Int.{div_ceil};
 ghost use Rattle.std.specs.List.{All, Contains};
+ghost use Rattle.std.specs.Option.{option_map, option_to_list};
 ghost use Rattle.pe_core.specs.Offsets.{bytes_in};
 ghost use Rattle.pe_core.specs.declared.byte_range.ByteRange.{ByteRange};
 ghost use Rattle.pe_pdb.specs.Streams.{CopiesStream, HasBlocks, StreamView, block_bytes, contiguous_of, joined, stream_bytes};
 ghost use Rattle.pe_pdb.specs.Annotations.{annotation_at, annotations};
+ghost use Rattle.pe_pdb.specs.Frames.{FindsIn, HasStarts, ModuleParts, NoneHas, PdbParts, frames_at, frames_of, id_record, line_with, module_with, procedure_with, public_frame, symbol_before, unnamed, with_ids, with_lines, with_modules, with_names, without_file, without_source};
+ghost use Rattle.pe_pdb.specs.Ids.{TypesView, record_by};
 ghost use Rattle.pe_pdb.specs.InlineNests.{RowsHave, SitesNest};
 ghost use Rattle.pe_pdb.specs.InlineSites.{frames_in, no_scopes};
 ghost use Rattle.pe_pdb.specs.Keys.{key_of};
 ghost use Rattle.pe_pdb.specs.Lines.{block_at, block_end, blocks, subsection_at, subsection_end, subsections};
+ghost use Rattle.pe_pdb.specs.LineEntries.{module_lines};
+ghost use Rattle.pe_pdb.specs.Lookups.{digits};
 ghost use Rattle.pe_pdb.specs.LineIndexes.{IsLastBefore, LineAt, NoneStarts, is_line};
 ghost use Rattle.pe_pdb.specs.Modules.{module_at, module_end, modules};
 ghost use Rattle.pe_pdb.specs.SectionHeaders.{rva_of, start_of};
 ghost use Rattle.pe_pdb.specs.SymbolEntries.{HasEntry, addresses, rva_by};
-ghost use Rattle.pe_pdb.specs.SymbolIndexes.{Nearest};
+ghost use Rattle.pe_pdb.specs.SymbolIndexes.{Covering, Nearest};
 ghost use Rattle.pe_pdb.specs.Refusals.{PdbRefusal};
 ghost use Rattle.pe_pdb.specs.Symbols.{Symbol, symbol_at, symbol_end, symbols};
 ghost use Rattle.pe_pdb.specs.Walks.{with_end, with_more};
@@ -27,7 +32,15 @@ ghost use Rattle.pe_pdb.specs.declared.info.PdbInfo.{PdbInfo};
 ghost use Rattle.pe_pdb.specs.declared.key.PdbKey.{PdbKey};
 ghost use Rattle.pe_pdb.specs.declared.line_entries.CodeLine.{CodeLine};
 ghost use Rattle.pe_pdb.specs.declared.symbol_entries.SymbolClass.{SymbolClass};
+ghost use Rattle.pe_pdb.specs.declared.symbol_entries.SymbolClass.TheVariants.{Procedures, PublicFunctions};
 ghost use Rattle.pe_pdb.specs.declared.symbol_lookup.SymbolAddress.{SymbolAddress};
+
+use crate::counted_entries::CountedEntries;
+use crate::line_entries::LineEntry;
+use crate::line_lookup::search_lines;
+use crate::module_lookup::search_ranges;
+use crate::symbol_lookup::search_symbols;
+use pe_core::RangeEntry;
 
 /// The bytes of a stream are those of its blocks, one block after the other, up to its size.
 pub fn stream_is_its_blocks()
@@ -113,3 +126,57 @@ pub fn sites_nest()
     ensures nest { (x : ℕ) (records : List (Result Symbol PdbRefusal)) → SitesNest x 0 records (frames_in x no_scopes records) }
     ensures covered { (x : ℕ) (records : List (Result Symbol PdbRefusal)) → RowsHave x (frames_in x no_scopes records) }
 {}
+
+/// What lookups find by indexes is what is found by reading a list from its start, whatever its order: the last symbol at or before an RVA,
+/// the procedure and the line that have it, and the record with an id. There is one such answer.
+pub fn index_is_list()
+    ensures symbols { (xs : List ℕ) (rva : ℕ) (found : Option SymbolAddress) → Nearest xs rva found ↔ (found ≡ symbol_before xs rva) }
+    ensures procedures { (xs b : List ℕ) (rva : ℕ) (found : Option SymbolAddress) →
+        Covering xs b rva found ↔ (found ≡ procedure_with xs b rva) }
+    ensures lines { (xs : List CodeLine) (rva : ℕ) (found : Option CodeLine) → LineAt xs rva found ↔ (found ≡ line_with xs rva) }
+    ensures ids { (t : TypesView) (starts : List ℕ) (id : ℕ) → HasStarts t starts → record_by t starts id ≡ id_record t id }
+{}
+
+/// A caller has the frames of an RVA who finds them so: `ModuleIndex::module_at` names its module; `covering` in an index of the
+/// procedures of the module finds the procedure, and `line_at` in one of its lines the line; `InlineStack` has the functions that are
+/// inlined there, and `TypeRecords::get` their records. Where no procedure has the RVA, `nearest` in an index of the public functions
+/// finds the one before it. Nothing is found in lists that are refused.
+pub fn indexes_find_the_frames()
+    ensures procedures { (p : PdbParts) (m : ModuleParts) (rva : ℕ) (starts : List ℕ) (a : SymbolAddress) (line : Option CodeLine) →
+        module_with p rva ≡ Some m →
+        FindsIn (λ xs found. Covering xs m.symbols rva found) (addresses Procedures m.symbols 4 p.sections) (Some a) →
+        FindsIn (λ xs found. LineAt xs rva found) (module_lines p.sections m.lines) line → HasStarts p.ids starts →
+        frames_at p rva ≡ frames_of (record_by p.ids starts) p.names m rva line a }
+    ensures publics { (p : PdbParts) (rva : ℕ) (found : Option SymbolAddress) → NoneHas p rva (module_with p rva) →
+        FindsIn (λ xs found. Nearest xs rva found) (addresses PublicFunctions p.publics 0 p.sections) found →
+        frames_at p rva ≡ option_to_list (option_map (public_frame p.publics) found) }
+{}
+
+/// The frames of an RVA are of its module alone: other modules change nothing. The stream of ids changes how inlined functions are named,
+/// and nothing else; the names of source files change these alone; and the lines of the module where in the source its functions are.
+pub fn frames_of_module_alone()
+    ensures modules { (p : PdbParts) (rva : ℕ) (modules : List ModuleParts) →
+        module_with (with_modules p modules) rva ≡ module_with p rva → frames_at (with_modules p modules) rva ≡ frames_at p rva }
+    ensures ids { (p : PdbParts) (rva : ℕ) (ids : TypesView) → map unnamed (frames_at (with_ids p ids) rva) ≡ map unnamed (frames_at p rva) }
+    ensures names { (p : PdbParts) (rva : ℕ) (names : List ℕ) →
+        map without_file (frames_at (with_names p names) rva) ≡ map without_file (frames_at p rva) }
+    ensures lines { (p : PdbParts) (rva : ℕ) (modules : List ModuleParts) (m : ModuleParts) (lines : List ℕ) →
+        module_with p rva ≡ Some m → module_with (with_modules p modules) rva ≡ Some (with_lines m lines) →
+        map without_source (frames_at (with_modules p modules) rva) ≡ map without_source (frames_at p rva) }
+{}
+
+/// A lookup reads at most as many entries of its index as their number has binary digits, and two, in whatever order they are.
+pub fn lookup_reads(
+    symbols: &mut CountedEntries<'_, u64>,
+    lines: &mut CountedEntries<'_, LineEntry>,
+    ranges: &mut CountedEntries<'_, RangeEntry>,
+    rva: u32,
+)
+    ensures symbols { symbols.new.reads ≤ symbols.old.reads + digits (length symbols.old.entries.now) + 2 }
+    ensures lines { lines.new.reads ≤ lines.old.reads + digits (length lines.old.entries.now) + 2 }
+    ensures ranges { ranges.new.reads ≤ ranges.old.reads + digits (length ranges.old.entries.now) + 2 }
+{
+    search_symbols(symbols, rva);
+    search_lines(lines, rva);
+    search_ranges(ranges, u64::from(rva));
+}

@@ -25,6 +25,7 @@
 mod annotation;
 mod checksum;
 mod contribution;
+mod counted_entries;
 mod dbi;
 mod error;
 mod file;
@@ -60,6 +61,7 @@ mod symbol_lookup;
 
 pub use checksum::FileChecksum;
 pub use contribution::{Contribution, ModuleRange, SectionContributions};
+pub use counted_entries::CountedEntries;
 pub use dbi::{
     DBI_STREAM, DEBUG_FPO, DEBUG_OMAP_FROM_SOURCE, DEBUG_OMAP_TO_SOURCE,
     DEBUG_ORIGINAL_SECTION_HEADERS, DEBUG_SECTION_HEADERS, Dbi, DbiHeader, NO_STREAM, debug_stream,
@@ -83,9 +85,10 @@ pub use line::{
 };
 pub use line_entries::{CodeLine, LineEntry};
 pub use line_index::LineIndex;
-pub use line_lookup::{line_in, put_line_index};
+pub use line_lookup::{line_in, put_line_index, search_lines};
 pub use module::{FIRST_SYMBOL, Module, ModuleRecord, Modules};
 pub use module_index::ModuleIndex;
+pub use module_lookup::search_ranges;
 pub use msf::SuperBlock;
 pub use names::{NAMES_STREAM, Names, named_stream};
 pub use procedure::{ProcedureSymbol, S_GPROC32, S_GPROC32_ID, S_LPROC32, S_LPROC32_ID};
@@ -95,4 +98,6 @@ pub use stream::Stream;
 pub use symbol::{SymbolRecord, SymbolRecords};
 pub use symbol_entries::SymbolClass;
 pub use symbol_index::SymbolIndex;
-pub use symbol_lookup::{SymbolAddress, covering_address, nearest_address, put_symbol_index};
+pub use symbol_lookup::{
+    SymbolAddress, covering_address, nearest_address, put_symbol_index, search_symbols,
+};

@@ -2,14 +2,16 @@
 //! by binary search. A row reaches to the next row by offset, of whatever block and subsection, at most to the end of its
 //! subsection's code; of several at one offset the last counts.
 
-ghost use Rattle.std.specs.Prelude.{◌≡◌, ◌+◌, ◌*◌, ◌^◌, List, length};
+ghost use Rattle.std.specs.Prelude.{◌≡◌, ◌+◌, ◌≤◌, ◌*◌, ◌^◌, List, length};
 ghost use Rattle.pe_pdb.specs.LineEntries.{count_of, module_lines};
 ghost use Rattle.pe_pdb.specs.LineKeys.{line_key};
+ghost use Rattle.pe_pdb.specs.Lookups.{digits};
 ghost use Rattle.pe_pdb.specs.LineIndexes.{AreEntries, IndexesLines, LastBefore, LineAt, PutsLineIndex, PutsSortedLines, in_room, is_line};
 ghost use Rattle.pe_pdb.specs.Refusals.{PdbReturns};
 ghost use Rattle.pe_pdb.specs.declared.line_entries.CodeLine.{CodeLine as Line};
 ghost use Rattle.std.specs.List.Sorted.{IsNonDecreasingBy, IsPermutation};
 
+use crate::counted_entries::CountedEntries;
 use crate::error::{PdbError, Result};
 use crate::line_entries::{CodeLine, LineEntry, UNIT, put_lines};
 use crate::line_index::LineIndex;
@@ -107,15 +109,18 @@ fn put_sorted(bytes: &[u8], sections: &SectionHeaders<'_>, room: &mut [LineEntry
     }
 }
 
-/// The last line whose code starts at or before an RVA.
-fn last_before(entries: &[LineEntry], rva: u32) -> Option<CodeLine>
-    ensures { IsNonDecreasingBy line_key entries.now → (xs : List Line) → AreEntries xs entries.now → LastBefore xs rva result }
+/// The last line whose code starts at or before an RVA. It reads at most as many entries as their number has binary digits, and two;
+/// `entries` counts these reads.
+#[inline(always)]
+pub fn search_lines(entries: &mut CountedEntries<'_, LineEntry>, rva: u32) -> Option<CodeLine>
+    ensures found { IsNonDecreasingBy line_key entries.old.entries.now → (xs : List Line) → AreEntries xs entries.old.entries.now → LastBefore xs rva result }
+    ensures cost { entries.new.reads ≤ entries.old.reads + digits (length entries.old.entries.now) + 2 }
 {
-    let after = entries.partition_point(|entry| entry.line.rva <= rva);
+    let after = entries.count_up_to(u64::from(rva));
     if after == 0 {
         return None;
     }
-    Some(entries[after - 1].line)
+    Some(entries.get(after - 1).line)
 }
 
 /// What `LineIndex::line_at` finds in the entries of an index. Where entries do not ascend, which those of an index do, what is found is
@@ -123,7 +128,7 @@ fn last_before(entries: &[LineEntry], rva: u32) -> Option<CodeLine>
 pub fn line_in(entries: &[LineEntry], rva: u32) -> Option<CodeLine>
     ensures { IsNonDecreasingBy line_key entries.now → (xs : List Line) → AreEntries xs entries.now → LineAt xs rva result }
 {
-    let found = last_before(entries, rva)?;
+    let found = search_lines(&mut CountedEntries::new(entries), rva)?;
     if rva.saturating_sub(found.rva) < found.code_size && is_line(found.line) {
         return Some(found);
     }

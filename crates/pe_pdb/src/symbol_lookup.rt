@@ -3,13 +3,15 @@
 //!
 //! Procedures of several modules have one index where their symbols stand in one room, one module after the other.
 
-ghost use Rattle.std.specs.Prelude.{◌≡◌, ℕ, List, Ok, length};
+ghost use Rattle.std.specs.Prelude.{◌≡◌, ◌+◌, ◌≤◌, ℕ, List, Ok, length};
 ghost use Rattle.std.specs.List.Sorted.{IsNonDecreasing, IsPermutation};
+ghost use Rattle.pe_pdb.specs.Lookups.{digits};
 ghost use Rattle.pe_pdb.specs.Refusals.{PdbReturns};
 ghost use Rattle.pe_pdb.specs.SymbolEntries.{addresses, count_of};
 ghost use Rattle.pe_pdb.specs.Symbols.{symbol_at};
 ghost use Rattle.pe_pdb.specs.SymbolIndexes.{Covering, Indexes, Nearest, PutsIndex, PutsSorted, code_size, in_room};
 
+use crate::counted_entries::CountedEntries;
 use crate::error::{PdbError, Result};
 use crate::procedure::code_size_of;
 use crate::sections::SectionHeaders;
@@ -134,21 +136,29 @@ fn put_sorted(
     }
 }
 
+/// What `nearest_address` finds. It reads at most as many entries as their number has binary digits, and two; `entries` counts these reads.
+#[inline(always)]
+pub fn search_symbols(entries: &mut CountedEntries<'_, u64>, rva: u32) -> Option<SymbolAddress>
+    ensures found { IsNonDecreasing entries.old.entries.now → (xs : List ℕ) → IsPermutation xs entries.old.entries.now → Nearest xs rva result }
+    ensures cost { entries.new.reads ≤ entries.old.reads + digits (length entries.old.entries.now) + 2 }
+{
+    let after = entries.count_up_to(u64::from(rva));
+    if after == 0 {
+        return None;
+    }
+    let address = entries.get(after - 1);
+    Some(SymbolAddress {
+        rva: (address / UNIT) as u32,
+        record_offset: (address % UNIT) as u32,
+    })
+}
+
 /// What `SymbolIndex::nearest` finds in the entries of an index. Where entries do not ascend, which those of an index do, what is found
 /// is left open.
 pub fn nearest_address(entries: &[u64], rva: u32) -> Option<SymbolAddress>
     ensures { IsNonDecreasing entries.now → (xs : List ℕ) → IsPermutation xs entries.now → Nearest xs rva result }
 {
-    let rva = u64::from(rva);
-    let after = entries.partition_point(|address| *address / UNIT <= rva);
-    if after == 0 {
-        return None;
-    }
-    let address = entries[after - 1];
-    Some(SymbolAddress {
-        rva: (address / UNIT) as u32,
-        record_offset: (address % UNIT) as u32,
-    })
+    search_symbols(&mut CountedEntries::new(entries), rva)
 }
 
 /// What `SymbolIndex::covering` finds in the entries of an index of procedures.

@@ -1,4 +1,4 @@
-use Rattle.std.proofs.Common.{ℕ, ◌-◌, Some, arith, sym, ap, ◌∙◌}
+use Rattle.std.proofs.Common.{ℕ, Some, arith, sym, ap, ◌∙◌}
 use Rattle.pe_pdb.proofs.NamedStreams.{named_here, named_later, named_none}
 use Rattle.pe_pdb.proofs.names.first_named.Goals as goal
 

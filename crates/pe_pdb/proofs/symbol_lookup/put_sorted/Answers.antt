@@ -1,7 +1,7 @@
-use Rattle.std.proofs.Common.{◌≡◌, ℕ, List, Ok, Result, ap, length, subst, sym, take, ◌∙◌, arith}
+use Rattle.std.proofs.Common.{ℕ, List, length, subst, ◌∙◌}
 use Rattle.std.proofs.lemmas.List.Sorted.{IsNonDecreasingBy-from_sort}
 use Rattle.std.specs.List.Sorted.{IsPermutation}
-use Rattle.pe_pdb.specs.SymbolEntries.{addresses, count_of}
+use Rattle.pe_pdb.specs.SymbolEntries.{addresses}
 use Rattle.pe_pdb.proofs.SortedEntries.{filled}
 use Rattle.pe_pdb.proofs.symbol_lookup.put_sorted.Goals as goal
 

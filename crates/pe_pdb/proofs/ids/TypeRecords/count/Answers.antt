@@ -1,4 +1,4 @@
-use Rattle.std.proofs.Common.{◌≡◌, ◌-◌, ◌<◌, length, Err, arith, rules, refl, ap, sym, ◌∙◌}
+use Rattle.std.proofs.Common.{◌≡◌, Err, arith, rules, ap, ◌∙◌}
 use Rattle.pe_pdb.specs.Ids.{count_of, start_of, types_view, whole_count}
 use Rattle.pe_pdb.specs.Refusals.{pdb_kind_of}
 use Rattle.pe_pdb.specs.Symbols.{symbol_view}

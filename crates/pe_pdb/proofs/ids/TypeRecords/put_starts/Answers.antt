@@ -1,4 +1,4 @@
-use Rattle.std.proofs.Common.{◌≡◌, ◌-◌, ◌<◌, length, Err, arith, rules, refl, ap, sym, ◌∙◌}
+use Rattle.std.proofs.Common.{◌≡◌, ◌<◌, length, Err, arith, rules, refl, ap, sym, ◌∙◌}
 use Rattle.std.proofs.Math.ListN.{length-set}
 use Rattle.pe_pdb.specs.Ids.{count_of, start_of, starts_in, types_view}
 use Rattle.pe_pdb.specs.Refusals.{pdb_kind_of}

@@ -1,4 +1,4 @@
-use Rattle.std.proofs.Common.{◌≡◌, ℕ, ◌-◌, ◌<◌, ◌≤◌, drop, length, length-set, ◌∷◌, Result, Ok, Err, arith, rules, ap, ◌∙◌}
+use Rattle.std.proofs.Common.{◌≡◌, ◌-◌, ◌<◌, drop, length-set, ◌∷◌, Result, Err, arith, rules, ap, ◌∙◌}
 use Rattle.pe_pdb.specs.InlineSites.{frames_left}
 use Rattle.pe_pdb.specs.InlineStacks.{inline_stack}
 use Rattle.pe_pdb.specs.Refusals.{pdb_kind_of}
