@@ -19,6 +19,9 @@
 //! 6. `InlineStack` has the functions that were inlined there, the innermost first; `InlineeLine` has their lines, and
 //!    `TypeRecords` their names (`FunctionId`).
 //!
+//! The frames of an RVA have one definition, `frames_at` of `specs/Frames.antt`, which reads lists from their start. The law
+//! `indexes_find_the_frames` says that these steps find them.
+//!
 //! Every call is proved to return what its definition in `specs/` says, for every byte string.
 #![tactic(auto)]
 
