@@ -60,7 +60,7 @@ impl fmt::Debug for Pdb<'_> {
 }
 
 /// A module of a PDB, an object that was linked.
-#[derive(Clone, Debug, PartialEq, Eq)]
+#[derive(Clone, Debug, Default, PartialEq, Eq)]
 #[cfg_attr(feature = "serde", derive(serde::Serialize))]
 #[non_exhaustive]
 pub struct PdbModule {
@@ -89,7 +89,7 @@ pub struct PdbModule {
 }
 
 /// A public symbol or a procedure of a PDB.
-#[derive(Clone, Debug, PartialEq, Eq)]
+#[derive(Clone, Debug, Default, PartialEq, Eq)]
 #[cfg_attr(feature = "serde", derive(serde::Serialize))]
 #[non_exhaustive]
 pub struct PdbSymbol {

@@ -13,7 +13,7 @@ const NO_LINES: [u32; 3] = [0, 0xF0_0F00, 0xFE_EFEE];
 const READINGS: usize = 4;
 
 /// A line of a source file, and its code.
-#[derive(Clone, Copy, Debug, PartialEq, Eq)]
+#[derive(Clone, Copy, Debug, Default, PartialEq, Eq)]
 #[cfg_attr(feature = "serde", derive(serde::Serialize))]
 #[non_exhaustive]
 pub struct PdbLine {
