@@ -403,10 +403,10 @@ class ExportData(_Changing):
     """An export: ordinal, address, name, forwarder; of one with a name also pe, ordinal_offset, address_offset, name_offset,
     forwarder_offset. What is assigned to the first four is written into the file's bytes."""
 
-    def _ordinal_place(self) -> int:
+    def _ordinal_place(self) -> Any:
         if self._ordinal_rva is None:
             raise NotInPeC("ExportData.ordinal_offset", "where names are skipped the library for C does not return which entry each has")
-        return typing.cast(int, self.pe.get_physical_by_rva(self._ordinal_rva))
+        return self.pe.get_physical_by_rva(self._ordinal_rva)
 
     _ways = {"ordinal": lambda it, value: it.pe.set_word_at_offset(it.ordinal_offset, value),
              "address": lambda it, value: it.pe.set_dword_at_offset(it.address_offset, value),
