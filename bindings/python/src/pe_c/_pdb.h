@@ -41,7 +41,7 @@ static PyObject *pdb_is_of(Image *self, PyObject *arguments)
         uint64_t count = 0; \
         type *room = NULL; \
         size_t most = 0; \
-        UNLOCKED(rows.result, call); \
+        rows.result = call; \
         if (rows.result == PE_C_ROOM && count < PY_SSIZE_T_MAX / sizeof *room \
             && (found = PyBytes_FromStringAndSize(NULL, (Py_ssize_t)(count * sizeof *room)))) { \
             room = (type *)PyBytes_AsString(found); \
