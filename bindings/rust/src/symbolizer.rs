@@ -86,6 +86,16 @@ struct Ids {
 }
 
 /// What names RVAs by a PDB: see [`Pdb::symbolizer`].
+///
+/// ```
+/// # #[path = "../tests/made/mod.rs"] mod made;
+/// # let bytes = made::pdb_inlined();
+/// let pdb = pe_c::Pdb::parse(&bytes)?;
+/// let frames = pdb.symbolizer()?.frames(0x1065);
+/// let lines: Vec<_> = frames.iter().map(|it| (it.name.as_str(), it.file.as_deref(), it.line, it.is_inlined)).collect();
+/// assert_eq!(lines, [("twice", Some("c.h"), Some(8), true), ("helper", Some("c.c"), Some(9), false)]);
+/// # Ok::<(), pe_c::Error>(())
+/// ```
 pub struct Symbolizer<'p> {
     pdb: &'p Pdb<'p>,
     sections: &'p [u8],
