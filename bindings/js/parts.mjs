@@ -123,7 +123,8 @@ function stringsOf(image, content) {
     if (found.error) errors.push(found.error);
     return found;
   };
-  const infos = blocks(content).flatMap((root) => blocks(root.children)).filter((it) => image.utf16(it.key) === 'StringFileInfo');
+  const isStrings = (it) => image.utf16(it.key).toLowerCase() === 'stringfileinfo';
+  const infos = blocks(content).flatMap((root) => blocks(root.children)).filter(isStrings);
   for (const table of infos.flatMap((it) => blocks(it.children))) {
     const found = strings[image.utf16(table.key)] ??= {};
     for (const it of blocks(table.children)) found[image.utf16(it.key)] ??= image.utf16(it.value);

@@ -1457,6 +1457,9 @@ test('version information and the manifest as values', () => {
   for (const [name, text] of Object.entries(said.texts)) {
     assert.ok(Object.values(version.strings).some((it) => it[name] === text), name);
   }
+  const key = Buffer.from('StringFileInfo', 'utf16le'), upper = file('resources');
+  upper.set(Buffer.from('STRINGFILEINFO', 'utf16le'), upper.indexOf(key));
+  assert.deepEqual(library.open(upper, { mode: 1 }).versions()[0].strings, version.strings);
   assert.ok(image.manifest() === null || image.manifest().startsWith('<'));
   assert.deepEqual([...opened('imports').versions(), opened('imports').manifest()], [null]);
 });

@@ -1,5 +1,6 @@
 //! What stands beside the resources of an image, or in their section, when these are changed: each case is an image made by hand of
 //! several sections. `tools/random_edits` draws such cases by chance, and reads what is written by a reader of its own.
+#![allow(clippy::cloned_ref_to_slice_refs)]
 
 mod running;
 

@@ -796,6 +796,11 @@ class Edits(unittest.TestCase):
         self.assertEqual((version.fixed.file_version_ms, version.fixed.file_version_ls), (1 << 16 | 2, 3 << 16 | 4))
         self.assertEqual(version.strings, {"040904B0": {"ProductName": "Größe", "FileVersion": "1.2.3.4"}})
         self.assertEqual((version.translations, version.blocks.error, written.warnings), (((0x409, 1200),), None, ()))
+        changed = editor.write()
+        for it in ("StringFileInfo", "VarFileInfo"):
+            changed = changed.replace(it.encode("utf-16-le"), it.upper().encode("utf-16-le"))
+        upper, = pe_c.Image(changed).versions
+        self.assertEqual((upper.strings, upper.translations), (version.strings, version.translations))
         with self.assertRaises(KeyError):
             editor.remove(1, 1, 1)
 

@@ -245,8 +245,9 @@ class Gaps(unittest.TestCase):
         with self.assertRaises(ours.PEFormatError):
             first.name = b"a longer one"
         self.assertFalse(hasattr(forwarded, "name_offset"))
-        with self.assertRaises(NotInPeC):
-            first.ordinal = 9
+        at = pe.get_offset_from_rva(pe.DIRECTORY_ENTRY_EXPORT.struct.AddressOfNameOrdinals)
+        first.ordinal = 9
+        self.assertEqual((bytes(pe.write()), at), (bytes(expected[:at] + b"\x09\0" + expected[at + 2:]), first.ordinal_offset))
         pe = opened("imports")
         named = next(it for it in pe.DIRECTORY_ENTRY_IMPORT[0].imports if it.name_offset)
         before, width = bytes(pe.__data__), named.struct_table.sizeof()

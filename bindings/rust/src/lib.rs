@@ -62,8 +62,17 @@
 //! - Names that the library proves to be UTF-8 are `&str`: of DLLs, functions, forwarders, symbols, long names of sections. Others are
 //!   bytes, as the name of a PDB, whose code page nothing says.
 //! - Records to which fields may be added are `#[non_exhaustive]`: read them by their fields. For a test of your own make one by
-//!   `Default` and set its fields, or by `new`, which [`Frame`], [`DumpStack`] and [`SymbolKey`] have. What a caller passes in, as a
-//!   [`Stack`], [`Registers`] or a [`MemoryPiece`], has all its fields.
+//!   `Default`, or by `new` where a field has no default, and set its fields. What leads on to more, as a [`Library`] or a
+//!   [`ResourceLeaf`], comes of an image alone. What a caller passes in, as a [`Stack`] or [`Registers`], has all its fields.
+//!
+//! ```
+//! use pe_c::{Export, FunctionName, NameSource};
+//!
+//! let (mut export, mut found) = (Export::default(), FunctionName::new(NameSource::Export));
+//! (export.name, export.rva) = ("f", 0x1000);
+//! (found.name, found.start) = (Some(export.name), export.rva);
+//! ```
+//!
 //! - The feature `serde` has records implement `Serialize`, also with fields of `pe.h`: names are texts with U+FFFD for what is not UTF-8,
 //!   contents hexadecimal digits, GUIDs texts, errors their texts.
 //!
@@ -115,6 +124,7 @@ struct Readme;
 
 mod arm64;
 mod bound_imports;
+mod by_hand;
 mod certificates;
 mod clr;
 mod coff;

@@ -34,16 +34,14 @@ const AT_ONCE: usize = 64;
 
 /// A PDB.
 ///
-/// ```no_run
-/// # fn main() -> Result<(), Box<dyn std::error::Error>> {
-/// let bytes = std::fs::read("app.pdb")?;
+/// ```
+/// # #[path = "../tests/made/mod.rs"] mod made;
+/// # let bytes = made::pdb();
 /// let pdb = pe_c::Pdb::parse(&bytes)?;
-/// println!("{}", pdb.key("app.pdb"));
-/// for frame in pdb.symbolizer()?.frames(0x1071) {
-///     println!("{}+{:#x} {:?}:{:?}", frame.name, frame.offset, frame.file, frame.line);
-/// }
-/// # Ok(())
-/// # }
+/// println!("{}", pdb.key("t.pdb"));
+/// let names: Vec<_> = pdb.modules()?.into_iter().map(|it| it.name).collect();
+/// assert_eq!(names, ["a.obj", "b.obj", "* Linker *"]);
+/// # Ok::<(), pe_c::Error>(())
 /// ```
 #[derive(Clone)]
 pub struct Pdb<'a> {
@@ -60,7 +58,7 @@ impl fmt::Debug for Pdb<'_> {
 }
 
 /// A module of a PDB, an object that was linked.
-#[derive(Clone, Debug, PartialEq, Eq)]
+#[derive(Clone, Debug, Default, PartialEq, Eq)]
 #[cfg_attr(feature = "serde", derive(serde::Serialize))]
 #[non_exhaustive]
 pub struct PdbModule {
@@ -89,7 +87,7 @@ pub struct PdbModule {
 }
 
 /// A public symbol or a procedure of a PDB.
-#[derive(Clone, Debug, PartialEq, Eq)]
+#[derive(Clone, Debug, Default, PartialEq, Eq)]
 #[cfg_attr(feature = "serde", derive(serde::Serialize))]
 #[non_exhaustive]
 pub struct PdbSymbol {

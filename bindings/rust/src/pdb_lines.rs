@@ -13,7 +13,7 @@ const NO_LINES: [u32; 3] = [0, 0xF0_0F00, 0xFE_EFEE];
 const READINGS: usize = 4;
 
 /// A line of a source file, and its code.
-#[derive(Clone, Copy, Debug, PartialEq, Eq)]
+#[derive(Clone, Copy, Debug, Default, PartialEq, Eq)]
 #[cfg_attr(feature = "serde", derive(serde::Serialize))]
 #[non_exhaustive]
 pub struct PdbLine {
@@ -30,6 +30,16 @@ pub struct PdbLine {
 }
 
 /// The lines of a module.
+///
+/// ```
+/// # #[path = "../tests/made/mod.rs"] mod made;
+/// # let bytes = made::pdb();
+/// let pdb = pe_c::Pdb::parse(&bytes)?;
+/// let (modules, names) = (pdb.modules()?, pdb.source_names()?);
+/// let found = pdb.lines(&modules[0], &names)?;
+/// assert_eq!(found.files, ["a.c"]);
+/// # Ok::<(), pe_c::Error>(())
+/// ```
 #[derive(Clone, Debug, Default, PartialEq, Eq)]
 #[cfg_attr(feature = "serde", derive(serde::Serialize))]
 #[non_exhaustive]

@@ -356,13 +356,6 @@ pub struct DumpStack {
     pub end: End,
 }
 
-impl DumpStack {
-    /// A stack with these frames.
-    pub fn new(frames: Vec<Frame<DumpRegisters>>, end: End) -> Self {
-        DumpStack { frames, end }
-    }
-}
-
 impl fmt::Debug for DumpStack {
     fn fmt(&self, f: &mut fmt::Formatter<'_>) -> fmt::Result {
         let frames = shown::Items(self.frames.len());

@@ -16,7 +16,7 @@ const ID_STREAM: u32 = 4;
 const MOST_INLINED: usize = 64;
 
 /// A function at an RVA, and where in its source.
-#[derive(Clone, Debug, PartialEq, Eq)]
+#[derive(Clone, Debug, Default, PartialEq, Eq)]
 #[cfg_attr(feature = "serde", derive(serde::Serialize))]
 #[non_exhaustive]
 pub struct SymbolFrame {
@@ -86,6 +86,16 @@ struct Ids {
 }
 
 /// What names RVAs by a PDB: see [`Pdb::symbolizer`].
+///
+/// ```
+/// # #[path = "../tests/made/mod.rs"] mod made;
+/// # let bytes = made::pdb_inlined();
+/// let pdb = pe_c::Pdb::parse(&bytes)?;
+/// let frames = pdb.symbolizer()?.frames(0x1065);
+/// let lines: Vec<_> = frames.iter().map(|it| (it.name.as_str(), it.file.as_deref(), it.line, it.is_inlined)).collect();
+/// assert_eq!(lines, [("twice", Some("c.h"), Some(8), true), ("helper", Some("c.c"), Some(9), false)]);
+/// # Ok::<(), pe_c::Error>(())
+/// ```
 pub struct Symbolizer<'p> {
     pdb: &'p Pdb<'p>,
     sections: &'p [u8],
@@ -279,7 +289,8 @@ impl Symbolizer<'_> {
 
     fn read_stream(&self, stream: u16, module: &PdbModule) -> Result<Read, Error> {
         // Once there are too many bytes no stream is copied: of a hostile file each module may have a long one.
-        let bytes = if self.left.get() > 0 { self.pdb.stream(stream.into())? } else { return Err(Error::PDB_STREAM_SIZE) };
+        let bytes =
+            if self.left.get() > 0 { self.pdb.stream(stream.into())? } else { return Err(Error::PDB_STREAM_SIZE) };
         let rest = self.left.get().checked_sub(bytes.len());
         self.left.set(rest.unwrap_or_default());
         rest.ok_or(Error::PDB_STREAM_SIZE)?;

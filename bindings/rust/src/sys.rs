@@ -5519,7 +5519,7 @@ pub unsafe extern "C" fn pe_c_symbol_key(
 ) -> u32 {
     let mut found = DebugEntry::default();
     let result = unsafe { pe_c_first_debug_entry(view, 2, &mut found) };
-    if result == DONE { unsafe { pe_c_symbol_key_of((*view).bytes, (*view).length, (*(*view).image).mode, &mut found, out) } } else { result }
+    if result == DONE { unsafe { pe_c_symbol_key_of((*view).bytes, (*view).length, (*(*view).image).mode, &found, out) } } else { result }
 }
 
 /// Returns the fixed file information.
@@ -5539,7 +5539,7 @@ pub unsafe extern "C" fn pe_c_fixed_version(
 ) -> u32 {
     let mut found = Range::default();
     let result = unsafe { pe_c_version_blocks(view, &mut found) };
-    if result == DONE { unsafe { pe_c_fixed_version_in((*view).bytes, (*view).length, &mut found, out) } } else { result }
+    if result == DONE { unsafe { pe_c_fixed_version_in((*view).bytes, (*view).length, &found, out) } } else { result }
 }
 
 /// Returns the value of a name, `PE_C_COMMENTS` .. `PE_C_SPECIAL_BUILD`: UTF-16 code units, little-endian, with the
@@ -5563,5 +5563,5 @@ pub unsafe extern "C" fn pe_c_version_text(
     }
     let mut found = Range::default();
     let result = unsafe { pe_c_version_blocks(view, &mut found) };
-    if result == DONE { unsafe { pe_c_version_text_in((*view).bytes, (*view).length, &mut found, name, out) } } else { result }
+    if result == DONE { unsafe { pe_c_version_text_in((*view).bytes, (*view).length, &found, name, out) } } else { result }
 }

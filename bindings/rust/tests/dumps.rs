@@ -145,7 +145,8 @@ fn the_stack_of_a_thread_is_memory_without_a_list() -> Result<(), Error> {
 #[test]
 fn the_stack_of_a_thread_comes_after_the_lists() -> Result<(), Error> {
     let thread = |start: u32, size: u32, rva: u32| words(&[1, 0, 0, 0, 0, 0, start, 0, size, rva, 0, 0]);
-    let threads = [words(&[3]), thread(0x2_0000, 24, DUMP_DATA + 8), thread(0x2_0000, 16, DUMP_DATA), thread(0x3_0000, 64, 0)];
+    let threads =
+        [words(&[3]), thread(0x2_0000, 24, DUMP_DATA + 8), thread(0x2_0000, 16, DUMP_DATA), thread(0x3_0000, 64, 0)];
     let streams = [x64_system(), pieces(&[(0x2_0000, 8, DUMP_DATA)]), (3, threads.concat())];
     let bytes = dump_of(&streams, &(0..32).collect::<Vec<u8>>());
     let memory = DumpMemory::new(&Dump::parse(&bytes)?);

@@ -4,8 +4,9 @@
 use crate::facts::as_loaded;
 use crate::made::*;
 use pe_c::{
-    Arm64Unwinding, DirectoryIndex, Error, Frames, Handler, Image, Layout, MemoryList, MemoryPiece, Mode, Module,
-    Registers, Repro, Text, VersionName, Way,
+    Arm64Code, Arm64Operation, Arm64Unwinding, Code, DamagedModule, DebugRecords, DirectoryIndex, Error, Failure,
+    Frames, FunctionName, Handler, Image, Layout, MemoryList, MemoryPiece, Mode, Module, NameSource, Operation,
+    Registers, Repro, ResourceItem, ResourceName, Text, VersionName, Way,
 };
 
 fn strict(bytes: &[u8]) -> Image<'_> {
@@ -19,6 +20,24 @@ fn with_records(machine: u16, entries: impl FnOnce(&mut Made) -> Vec<u32>) -> Ve
     let table = made.put_words(&words);
     made.directory(EXCEPTIONS, table, 4 * words.len() as u32);
     made.image()
+}
+
+/// What has no default is an argument, and the rest is empty.
+#[test]
+fn records_by_hand() {
+    let (code, arm64) = (Code::new(Operation::SetFrame), Arm64Code::new(Arm64Operation::Nop));
+    assert_eq!((code.operation, code.code_offset), (Operation::SetFrame, 0));
+    assert_eq!((arm64.operation, arm64.offset, arm64.length), (Arm64Operation::Nop, 0, 0));
+    let (failure, module) = (Failure::new(Error::SHORT), DamagedModule::new(Error::SHORT));
+    assert_eq!((failure.error, failure.offset, failure.needed, failure.value), (Error::SHORT, 0, 0, None));
+    assert_eq!((module.error, module.name.as_str(), module.has_names), (Error::SHORT, "", false));
+    let (name, item) = (FunctionName::new(NameSource::Symbol), ResourceItem::new(ResourceName::Id(3)));
+    assert_eq!((name.source, name.name, name.start, name.is_nearest), (NameSource::Symbol, None, 0, false));
+    assert_eq!((item.name, item.offset, item.is_directory), (ResourceName::Id(3), 0, false));
+    assert!(matches!(
+        DebugRecords::default(),
+        DebugRecords { symbol_key: Ok(None), repro: Ok(None), pogo: Ok(None), .. }
+    ));
 }
 
 /// Errors have the numbers of the header.

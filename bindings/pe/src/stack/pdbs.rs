@@ -222,7 +222,7 @@ impl PdbFiles<'_> {
                     Ok(bytes) => return (ToldPdb { state: "read", file: file(candidate.path()), ..told }, Some(bytes)),
                     // One that is named by itself is that of other modules.
                     Err(_) if !candidate.has_name(group.name) => continue,
-                    Err(why) => ToldPdb { file: file(candidate.path()), wanted_key: told.wanted_key.clone(), ..why },
+                    Err(why) => ToldPdb { file: file(candidate.path()), wanted_key: told.wanted_key.clone(), ..*why },
                 },
             };
             if told.state == "missing" {
@@ -233,8 +233,8 @@ impl PdbFiles<'_> {
     }
 
     /// The bytes of a symbol file with this key, or why they are not read.
-    fn symbol_file(&mut self, path: &Path, bytes: Vec<u8>, wanted: &str) -> Result<Vec<u8>, ToldPdb> {
-        let not_read = |why: String| ToldPdb { state: "not-read", reason: Some(why), ..ToldPdb::default() };
+    fn symbol_file(&mut self, path: &Path, bytes: Vec<u8>, wanted: &str) -> Result<Vec<u8>, Box<ToldPdb>> {
+        let not_read = |why: String| Box::new(ToldPdb { state: "not-read", reason: Some(why), ..ToldPdb::default() });
         if bytes.len() as u64 > breakpad::MOST {
             let (size, most) = (bytes.len(), breakpad::MOST);
             return Err(not_read(format!("it has {size} bytes; of a symbol file at most {most} are read")));
@@ -243,16 +243,18 @@ impl PdbFiles<'_> {
         self.keys.insert(path.to_path_buf(), Ok(key.clone()));
         match key == wanted {
             true => Ok(bytes),
-            false => Err(ToldPdb { state: "another-build", found_key: Some(key), ..ToldPdb::default() }),
+            false => Err(Box::new(ToldPdb { state: "another-build", found_key: Some(key), ..ToldPdb::default() })),
         }
     }
 
     /// The bytes of a PDB with this key, or why they are not read, or no PDB with it.
-    fn read(&mut self, path: &Path, key: &SymbolKey<'_>, wanted: &str) -> Result<Vec<u8>, ToldPdb> {
-        let not_read = |why: String| ToldPdb { state: "not-read", reason: Some(why), ..ToldPdb::default() };
-        let another =
-            |found: &str| ToldPdb { state: "another-build", found_key: Some(found.into()), ..ToldPdb::default() };
-        let refused = |why: &Refusal| ToldPdb { state: "refused", error: Some(why.clone()), ..ToldPdb::default() };
+    fn read(&mut self, path: &Path, key: &SymbolKey<'_>, wanted: &str) -> Result<Vec<u8>, Box<ToldPdb>> {
+        let not_read = |why: String| Box::new(ToldPdb { state: "not-read", reason: Some(why), ..ToldPdb::default() });
+        let another = |found: &str| {
+            Box::new(ToldPdb { state: "another-build", found_key: Some(found.into()), ..ToldPdb::default() })
+        };
+        let refused =
+            |why: &Refusal| Box::new(ToldPdb { state: "refused", error: Some(why.clone()), ..ToldPdb::default() });
         match self.keys.get(path) {
             Some(Ok(found)) if found != wanted => return Err(another(found)),
             Some(Err(refusal)) => return Err(refused(refusal)),

@@ -198,7 +198,7 @@ fn starts_with(text: &str, start: &str) -> bool {
 fn parts_of(element: &str) -> Vec<&str> {
     let parts: Vec<&str> = element.trim().split('*').map(str::trim).collect();
     let is = |word: &&str| parts[0].eq_ignore_ascii_case(word);
-    match SERVERS.iter().any(|it| is(it)) || is(&CACHE) {
+    match SERVERS.iter().any(is) || is(&CACHE) {
         // `symsrv*symsrv.dll*` is `srv*`.
         true => parts[1..].iter().copied().filter(|it| !it.eq_ignore_ascii_case("symsrv.dll")).collect(),
         false => vec![element.trim()],

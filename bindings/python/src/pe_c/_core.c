@@ -59,6 +59,14 @@ typedef struct {
     int is_over, depth;
 } Budget;
 
+/* A call that may take long, while other threads run: of an image that is in use, or that no one else has yet. */
+#define UNLOCKED(result, ...) \
+    do { \
+        Py_BEGIN_ALLOW_THREADS \
+        result = __VA_ARGS__; \
+        Py_END_ALLOW_THREADS \
+    } while (0)
+
 /* A list as far as it was read. It is NULL once an exception is set. */
 typedef struct {
     PyObject *list;
@@ -298,9 +306,7 @@ static void takes_items(Rows *rows, Chunk *chunk, Listed listed, void *walk, siz
         rows->result = listed(self, walk, NULL, 0, chunk->items, most, &chunk->count);
         return;
     }
-    Py_BEGIN_ALLOW_THREADS
-    rows->result = listed(self, walk, chunk->runs, 2 * most, chunk->items, most, &chunk->count);
-    Py_END_ALLOW_THREADS
+    UNLOCKED(rows->result, listed(self, walk, chunk->runs, 2 * most, chunk->items, most, &chunk->count));
 }
 
 /* Whether the list goes on by further items. */
@@ -1212,9 +1218,7 @@ static pe_c_module *modules_in(State *state, PyObject *images, PyObject *bases, 
             const pe_c_memory_piece *all = (const pe_c_memory_piece *)PyBytes_AsString(pieces); \
             size_t module_count = (size_t)PyTuple_Size(images), piece_count = (size_t)PyBytes_Size(pieces) / sizeof *all; \
             uses(images, 1); \
-            Py_BEGIN_ALLOW_THREADS \
-            rows.result = call(modules, module_count, BYTES, all, piece_count, &walk, frames, most + 1u, &count); \
-            Py_END_ALLOW_THREADS \
+            UNLOCKED(rows.result, call(modules, module_count, BYTES, all, piece_count, &walk, frames, most + 1u, &count)); \
             uses(images, -1); \
             rows.result = rows.result == PE_C_NOTHING ? PE_C_DONE : rows.result; \
             frames[count] = walk; \
@@ -1242,14 +1246,12 @@ static PyObject *function_names(Image *self, PyObject *arguments)
     budget.bytes = most;
     budget.each = 0;
     pe_c_name_sources sources = PE_C_EMPTY;
-    rows.result = pe_c_name_tables(VIEW, &sources);
+    UNLOCKED(rows.result, pe_c_name_tables(VIEW, &sources));
     uint64_t *room = sources.room < PY_SSIZE_T_MAX / sizeof *room ? PyMem_Malloc((size_t)(sources.room + 1) * sizeof *room) : NULL;
     pe_c_function_name *names = PyMem_Calloc(count + 1, sizeof *names);
     if (room && names) {
-        Py_BEGIN_ALLOW_THREADS
-        rows.result = pe_c_function_names(VIEW, &sources, (const pe_c_code_address *)PyBytes_AsString(addresses), count, room,
-                                          (size_t)sources.room, names, count);
-        Py_END_ALLOW_THREADS
+        UNLOCKED(rows.result, pe_c_function_names(VIEW, &sources, (const pe_c_code_address *)PyBytes_AsString(addresses), count, room,
+                                                  (size_t)sources.room, names, count));
         rows.list = PyList_New(0);
     } else {
         PyErr_NoMemory();
@@ -1269,9 +1271,7 @@ METHOD(checksum)
 {
     OPEN
     pe_c_checksum_field item = PE_C_EMPTY;
-    Py_BEGIN_ALLOW_THREADS
-    rows.result = pe_c_checksum(VIEW, &item);
-    Py_END_ALLOW_THREADS
+    UNLOCKED(rows.result, pe_c_checksum(VIEW, &item));
     return answer(rows.result == PE_C_DONE ? ROW_OF(checksum_field) : NULL, &rows);
 }
 
@@ -1459,9 +1459,7 @@ static uint32_t reads(Image *self, unsigned int mode)
     }
     if (count < MANY_SECTIONS)
         return sections_of(self, most);
-    Py_BEGIN_ALLOW_THREADS
-    result = sections_of(self, most);
-    Py_END_ALLOW_THREADS
+    UNLOCKED(result, sections_of(self, most));
     return result;
 }
 

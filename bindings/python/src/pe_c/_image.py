@@ -363,7 +363,7 @@ class Image(Reader):
                     table = strings.setdefault(it.key, {})
                     for text in it.children:
                         table.setdefault(text.key, text.value if isinstance(text.value, str) else "")
-                elif info.key == "VarFileInfo" and isinstance(it.value, bytes):
+                elif info.key.lower() == "varfileinfo" and isinstance(it.value, bytes):
                     translations += [(one, two) for one, two in struct.iter_unpack("<HH", it.value[:len(it.value) & ~3])]
         errors = [error_of(it, name, self.path) if it else None
                   for it, name in ((number, "fixed version"), (of_strings, "version strings"))]

@@ -46,9 +46,7 @@ static PyObject *pdb_is_of(Image *self, PyObject *arguments)
             && (found = PyBytes_FromStringAndSize(NULL, (Py_ssize_t)(count * sizeof *room)))) { \
             room = (type *)PyBytes_AsString(found); \
             most = (size_t)count; \
-            Py_BEGIN_ALLOW_THREADS \
-            rows.result = call; \
-            Py_END_ALLOW_THREADS \
+            UNLOCKED(rows.result, call); \
         } else if (rows.result == PE_C_DONE) { \
             found = PyBytes_FromStringAndSize(NULL, 0); \
         } \

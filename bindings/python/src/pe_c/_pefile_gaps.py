@@ -4,7 +4,6 @@ STRUCTURE.FIELD.
 Such a name is an attribute that is missing: hasattr() is False, and the error says which name it is and why, and names this table."""
 from __future__ import annotations
 
-EXPORT = "the library for C does not return which entry of the table of names an export has"
 CONFIG = "pefile joins the names of two fields of PE32; each has its own here"
 DYNAMIC = "the library for C does not read dynamic relocations"
 PARTS = "the library for C reads such a part as one of its directory; PE has parse_.._directory for each"
@@ -17,7 +16,6 @@ def _all(reason: str, names: str, of: str = "") -> dict[str, str]:
 
 
 GAPS: dict[str, str] = {
-    **_all(EXPORT, "ordinal_offset", "ExportData."),
     **_all(INSIDE, "Length ValueLength Type", "String."),
     **_all(CONFIG, "GuardRFVerifyStackPointerFunctionPointerI", "IMAGE_LOAD_CONFIG_DIRECTORY."),
     **_all(DYNAMIC, "dynamic_relocations", "LoadConfigData."),

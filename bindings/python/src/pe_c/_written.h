@@ -1,17 +1,15 @@
 /* The methods that write a file, or an image as loaded. _core.c, whose macros they take, includes them. */
 
-/* A file that a call writes without the GIL, after one without room that says how long it is; or none after an error. */
+/* A file that a call writes, after one without room that says how long it is; or none after an error. */
 #define WRITTEN(call, ...) \
     PyObject *file = NULL; \
     uint64_t size = 0; \
-    rows.result = call(__VA_ARGS__, NULL, 0, &size); \
+    UNLOCKED(rows.result, call(__VA_ARGS__, NULL, 0, &size)); \
     if (rows.result == PE_C_ROOM || rows.result == PE_C_DONE) \
         file = PyBytes_FromStringAndSize(NULL, (Py_ssize_t)size); \
     if (file) { \
         uint8_t *room = (uint8_t *)PyBytes_AsString(file); \
-        Py_BEGIN_ALLOW_THREADS \
-        rows.result = call(__VA_ARGS__, room, (size_t)size, &size); \
-        Py_END_ALLOW_THREADS \
+        UNLOCKED(rows.result, call(__VA_ARGS__, room, (size_t)size, &size)); \
     } \
     if (rows.result != PE_C_DONE) \
         Py_CLEAR(file); \

@@ -400,16 +400,19 @@ class ExportDirData(DataContainer):
 
 
 class ExportData(_Changing):
-    """An export: ordinal, address, name, forwarder; of one with a name also pe, address_offset, name_offset, forwarder_offset. One that
-    is assigned an address, a name or a forwarder is written so into the file's bytes."""
+    """An export: ordinal, address, name, forwarder; of one with a name also pe, ordinal_offset, address_offset, name_offset,
+    forwarder_offset. What is assigned to the first four is written into the file's bytes."""
 
-    def _set_ordinal(self, number: int) -> None:
-        raise _missing("ExportData", "ordinal_offset")
+    def _ordinal_place(self) -> Any:
+        if self._ordinal_rva is None:
+            raise NotInPeC("ExportData.ordinal_offset", "where names are skipped the library for C does not return which entry each has")
+        return self.pe.get_physical_by_rva(self._ordinal_rva)
 
-    _ways = {"ordinal": _set_ordinal, "address": lambda it, value: it.pe.set_dword_at_offset(it.address_offset, value),
+    _ways = {"ordinal": lambda it, value: it.pe.set_word_at_offset(it.ordinal_offset, value),
+             "address": lambda it, value: it.pe.set_dword_at_offset(it.address_offset, value),
              "name": lambda it, value: _write_text(it.pe, it.name_offset, it.name, value),
              "forwarder": lambda it, value: _write_text(it.pe, it.forwarder_offset, it.forwarder, value)}
-    _makes = {"address_offset": lambda it: it.pe.get_physical_by_rva(it._address_rva)}
+    _makes = {"address_offset": lambda it: it.pe.get_physical_by_rva(it._address_rva), "ordinal_offset": _ordinal_place}
 
 
 class ResourceDirData(DataContainer):
@@ -626,12 +629,13 @@ def _counted_exports(pe: PE) -> list[tuple[str | None, _rows.Export]]:
         (None, it) for it in _up_to(pe, pe.max_repeated_symbol, "ordinal", ((it.rva, it) for it in ordered))]
 
 
-def _export(pe: PE, directory: Any, name: str | None, row: _rows.Export) -> ExportData:
-    """An export; one without a name has no places, as in pefile."""
+def _export(pe: PE, directory: Any, name: str | None, row: _rows.Export, place: int | None) -> ExportData:
+    """An export, and where its name is in the table of names; one without a name has no places, as in pefile."""
     made = ExportData(ordinal=row.ordinal, address=row.rva, name=_bytes(name), forwarder=_bytes(row.forwarder))
     if name is not None:
         made.__dict__.update(pe=pe, name_offset=row.name_offset, forwarder_offset=None if row.forwarder is None else row.offset,
-                             _address_rva=directory.address_of_functions + 4 * (row.ordinal - directory.base))
+                             _address_rva=directory.address_of_functions + 4 * (row.ordinal - directory.base),
+                             _ordinal_rva=None if place is None else directory.address_of_name_ordinals + 2 * place)
     return made
 
 
@@ -640,7 +644,9 @@ def _read_exports(pe: PE) -> ExportDirData | None:
     if table is None or pe._image.exports.error:
         return None
     it = pe._value("export_directory")
-    symbols = [_export(pe, it, name, row) for name, row in _counted_exports(pe)]
+    named = [row for row in pe._image.exports if row.name is not None]
+    places = {id(row): i for i, row in enumerate(named)} if len(named) == it.number_of_names else {}
+    symbols = [_export(pe, it, name, row, places.get(id(row))) for name, row in _counted_exports(pe)]
     directory = _Made("IMAGE_EXPORT_DIRECTORY", _start(pe, "IMAGE_DIRECTORY_ENTRY_EXPORT"), Characteristics=it.characteristics,
                       TimeDateStamp=it.time_date_stamp, MajorVersion=it.major_version, MinorVersion=it.minor_version, Name=it.name,
                       Base=it.base, NumberOfFunctions=it.number_of_functions, NumberOfNames=it.number_of_names,
