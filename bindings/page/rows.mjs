@@ -75,8 +75,9 @@ function optional(it) {
 function coff({ coff: it, optional: header }) {
   const directories = header?.number_of_rva_and_sizes ?? 0, offset = it.symbol_table_file_offset, count = it.number_of_symbols;
   const strings = it.string_table_size === null ? '' : `, ${it.string_table_size} bytes of strings`;
+  const sections = counted(it.number_of_sections, 'section');
   return [
-    ['counts', `${counted(it.number_of_sections, 'section')}, ${directories} directories, ${it.size_of_optional_header} bytes of optional header`],
+    ['counts', `${sections}, ${directories} directories, ${it.size_of_optional_header} bytes of optional header`],
     ['COFF symbols', offset || count ? `${count} at file offset ${number(offset)}${strings}` : ''],
   ];
 }
@@ -125,7 +126,8 @@ function exported({ exports: found }) {
 
 function versions({ version: { fixed, manifest, languages } }) {
   const level = manifest?.requested_level ?? null;
-  const strings = ({ language, strings: all }) => Object.entries(all).map(([name, text]) => [`${label(language)} ${escaped(name)}`, escaped(text)]);
+  const strings = ({ language, strings: all }) => Object.entries(all).map(([name, text]) => (
+    [`${label(language)} ${escaped(name)}`, escaped(text)]));
   return [...(fixed ? [['file', fixed.file_version], ['product', fixed.product_version]] : []),
     ...(level === null ? [] : [['rights', escaped(level)]]), ...(languages ?? []).flatMap(strings)];
 }
