@@ -19,13 +19,10 @@ LEFT_OUT = {
     ".hashes": "a caller asks for those that it wants", ".sections[].sha256_hex": "likewise", ".resources[].sha256_hex": "likewise",
     ".sections[].entropy": "likewise", ".headers.overlay": "image.call('pe_c_overlay') has it",
     ".headers.symbol_server_path": "a name that a caller makes", ".debug.pdb.symbol_server_path": "likewise",
-    ".debug.pdb20": "older than the images that are looked at in a page", ".debug.pogo": "for who builds an image",
+    ".debug.pogo": "for who builds an image",
     ".debug.vc_features": "likewise", ".bound_imports": "image.boundImports() has them",
     ".functions": "image.functions() has them", ".symbols": "image.symbols() has them",
-    ".resources[].error": "a content that is not there has no offset", ".resources[].language": "image.resources() has it",
-    ".resources[].version": "image.versions() has it", ".version.fixed_language": "likewise", ".version.language": "likewise",
-    ".version.languages": "likewise", ".version.strings": "likewise, but for those with names of their own: `texts`",
-    ".version.manifest": "image.manifest() has it",
+    ".resources[].error": "a content that is not there has no offset", ".resources[].version": "image.versions() has it",
 }
 # What the package's facts refuse by its first bytes: openObject and openTe read it.
 OTHERS = "a COFF object", "a TE image"

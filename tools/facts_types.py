@@ -14,10 +14,8 @@ LACKING = {
               "symbols_is_limited"],
     "refused_file": ["json_version", "file_hex"], "headers": ["overlay", "symbol_server_path"],
     "section": ["entropy", "sha256_hex"],
-    "debug": ["pdb20", "pdb20_error", "pogo", "pogo_error", "vc_features", "vc_features_error"], "pdb": ["symbol_server_path"],
-    "version": ["fixed_language", "language", "strings", "languages", "languages_error", "languages_is_limited", "manifest",
-                "manifest_error"],
-    "resource": ["language", "sha256_hex", "version", "error"],
+    "debug": ["pogo", "pogo_error", "vc_features", "vc_features_error"], "pdb": ["symbol_server_path"],
+    "resource": ["sha256_hex", "version", "error"],
 }
 # What it says besides.
 OWN = {"version": {"texts": "Record<string, string>"}}

@@ -224,17 +224,17 @@ def layouts_mjs(header):
 
 
 def names_mjs(_header):
-    """The names of winnt.h and of the Rich header's products, from those of the program pe."""
+    """The names of winnt.h, of languages and of the Rich header's products, from those of the program pe."""
     text, tables = "", []
-    for path in (("names.rs",), ("facts", "products.rs")):
+    for path in (("names.rs",), ("facts", "languages.rs"), ("facts", "products.rs")):
         with open(os.path.join(TOP, "bindings", "pe", "src", *path), encoding="utf-8") as file:
             text += file.read()
-    for name, body in re.findall(r"^pub const (\w+): &Names =\s*&\[(.*?)\];", text, re.M | re.S):
+    for name, body in re.findall(r"^(?:pub )?const (\w+): &(?:Names|\[\(u16, &str\)\]) =\s*&\[(.*?)\];", text, re.M | re.S):
         rows = re.findall(r'\((0x[0-9A-Fa-f_]+|\d+), "([^"]*)"\)', body)
         tables.append((name, {str(int(number.replace("_", ""), 0)): it for number, it in rows}))
     for name, body in re.findall(r"^pub const (\w+): \[&str; \d+\] = \[(.*?)\];", text, re.M | re.S):
         tables.append((name, re.findall(r'"([^"]*)"', body)))
-    return "// tools/make_targets makes this file of names.rs and facts/products.rs in bindings/pe/src.\n" + "".join(
+    return "// tools/make_targets makes this file of names.rs, facts/languages.rs and facts/products.rs in bindings/pe/src.\n" + "".join(
         f"export const {name} = {json.dumps(table)};\n" for name, table in tables)
 
 

@@ -5,12 +5,13 @@ import { PeError, constants } from './library.mjs';
 import { Tables } from './metadata.mjs';
 import * as names from './names.mjs';
 import { namedExports } from './image.mjs';
+import { memoryOf } from './calls.mjs';
 import { Budget } from './parts.mjs';
 import { signerOf } from './signatures.mjs';
 
 const utf8 = new TextDecoder('utf-8', { ignoreBOM: true }), strict = new TextDecoder('utf-8', { fatal: true });
 const CODE_AND_WRITABLE = 0xA0000000, PERMISSIONS = [[0x40000000, 'r'], [0x80000000, 'w'], [0x20000000, 'x']];
-const X86 = 0x14C, X64 = 0x8664, PE32 = 0x10B, REPRO = 16, EMBEDDED_PDB = 17, PDB_CHECKSUM = 19, EXTENDED = 20;
+const X86 = 0x14C, X64 = 0x8664, PE32 = 0x10B, CODEVIEW = 2, REPRO = 16, EMBEDDED_PDB = 17, PDB_CHECKSUM = 19, EXTENDED = 20;
 // What is shown in all is bounded by the file's length times this; each item counts as so many bytes.
 const READINGS = 16, ITEM = 8, LONG_NAMES = 96, LEAVES = 65536, TABLES = 4096;
 
@@ -303,6 +304,10 @@ function debug(image) {
       return { ...name(untilZero(image.slice(key.name))), guid: hyphenated(all), age: key.age,
         key: `${all}${key.age.toString(16).toUpperCase()}` };
     }),
+    ...part('pdb20', () => {
+      const record = recordOf(image, CODEVIEW, 'pe_c_pdb20_of');
+      return record && { ...name(untilZero(image.slice(record.name))), ...time(record.signature), age: record.age };
+    }),
     ...part('repro', () => {
       const record = recordOf(image, REPRO, 'pe_c_repro_of');
       return record && { hash_hex: record.has_hash ? hex(image.slice(record.hash)) : null };
@@ -332,18 +337,22 @@ function certificates(image) {
 
 const label = (image, it) => (it.has_name
   ? { id: null, name: image.utf16(it.name, { isWhole: true }) } : { id: it.id, name: null });
+/** A language, by its variant or without it. */
+const language = (id) => ({ id, name: names.VARIANTS[id] ?? names.LANGUAGES[id & 0x3FF] ?? null });
+const languageOf = (image, it) => (it.has_name ? label(image, it) : language(it.id));
+
+const isVersion = ({ resource_type: type }) => !type.has_name && type.id === 16;
 
 function resources(image) {
   const budget = new Budget(image), length = (it) => (it.has_name ? Number(it.name.length) : 0);
   let count = 0;
   return listAfter('resources', image, 'pe_c_resource_leaves', () => image.list('resourceLeaves'), (leaf) => {
-    const isVersion = !leaf.resource_type.has_name && leaf.resource_type.id === 16;
-    const cost = length(leaf.resource_type) + length(leaf.name) + length(leaf.language) + (isVersion ? leaf.size : 0);
+    const cost = length(leaf.resource_type) + length(leaf.name) + length(leaf.language) + (isVersion(leaf) ? leaf.size : 0);
     if (count++ >= LEAVES || !budget.takes(cost)) return null;
     const type = label(image, leaf.resource_type);
     return {
       type: { ...type, name: type.name ?? names.RESOURCE_TYPES[type.id] ?? null }, name: label(image, leaf.name),
-      rva: leaf.rva, size: leaf.size, code_page: leaf.code_page,
+      language: languageOf(image, leaf.language), rva: leaf.rva, size: leaf.size, code_page: leaf.code_page,
     };
   });
 }
@@ -375,7 +384,74 @@ function textsOfBlocks(image) {
   return found;
 }
 
-function version(image) {
+/** The resources of version information, as far as the tree is read: what is wrong with it is said of the resources. */
+function versionLeaves(image) {
+  let count = 0;
+  return list('leaves', image.list('resourceLeaves'), (it) => (count++ < LEAVES ? it : null)).leaves.filter(isVersion);
+}
+
+/** The string tables of a resource of version information. What is refused ends them. */
+function* stringTables(image, leaf) {
+  if (leaf.content_result !== constants.PE_C_DONE) throw memoryOf(image).error('pe_c_next_resource_leaf', leaf.content_result);
+  const blocks = (walk) => image.items('pe_c_next_version_block', { ...walk }), own = languageOf(image, leaf.language);
+  const [root] = blocks(leaf.content);
+  for (const information of root ? blocks(root.children) : []) {
+    if (image.utf16(information.key).toLowerCase() !== 'stringfileinfo') continue;
+    let count = 0;
+    for (const table of blocks(information.children)) {
+      if (count++ === TABLES) break;
+      const strings = new Map(), isOwn = table.has_language && (table.language !== 0 || own.id === 0);
+      for (const it of blocks(table.children)) {
+        const key = image.utf16(it.key);
+        if (!strings.has(key)) strings.set(key, image.utf16(it.value));
+      }
+      yield { language: isOwn ? language(table.language) : own, code_page: table.has_language ? table.code_page : null,
+        strings: Object.fromEntries(strings) };
+    }
+  }
+}
+
+/** All of them, and null where the image has more. */
+function* allStringTables(image, leaves) {
+  const budget = new Budget(image);
+  let count = 0;
+  for (const leaf of leaves) {
+    if (!budget.takes(leaf.size) || count >= TABLES) {
+      yield null;
+      return;
+    }
+    for (const table of stringTables(image, leaf)) {
+      count += 1;
+      yield table;
+    }
+  }
+}
+
+/** What there is in languages. Of one that is shown first are `strings`: neutral or English (US), else the first. */
+function languages(image) {
+  const leaves = versionLeaves(image), said = list('languages', allStringTables(image, leaves), (it) => it), all = said.languages;
+  const first = all.find((it) => [0, 0x409].includes(it.language.id)) ?? all[0], isThere = all.length > 0 || said.languages_error !== null;
+  return {
+    fixed_language: leaves.length ? languageOf(image, leaves[0].language) : null, language: first?.language ?? null,
+    strings: first?.strings ?? null, ...said, languages: isThere ? all : null, languages_is_limited: isThere && said.languages_is_limited,
+  };
+}
+
+const after = (text, what) => (text.includes(what) ? text.slice(text.indexOf(what) + what.length) : '');
+
+/** The manifest, and the level of its requestedExecutionLevel. Values of the attributes of that element have no `>`. */
+function manifest(image) {
+  return part('manifest', () => {
+    const range = image.call('pe_c_manifest');
+    if (range === null) return null;
+    const [element] = after(utf8.decode(image.slice(range)), 'requestedExecutionLevel').split('>', 1);
+    return { size: Number(range.length), requested_level: after(element, 'level').match(/^\s*=\s*(["'])(.*?)\1/s)?.[2] ?? null };
+  });
+}
+
+const version = (image) => ({ ...fixedAndTexts(image), ...languages(image), ...manifest(image) });
+
+function fixedAndTexts(image) {
   const of = (it) => it && { file_version: four(it.file_version_ms, it.file_version_ls),
     product_version: four(it.product_version_ms, it.product_version_ls) };
   const whole = part('fixed', () => of(image.call('pe_c_fixed_version')));

@@ -1,85 +1,6 @@
-// What differs between two images, as the program pe says it (`pe diff --json`): the same rows of signers, sections, imports, delay
-// imports, exports and functions (functions.mjs), of debug data those of a PDB 7.0, of version information the two numbers and the texts
-// of one language, and the regions whose bytes differ.
-
-/** A character that stands for itself: neither a control character nor one that changes how others are laid out. */
-const PLAIN = /^[^\p{Cc}\u00ad\u061c\u180e\u200b-\u200f\u2028-\u202e\u2060-\u206f\ufeff\ufff9-\ufffb\u{e0000}-\u{e007f}]$/u;
-const digits = (number) => number.toString(16).padStart(2, '0');
-export const hex = (bytes) => Array.from(bytes, digits).join('');
-const utf8 = new TextDecoder('utf-8', { fatal: true, ignoreBOM: true });
-
-/** A text of a file as it may be shown: what would move or hide other text, by numbers. */
-export function escaped(text) {
-  const one = (it) => (PLAIN.test(it) ? it : it < '\x80' ? `\\x${digits(it.codePointAt(0))}` : `\\u{${it.codePointAt(0).toString(16)}}`);
-  return Array.from(text, one).join('');
-}
-
-/** The longest character of UTF-8 at the start of some bytes, or null. */
-function firstOf(bytes) {
-  for (let length = 1; length <= Math.min(4, bytes.length); length += 1) {
-    try {
-      return { text: utf8.decode(bytes.subarray(0, length)), length };
-    } catch {
-      // a longer one may be whole
-    }
-  }
-  return null;
-}
-
-/** The bytes of a name that is not UTF-8, by their digits, in the same way. */
-function escapedBytes(hex) {
-  let bytes = Uint8Array.from(hex.match(/../g), (it) => parseInt(it, 16)), text = '';
-  while (bytes.length) {
-    const first = firstOf(bytes);
-    text += first ? escaped(first.text) : `\\x${digits(bytes[0])}`;
-    bytes = bytes.subarray(first?.length ?? 1);
-  }
-  return text;
-}
-
-/** A field that has a name, as it may be shown, or nothing where it has none. */
-export function shown(it, field = 'name') {
-  const hex = it[`${field}_hex`];
-  return hex ? escapedBytes(hex) : escaped(it[field] ?? '');
-}
-export const sectionName = (it) => shown(it, it.long_name === null ? 'name' : 'long_name');
-
-// ---- rows: a name and a value
-
-function sections({ sections: all }) {
-  const hash = (it) => (it.sha256_hex ? `, SHA-256 ${it.sha256_hex.slice(0, 16)}` : '');
-  return all.map((it) => [sectionName(it),
-    `${it.permissions}, ${it.virtual_size} bytes in memory, ${it.file_size} in the file${hash(it)}`]);
-}
-
-const functions = (libraries) => (libraries ?? []).flatMap((library) => library.functions.map((it) => (
-  [`${escaped(library.name_lower ?? '')} ${it.name === null ? `#${it.ordinal}` : escaped(it.name)}`, ''])));
-
-function exported({ exports: found }) {
-  return (found?.entries ?? []).flatMap((it) => {
-    const value = it.forwarder === null ? '' : `to ${escaped(it.forwarder)}`;
-    return it.names.length ? it.names.map((name) => [escaped(name), value]) : [[`#${it.ordinal}`, value]];
-  });
-}
-
-function versions({ version: { fixed, texts } }) {
-  const numbers = fixed ? [['file', fixed.file_version], ['product', fixed.product_version]] : [];
-  return [...numbers, ...Object.entries(texts).map(([name, text]) => [name, escaped(text)])];
-}
-
-function debug({ debug: { pdb } }) {
-  return pdb ? [['PDB', shown(pdb)], ['GUID', `${pdb.guid}, age ${pdb.age}`], ['symbol key', pdb.key]] : [];
-}
-
-function signers({ certificates }) {
-  return (certificates ?? []).filter((it) => it.signer).map(({ signer: it }) => {
-    const number = `number ${it.serial_hex} of ${escaped(it.issuer)}`, stamp = it.time_stamp === null ? '' : `, stamped ${it.time_stamp}`;
-    return [it.subject === null ? number : escaped(it.subject), `${number}, by ${it.digest_algorithm}${stamp}`];
-  });
-}
-
-const PARTS = { debug, signers, sections, imports: (it) => functions(it.imports), delay_imports: (it) => functions(it.delay_imports),
-  exports: exported, version: versions, functions: (it) => it.function_rows ?? [] };
+// What differs between two images, as the program pe says it (`pe diff --json`): the same rows (rows.mjs, functions.mjs), but for what an
+// overlay is, and the regions whose bytes differ.
+import { PARTS, hex, sectionName } from './rows.mjs';
 
 /** The rows by their names. Of several with one name each but the first has its number. */
 function byName(rows) {
@@ -166,15 +87,24 @@ export function regions(contents, facts) {
   }).filter((it) => it.different);
 }
 
-/** Adds to the facts of a file the SHA-256 of each section, as pe has it: as many bytes are read as the file has. */
-export async function addHashes(facts, bytes) {
-  let left = bytes.length;
-  for (const section of facts.sections) {
-    const own = bytes.subarray(section.file_offset, section.file_offset + section.file_size);
-    section.sha256_hex = null;
+/** Adds the SHA-256 of contents to what has them, as pe has it: as many bytes are read as the file has. */
+async function addHash(all, contentOf, left) {
+  for (const it of all) {
+    const own = contentOf(it);
+    it.sha256_hex = null;
     if (own.length && own.length <= left) {
       left -= own.length;
-      section.sha256_hex = hex(new Uint8Array(await crypto.subtle.digest('SHA-256', own)));
+      it.sha256_hex = hex(new Uint8Array(await crypto.subtle.digest('SHA-256', own)));
     }
   }
+}
+
+/** The same of the sections and of the resources of an image. */
+export async function addHashes(facts, image, bytes) {
+  const leaves = image.list('resourceLeaves'), part = (start, length) => bytes.subarray(start, start + length);
+  await addHash(facts.sections, (it) => part(it.file_offset, it.file_size), bytes.length);
+  await addHash(facts.resources ?? [], () => {
+    const { content } = leaves.next().value;
+    return part(Number(content.offset), Number(content.length));
+  }, bytes.length);
 }

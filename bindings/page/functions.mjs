@@ -3,7 +3,7 @@
 // has its bytes anywhere.
 import { PeError } from './library.mjs';
 import { Budget } from './parts.mjs';
-import { escaped, hex } from './diff.mjs';
+import { escaped, hex } from './rows.mjs';
 
 const utf8 = new TextEncoder();
 

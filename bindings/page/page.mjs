@@ -4,7 +4,8 @@
 import { Library } from './library.mjs';
 import { factsOf } from './facts.mjs';
 import { dumpFacts } from './crash.mjs';
-import { addHashes, differences, escaped, regions, sectionName, shown, wholeFiles } from './diff.mjs';
+import { HARDENING, escaped, label, named, sectionName, shown } from './rows.mjs';
+import { addHashes, differences, regions, wholeFiles } from './diff.mjs';
 import { functionRows } from './functions.mjs';
 import { module as encoded } from './module.mjs';
 
@@ -16,7 +17,6 @@ const compiled = WebAssembly.compile(Uint8Array.from(atob(encoded), (it) => it.c
 
 const hex = (number) => `0x${number.toString(16)}`;
 const count = (number, what) => `${number.toLocaleString('en')} ${what}${number === 1 ? '' : 's'}`;
-const named = ({ number, name }) => name ?? hex(number);
 
 function add(to, kind, text, className) {
   const made = document.createElement(kind);
@@ -102,9 +102,11 @@ function overview(to, { headers, version, debug, clr }) {
     ['Checksum', headers.checksum_state && `${hex(headers.checksum)}, ${headers.checksum_state}`],
     ['File version', version.fixed?.file_version],
     ['Product version', version.fixed?.product_version],
+    ['Rights', version.manifest?.requested_level && escaped(version.manifest.requested_level)],
     ...Object.entries(version.texts).map(([name, text]) => [name, escaped(text)]),
     ['PDB', debug.pdb && shown(debug.pdb)],
     ['PDB key', debug.pdb?.key],
+    ['PDB of version 2.0', debug.pdb20 && shown(debug.pdb20)],
     ['PDB in the image', debug.embedded_pdb && count(debug.embedded_pdb.size, 'byte')],
     ['Checksum of the PDB', debug.pdb_checksum && `${shown(debug.pdb_checksum, 'algorithm')} ${debug.pdb_checksum.checksum_hex}`],
     ['Assembly of .NET', assembly && `${shown(assembly)} ${assembly.version}`],
@@ -112,12 +114,10 @@ function overview(to, { headers, version, debug, clr }) {
     ['Subsystem version', headers.optional?.subsystem_version],
   ]);
   refused(to, 'Version information', version.fixed_error);
-  refused(to, 'Version strings', version.strings_error);
-  refused(to, 'Debug data', debug.entries_error ?? debug.pdb_error ?? debug.embedded_pdb_error ?? debug.pdb_checksum_error);
+  refused(to, 'Version strings', version.strings_error ?? version.languages_error);
+  refused(to, 'Manifest', version.manifest_error);
+  refused(to, 'Debug data', debug.entries_error ?? debug.pdb_error ?? debug.pdb20_error ?? debug.embedded_pdb_error ?? debug.pdb_checksum_error);
 }
-
-const HARDENING = [['aslr', 'ASLR'], ['high_entropy_aslr', 'high-entropy ASLR'], ['dep', 'DEP'], ['cfg', 'CFG'], ['cet', 'CET'],
-  ['safe_seh', 'SafeSEH'], ['force_integrity', 'force integrity'], ['signed', 'signed'], ['no_writable_code', 'no writable code']];
 
 function hardening(to, it) {
   add(to, 'h3', 'Hardening, as the image asks for it');
@@ -161,7 +161,6 @@ function exported(to, facts) {
 }
 
 const signer = (it) => (it ? escaped(it.subject ?? `number ${it.serial_hex} of ${it.issuer}`) : '');
-const label = (it) => (it.name === null ? `#${it.id}` : escaped(it.name));
 
 const GUARDS = {
   se_handlers: 'Exception handlers', guarded_functions: 'Guarded functions', guarded_iat_entries: 'Guarded imports',
@@ -188,8 +187,8 @@ function others(to, facts) {
       it.rva === null ? `file offset ${hex(it.file_offset)}` : `RVA ${hex(it.rva)}`, hex(it.size)], [2]],
     ['Certificates, not verified', facts.certificates, facts.certificates_error, ['Type', 'Size', 'Signer', 'Time stamp'], (it) => [
       named(it.type), it.size, signer(it.signer), it.signer?.time_stamp ?? ''], [1]],
-    ['Resources', facts.resources, facts.resources_error, ['Type', 'Name', 'RVA', 'Size'], (it) => [label(it.type),
-      label(it.name), hex(it.rva), it.size], [2, 3]],
+    ['Resources', facts.resources, facts.resources_error, ['Type', 'Name', 'Language', 'RVA', 'Size'], (it) => [label(it.type),
+      label(it.name), label(it.language), hex(it.rva), it.size], [3, 4]],
     ['Debug entries', facts.debug.entries, null, ['Type', 'Size', 'RVA', 'File offset'], (it) => [named(it.type), it.size,
       hex(it.rva), hex(it.file_offset)], [1, 2, 3]],
     ['TLS callbacks', facts.tls?.callbacks, facts.tls_error ?? facts.tls?.callbacks_error, ['Virtual address'],
@@ -291,7 +290,6 @@ async function read(file) {
 
 // ---- two files
 
-const PARTS = { debug: 'Debug data', signers: 'Signers', sections: 'Sections', imports: 'Imports', delay_imports: 'Delay imports', exports: 'Exports', version: 'Version', functions: 'Functions' };
 const SIGNS = { removed: '\u2212', added: '+', changed: '~' };
 
 /** A table for each part in which something differs, and one of the bytes, above all that is shown of the files. */
@@ -301,9 +299,9 @@ function showDifferences(names, found, bytes) {
   article.id = 'differences';
   add(article, 'h2', `From ${names.map(escaped).join(' to ')}`);
   if (!bytes.length) add(article, 'p', 'All bytes are the same.');
-  for (const [part, title] of Object.entries(PARTS)) {
+  for (const part of new Set(found.map((it) => it.part))) {
     const rows = found.filter((it) => it.part === part).map((it) => [SIGNS[it.change], it.name, it.before ?? '', it.after ?? '']);
-    if (!rows.length) continue;
+    const title = part[0].toUpperCase() + part.slice(1).replace('_', ' ');
     add(article, 'h3', `${title}: ${count(rows.length, 'difference')}`);
     table(article, ['', 'Name', 'Before', 'After'], rows);
   }
@@ -326,8 +324,8 @@ async function compare(pair) {
       showDifferences(names, found.differences, found.regions);
       return found;
     }
-    for (const [i, { facts }] of pair.entries()) await addHashes(facts, contents[i]);
     const library = await compiled, images = contents.map((it) => library.open(it, { mode: PERMISSIVE }));
+    for (const [i, { facts }] of pair.entries()) await addHashes(facts, images[i], contents[i]);
     const rows = await functionRows(images, contents);
     pair.forEach(({ facts }, i) => { facts.function_rows = rows[i]; });
   } catch (error) {
