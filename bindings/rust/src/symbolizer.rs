@@ -5,9 +5,10 @@
 use crate::image::{returned, text_of, Error};
 use crate::pdb::{filled, Pdb, PdbModule, PROCEDURES, PUBLICS};
 use crate::sys::{self, PdbInlined, PdbLine, PdbLineEntry as LineEntry, PdbModuleRange, Range};
+use alloc::collections::BTreeMap;
 use alloc::string::String;
 use alloc::vec::Vec;
-use core::cell::{Cell, OnceCell};
+use core::cell::{Cell, OnceCell, RefCell};
 use core::fmt;
 
 /// The stream of ids, which has the names of inlined functions.
@@ -48,7 +49,8 @@ pub struct DamagedModule {
     pub name: String,
     /// Why it is refused.
     pub error: Error,
-    /// Whether its functions are named all the same: its lines, or the inlined functions of one of them, are refused.
+    /// Whether its functions are named all the same: its lines, or inlined functions of one of them, are refused, or the name or the
+    /// line of one.
     pub has_names: bool,
 }
 
@@ -69,8 +71,10 @@ struct Lines {
 struct Read {
     symbols: Symbols,
     lines: Result<Lines, Error>,
-    /// Why the inlined functions of an RVA are refused, of the first that was asked for.
+    /// Why the inlined functions of an RVA are refused, or the name or the line of one, of the first that was asked for.
     inlined_error: Cell<Option<Error>>,
+    /// Where the names of the source files are that were asked for, so that each is sought once.
+    files: RefCell<BTreeMap<u32, Option<Range>>>,
 }
 
 /// A module, which is read when an RVA in it is asked for.
@@ -85,7 +89,8 @@ struct Ids {
     starts: Vec<u64>,
 }
 
-/// What names RVAs by a PDB: see [`Pdb::symbolizer`].
+/// What names RVAs by a PDB: see [`Pdb::symbolizer`]. What it reads it keeps, so that threads share it under a lock: it is `Send`, and
+/// not `Sync`.
 pub struct Symbolizer<'p> {
     pdb: &'p Pdb<'p>,
     sections: &'p [u8],
@@ -173,6 +178,12 @@ impl Lines {
 impl Read {
     /// The name of a source file. What is not UTF-8 is U+FFFD.
     fn file(&self, file: u32, names: &[u8]) -> Option<String> {
+        let found = *self.files.borrow_mut().entry(file).or_insert_with(|| self.file_name(file, names));
+        Some(String::from_utf8_lossy(found?.of(names)?).into_owned())
+    }
+
+    /// Where it is in the names.
+    fn file_name(&self, file: u32, names: &[u8]) -> Option<Range> {
         let (bytes, mut name) = (&self.symbols.bytes, Range::default());
         let files = self.lines.as_ref().ok()?.files?;
         // SAFETY: as above.
@@ -180,8 +191,12 @@ impl Read {
             let (at, length) = (names.as_ptr(), names.len());
             sys::pe_c_pdb_file_name(bytes.as_ptr(), bytes.len(), &files, at, length, file, &mut name)
         };
-        let name = name.of(names).filter(|_| number == sys::DONE)?;
-        Some(String::from_utf8_lossy(name).into_owned())
+        (number == sys::DONE).then_some(name)
+    }
+
+    /// Keeps why inlined functions are refused, of the first error.
+    fn refuse_inlined(&self, error: Option<Error>) {
+        self.inlined_error.set(self.inlined_error.get().or(error));
     }
 
     /// Writes the functions that are inlined at an RVA of a procedure to a room: the result, and how many there are.
@@ -279,13 +294,14 @@ impl Symbolizer<'_> {
 
     fn read_stream(&self, stream: u16, module: &PdbModule) -> Result<Read, Error> {
         // Once there are too many bytes no stream is copied: of a hostile file each module may have a long one.
-        let bytes = if self.left.get() > 0 { self.pdb.stream(stream.into())? } else { return Err(Error::PDB_STREAM_SIZE) };
+        let bytes =
+            if self.left.get() > 0 { self.pdb.stream(stream.into())? } else { return Err(Error::PDB_STREAM_SIZE) };
         let rest = self.left.get().checked_sub(bytes.len());
         self.left.set(rest.unwrap_or_default());
         rest.ok_or(Error::PDB_STREAM_SIZE)?;
         let symbols = Symbols::of(PROCEDURES, bytes, module.symbols(), self.sections)?;
         let lines = Lines::of(&symbols.bytes, &module.lines(), self.sections);
-        Ok(Read { symbols, lines, inlined_error: Cell::new(None) })
+        Ok(Read { symbols, lines, inlined_error: Cell::new(None), files: RefCell::default() })
     }
 
     /// The module that has an RVA: by the section contributions, else by the procedures of all modules.
@@ -353,7 +369,7 @@ impl Symbolizer<'_> {
         let mut frames = match self.inlined(read, &module.module, &found, rva) {
             Ok(inlined) => inlined.iter().map(|it| self.inlined_frame(read, it, &own)).collect(),
             Err(error) => {
-                read.inlined_error.set(read.inlined_error.get().or(Some(error)));
+                read.refuse_inlined(Some(error));
                 Vec::new()
             }
         };
@@ -387,10 +403,13 @@ impl Symbolizer<'_> {
 
     /// The frame of an inlined function, in the procedure of another frame.
     fn inlined_frame(&self, read: &Read, inlined: &PdbInlined, own: &SymbolFrame) -> SymbolFrame {
-        let ids = self.ids.get().and_then(|it| it.as_ref().ok()).filter(|_| inlined.name_result == sys::DONE);
-        let has_line = inlined.line_result == sys::DONE;
+        let refused = |number| (![sys::DONE, sys::NOTHING].contains(&number)).then(|| Error::with_number(number));
+        // Without ids no function has a name, which is said once.
+        let ids = self.ids.get().and_then(|it| it.as_ref().ok());
+        read.refuse_inlined(ids.and_then(|_| refused(inlined.name_result)).or(refused(inlined.line_result)));
+        let (has_name, has_line) = (inlined.name_result == sys::DONE, inlined.line_result == sys::DONE);
         SymbolFrame {
-            name: ids.and_then(|it| it.name(inlined).ok()).unwrap_or_default(),
+            name: ids.filter(|_| has_name).and_then(|it| it.name(inlined).ok()).unwrap_or_default(),
             file: has_line.then(|| self.file(read, inlined.file)).flatten(),
             line: has_line.then_some(inlined.line),
             column: None,
