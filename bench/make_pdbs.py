@@ -276,6 +276,30 @@ def module_names(size):
     return made.made()
 
 
+def dump(rvas):
+    """A minidump with a frame at each of these RVAs of a module that names any such file, as a.pdb: by frame pointers, without the image."""
+    base, stack, start = 0x180000000, 0x100000, 32 + 4 * 12
+    context = bytearray(1232)
+    struct.pack_into("<I", context, 48, 0x10000B)
+    struct.pack_into("<2Q", context, 120 + 8 * 4, stack, stack)
+    struct.pack_into("<Q", context, 248, base + rvas[0])
+    frames = b"".join(struct.pack("<2Q", stack + 16 * (it + 1), base + rva) for it, rva in enumerate(rvas[1:])) + bytes(16)
+    name, record = "a.dll".encode("utf-16-le"), b"RSDS" + GUID + struct.pack("<I", 1) + b"a.pdb\0"
+    parts, places = [bytes(context), struct.pack("<I", len(name)) + name + bytes(2), record, frames], []
+    for part in parts:
+        places.append(start + sum(len(padded(it, 8)) for it in parts[:len(places)]))
+    streams = [
+        (7, struct.pack("<HHHBB4IIHH24x", 9, 0, 0, 1, 1, 10, 0, 0, 2, 0, 0, 0)),
+        (3, struct.pack("<I4I2Q4I", 1, 1, 0, 0, 0, 0, stack, len(frames), places[3], len(context), places[0])),
+        (4, struct.pack("<IQIIII52xII8x16x", 1, base, 1 << 28, 0, 7, places[1], len(record), places[2])),
+        (5, struct.pack("<IQII", 1, stack, len(frames), places[3]))]
+    body, directory = b"".join(padded(it, 8) for it in parts), b""
+    for kind, content in streams:
+        directory += struct.pack("<3I", kind, len(content), start + len(body))
+        body += padded(content, 8)
+    return struct.pack("<4sIIIIIQ", b"MDMP", 0xA793, len(streams), 32, 0, 0, 0) + directory + body
+
+
 KINDS = {it.__name__.replace("_", "-"): it for it in (
     wrong_text, block_size, directory, one_block, long_stream, dbi_parts, modules_of_one_stream, damaged_modules, small_records, procedures,
     procedures_downwards, publics, inline_sites, rows_at_one_offset, rows_of_functions, names_of_files, names_without_end,

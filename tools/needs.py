@@ -87,7 +87,8 @@ GROUPS = {
     "packages": by_hand("packages on bare trees", **{
         "mmdebstrap": "mmdebstrap", "unshare": "util-linux", "rpm2cpio": "rpm2cpio", "cpio": "cpio", "module ensurepip": "python3-venv",
         "npm": "npm", "node": "nodejs", "chromium": "chromium", "rustc 1.81": RUSTC, WINE: "wine64", "gcc": "gcc", "clang": "clang"}),
-    "breakpad": by_hand("symbol files of pe by LLDB", **{"clang": "clang", "lld-link": "lld", "lldb-19": "lldb-19"}),
+    "breakpad": by_hand("symbol files of pe by LLDB", **{"clang": "clang", "lld-link": "lld", "lldb-19": "lldb-19",
+                                                         "yaml2obj-14": "llvm-14"}),
     "notebook": by_hand("notebooks", **{"chromium": "chromium", "jupyter-nbconvert": "jupyter-nbconvert",
                                         "module ipykernel": "python3-ipykernel"}),
     "chromium": by_hand("the library in a page", **TRIAL, **WASM, **{"node": "nodejs", "clang": "clang", "chromium": "chromium"}),
