@@ -3,7 +3,7 @@
 //! without debug information is in no module: the public symbols name it, if the linker wrote them.
 
 use crate::image::{returned, text_of, Error};
-use crate::pdb::{filled, Pdb, PdbModule, PROCEDURES, PUBLICS};
+use crate::pdb::{count_in, filled, Pdb, PdbModule, PROCEDURES, PUBLICS, ROW};
 use crate::sys::{self, PdbInlined, PdbLine, PdbLineEntry as LineEntry, PdbModuleRange, Range};
 use alloc::collections::BTreeMap;
 use alloc::string::String;
@@ -13,6 +13,11 @@ use core::fmt;
 
 /// The stream of ids, which has the names of inlined functions.
 const ID_STREAM: u32 = 4;
+/// How many bytes a public symbol, a procedure with what is in it, and a record of the stream of ids hardly fall below: for a room that is
+/// mostly large enough.
+const PUBLIC: usize = 24;
+const PROCEDURE: usize = 64;
+const ID: usize = 16;
 /// How many inlined functions an RVA has at most.
 const MOST_INLINED: usize = 64;
 
@@ -118,7 +123,8 @@ impl Symbols {
     /// The symbols of a kind in these bytes.
     fn of(kind: u32, bytes: Vec<u8>, symbols: Range, sections: &[u8]) -> Result<Symbols, Error> {
         // SAFETY: the pointers and lengths are those of slices; the records are lent for the call.
-        let index = filled(|room, entries, written| unsafe {
+        let first = count_in(&symbols, &bytes, if kind == PUBLICS { PUBLIC } else { PROCEDURE });
+        let index = filled(first, |room, entries, written| unsafe {
             let (headers, size) = (sections.as_ptr(), sections.len());
             sys::pe_c_pdb_index(kind, bytes.as_ptr(), bytes.len(), &symbols, headers, size, room, entries, written)
         })?;
@@ -159,7 +165,7 @@ impl Lines {
         // SAFETY: as above.
         let found = returned(unsafe { sys::pe_c_pdb_files(at, length, lines, &mut files) }, ())?;
         // SAFETY: as above.
-        let index = filled(|room, entries, written| unsafe {
+        let index = filled(count_in(lines, bytes, ROW), |room, entries, written| unsafe {
             let (headers, size) = (sections.as_ptr(), sections.len());
             sys::pe_c_pdb_lines(at, length, lines, headers, size, room, entries, written)
         })?;
@@ -234,7 +240,7 @@ impl Ids {
     fn of(pdb: &Pdb<'_>) -> Result<Ids, Error> {
         let bytes = pdb.stream(ID_STREAM)?;
         // SAFETY: as above.
-        let starts = filled(|room, entries, written| unsafe {
+        let starts = filled(bytes.len() / ID, |room, entries, written| unsafe {
             sys::pe_c_pdb_ids(bytes.as_ptr(), bytes.len(), room, entries, written)
         })?;
         Ok(Ids { bytes, starts })
