@@ -209,6 +209,15 @@ def inline_sites(size):
     return whole(struct.pack("<I", 4) + procedure(0, 1 << 20) + body)
 
 
+def inline_rows(size):
+    """Procedures of a thousand inlined functions side by side, each of four bytes."""
+    def site(offset):
+        number = (0xC0000000 | offset).to_bytes(4, "big")
+        return record(0x114D, struct.pack("<3I", 0, 0, 0x1000) + b"\x03" + number + b"\x04\x04\0\0\0") + record(0x114E, b"")
+    sites = b"".join(site(4 * it) for it in range(1000)) + record(6, b"")
+    return whole(struct.pack("<I", 4) + b"".join(procedure(4000 * it, 4000) + sites for it in range(size // len(sites))))
+
+
 def rows_at_one_offset(size):
     lines = rows([(0, 7)] * (size // 8)) + subsection(FILES, struct.pack("<IBB2x", 1, 0, 0))
     return whole(struct.pack("<I", 4) + procedure(0, 1 << 20) + lines, len(lines))
@@ -302,7 +311,7 @@ def dump(rvas):
 
 KINDS = {it.__name__.replace("_", "-"): it for it in (
     wrong_text, block_size, directory, one_block, long_stream, dbi_parts, modules_of_one_stream, damaged_modules, small_records, procedures,
-    procedures_downwards, publics, inline_sites, rows_at_one_offset, rows_of_functions, names_of_files, names_without_end,
+    procedures_downwards, publics, inline_sites, inline_rows, rows_at_one_offset, rows_of_functions, names_of_files, names_without_end,
     named_streams, omap, many_sections, long_names, module_names)}
 
 

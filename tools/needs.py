@@ -83,7 +83,7 @@ GROUPS = {
     "clippy": by_hand("cargo clippy", **{"cargo-clippy": "rust-clippy"}),
     "page": by_hand("the page in Chromium", **{"node": "nodejs", "chromium": "chromium", "rustc 1.81": RUSTC}),
     "pdb": by_hand("names and lines of pe by PDB files", **{"clang": "clang", "lld-link": "lld", "llvm-pdbutil": "llvm",
-                                                             "llvm-symbolizer": "llvm"}),
+                                                             "llvm-symbolizer-19": "llvm-19"}),
     "packages": by_hand("packages on bare trees", **{
         "mmdebstrap": "mmdebstrap", "unshare": "util-linux", "rpm2cpio": "rpm2cpio", "cpio": "cpio", "module ensurepip": "python3-venv",
         "npm": "npm", "node": "nodejs", "chromium": "chromium", "rustc 1.81": RUSTC, WINE: "wine64", "gcc": "gcc", "clang": "clang"}),

@@ -131,8 +131,8 @@ fn what_is_refused_is_told_and_nothing_is_written() {
     damaged[at] = 14;
     let damaged = folder.file("damaged.pdb", &damaged);
     let (written, complaints, status) = run(&["symbols", &exe, "-", "--pdb", &damaged]);
-    assert!(complaints.contains("inlined functions of ") && complaints.contains("PDB_ANNOTATION"), "{complaints}");
-    assert!(written.contains("FUNC 1020 15 0 reads\n1020 6 7 0\n1026 f 8 0\n") && status == 1, "{written}");
+    assert!(complaints.contains("crash.obj: annotation of an inlined function") && status == 1, "{complaints}");
+    assert!(written.contains("FUNC 1020 15 0 reads\n1020 6 7 0\n1026 f 8 0\n"), "{written}");
 }
 
 /// The frames of the first thread of the dump, by symbols, with what is said of the PDB of its module.

@@ -17,8 +17,8 @@ const CLASSES: [u8; 2] = [2, 3];
 const FUNCTION: u16 = 0x20;
 /// How many bytes of records are read for each byte of a PDB, to find what is inlined at each address where that changes, and how many
 /// at least: a function of n records may have n such addresses.
-const READINGS: usize = 128;
-const LEAST_READ: usize = 1 << 28;
+const READINGS: usize = 64;
+const LEAST_READ: usize = 1 << 30;
 
 /// A function, from its start to its end.
 struct Function {
@@ -152,10 +152,9 @@ impl Functions {
             file.complain("inlined functions", format_args!("those of {all} left out: {why}"));
         }
         for it in damaged_of(&symbolizer) {
-            let part = format!("inlined functions of {}", it.module);
             // A module whose lines are refused is named already.
             if !file.complaints.iter().any(|own| own.ends_with(&format!("{}: {}", escaped(&it.module), it.error))) {
-                file.complain(&part, it.error);
+                file.complain(&it.module, it.error);
             }
         }
     }
