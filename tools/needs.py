@@ -82,7 +82,7 @@ GROUPS = {
     "build-windows-x64": by_hand("a build for windows-x64", **WINDOWS),
     "clippy": by_hand("cargo clippy", **{"cargo-clippy": "rust-clippy"}),
     "page": by_hand("the page in Chromium", **{"node": "nodejs", "chromium": "chromium", "rustc 1.81": RUSTC}),
-    "pdb": by_hand("names and lines of pe by PDB files", **{"clang": "clang", "lld-link": "lld", "llvm-pdbutil": "llvm",
+    "pdb": by_hand("names and lines of pe by PDB files", **{"clang": "clang", "lld-link": "lld", "ld.lld": "lld", "llvm-pdbutil": "llvm",
                                                              "llvm-symbolizer-19": "llvm-19"}),
     "packages": by_hand("packages on bare trees", **{
         "mmdebstrap": "mmdebstrap", "unshare": "util-linux", "rpm2cpio": "rpm2cpio", "cpio": "cpio", "module ensurepip": "python3-venv",

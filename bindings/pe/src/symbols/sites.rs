@@ -88,3 +88,43 @@ fn number(bytes: &mut &[u8]) -> Option<u32> {
     *bytes = rest;
     Some(own[1..].iter().fold(u32::from(own[0] & mask), |value, it| value << 8 | u32::from(*it)))
 }
+
+#[cfg(test)]
+mod tests {
+    use super::*;
+
+    fn offsets_of(annotations: &[u8]) -> Vec<u32> {
+        let mut found = Vec::new();
+        put_offsets(annotations, &mut found);
+        found
+    }
+
+    /// As LLVM's pages have them, the first as llvm-pdbutil prints it: code 0x6, line 1, and code end 0x11.
+    #[test]
+    fn annotations_have_offsets() {
+        assert_eq!(offsets_of(&[0x0B, 0x26, 4, 0x0B, 0, 0]), [6, 0x11]);
+        // A row of three bytes after five; one after two bytes of a number; one from another start.
+        assert_eq!(offsets_of(&[12, 3, 5, 3, 0x81, 0, 1, 0xC0, 0, 0x12, 0x34, 3, 0]), [5, 8, 0x105, 0x1234]);
+        for truncated in [&[3][..], &[3, 0xE0], &[12, 3], &[3, 0x80], &[0]] {
+            assert_eq!(offsets_of(truncated), [0; 0]);
+        }
+    }
+
+    /// Any bytes have sites or none.
+    #[test]
+    fn damaged_records_end() {
+        let site = [22, 0, 0x4D, 0x11, 0, 0, 0, 0, 0, 0, 0, 0, 0, 0x10, 0, 0, 0x0B, 0x26, 4, 0x0B, 3, 4, 0, 0];
+        let whole = [&[6, 0, 0x10, 0x11, 0, 0, 0, 0][..], &site, &site].concat();
+        let [sites] = &of_records(&whole)[..] else { panic!() };
+        assert_eq!((&sites.offsets[..], sites.size), (&[6, 0x11, 0x15, 6, 0x11, 0x15][..], whole.len()));
+        let mut seed = 83u64;
+        for _ in 0..20_000 {
+            let mut bytes = whole.clone();
+            seed = seed.wrapping_mul(6364136223846793005).wrapping_add(1442695040888963407);
+            let at = (seed >> 33) as usize % bytes.len();
+            bytes[at] = (seed >> 24) as u8;
+            bytes.truncate(whole.len() - (seed >> 60) as usize);
+            assert!(of_records(&bytes).iter().all(|it| it.size <= bytes.len() && it.offsets.len() <= bytes.len()));
+        }
+    }
+}
