@@ -209,6 +209,15 @@ def inline_sites(size):
     return whole(struct.pack("<I", 4) + procedure(0, 1 << 20) + body)
 
 
+def inline_rows(size):
+    """Procedures of a thousand inlined functions side by side, each of four bytes."""
+    def site(offset):
+        number = (0xC0000000 | offset).to_bytes(4, "big")
+        return record(0x114D, struct.pack("<3I", 0, 0, 0x1000) + b"\x03" + number + b"\x04\x04\0\0\0") + record(0x114E, b"")
+    sites = b"".join(site(4 * it) for it in range(1000)) + record(6, b"")
+    return whole(struct.pack("<I", 4) + b"".join(procedure(4000 * it, 4000) + sites for it in range(size // len(sites))))
+
+
 def rows_at_one_offset(size):
     lines = rows([(0, 7)] * (size // 8)) + subsection(FILES, struct.pack("<IBB2x", 1, 0, 0))
     return whole(struct.pack("<I", 4) + procedure(0, 1 << 20) + lines, len(lines))
@@ -276,9 +285,33 @@ def module_names(size):
     return made.made()
 
 
+def dump(rvas):
+    """A minidump with a frame at each of these RVAs of a module that names any such file, as a.pdb: by frame pointers, without the image."""
+    base, stack, start = 0x180000000, 0x100000, 32 + 4 * 12
+    context = bytearray(1232)
+    struct.pack_into("<I", context, 48, 0x10000B)
+    struct.pack_into("<2Q", context, 120 + 8 * 4, stack, stack)
+    struct.pack_into("<Q", context, 248, base + rvas[0])
+    frames = b"".join(struct.pack("<2Q", stack + 16 * (it + 1), base + rva) for it, rva in enumerate(rvas[1:])) + bytes(16)
+    name, record = "a.dll".encode("utf-16-le"), b"RSDS" + GUID + struct.pack("<I", 1) + b"a.pdb\0"
+    parts, places = [bytes(context), struct.pack("<I", len(name)) + name + bytes(2), record, frames], []
+    for part in parts:
+        places.append(start + sum(len(padded(it, 8)) for it in parts[:len(places)]))
+    streams = [
+        (7, struct.pack("<HHHBB4IIHH24x", 9, 0, 0, 1, 1, 10, 0, 0, 2, 0, 0, 0)),
+        (3, struct.pack("<I4I2Q4I", 1, 1, 0, 0, 0, 0, stack, len(frames), places[3], len(context), places[0])),
+        (4, struct.pack("<IQIIII52xII8x16x", 1, base, 1 << 28, 0, 7, places[1], len(record), places[2])),
+        (5, struct.pack("<IQII", 1, stack, len(frames), places[3]))]
+    body, directory = b"".join(padded(it, 8) for it in parts), b""
+    for kind, content in streams:
+        directory += struct.pack("<3I", kind, len(content), start + len(body))
+        body += padded(content, 8)
+    return struct.pack("<4sIIIIIQ", b"MDMP", 0xA793, len(streams), 32, 0, 0, 0) + directory + body
+
+
 KINDS = {it.__name__.replace("_", "-"): it for it in (
     wrong_text, block_size, directory, one_block, long_stream, dbi_parts, modules_of_one_stream, damaged_modules, small_records, procedures,
-    procedures_downwards, publics, inline_sites, rows_at_one_offset, rows_of_functions, names_of_files, names_without_end,
+    procedures_downwards, publics, inline_sites, inline_rows, rows_at_one_offset, rows_of_functions, names_of_files, names_without_end,
     named_streams, omap, many_sections, long_names, module_names)}
 
 

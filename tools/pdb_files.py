@@ -12,10 +12,10 @@ CRASH = os.path.join(os.path.dirname(HERE), "bindings", "pe", "tests", "crash", 
 SUFFIXES = {"EXE": "exe", "PDB": "pdb", "DUMP": "dmp"}
 
 
-def compare_symbols():
-    """The tool of this name, as a module."""
-    loader = importlib.machinery.SourceFileLoader("compare_symbols", os.path.join(HERE, "compare_symbols"))
-    made = importlib.util.module_from_spec(importlib.util.spec_from_loader("compare_symbols", loader))
+def tool(name):
+    """A tool, as a module."""
+    loader = importlib.machinery.SourceFileLoader(name, os.path.join(HERE, name))
+    made = importlib.util.module_from_spec(importlib.util.spec_from_loader(name, loader))
     loader.exec_module(made)
     return made
 

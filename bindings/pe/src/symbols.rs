@@ -3,6 +3,8 @@
 //! exports of the image; how frames are unwound is what the unwind records of the image say.
 
 mod functions;
+mod inlined;
+mod sites;
 mod unwinding;
 
 use crate::escape::escaped;

@@ -10,7 +10,7 @@ mod made;
 
 mod running;
 
-use running::{run, Folder};
+use running::{of_pieces, run, Folder};
 use serde_json::{json, Value};
 use std::collections::BTreeMap;
 use std::fs;
@@ -21,19 +21,11 @@ const BASE: u64 = 0x1_8000_0000;
 /// Where the stack of a thread starts.
 const STACK: u64 = 0x2_0000;
 
-fn bytes_of((length, pieces): crash::Bytes) -> Vec<u8> {
-    let mut bytes = vec![0; length];
-    for (at, piece) in pieces {
-        bytes[*at..*at + piece.len()].copy_from_slice(piece);
-    }
-    bytes
-}
-
 fn folder(test: &str) -> Folder {
     let folder = Folder::new(test);
-    folder.file("crash.dmp", &bytes_of(crash::DUMP));
-    folder.file("crash.exe", &bytes_of(crash::EXE));
-    folder.file("crash.pdb", &bytes_of(crash::PDB));
+    folder.file("crash.dmp", &of_pieces(crash::DUMP));
+    folder.file("crash.exe", &of_pieces(crash::EXE));
+    folder.file("crash.pdb", &of_pieces(crash::PDB));
     folder
 }
 
@@ -50,13 +42,14 @@ fn symbols(words: &[&str]) -> String {
     out
 }
 
-const FUNCTIONS: &str = "FILE 0 crash.cpp\nFILE 1 generated\\else.inc\n\
+const FUNCTIONS: &str = "FILE 0 crash.cpp\nFILE 1 generated\\else.inc\nFILE 2 shapes.h\n\
+    INLINE_ORIGIN 0 geo::twice\nINLINE_ORIGIN 1 geo::load\nINLINE_ORIGIN 2 app::through\n\
     FUNC 1000 1f 0 middle\n1000 7 11 0\n1007 9 900 1\n1010 f 16 0\n\
-    FUNC 1020 15 0 reads\n1020 6 7 0\n1026 b 8 0\n1031 4 8 0\n\
+    FUNC 1020 15 0 reads\nINLINE 0 8 0 0 1026 b\nINLINE 1 9 2 1 1026 b\n1020 6 7 0\n1026 b 5 2\n1031 4 8 0\n\
     FUNC 1040 19 0 entry\n1040 4 30 0\n1044 a 31 0\n104e 6 32 0\n1054 5 33 0\n\
-    FUNC 1060 16 0 app::outer<int>\n1060 4 24 0\n1064 a 25 0\n106e 8 26 0\n";
+    FUNC 1060 16 0 app::outer<int>\nINLINE 0 25 0 2 1064 a\n1060 4 24 0\n1064 a 21 0\n106e 8 26 0\n";
 
-/// By the procedures and lines of `llvm-pdbutil dump -symbols -l`, and the unwind codes of `llvm-readobj --unwind`. `reads` is in no entry of
+/// By the procedures, inlined functions and lines of `llvm-pdbutil dump -symbols -l -il`, and the unwind codes of `llvm-readobj --unwind`. `reads` is in no entry of
 /// the function table.
 #[test]
 fn a_symbol_file_has_functions_lines_and_unwinding() {
@@ -99,7 +92,7 @@ fn names_of_an_image() {
 fn what_is_refused_is_told_and_nothing_is_written() {
     let folder = folder("breakpad-refused");
     let (exe, pdb, out) = (folder.path("crash.exe"), folder.path("crash.pdb"), folder.path("out.sym"));
-    let mut other = bytes_of(crash::PDB);
+    let mut other = of_pieces(crash::PDB);
     let guid = [0xDE, 0xF6, 0xAA, 0xC4, 0xF4, 0x03];
     let at = other.windows(6).position(|it| it == guid).unwrap();
     other[at] ^= 1;
@@ -121,7 +114,7 @@ fn what_is_refused_is_told_and_nothing_is_written() {
         assert_eq!((text.as_str(), status, fs::metadata(&out).is_ok()), ("", wanted, false), "{complaints}");
     }
     // A module that is damaged costs its own lines: the file is written with the others.
-    let mut damaged = bytes_of(crash::PDB);
+    let mut damaged = of_pieces(crash::PDB);
     let at = damaged.windows(4).position(|it| it == [0xF2, 0, 0, 0]).unwrap();
     damaged[at + 7] = 0x7F;
     let damaged = folder.file("damaged.pdb", &damaged);
@@ -132,6 +125,14 @@ fn what_is_refused_is_told_and_nothing_is_written() {
     );
     let written = fs::read_to_string(&out).unwrap();
     assert!(written.contains("FUNC 1000 1f 0 middle\nFUNC 1020 15 0 reads\n"), "{written}");
+    // An annotation that is refused costs the inlined functions of its function, whose lines are then those of the calls.
+    let mut damaged = of_pieces(crash::PDB);
+    let at = damaged.windows(4).position(|it| it == [0x0B, 0x26, 4, 0x0B]).unwrap();
+    damaged[at] = 14;
+    let damaged = folder.file("damaged.pdb", &damaged);
+    let (written, complaints, status) = run(&["symbols", &exe, "-", "--pdb", &damaged]);
+    assert!(complaints.contains("crash.obj: annotation of an inlined function") && status == 1, "{complaints}");
+    assert!(written.contains("FUNC 1020 15 0 reads\n1020 6 7 0\n1026 f 8 0\n"), "{written}");
 }
 
 /// The frames of the first thread of the dump, by symbols, with what is said of the PDB of its module.
@@ -144,18 +145,12 @@ fn stack(folder: &Folder, places: &str) -> (Value, Value) {
     (said["threads"][0]["frames"].clone(), said["modules"][0]["pdb"].clone())
 }
 
-/// A symbol file names what its PDB does, where symbol servers of Breakpad have it, beside others, or named by itself; but for functions
-/// that are inlined, which `pe symbols` does not write.
+/// A symbol file names what its PDB does, where symbol servers of Breakpad have it, beside others, or named by itself.
 #[test]
 fn symbol_files_name_what_a_pdb_does() {
     let folder = folder("breakpad-read");
-    let (mut wanted, _) = stack(&folder, &folder.path("crash.pdb"));
+    let (wanted, _) = stack(&folder, &folder.path("crash.pdb"));
     assert_eq!(wanted[0]["function"]["inlined"].as_array().map(Vec::len), Some(2));
-    for frame in wanted.as_array_mut().unwrap() {
-        if let Some(inlined) = frame["function"].get_mut("inlined") {
-            *inlined = json!([]);
-        }
-    }
     let text = symbols(&[&folder.path("crash.exe"), "--pdb", &folder.path("crash.pdb"), "-"]);
     for place in [
         format!("s/crash.pdb/{KEY}/crash.sym"),
@@ -383,6 +378,27 @@ fn stack_cfi_leads_to_the_same_callers() {
     assert!(compared > 140 && changed > 60, "{compared} {changed}");
 }
 
+/// By the instructions that the image of the tests names: after each store of a prolog, and in the epilog before each load.
+#[test]
+fn stack_cfi_of_arm64() {
+    let folder = Folder::new("breakpad-arm64");
+    let text = symbols(&[&folder.file("a.dll", &made::with_arm64_calls()), "-"]);
+    let rules: String = text.lines().filter(|it| it.starts_with("STACK")).map(|it| format!("{it}\n")).collect();
+    assert_eq!(
+        rules,
+        "STACK CFI INIT 5000 20 .cfa: sp 0 + .ra: x30\n\
+         STACK CFI 5004 .cfa: sp 16 + x19: .cfa 16 - ^ x20: .cfa 8 - ^\n\
+         STACK CFI 5008 .cfa: sp 48 + .ra: .cfa 40 - ^ x29: .cfa 48 - ^ x30: .cfa 40 - ^\n\
+         STACK CFI 500c .cfa: x29 48 +\n\
+         STACK CFI 5014 .cfa: sp 48 +\n\
+         STACK CFI 5018 .cfa: sp 16 + .ra: x30 x29: x29 x30: x30\n\
+         STACK CFI 501c .cfa: sp 0 + x19: x19 x20: x20\n\
+         STACK CFI INIT 5020 20 .cfa: sp 0 + .ra: x30\n\
+         STACK CFI 5028 .cfa: sp 16 + .ra: .cfa 8 - ^ x29: .cfa 16 - ^ x30: .cfa 8 - ^\n\
+         STACK CFI 502c .cfa: x29 16 +\n"
+    );
+}
+
 /// The frames of the dump of a crash are those of `pe stack`, one after the other.
 #[test]
 fn a_dump_is_walked_by_its_symbol_file() {
@@ -391,7 +407,7 @@ fn a_dump_is_walked_by_its_symbol_file() {
     let words = ["stack", &folder.path("crash.dmp"), "--json", "--registers", "--images", &folder.path("crash.exe")];
     let said: Value = serde_json::from_str(&run(&words).0).unwrap();
     let frames = said["threads"][0]["frames"].as_array().unwrap();
-    let dump = bytes_of(crash::DUMP);
+    let dump = of_pieces(crash::DUMP);
     let parsed = pe_c::Dump::parse(&dump).unwrap();
     let memory = pe_c::DumpMemory::new(&parsed);
     let piece = memory.pieces()[0];

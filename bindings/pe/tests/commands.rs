@@ -5,7 +5,7 @@ mod made;
 
 mod running;
 
-use running::{json_of, run, Folder};
+use running::{json_of, put, run, utf16, version_block, Folder};
 use serde_json::{json, Value};
 use std::fs;
 use std::io::Write;
@@ -1067,38 +1067,16 @@ fn other_tables_of_a_part_are_csv() {
     assert_eq!(run(&["show", "--table", "guarded", &guards, "load-config"]).2, 2);
 }
 
-/// A block of version information: its length, that of its value, whether that is a text, the key, the value, and other blocks, each
-/// at a multiple of four bytes.
-fn block(key: &str, value: &[u8], is_text: bool, children: &[Vec<u8>]) -> Vec<u8> {
-    let pad = |bytes: &mut Vec<u8>| bytes.resize(bytes.len().next_multiple_of(4), 0);
-    let units = if is_text { value.len() / 2 } else { value.len() } as u16;
-    let mut bytes = [0, units, u16::from(is_text)].iter().flat_map(|it| it.to_le_bytes()).collect::<Vec<u8>>();
-    bytes.extend(utf16(key));
-    pad(&mut bytes);
-    bytes.extend(value);
-    for child in children {
-        pad(&mut bytes);
-        bytes.extend(child);
-    }
-    let length = bytes.len() as u16;
-    bytes[..2].copy_from_slice(&length.to_le_bytes());
-    bytes
-}
-
-/// With the zero that ends it.
-fn utf16(text: &str) -> Vec<u8> {
-    text.encode_utf16().chain([0]).flat_map(u16::to_le_bytes).collect()
-}
-
 /// Version information with a table of strings for each language.
 fn version_of(tables: &[(&str, &[(&str, &str)])]) -> Vec<u8> {
     let table = |(key, strings): &(&str, &[(&str, &str)])| {
-        let strings: Vec<Vec<u8>> = strings.iter().map(|(name, text)| block(name, &utf16(text), true, &[])).collect();
-        block(key, b"", true, &strings)
+        let strings: Vec<Vec<u8>> =
+            strings.iter().map(|(name, text)| version_block(name, &utf16(text), true, &[])).collect();
+        version_block(key, b"", true, &strings)
     };
     let tables: Vec<Vec<u8>> = tables.iter().map(table).collect();
     let fixed = [0xFEEF_04BDu32.to_le_bytes().as_slice(), &[0; 48]].concat();
-    block("VS_VERSION_INFO", &fixed, false, &[block("StringFileInfo", b"", true, &tables)])
+    version_block("VS_VERSION_INFO", &fixed, false, &[version_block("StringFileInfo", b"", true, &tables)])
 }
 
 #[test]
@@ -1605,10 +1583,6 @@ fn symbols_of_images_are_shown_where_they_are_named() {
     );
     let (out, _, _) = run(&["show", &folder.file("b.exe", &made::with_exports()), "symbols"]);
     assert!(out.ends_with("\n  symbols       none\n"), "{out}");
-}
-
-fn put(bytes: &mut [u8], offset: usize, part: &[u8]) {
-    bytes[offset..offset + part.len()].copy_from_slice(part);
 }
 
 #[test]

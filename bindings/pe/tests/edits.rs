@@ -4,7 +4,7 @@
 
 mod running;
 
-use running::{run, Folder};
+use running::{put, run, utf16, version_block, Folder};
 use std::fs;
 
 /// Data directories.
@@ -17,10 +17,6 @@ const START: usize = 0x400;
 
 /// A section: its name, its RVA, its size in memory and its bytes, which are padded to a multiple of 0x200.
 type Section<'a> = (&'a [u8], u32, u32, &'a [u8]);
-
-fn put(bytes: &mut [u8], offset: usize, part: &[u8]) {
-    bytes[offset..offset + part.len()].copy_from_slice(part);
-}
 
 fn u32_at(bytes: &[u8], offset: usize) -> usize {
     u32::from_le_bytes(bytes[offset..offset + 4].try_into().unwrap()) as usize
@@ -176,41 +172,33 @@ fn contents_that_resources_share_are_bounded() {
 }
 
 /// A block of version information, with the zeros up to a multiple of four that blocks after it need.
-fn block(key: &str, value: &[u8], kind: u16, children: &[Vec<u8>]) -> Vec<u8> {
-    let pad = |bytes: &mut Vec<u8>| bytes.resize(bytes.len().next_multiple_of(4), 0);
-    let units = (value.len() / if kind == 1 { 2 } else { 1 }) as u16;
-    let mut bytes: Vec<u8> = [0, units, kind].iter().flat_map(|it| it.to_le_bytes()).collect();
-    bytes.extend(key.encode_utf16().chain([0]).flat_map(u16::to_le_bytes));
-    pad(&mut bytes);
-    bytes.extend(value);
-    for child in children {
-        pad(&mut bytes);
-        bytes.extend(child);
-    }
-    let length = bytes.len() as u16;
-    put(&mut bytes, 0, &length.to_le_bytes());
-    pad(&mut bytes);
-    bytes
+fn block(key: &str, value: &[u8], is_text: bool, children: &[Vec<u8>]) -> Vec<u8> {
+    let mut block = version_block(key, value, is_text, children);
+    block.resize(block.len().next_multiple_of(4), 0);
+    block
 }
 
 /// Version information with blocks that few readers know: this version of the file, and these values of the string `OWN`.
 fn version(number: u8, values: [&str; 2], more: &[Vec<u8>]) -> Vec<u8> {
-    let text = |it: &str| it.encode_utf16().chain([0]).flat_map(u16::to_le_bytes).collect::<Vec<u8>>();
-    let inner =
-        block("Inner", &[1, 2, 3, 4], 0, &[block("Deep", &[5, 6, 7, 8], 0, &[block("Deeper", &[9, 9], 0, &[])])]);
-    let first = [block("OWN", &text(values[0]), 1, &[inner.clone()]), block("binary", &[7, 0, 7, 0], 0, &[])];
-    let second = [block("Comments", &text("stays"), 1, &[]), block("own", &text(values[1]), 1, &[])];
-    let tables = |it: &[Vec<u8>]| [block("040904b0", b"", 1, &[it, more].concat())];
-    let pairs = [block("Translation", &[9, 4, 0xB0, 4], 0, &[]), block("Other", &[1, 2], 0, &[])];
+    let inner = block(
+        "Inner",
+        &[1, 2, 3, 4],
+        false,
+        &[block("Deep", &[5, 6, 7, 8], false, &[block("Deeper", &[9, 9], false, &[])])],
+    );
+    let first = [block("OWN", &utf16(values[0]), true, &[inner.clone()]), block("binary", &[7, 0, 7, 0], false, &[])];
+    let second = [block("Comments", &utf16("stays"), true, &[]), block("own", &utf16(values[1]), true, &[])];
+    let tables = |it: &[Vec<u8>]| [block("040904b0", b"", true, &[it, more].concat())];
+    let pairs = [block("Translation", &[9, 4, 0xB0, 4], false, &[]), block("Other", &[1, 2], false, &[])];
     let infos = [
-        block("stringfileinfo", b"", 1, &tables(&first)),
-        block("Unknown", &[3, 4], 0, &[inner]),
-        block("StringFileInfo", b"", 1, &tables(&second)),
-        block("VarFileInfo", b"", 1, &pairs),
+        block("stringfileinfo", b"", true, &tables(&first)),
+        block("Unknown", &[3, 4], false, &[inner]),
+        block("StringFileInfo", b"", true, &tables(&second)),
+        block("VarFileInfo", b"", true, &pairs),
     ];
     let fixed =
         [&words(&[0xFEEF_04BD, 0x1_0000, 0, u32::from(number) << 16, 7, 7]), &[0xA5; 28][..], &[1, 2, 3, 4]].concat();
-    block("VS_VERSION_INFO", &fixed, 0, &infos)
+    block("VS_VERSION_INFO", &fixed, false, &infos)
 }
 
 /// Numbers and strings change, whatever the case of their names. All else stays: a second block of strings, whose name may be in other
@@ -228,8 +216,7 @@ fn version_information_keeps_its_blocks() {
     let words = ["set-version", &file, out, "--file-version", "0.0.9.0", "--string", "Own=longer than it was"];
     assert_eq!(run(&words), Default::default());
     assert_eq!(run(&["extract", out, "resource", "--type", "16", "--name", "1", content]).2, 0);
-    let text = "0.0.9.0\0".encode_utf16().flat_map(u16::to_le_bytes).collect::<Vec<u8>>();
-    let wanted = version(9, ["longer than it was"; 2], &[block("FileVersion", &text, 1, &[])]);
+    let wanted = version(9, ["longer than it was"; 2], &[block("FileVersion", &utf16("0.0.9.0"), true, &[])]);
     assert!(fs::read(content).unwrap() == wanted);
     // What is in the first block of strings is shown, though its name is in other letters.
     let said = run(&["show", out, "version", "--json"]).0;

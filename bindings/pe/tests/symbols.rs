@@ -6,7 +6,7 @@ mod crash;
 
 mod running;
 
-use running::{run, Folder};
+use running::{of_pieces, opened_in, run, Folder};
 use serde_json::{json, Value};
 use std::fs;
 use std::path::Path;
@@ -16,22 +16,13 @@ use std::process::Command;
 /// dump -streams -stream-blocks`.
 const KEY: &str = "C4AAF6DE03F43CF24C4C44205044422E1";
 
-/// The bytes of a file that is made of pieces.
-fn bytes_of((length, pieces): crash::Bytes) -> Vec<u8> {
-    let mut bytes = vec![0; length];
-    for (at, piece) in pieces {
-        bytes[*at..*at + piece.len()].copy_from_slice(piece);
-    }
-    bytes
-}
-
 /// A folder with the dump, and the program in `images`.
 fn folder(test: &str) -> Folder {
     let folder = Folder::new(test);
     fs::create_dir_all(folder.0.join("images")).unwrap();
     fs::create_dir_all(folder.0.join("syms")).unwrap();
-    folder.file("crash.dmp", &bytes_of(crash::DUMP));
-    folder.file("images/crash.exe", &bytes_of(crash::EXE));
+    folder.file("crash.dmp", &of_pieces(crash::DUMP));
+    folder.file("images/crash.exe", &of_pieces(crash::EXE));
     folder
 }
 
@@ -74,7 +65,7 @@ fn line_of(it: &Value) -> Value {
 #[test]
 fn frames_have_the_functions_and_lines_of_the_sources() {
     let folder = folder("symbols-lines");
-    put(&folder, "syms/crash.pdb", &bytes_of(crash::PDB));
+    put(&folder, "syms/crash.pdb", &of_pieces(crash::PDB));
     let said = stack_in(&folder, &["--symbols", "syms"], None);
     let functions = functions_of(&said);
     let own: Vec<Value> = functions.iter().map(|it| line_of(it)).collect();
@@ -104,7 +95,7 @@ fn frames_have_the_functions_and_lines_of_the_sources() {
 #[test]
 fn frames_have_the_functions_of_a_pdb() {
     let folder = folder("symbols-functions");
-    put(&folder, "syms/crash.pdb", &bytes_of(crash::PDB));
+    put(&folder, "syms/crash.pdb", &of_pieces(crash::PDB));
     let said = stack_in(&folder, &["--symbols", "syms"], None);
     let found: Vec<Value> = functions_of(&said)
         .iter()
@@ -136,7 +127,7 @@ fn a_pdb_is_found_as_symbol_servers_have_it() {
     ];
     for (index, path) in paths.iter().enumerate() {
         let folder = folder(&format!("symbols-found-{index}"));
-        put(&folder, path, &bytes_of(crash::PDB));
+        put(&folder, path, &of_pieces(crash::PDB));
         let found = |words: &[&str], variable| stack_in(&folder, words, variable)["modules"][0]["pdb"]["file"].clone();
         assert_eq!(found(&["--symbols", "syms"], None), json!(path));
         assert_eq!(found(&["--symbols", "images", "--symbols", "syms"], None), json!(path));
@@ -174,7 +165,7 @@ const DBI: [u8; 8] = [0xFF, 0xFF, 0xFF, 0xFF, 0x77, 0x09, 0x31, 0x01];
 
 #[test]
 fn no_name_is_read_of_another_build() {
-    let pdb = bytes_of(crash::PDB);
+    let pdb = of_pieces(crash::PDB);
     let (mut age, mut guid) = (pdb.clone(), pdb.clone());
     age[place_of(&pdb, &DBI) + 8] = 0x1F;
     guid[place_of(&pdb, &GUID)] = 0xDF;
@@ -196,7 +187,7 @@ fn no_name_is_read_of_another_build() {
             run_in(&folder, &["stack", "crash.dmp", "--images", "images", "--symbols", "syms"], None);
         assert!(text.contains(&format!("of another build, not read: {words}")) && status == Some(0), "{text}");
         // The right one is found after it.
-        put(&folder, "more/crash.pdb", &bytes_of(crash::PDB));
+        put(&folder, "more/crash.pdb", &of_pieces(crash::PDB));
         let said = stack_in(&folder, &["--symbols", "syms", "--symbols", "more"], None);
         assert_eq!(said["modules"][0]["pdb"]["file"], "more/crash.pdb");
     }
@@ -227,7 +218,7 @@ fn what_is_no_pdb_that_is_read_is_told() {
 
 /// The dump with another name of the PDB, of as many bytes at most.
 fn naming(name: &[u8]) -> Vec<u8> {
-    let mut dump = bytes_of(crash::DUMP);
+    let mut dump = of_pieces(crash::DUMP);
     let at = place_of(&dump, b"crash.pdb\0");
     dump[at..at + 10].fill(0);
     dump[at..at + name.len()].copy_from_slice(name);
@@ -249,16 +240,16 @@ fn the_name_in_a_dump_is_one_component() {
     for (index, (name, state, path)) in cases.into_iter().enumerate() {
         let folder = folder(&format!("symbols-name-{index}"));
         folder.file("crash.dmp", &naming(name));
-        put(&folder, path, &bytes_of(crash::PDB));
+        put(&folder, path, &of_pieces(crash::PDB));
         let said = stack_in(&folder, &["--symbols", "syms"], None);
         assert_eq!(said["modules"][0]["pdb"]["state"], state, "{said}");
     }
     let folder = folder("symbols-by-image");
-    let mut dump = bytes_of(crash::DUMP);
+    let mut dump = of_pieces(crash::DUMP);
     let at = place_of(&dump, b"RSDS");
     dump[at] = b'X';
     folder.file("crash.dmp", &dump);
-    put(&folder, "syms/crash.pdb", &bytes_of(crash::PDB));
+    put(&folder, "syms/crash.pdb", &of_pieces(crash::PDB));
     let said = stack_in(&folder, &["--symbols", "syms"], None);
     assert_eq!(said["modules"][0]["pdb"]["state"], "read");
     assert_eq!(said["modules"][0]["pdb_symbol_server_path"], json!(format!("crash.pdb/{KEY}/crash.pdb")));
@@ -267,7 +258,7 @@ fn the_name_in_a_dump_is_one_component() {
 /// Names that a hostile PDB has are shown with escapes.
 #[test]
 fn a_damaged_pdb_costs_names_and_no_frame() {
-    let pdb = bytes_of(crash::PDB);
+    let pdb = of_pieces(crash::PDB);
     for (index, part) in [b"reads\0".as_slice(), b"middle\0", &DBI].into_iter().enumerate() {
         let folder = folder(&format!("symbols-damaged-{index}"));
         let mut bytes = pdb.clone();
@@ -288,7 +279,7 @@ fn a_damaged_pdb_costs_names_and_no_frame() {
 #[test]
 fn public_symbols_serve_where_a_module_is_damaged() {
     let folder = folder("symbols-public");
-    let mut pdb = bytes_of(crash::PDB);
+    let mut pdb = of_pieces(crash::PDB);
     // The stream of the module starts with 4, and its first record is S_OBJNAME: here of no bytes.
     let at = pdb.windows(8).position(|it| *it == [4, 0, 0, 0, 10, 0, 1, 0x11]).unwrap();
     pdb[at + 4] = 0;
@@ -319,39 +310,23 @@ fn public_symbols_serve_where_a_module_is_damaged() {
     assert_eq!((&said["functions"][1]["raw_name"], status), (&json!("entry"), 1));
 }
 
-/// What a traced call opens, relative to the folder that it runs in.
-fn opened_by(line: &str) -> Option<&str> {
-    let (call, rest) = line.split_once('(')?;
-    let path = rest.split('"').nth(1)?;
-    (call.contains("open") && !path.starts_with('/')).then_some(path)
-}
-
 #[test]
 fn no_path_of_a_dump_is_opened() {
     let folder = folder("symbols-opened");
     folder.file("crash.dmp", &naming(b"../c.pdb"));
-    put(&folder, "syms/c.pdb", &bytes_of(crash::PDB));
+    put(&folder, "syms/c.pdb", &of_pieces(crash::PDB));
     put(&folder, "c.pdb", b"");
-    let words =
-        ["-f", "-qq", "-e", "trace=open,openat,openat2,connect,execve", "-o", "calls", env!("CARGO_BIN_EXE_pe")];
-    let mut traced = Command::new("strace");
-    traced.args(words).args(["stack", "crash.dmp", "--json", "--images", "images", "--symbols", "syms"]);
-    match traced.current_dir(&folder.0).env_remove("_NT_SYMBOL_PATH").output() {
-        Ok(ran) if ran.status.success() => (),
-        _ => return eprintln!("Debian's package strace is missing, or may not trace: what is opened is not tried"),
+    let words = ["stack", "crash.dmp", "--json", "--images", "images", "--symbols", "syms"];
+    if let Some(opened) = opened_in(&folder, &words) {
+        assert_eq!(opened, ["crash.dmp", "images", "images/crash.exe", "images/crash.exe", "syms", "syms/c.pdb"]);
     }
-    let calls = fs::read_to_string(folder.0.join("calls")).unwrap();
-    let mut opened: Vec<&str> = calls.lines().filter_map(opened_by).collect();
-    opened.sort_unstable();
-    assert_eq!(opened, ["crash.dmp", "images", "images/crash.exe", "images/crash.exe", "syms", "syms/c.pdb"]);
-    assert_eq!((calls.matches("execve(").count(), calls.matches("connect(").count()), (1, 0));
 }
 
 /// The page of a dump has the same.
 #[test]
 fn the_page_of_a_dump_has_functions() {
     let folder = folder("symbols-page");
-    put(&folder, "syms/crash.pdb", &bytes_of(crash::PDB));
+    put(&folder, "syms/crash.pdb", &of_pieces(crash::PDB));
     let (page, _, status) =
         run_in(&folder, &["report", "crash.dmp", "-", "--images", "images", "--symbols", "syms"], None);
     assert!(page.contains("<td>middle+0xe</td>") && page.contains("<td>syms/crash.pdb</td>"), "{page}");
@@ -362,7 +337,7 @@ fn the_page_of_a_dump_has_functions() {
 #[test]
 fn pe_pdb_says_what_a_pdb_is() {
     let folder = Folder::new("pdb");
-    let path = folder.file("crash.pdb", &bytes_of(crash::PDB));
+    let path = folder.file("crash.pdb", &of_pieces(crash::PDB));
     let (out, complaints, status) = run(&["pdb", &path, "--json", "--functions", "--modules", "--streams"]);
     assert_eq!((complaints.as_str(), status), ("", 0), "{out}");
     let said: Value = serde_json::from_str(&out).unwrap();
@@ -395,7 +370,7 @@ fn pe_pdb_says_what_a_pdb_is() {
 #[test]
 fn pe_pdb_says_what_is_at_rvas() {
     let folder = Folder::new("pdb-rvas");
-    let path = folder.file("crash.pdb", &bytes_of(crash::PDB));
+    let path = folder.file("crash.pdb", &of_pieces(crash::PDB));
     let (out, _, status) = run(&["pdb", &path, "--json", "102f", "0x1074", "5000"]);
     let said: Value = serde_json::from_str(&out).unwrap();
     let last = |index: usize| said["frames"][index]["functions"].as_array().unwrap().last().cloned();
@@ -411,7 +386,7 @@ fn pe_pdb_says_what_is_at_rvas() {
 #[test]
 fn what_is_no_pdb_is_refused() {
     let folder = Folder::new("pdb-none");
-    let image = folder.file("a.exe", &bytes_of(crash::EXE));
+    let image = folder.file("a.exe", &of_pieces(crash::EXE));
     let (out, complaints, status) = run(&["pdb", &image]);
     assert_eq!((out.as_str(), complaints, status), ("", format!("pe: {image}: not a PDB 7.0 (PDB_MAGIC)\n"), 1));
     let (out, _, status) = run(&["pdb", "--json", &image]);
@@ -423,7 +398,7 @@ fn what_is_no_pdb_is_refused() {
     let (_, complaints, status) = run(&["pdb", folder.0.join("nowhere").to_str().unwrap()]);
     assert!(complaints.contains("No such file") && status == 3, "{complaints}");
     // And the other way round.
-    let pdb = folder.file("c.pdb", &bytes_of(crash::PDB));
+    let pdb = folder.file("c.pdb", &of_pieces(crash::PDB));
     let (out, _, status) = run(&[&pdb]);
     assert!(out.starts_with(&format!("{pdb}: refused, a PDB, which pe pdb shows\n")) && status == 1, "{out}");
 }
@@ -432,10 +407,10 @@ fn what_is_no_pdb_is_refused() {
 #[test]
 fn what_is_said_is_the_golden_text() {
     let folder = folder("symbols-golden");
-    put(&folder, "syms/crash.pdb", &bytes_of(crash::PDB));
-    folder.file("crash.pdb", &bytes_of(crash::PDB));
-    let mut other = bytes_of(crash::PDB);
-    other[place_of(&bytes_of(crash::PDB), &DBI) + 8] = 2;
+    put(&folder, "syms/crash.pdb", &of_pieces(crash::PDB));
+    folder.file("crash.pdb", &of_pieces(crash::PDB));
+    let mut other = of_pieces(crash::PDB);
+    other[place_of(&of_pieces(crash::PDB), &DBI) + 8] = 2;
     put(&folder, "other/crash.pdb", &other);
     put(&folder, "damaged/crash.pdb", &[b'x'; 100]);
     let said_by = |words: &[&str]| format!("$ pe {}\n{}", words.join(" "), run_in(&folder, words, None).0);

@@ -29,6 +29,8 @@ const FASTLINK: u32 = 0x494E494D;
 /// What an index has: public functions, or procedures.
 pub(crate) const PUBLICS: u32 = 0;
 pub(crate) const PROCEDURES: u32 = 1;
+/// How many bytes a row of lines has.
+pub(crate) const ROW: usize = 8;
 /// How many records a call lists.
 const AT_ONCE: usize = 64;
 
@@ -221,7 +223,7 @@ impl<'a> Pdb<'a> {
     pub fn stream(&self, number: u32) -> Result<Vec<u8>, Error> {
         let (bytes, starts) = (self.bytes, &self.starts);
         // SAFETY: the pointers and lengths are those of slices; the room overlaps none of them, and all are lent for the call.
-        filled(|room, length, written| unsafe {
+        filled(0, |room, length, written| unsafe {
             let (at, size) = (bytes.as_ptr(), bytes.len());
             sys::pe_c_pdb_stream(at, size, starts.as_ptr(), starts.len(), number, room, length, written)
         })
@@ -231,7 +233,7 @@ impl<'a> Pdb<'a> {
     pub(crate) fn module_ranges(&self) -> Result<Vec<PdbModuleRange>, Error> {
         let (dbi, sections) = (self.stream(DBI_STREAM)?, self.section_headers()?);
         // SAFETY: as above.
-        filled(|room, entries, written| unsafe {
+        filled(0, |room, entries, written| unsafe {
             let (headers, size, contributions) = (sections.as_ptr(), sections.len(), &self.info.contributions);
             sys::pe_c_pdb_module_ranges(dbi.as_ptr(), dbi.len(), contributions, headers, size, room, entries, written)
         })
@@ -342,14 +344,24 @@ impl<'a> Pdb<'a> {
     }
 }
 
-/// What a call writes to a room, in one of as many entries as it asks for.
-pub(crate) fn filled<T: Clone + Default>(call: impl Fn(*mut T, usize, &mut u64) -> u32) -> Result<Vec<T>, Error> {
-    let (mut room, mut written) = (Vec::new(), 0);
-    let mut number = call(room.as_mut_ptr(), 0, &mut written);
+/// How many entries of so many bytes are in a range, if it is in the bytes.
+pub(crate) fn count_in(range: &Range, bytes: &[u8], size: usize) -> usize {
+    bytes.len().min(usize::try_from(range.length).unwrap_or(usize::MAX)) / size
+}
+
+/// What a call writes to a room, in one of as many entries as it asks for. The first one has so many: where these are enough the call does
+/// not read all twice.
+pub(crate) fn filled<T: Clone + Default>(
+    first: usize,
+    call: impl Fn(*mut T, usize, &mut u64) -> u32,
+) -> Result<Vec<T>, Error> {
+    let (mut room, mut written) = (room_for(first, T::default())?, 0);
+    let mut number = call(room.as_mut_ptr(), room.len(), &mut written);
     if number == sys::ROOM {
         room = room_for(usize::try_from(written).map_err(|_| Error::MEMORY)?, T::default())?;
         number = call(room.as_mut_ptr(), room.len(), &mut written);
     }
+    room.truncate(written as usize);
     Error::of(number).map(|()| room)
 }
 

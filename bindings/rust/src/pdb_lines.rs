@@ -1,7 +1,7 @@
 //! The lines of a module of a PDB, all of them, with the source files that they are of.
 
 use crate::image::{returned, Error};
-use crate::pdb::{filled, Pdb, PdbModule};
+use crate::pdb::{count_in, filled, Pdb, PdbModule, ROW};
 use crate::sys::{self, PdbLineEntry, Range};
 use alloc::collections::BTreeMap;
 use alloc::string::String;
@@ -79,7 +79,7 @@ impl Pdb<'_> {
         // SAFETY: the pointers and lengths are those of slices; the records are lent for the call.
         returned(unsafe { sys::pe_c_pdb_files(bytes.as_ptr(), bytes.len(), &range, &mut files) }, ())?;
         // SAFETY: as above, and the room overlaps no other argument.
-        let room = filled(|room, entries, written| unsafe {
+        let room = filled(count_in(&range, &bytes, ROW), |room, entries, written| unsafe {
             let (at, length) = (bytes.as_ptr(), bytes.len());
             sys::pe_c_pdb_lines(at, length, &range, sections.as_ptr(), sections.len(), room, entries, written)
         })?;

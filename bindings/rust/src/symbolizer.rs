@@ -3,15 +3,21 @@
 //! without debug information is in no module: the public symbols name it, if the linker wrote them.
 
 use crate::image::{returned, text_of, Error};
-use crate::pdb::{filled, Pdb, PdbModule, PROCEDURES, PUBLICS};
+use crate::pdb::{count_in, filled, Pdb, PdbModule, PROCEDURES, PUBLICS, ROW};
 use crate::sys::{self, PdbInlined, PdbLine, PdbLineEntry as LineEntry, PdbModuleRange, Range};
+use alloc::collections::BTreeMap;
 use alloc::string::String;
 use alloc::vec::Vec;
-use core::cell::{Cell, OnceCell};
+use core::cell::{Cell, OnceCell, RefCell};
 use core::fmt;
 
 /// The stream of ids, which has the names of inlined functions.
 const ID_STREAM: u32 = 4;
+/// How many bytes a public symbol, a procedure with what is in it, and a record of the stream of ids hardly fall below: for a room that is
+/// mostly large enough.
+const PUBLIC: usize = 24;
+const PROCEDURE: usize = 64;
+const ID: usize = 16;
 /// How many inlined functions an RVA has at most.
 const MOST_INLINED: usize = 64;
 
@@ -48,7 +54,8 @@ pub struct DamagedModule {
     pub name: String,
     /// Why it is refused.
     pub error: Error,
-    /// Whether its functions are named all the same: its lines, or the inlined functions of one of them, are refused.
+    /// Whether its functions are named all the same: its lines, or inlined functions of one of them, are refused, or the name or the
+    /// line of one.
     pub has_names: bool,
 }
 
@@ -69,8 +76,10 @@ struct Lines {
 struct Read {
     symbols: Symbols,
     lines: Result<Lines, Error>,
-    /// Why the inlined functions of an RVA are refused, of the first that was asked for.
+    /// Why the inlined functions of an RVA are refused, or the name or the line of one, of the first that was asked for.
     inlined_error: Cell<Option<Error>>,
+    /// Where the names of the source files are that were asked for, so that each is sought once.
+    files: RefCell<BTreeMap<u32, Option<Range>>>,
 }
 
 /// A module, which is read when an RVA in it is asked for.
@@ -85,7 +94,8 @@ struct Ids {
     starts: Vec<u64>,
 }
 
-/// What names RVAs by a PDB: see [`Pdb::symbolizer`].
+/// What names RVAs by a PDB: see [`Pdb::symbolizer`]. What it reads it keeps, so that threads share it under a lock: it is `Send`, and
+/// not `Sync`.
 ///
 /// ```
 /// # #[path = "../tests/made/mod.rs"] mod made;
@@ -123,7 +133,8 @@ impl Symbols {
     /// The symbols of a kind in these bytes.
     fn of(kind: u32, bytes: Vec<u8>, symbols: Range, sections: &[u8]) -> Result<Symbols, Error> {
         // SAFETY: the pointers and lengths are those of slices; the records are lent for the call.
-        let index = filled(|room, entries, written| unsafe {
+        let first = count_in(&symbols, &bytes, if kind == PUBLICS { PUBLIC } else { PROCEDURE });
+        let index = filled(first, |room, entries, written| unsafe {
             let (headers, size) = (sections.as_ptr(), sections.len());
             sys::pe_c_pdb_index(kind, bytes.as_ptr(), bytes.len(), &symbols, headers, size, room, entries, written)
         })?;
@@ -164,7 +175,7 @@ impl Lines {
         // SAFETY: as above.
         let found = returned(unsafe { sys::pe_c_pdb_files(at, length, lines, &mut files) }, ())?;
         // SAFETY: as above.
-        let index = filled(|room, entries, written| unsafe {
+        let index = filled(count_in(lines, bytes, ROW), |room, entries, written| unsafe {
             let (headers, size) = (sections.as_ptr(), sections.len());
             sys::pe_c_pdb_lines(at, length, lines, headers, size, room, entries, written)
         })?;
@@ -183,6 +194,12 @@ impl Lines {
 impl Read {
     /// The name of a source file. What is not UTF-8 is U+FFFD.
     fn file(&self, file: u32, names: &[u8]) -> Option<String> {
+        let found = *self.files.borrow_mut().entry(file).or_insert_with(|| self.file_name(file, names));
+        Some(String::from_utf8_lossy(found?.of(names)?).into_owned())
+    }
+
+    /// Where it is in the names.
+    fn file_name(&self, file: u32, names: &[u8]) -> Option<Range> {
         let (bytes, mut name) = (&self.symbols.bytes, Range::default());
         let files = self.lines.as_ref().ok()?.files?;
         // SAFETY: as above.
@@ -190,8 +207,12 @@ impl Read {
             let (at, length) = (names.as_ptr(), names.len());
             sys::pe_c_pdb_file_name(bytes.as_ptr(), bytes.len(), &files, at, length, file, &mut name)
         };
-        let name = name.of(names).filter(|_| number == sys::DONE)?;
-        Some(String::from_utf8_lossy(name).into_owned())
+        (number == sys::DONE).then_some(name)
+    }
+
+    /// Keeps why inlined functions are refused, of the first error.
+    fn refuse_inlined(&self, error: Option<Error>) {
+        self.inlined_error.set(self.inlined_error.get().or(error));
     }
 
     /// Writes the functions that are inlined at an RVA of a procedure to a room: the result, and how many there are.
@@ -229,7 +250,7 @@ impl Ids {
     fn of(pdb: &Pdb<'_>) -> Result<Ids, Error> {
         let bytes = pdb.stream(ID_STREAM)?;
         // SAFETY: as above.
-        let starts = filled(|room, entries, written| unsafe {
+        let starts = filled(bytes.len() / ID, |room, entries, written| unsafe {
             sys::pe_c_pdb_ids(bytes.as_ptr(), bytes.len(), room, entries, written)
         })?;
         Ok(Ids { bytes, starts })
@@ -296,7 +317,7 @@ impl Symbolizer<'_> {
         rest.ok_or(Error::PDB_STREAM_SIZE)?;
         let symbols = Symbols::of(PROCEDURES, bytes, module.symbols(), self.sections)?;
         let lines = Lines::of(&symbols.bytes, &module.lines(), self.sections);
-        Ok(Read { symbols, lines, inlined_error: Cell::new(None) })
+        Ok(Read { symbols, lines, inlined_error: Cell::new(None), files: RefCell::default() })
     }
 
     /// The module that has an RVA: by the section contributions, else by the procedures of all modules.
@@ -364,7 +385,7 @@ impl Symbolizer<'_> {
         let mut frames = match self.inlined(read, &module.module, &found, rva) {
             Ok(inlined) => inlined.iter().map(|it| self.inlined_frame(read, it, &own)).collect(),
             Err(error) => {
-                read.inlined_error.set(read.inlined_error.get().or(Some(error)));
+                read.refuse_inlined(Some(error));
                 Vec::new()
             }
         };
@@ -398,10 +419,13 @@ impl Symbolizer<'_> {
 
     /// The frame of an inlined function, in the procedure of another frame.
     fn inlined_frame(&self, read: &Read, inlined: &PdbInlined, own: &SymbolFrame) -> SymbolFrame {
-        let ids = self.ids.get().and_then(|it| it.as_ref().ok()).filter(|_| inlined.name_result == sys::DONE);
-        let has_line = inlined.line_result == sys::DONE;
+        let refused = |number| (![sys::DONE, sys::NOTHING].contains(&number)).then(|| Error::with_number(number));
+        // Without ids no function has a name, which is said once.
+        let ids = self.ids.get().and_then(|it| it.as_ref().ok());
+        read.refuse_inlined(ids.and_then(|_| refused(inlined.name_result)).or(refused(inlined.line_result)));
+        let (has_name, has_line) = (inlined.name_result == sys::DONE, inlined.line_result == sys::DONE);
         SymbolFrame {
-            name: ids.and_then(|it| it.name(inlined).ok()).unwrap_or_default(),
+            name: ids.filter(|_| has_name).and_then(|it| it.name(inlined).ok()).unwrap_or_default(),
             file: has_line.then(|| self.file(read, inlined.file)).flatten(),
             line: has_line.then_some(inlined.line),
             column: None,

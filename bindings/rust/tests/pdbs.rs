@@ -202,6 +202,33 @@ fn ids_that_are_refused_cost_names_alone() {
     assert_eq!((symbolizer.ids_error(), symbolizer.damaged()), (Some(Error::PDB_RECORD_SIZE), vec![]));
 }
 
+/// A record of the stream of ids that is damaged costs the name of its function, and says so.
+#[test]
+fn a_name_that_is_refused_is_reported() {
+    let mut bytes = made::pdb_inlined();
+    let ids = Pdb::parse(&bytes).unwrap().stream(4).unwrap();
+    let at = bytes.windows(ids.len()).position(|it| it == ids).unwrap();
+    let name = at + ids.windows(6).position(|it| it == b"clamp\0").unwrap();
+    bytes[name] = 0xFF;
+    let pdb = Pdb::parse(&bytes).unwrap();
+    let symbolizer = pdb.symbolizer().unwrap();
+    let found = placed_owned(&symbolizer.frames(0x1005));
+    assert_eq!(found, [(String::new(), Some(2)), ("twice".into(), Some(7)), ("entry".into(), Some(4))]);
+    let [damaged] = &symbolizer.damaged()[..] else { panic!("{:?}", symbolizer.damaged()) };
+    assert_eq!((damaged.error, damaged.has_names, symbolizer.ids_error()), (Error::PDB_NAME, true, None));
+}
+
+/// Threads take turns with one.
+#[test]
+fn a_symbolizer_is_shared_under_a_lock() {
+    let bytes = made::pdb_inlined();
+    let pdb = Pdb::parse(&bytes).unwrap();
+    let symbolizer = std::sync::Mutex::new(pdb.symbolizer().unwrap());
+    let count = || symbolizer.lock().unwrap().frames(0x1005).len();
+    let counts = std::thread::scope(|it| [it.spawn(count), it.spawn(count)].map(|it| it.join().unwrap()));
+    assert_eq!(counts, [3, 3]);
+}
+
 fn placed_owned(frames: &[SymbolFrame]) -> Vec<(String, Option<u32>)> {
     frames.iter().map(|it| (it.name.clone(), it.line)).collect()
 }

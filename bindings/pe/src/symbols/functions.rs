@@ -1,20 +1,24 @@
-//! The functions of a symbol file: FILE, FUNC with its lines, and PUBLIC. No two of them overlap, so that a reader finds what a debugger
-//! finds: where several start at one address the last counts, and a function ends where the next one starts.
-//!
-//! Of inlined functions there is nothing yet: INLINE_ORIGIN would follow FILE, and INLINE the line FUNC.
+//! The functions of a symbol file: FILE, INLINE_ORIGIN, FUNC with what is inlined there and its lines, and PUBLIC. No two functions
+//! overlap, so that a reader finds what a debugger finds: where several start at one address the last counts, and a function ends where
+//! the next one starts.
 
+use super::inlined::{changes, Inlined, Names};
+use super::sites::{self, Sites};
 use super::{in_line, SymbolFile};
 use crate::demangle::both_names;
-use crate::facts::Refusal;
-use crate::pdb::Left;
+use crate::escape::escaped;
+use crate::facts::{counted, Refusal};
+use crate::pdb::{damaged_of, Left};
 use pe_c::{CodeAddress, Error, Image, Pdb, PdbLine, PdbLines, PdbModule, PdbSymbol, SourceNames};
 use std::collections::{BTreeMap, BTreeSet};
 
 /// `IMAGE_SYM_CLASS_EXTERNAL` and `IMAGE_SYM_CLASS_STATIC`, and the type of a function.
 const CLASSES: [u8; 2] = [2, 3];
 const FUNCTION: u16 = 0x20;
-/// The name of a source file whose name is refused.
-const NO_FILE: &str = "?";
+/// How many bytes of records are read for each byte of a PDB, to find what is inlined at each address where that changes, and how many
+/// at least: a function of n records may have n such addresses.
+const READINGS: usize = 64;
+const LEAST_READ: usize = 1 << 30;
 
 /// A function, from its start to its end.
 struct Function {
@@ -39,9 +43,10 @@ pub struct Functions {
     functions: Vec<Function>,
     publics: Vec<Function>,
     modules: BTreeMap<usize, Lines>,
-    /// The source files in the order of their numbers, and the numbers by the files.
-    files: Vec<String>,
-    numbers: BTreeMap<String, usize>,
+    /// Where functions are inlined in one, by its module and its start; and what is, by its start alone.
+    sites: BTreeMap<(usize, u32), Sites>,
+    inlined: BTreeMap<u32, Inlined>,
+    names: Names,
 }
 
 /// The name for people: what is mangled as its source has it.
@@ -78,6 +83,7 @@ impl Functions {
             match left.takes(pdb, stream.into()).and_then(|_| pdb.procedures(module)) {
                 Ok(procedures) => {
                     found.add_procedures(&procedures, index);
+                    found.add_sites(pdb, module, (&procedures, index));
                     if let Some(error) = procedures.iter().find_map(|it| it.error) {
                         refused(&module.name, error);
                     }
@@ -90,7 +96,9 @@ impl Functions {
             Ok(publics) => found.add_publics(&publics),
             Err(error) => refused("public symbols", error),
         }
-        found.apart()
+        let mut found = found.apart();
+        found.add_inlined(pdb, file);
+        found
     }
 
     fn add_procedures(&mut self, procedures: &[PdbSymbol], module: usize) {
@@ -106,6 +114,49 @@ impl Functions {
             })
         });
         self.functions.extend(found);
+    }
+
+    /// Adds where functions are inlined in the procedures of a module.
+    fn add_sites(&mut self, pdb: &Pdb<'_>, module: &PdbModule, (procedures, index): (&[PdbSymbol], usize)) {
+        let sites = sites::of_module(pdb, module).unwrap_or_default();
+        let found = procedures.iter().zip(sites).filter(|it| !it.1.offsets.is_empty());
+        self.sites.extend(found.filter_map(|(procedure, sites)| Some(((index, procedure.rva?), sites))));
+    }
+
+    /// Adds what is inlined in functions, each with lines of its own then.
+    fn add_inlined(&mut self, pdb: &Pdb<'_>, file: &mut SymbolFile) {
+        let symbolizer = match pdb.symbolizer() {
+            _ if self.sites.is_empty() => return,
+            Ok(symbolizer) => symbolizer,
+            Err(error) => return file.complain("inlined functions", Refusal::from(error)),
+        };
+        let (mut left, mut left_out) = (pdb.bytes().len().saturating_mul(READINGS).max(LEAST_READ), 0);
+        for it in &self.functions {
+            let of_module = it.module.and_then(|module| Some((self.sites.get(&(module, it.start))?, module)));
+            let Some((sites, module)) = of_module else { continue };
+            let rows = self.modules.get(&module).map_or(&[][..], |lines| lines.rows(it));
+            let ends = rows.iter().flat_map(|row| [row.rva, row.rva.saturating_add(row.code_size)]);
+            let changes = changes((it.start, it.end), sites, ends);
+            match left.checked_sub(changes.len().saturating_mul(sites.size)) {
+                Some(rest) => {
+                    left = rest;
+                    let inlined = Inlined::of(&symbolizer, (it.start, it.end), &changes, &mut self.names);
+                    self.inlined.insert(it.start, inlined);
+                }
+                None => left_out += 1,
+            }
+        }
+        if left_out > 0 {
+            let all = counted(left_out, "function");
+            let why = "to find them takes more readings of records than the file's bytes account for";
+            file.complain("inlined functions", format_args!("those of {all} left out: {why}"));
+        }
+        for it in damaged_of(&symbolizer) {
+            // A module whose lines are refused is named already.
+            if !file.complaints.iter().any(|own| own.ends_with(&format!("{}: {}", escaped(&it.module), it.error))) {
+                file.complain(&it.module, it.error);
+            }
+        }
     }
 
     fn add_publics(&mut self, publics: &[PdbSymbol]) {
@@ -129,21 +180,11 @@ impl Functions {
                 if is_limited {
                     refused(&part, Error::PDB_STREAM_SIZE);
                 }
-                let files = files.into_iter().map(|it| self.file(it)).collect();
+                let files = files.iter().map(|it| self.names.files.number(Some(it))).collect();
                 self.modules.insert(index, Lines { lines, files });
             }
             Err(error) => refused(&part, error),
         }
-    }
-
-    /// The number of a source file.
-    fn file(&mut self, name: String) -> usize {
-        if let Some(number) = self.numbers.get(&name) {
-            return *number;
-        }
-        self.numbers.insert(name.clone(), self.files.len());
-        self.files.push(name);
-        self.files.len() - 1
     }
 
     /// Those of an image: of its function table those that its COFF symbols or its exports name. Without a table nothing says where a
@@ -198,16 +239,17 @@ impl Functions {
     /// Writes them.
     pub fn put(mut self, file: &mut SymbolFile) {
         let is_unnamed = |it: &Lines| it.lines.iter().any(|it| it.line.is_some() && it.file.is_none());
-        let no_file = self.modules.values().any(is_unnamed).then(|| self.file(NO_FILE.to_string()));
-        for (number, name) in self.files.iter().enumerate() {
-            file.line(format_args!("FILE {number} {}", in_line(name)));
-        }
+        let no_file = self.modules.values().any(is_unnamed).then(|| self.names.files.number(None));
+        self.names.files.put("FILE", file);
+        self.names.origins.put("INLINE_ORIGIN", file);
         let multiple = |it: &Function| if it.is_multiple { "m " } else { "" };
         for it in &self.functions {
             let (start, size) = (it.start, it.end - it.start);
             file.line(format_args!("FUNC {}{start:x} {size:x} 0 {}", multiple(it), in_line(&it.name)));
-            if let Some(lines) = it.module.and_then(|it| self.modules.get(&it)) {
-                lines.put(it, no_file, file);
+            match (self.inlined.get(&it.start), it.module.and_then(|it| self.modules.get(&it))) {
+                (Some(inlined), _) => inlined.put(file),
+                (None, Some(lines)) => lines.put(it, no_file, file),
+                (None, None) => (),
             }
         }
         for it in &self.publics {
@@ -217,11 +259,16 @@ impl Functions {
 }
 
 impl Lines {
+    /// The rows of a function, the last one before it too.
+    fn rows(&self, function: &Function) -> &[PdbLine] {
+        let before = self.lines.partition_point(|it| it.rva <= function.start).saturating_sub(1);
+        let after = self.lines.partition_point(|it| it.rva < function.end);
+        self.lines.get(before..after).unwrap_or_default()
+    }
+
     /// Writes those of a function. A row reaches to the next one, and to the end of its code and of the function at most.
     fn put(&self, function: &Function, no_file: Option<usize>, file: &mut SymbolFile) {
-        let before = self.lines.partition_point(|it| it.rva <= function.start);
-        let rows = &self.lines[before.saturating_sub(1)..];
-        let rows = rows.iter().take_while(|it| it.rva < function.end).collect::<Vec<_>>();
+        let rows = self.rows(function);
         for (index, row) in rows.iter().enumerate() {
             let next = rows.get(index + 1).map_or(function.end, |it| it.rva);
             let (start, end) = (row.rva.max(function.start), row.rva.saturating_add(row.code_size).min(next));

@@ -1,246 +1,298 @@
 //! How frames are unwound, as STACK CFI: the canonical frame address (CFA, the stack pointer of the caller), the return address and the
-//! registers that a function saved, at each of its addresses. It is made of the unwind records of x64, of each function with those that it
-//! is chained to. They describe prologs and bodies; of epilogs they say nothing that this format could have, so it is that of the body.
-//! See [Microsoft's page](https://learn.microsoft.com/cpp/build/exception-handling-x64).
+//! registers that a function saved, at each of its addresses. They are what a step of the library's unwinder does there, on x64 and ARM64.
+//! On x64 it is asked without the bytes of the code: records say nothing of epilogs that this format could have, so theirs is that of the
+//! body. See Microsoft's pages on [x64](https://learn.microsoft.com/cpp/build/exception-handling-x64) and
+//! [ARM64](https://learn.microsoft.com/cpp/build/arm64-exception-handling).
+
+mod asked;
 
 use super::SymbolFile;
 use crate::facts::{counted, Refusal};
-use pe_c::{Code, Error, Function, Functions, Image, Offset, Operation, Register, UnwindRecord};
-use std::collections::BTreeMap;
+use asked::{initial, source_of, Address, Memory, Value};
+use pe_c::{Arm64Code, Arm64Function, Arm64Functions, Arm64Operation, Arm64Registers, Arm64Unwinding, Error};
+use pe_c::{Function, Functions, Image, Register, Registers, UnwindRecord};
+use std::collections::{BTreeMap, BTreeSet};
 use std::fmt::Write;
 
 /// How many records a function is chained to at most.
 const MOST_CHAINED: usize = 32;
 /// How many steps are made and bytes written for each byte of the image: of a hostile one all functions may share one long record.
 const STEPS_A_BYTE: usize = 16;
-/// Where the frame of an interrupt has the caller's stack pointer, after the return address.
-const MACHINE_RSP: u64 = 24;
-const RSP: Register = Register(4);
+/// How many instructions a prolog or an epilog has at most that packed unwind data stand for.
+const PACKED: u32 = 24;
+const RSP: usize = 4;
+const LR: usize = 30;
 
 /// Writes those of an image, and those of functions that no record covers: these are leaves, which change no register that a caller keeps.
 pub fn put(image: &Image<'_>, leaves: &[(u32, u32)], file: &mut SymbolFile) {
-    let functions = match image.functions() {
-        Ok(Some(functions)) => functions,
-        Ok(None) => return,
-        Err(error) => return file.complain("function table", Refusal::from(error)),
-    };
-    let mut left = image.bytes().len().saturating_mul(STEPS_A_BYTE);
-    let (mut refused, mut first, mut left_out) = (0, None, 0);
-    put_leaves(&functions, leaves, file);
-    for function in functions.iter() {
-        if left == 0 {
-            left_out += 1;
-            continue;
+    let mut writer = Writer { left: image.bytes().len().saturating_mul(STEPS_A_BYTE), ..Writer::default() };
+    match (image.functions(), image.arm64_functions()) {
+        (Ok(Some(functions)), _) => {
+            let begins = functions.iter().map(|it| it.begin).collect();
+            put_leaves(
+                begins,
+                leaves,
+                |rva| matches!(functions.find(rva), Ok(None)),
+                (&Rules::x64_leaf(), x64_name),
+                file,
+            );
+            functions.iter().for_each(|it| writer.add(file, |writer| writer.x64(&functions, it)));
         }
-        let before = file.text.len();
-        if let Err(why) = put_function(&functions, function, file, &mut left) {
-            refused += 1;
-            first = first.or(Some(why));
+        (_, Ok(Some(functions))) => {
+            let begins = functions.iter().map(|it| it.begin).collect();
+            let is_leaf = |rva| matches!(functions.find(rva), Ok(None));
+            put_leaves(begins, leaves, is_leaf, (&Rules::arm64_leaf(), arm64_name), file);
+            functions.iter().for_each(|it| writer.add(file, |writer| writer.arm64(&functions, it)));
         }
-        left = left.saturating_sub(file.text.len() - before);
+        (Err(error), _) | (_, Err(error)) => return file.complain("function table", Refusal::from(error)),
+        _ => return,
     }
-    if let Some(why) = first {
-        let all = counted(refused, "function");
-        file.complain("unwind records", format_args!("{all} refused, the first: {why}"));
-    }
-    if left_out > 0 {
-        let all = counted(left_out, "function");
-        let why = "more of them share records than the file's bytes account for";
-        file.complain("unwind records", format_args!("{all} left out: {why}"));
-    }
+    writer.complain(file);
 }
 
 /// Writes of these functions those that start in no entry of the table, up to the next entry.
-fn put_leaves(functions: &Functions<'_, '_>, leaves: &[(u32, u32)], file: &mut SymbolFile) {
-    let mut begins: Vec<u32> = functions.iter().map(|it| it.begin).collect();
+fn put_leaves(
+    mut begins: Vec<u32>,
+    leaves: &[(u32, u32)],
+    is_leaf: impl Fn(u32) -> bool,
+    (rules, name): (&Rules, Name),
+    file: &mut SymbolFile,
+) {
     begins.sort_unstable();
-    let rules = Rules::at_call().lines().after(&Lines::default());
-    for &(start, end) in leaves.iter().filter(|it| matches!(functions.find(it.0), Ok(None))) {
+    let rules = rules.lines(name).after(&Lines::default());
+    for &(start, end) in leaves.iter().filter(|it| is_leaf(it.0)) {
         let next = begins.get(begins.partition_point(|it| *it < start)).copied().unwrap_or(u32::MAX);
         let size = end.min(next).saturating_sub(start);
         file.line(format_args!("STACK CFI INIT {start:x} {size:x} {rules}"));
     }
 }
 
-/// A record with its codes, in the order in which they are undone.
-struct Read<'a> {
-    record: UnwindRecord<'a>,
-    codes: Vec<Code>,
+/// The name of a register, of which 0 is the stack pointer.
+type Name = fn(usize) -> String;
+
+fn x64_name(register: usize) -> String {
+    format!("${}", Register(register.checked_sub(1).unwrap_or(RSP) as u8).name())
 }
 
-/// The records of a function, its own first.
-fn records_of<'a>(functions: &Functions<'_, 'a>, function: Function) -> Result<Vec<Read<'a>>, String> {
-    let refused = |error: Error| Refusal::from(error).to_string();
-    let mut records = Vec::new();
-    for record in functions.plan(function) {
-        let record = record.map_err(refused)?;
-        records.push(Read { record, codes: record.codes().collect::<Result<_, _>>().map_err(refused)? });
-        if records.len() > MOST_CHAINED {
-            return Err(format!("more than {MOST_CHAINED} chained records"));
-        }
-    }
-    Ok(records)
+fn arm64_name(register: usize) -> String {
+    register.checked_sub(1).map_or("sp".to_string(), |it| format!("x{it}"))
 }
 
-/// How many steps it took to read the records of a function. A link may lead through the whole table, and so may one that is refused.
-fn cost_of(functions: &Functions<'_, '_>, function: Function, found: &Result<Vec<Read<'_>>, String>) -> usize {
-    let records = found.as_deref().unwrap_or_default();
-    let is_link = |it: &Function| it.unwind % 2 == 1;
-    let chained = records.iter().filter_map(|it| it.record.chained()).filter(is_link).count();
-    let links = usize::from(is_link(&function)) + chained + usize::from(found.is_err());
-    records.iter().map(|it| it.codes.len() + 1).sum::<usize>() + links * functions.len() as usize
-}
-
-/// Writes a function: first what holds at its start, and then what changes in its prolog.
-fn put_function(
-    functions: &Functions<'_, '_>,
-    function: Function,
-    file: &mut SymbolFile,
-    left: &mut usize,
-) -> Result<(), String> {
-    let found = records_of(functions, function);
-    *left = left.saturating_sub(cost_of(functions, function, &found));
-    let records = found?;
-    let Some((own, others)) = records.split_first() else { return Ok(()) };
-    let mut start = Rules::at_call();
-    others.iter().rev().for_each(|it| start.run(it, |_| true));
-    let mut offsets: Vec<u32> = own.codes.iter().map(|it| it.code_offset.into()).chain([0]).collect();
-    offsets.sort_unstable();
-    offsets.dedup();
-    let (begin, size) = (function.begin, function.end.saturating_sub(function.begin));
-    let mut last = Lines::default();
-    for offset in offsets.into_iter().take_while(|it| *it < size) {
-        *left = left.saturating_sub(own.codes.len());
-        let mut rules = start.clone();
-        rules.run(own, |code| u32::from(code.code_offset) <= offset);
-        let lines = rules.lines();
-        let text = lines.after(&last);
-        match offset {
-            0 => file.line(format_args!("STACK CFI INIT {begin:x} {size:x} {text}")),
-            _ if text.is_empty() => (),
-            _ => file.line(format_args!("STACK CFI {:x} {text}", begin + offset)),
-        }
-        last = lines;
-    }
-    Ok(())
-}
-
-/// What an address holds of the frame, by distances from the CFA downwards.
-#[derive(Clone)]
+/// Where a caller's stack pointer, its instruction pointer and the registers come from that are not as they were.
 struct Rules {
-    /// How far the stack pointer is below it.
-    depth: u64,
-    /// The frame register, and how far it is below the CFA, once it is set.
-    frame: Option<(Register, i128)>,
-    /// How far below it each register was saved.
-    saved: BTreeMap<u8, i128>,
-    /// Those that were saved by the frame register before it was set, with their offsets.
-    by_frame: Vec<(u8, u32)>,
-    /// Of an interrupt how far the return address is below what stands here for the CFA.
-    machine: Option<u64>,
+    cfa: Value,
+    ra: Value,
+    saved: BTreeMap<usize, Value>,
+}
+
+impl Rules {
+    /// Those of the registers of a caller.
+    fn of(cfa: u64, ra: u64, general: impl Iterator<Item = (usize, u64)>) -> Result<Rules, String> {
+        let source = |it: u64| source_of(it).ok_or_else(|| "a register is reckoned of what was read".to_string());
+        let changed = general.map(|(number, value)| (number + 1, value)).filter(|it| it.1 != initial(it.0));
+        let saved = changed.map(|(register, value)| Ok((register, source(value)?)));
+        Ok(Rules { cfa: source(cfa)?, ra: source(ra)?, saved: saved.collect::<Result<_, String>>()? })
+    }
+
+    fn x64_leaf() -> Rules {
+        let at = |offset| Address { register: 0, offset };
+        Rules { cfa: Value::Address(at(8)), ra: Value::Word(at(0)), saved: BTreeMap::new() }
+    }
+
+    fn arm64_leaf() -> Rules {
+        let (cfa, ra) = (Address { register: 0, offset: 0 }, Address { register: LR + 1, offset: 0 });
+        Rules { cfa: Value::Address(cfa), ra: Value::Address(ra), saved: BTreeMap::new() }
+    }
+
+    fn lines(&self, name: Name) -> Lines {
+        let own = |it: Value| match (it, self.cfa) {
+            (Value::Word(at), Value::Address(cfa)) if at.register == cfa.register => match cfa.offset - at.offset {
+                below @ 0.. => format!(".cfa {below} - ^"),
+                below => format!(".cfa {} + ^", -below),
+            },
+            (Value::Address(Address { register, offset: 0 }), _) => name(register),
+            (it, _) => text_of(it, name),
+        };
+        let pointers = [(".cfa", text_of(self.cfa, name)), (".ra", own(self.ra))];
+        let pointers = pointers.map(|(name, rule)| ((0, name.to_string()), rule));
+        let saved = self.saved.iter().map(|(register, value)| ((*register, name(*register)), own(*value)));
+        Lines(pointers.into_iter().chain(saved).collect())
+    }
+}
+
+/// A value, in Polish notation.
+fn text_of(value: Value, name: Name) -> String {
+    let sum = |Address { register, offset }: Address| match offset {
+        0.. => format!("{} {offset} +", name(register)),
+        _ => format!("{} {} -", name(register), -offset),
+    };
+    match value {
+        Value::Address(it) => sum(it),
+        Value::Word(it) => format!("{} ^", sum(it)),
+    }
 }
 
 /// The rules as text, by their registers: that of the CFA and the return address first.
 #[derive(Default)]
-struct Lines(BTreeMap<(bool, String), String>);
-
-impl Rules {
-    /// After a call the return address is on the stack.
-    fn at_call() -> Rules {
-        Rules { depth: 8, frame: None, saved: BTreeMap::new(), by_frame: Vec::new(), machine: None }
-    }
-
-    /// What the codes of a record did that ran, in the order of the instructions.
-    fn run(&mut self, read: &Read<'_>, has_run: impl Fn(&Code) -> bool) {
-        for code in read.codes.iter().rev().filter(|it| has_run(it)) {
-            self.step(&code.operation, &read.record);
-        }
-    }
-
-    fn step(&mut self, operation: &Operation, record: &UnwindRecord<'_>) {
-        match *operation {
-            Operation::Push(register) => {
-                self.depth = self.depth.saturating_add(8);
-                self.saved.insert(register.0, self.depth.into());
-            }
-            Operation::Alloc(size) => self.depth = self.depth.saturating_add(size.into()),
-            Operation::SetFrame => self.set_frame(record),
-            Operation::Save(register, Offset::Stack(offset)) => self.save(register, self.depth.into(), offset),
-            Operation::Save(register, Offset::Frame(offset)) => {
-                let base = record.frame().zip(self.frame).map(|((_, from), (_, below))| below + i128::from(from));
-                if base.is_none() {
-                    self.by_frame.push((register.0, offset));
-                }
-                self.save(register, base.unwrap_or(self.depth.into()), offset);
-            }
-            // The processor pushed the stack pointer and the return address. The CFA is then where these are below it.
-            Operation::MachineFrame { has_error_code } => {
-                self.machine = Some(self.depth);
-                self.depth = self.depth.saturating_add(if has_error_code { 8 } else { 0 });
-            }
-            // A stack is walked without XMM registers.
-            _ => (),
-        }
-    }
-
-    fn set_frame(&mut self, record: &UnwindRecord<'_>) {
-        let Some((register, offset)) = record.frame() else { return };
-        self.frame = Some((register, i128::from(self.depth) - i128::from(offset)));
-        for (register, offset) in std::mem::take(&mut self.by_frame) {
-            self.saved.insert(register, i128::from(self.depth) - i128::from(offset));
-        }
-    }
-
-    fn save(&mut self, register: Register, below: i128, offset: u32) {
-        self.saved.insert(register.0, below - i128::from(offset));
-    }
-
-    /// An address so far below the CFA, by a register.
-    fn address(&self, below: i128) -> String {
-        let (register, own) = self.frame.unwrap_or((RSP, self.depth.into()));
-        sum(register.name(), own - below)
-    }
-
-    fn lines(&self) -> Lines {
-        let mut lines = BTreeMap::new();
-        let own = |it: i128| match self.machine {
-            Some(_) => format!("{} ^", self.address(it)),
-            None if it >= 0 => format!(".cfa {it} - ^"),
-            None => format!(".cfa {} + ^", -it),
-        };
-        let (cfa, ra) = match self.machine {
-            Some(depth) => {
-                let ra = i128::from(depth);
-                (format!("{} ^", self.address(ra - i128::from(MACHINE_RSP))), format!("{} ^", self.address(ra)))
-            }
-            None => (self.address(0), own(8)),
-        };
-        lines.insert((false, ".cfa".to_string()), cfa);
-        lines.insert((false, ".ra".to_string()), ra);
-        for (register, below) in self.saved.iter().filter(|it| *it.0 != RSP.0) {
-            lines.insert((true, format!("${}", Register(*register).name())), own(*below));
-        }
-        Lines(lines)
-    }
-}
-
-/// A register and a number, in Polish notation.
-fn sum(register: &str, number: i128) -> String {
-    match number {
-        it if it >= 0 => format!("${register} {it} +"),
-        it => format!("${register} {} -", -it),
-    }
-}
+struct Lines(BTreeMap<(usize, String), String>);
 
 impl Lines {
-    /// Those that differ from what held before.
+    /// Those that differ from what held before. A register that was saved and is so no more has its own value.
     fn after(&self, last: &Lines) -> String {
         let mut text = String::new();
-        let changed = self.0.iter().filter(|it| last.0.get(it.0) != Some(it.1));
-        for ((_, name), rule) in changed {
+        let changed = self.0.iter().filter(|it| last.0.get(it.0) != Some(it.1)).map(|((_, name), rule)| (name, rule));
+        let restored = last.0.keys().filter(|it| !self.0.contains_key(it)).map(|(_, name)| (name, name));
+        for (name, rule) in changed.chain(restored) {
             // Writing to a text never fails.
             let _ = write!(text, "{}{name}: {rule}", if text.is_empty() { "" } else { " " });
         }
         text
     }
+}
+
+/// Writes functions, as long as there are steps and bytes left.
+#[derive(Default)]
+struct Writer {
+    memory: Memory,
+    left: usize,
+    refused: usize,
+    first: Option<String>,
+    left_out: usize,
+}
+
+impl Writer {
+    fn add(&mut self, file: &mut SymbolFile, lines_of: impl FnOnce(&mut Writer) -> Result<String, String>) {
+        if self.left == 0 {
+            self.left_out += 1;
+            return;
+        }
+        match lines_of(self) {
+            Ok(lines) => {
+                self.left = self.left.saturating_sub(lines.len());
+                file.text += &lines;
+            }
+            Err(why) => {
+                self.refused += 1;
+                self.first.get_or_insert(why);
+            }
+        }
+    }
+
+    fn complain(self, file: &mut SymbolFile) {
+        if let Some(why) = self.first {
+            let all = counted(self.refused, "function");
+            file.complain("unwind records", format_args!("{all} refused, the first: {why}"));
+        }
+        if self.left_out > 0 {
+            let all = counted(self.left_out, "function");
+            let why = "more of them share records than the file's bytes account for";
+            file.complain("unwind records", format_args!("{all} left out: {why}"));
+        }
+    }
+
+    /// The lines of a function: what holds at its start, and what changes at others of its offsets. A step costs so much.
+    fn lines(
+        &mut self,
+        (begin, size, name): (u32, u32, Name),
+        (mut offsets, cost): (BTreeSet<u32>, usize),
+        rules: impl Fn(&mut Memory, u32) -> Result<Rules, String>,
+    ) -> Result<String, String> {
+        offsets.insert(0);
+        let (mut last, mut text) = (Lines::default(), String::new());
+        for offset in offsets.into_iter().take_while(|it| *it < size) {
+            self.left = self.left.saturating_sub(cost);
+            let lines = rules(&mut self.memory, begin.saturating_add(offset))?.lines(name);
+            // Writing to a text never fails.
+            let _ = match (offset, lines.after(&last)) {
+                (0, rules) => writeln!(text, "STACK CFI INIT {begin:x} {size:x} {rules}"),
+                (_, rules) if rules.is_empty() => Ok(()),
+                (_, rules) => writeln!(text, "STACK CFI {:x} {rules}", begin.saturating_add(offset)),
+            };
+            last = lines;
+        }
+        Ok(text)
+    }
+
+    fn x64(&mut self, functions: &Functions<'_, '_>, function: Function) -> Result<String, String> {
+        let records: Vec<_> = functions.plan(function).take(MOST_CHAINED + 1).collect();
+        let cost = cost_of(functions, function, &records);
+        self.left = self.left.saturating_sub(cost);
+        let own = match records.first() {
+            Some(Ok(own)) => own,
+            Some(Err(error)) => return Err(Refusal::from(*error).to_string()),
+            None => return Ok(String::new()),
+        };
+        let offsets = own.codes().flatten().map(|it| it.code_offset.into()).collect();
+        let mut before = Registers { general: std::array::from_fn(|it| initial(it + 1)), ..Registers::default() };
+        before.set_rsp(initial(0));
+        let size = function.end.saturating_sub(function.begin);
+        self.lines((function.begin, size, x64_name), (offsets, cost), |memory, rva| {
+            let caller = memory.step(|memory| functions.step_pieces(function, rva, &[], &before, memory))?.registers;
+            let general = caller.general.into_iter().enumerate().filter(|it| it.0 != RSP);
+            Rules::of(caller.rsp(), caller.rip, general)
+        })
+    }
+
+    fn arm64(&mut self, functions: &Arm64Functions<'_, '_>, function: Arm64Function) -> Result<String, String> {
+        let (size, offsets, cost) = arm64_offsets(functions, function, &mut self.left)?;
+        let before = Arm64Registers {
+            general: std::array::from_fn(|it| initial(it + 1)),
+            sp: initial(0),
+            ..Arm64Registers::default()
+        };
+        self.lines((function.begin, size, arm64_name), (offsets, cost), |memory, rva| {
+            let caller = memory.step(|memory| functions.step_pieces(function, rva, &before, memory))?.registers;
+            Rules::of(caller.sp, caller.pc, caller.general.into_iter().enumerate())
+        })
+    }
+}
+
+/// How many steps it takes to read the records of a function. A link may lead through the whole table, and so may one that is refused.
+fn cost_of(functions: &Functions<'_, '_>, function: Function, records: &[Result<UnwindRecord<'_>, Error>]) -> usize {
+    let read = || records.iter().flatten();
+    let is_link = |it: &Function| it.unwind % 2 == 1;
+    let chained = read().filter_map(|it| it.chained()).filter(is_link).count();
+    let links = usize::from(is_link(&function)) + chained + usize::from(records.iter().any(|it| it.is_err()));
+    read().map(|it| it.codes().count() + 1).sum::<usize>() + links * functions.len() as usize
+}
+
+/// The size of a function of ARM64; the offsets of instructions of its prolog and its epilogs, where there are some; and how many codes
+/// and scopes a step reads at most.
+fn arm64_offsets(
+    functions: &Arm64Functions<'_, '_>,
+    function: Arm64Function,
+    left: &mut usize,
+) -> Result<(u32, BTreeSet<u32>, usize), String> {
+    let refused = |error: Error| Refusal::from(error).to_string();
+    let record = match functions.unwinding(function).map_err(refused)? {
+        Arm64Unwinding::Record(record) => record,
+        Arm64Unwinding::Packed(packed) => {
+            let size = packed.function_length;
+            let offsets = (0..=PACKED).flat_map(|it| [4 * it, size.saturating_sub(4 * it)]);
+            return Ok((size, offsets.collect(), PACKED as usize));
+        }
+    };
+    let (size, mut offsets, mut cost) = (record.function_length(), BTreeSet::new(), 1);
+    // A code stands for an instruction, and after those of an epilog is the return.
+    let mut put = |index: u32, start_of: &dyn Fn(u32) -> u32| {
+        let is_end = |it: &Result<Arm64Code, Error>| matches!(it, Ok(it) if it.operation == Arm64Operation::End);
+        let count = record.codes(index).map_err(refused)?.take_while(|it| !is_end(it)).count();
+        let (length, most) = (4 * (count as u32 + 1), cost.max(count + 1));
+        let start = start_of(length);
+        offsets.extend((start..=start.saturating_add(length)).step_by(4).filter(|it| *it < size));
+        (*left, cost) = (left.saturating_sub(count + 1), most);
+        Ok::<bool, String>(*left > 0)
+    };
+    put(0, &|_| 0)?;
+    if let Some(index) = record.epilog_start() {
+        put(index, &|length| size.saturating_sub(length))?;
+    }
+    let mut scopes = 0;
+    for scope in record.scopes().flatten() {
+        scopes += 1;
+        if !put(scope.start_index, &|_| scope.start_offset)? {
+            break;
+        }
+    }
+    Ok((size, offsets, cost + scopes))
 }
