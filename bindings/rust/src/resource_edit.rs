@@ -204,8 +204,7 @@ impl<'a> ResourceEditor<'a> {
     pub fn of(image: &Image<'a>) -> Result<Self, Error> {
         let (mut resources, mut elsewhere, mut names) = (BTreeMap::new(), BTreeMap::new(), 0);
         let ranges = ranges_of(image);
-        let is_elsewhere =
-            |rva| ranges.as_ref().is_some_and(|(own, all)| !own.contains(&rva) && all.contains(&rva));
+        let is_elsewhere = |rva| ranges.as_ref().is_some_and(|(own, all)| !own.contains(&rva) && all.contains(&rva));
         for leaf in image.resource_leaves()?.into_iter().flatten() {
             let leaf = leaf?;
             let place = place_of(&leaf)?;
@@ -301,15 +300,14 @@ impl<'a> ResourceEditor<'a> {
     fn records(&self) -> Result<(Vec<sys::Resource>, Vec<u8>), Error> {
         let mut data = Vec::new();
         let offsets = self.contents(&mut data)?;
-        let record = |(((kind, name, language), code_page, bytes), offset): ((&ResourcePlace, u32, &[u8]), u64)| {
-            sys::Resource {
+        let record =
+            |(((kind, name, language), code_page, bytes), offset): ((&ResourcePlace, u32, &[u8]), u64)| sys::Resource {
                 resource_type: kind.record(&mut data),
                 name: name.record(&mut data),
                 content: sys::Range { offset, length: bytes.len() as u64 },
                 language: u32::from(*language),
                 code_page,
-            }
-        };
+            };
         let records = self.written().zip(offsets).map(record).collect();
         Ok((records, data))
     }

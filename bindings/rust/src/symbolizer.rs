@@ -279,7 +279,8 @@ impl Symbolizer<'_> {
 
     fn read_stream(&self, stream: u16, module: &PdbModule) -> Result<Read, Error> {
         // Once there are too many bytes no stream is copied: of a hostile file each module may have a long one.
-        let bytes = if self.left.get() > 0 { self.pdb.stream(stream.into())? } else { return Err(Error::PDB_STREAM_SIZE) };
+        let bytes =
+            if self.left.get() > 0 { self.pdb.stream(stream.into())? } else { return Err(Error::PDB_STREAM_SIZE) };
         let rest = self.left.get().checked_sub(bytes.len());
         self.left.set(rest.unwrap_or_default());
         rest.ok_or(Error::PDB_STREAM_SIZE)?;

@@ -316,7 +316,9 @@ impl<W: Copy, T: Copy + Default> ImageList<'_, '_, W, T> {
     /// The next item.
     pub fn step(&mut self, call: Listing<W, T>) -> Option<Result<T, Error>> {
         // SAFETY: as of bytes, and of the view.
-        self.step_of_few(|image, walk, items, written| unsafe { call(&image.view(), walk, items.as_mut_ptr(), ROOM, written) })
+        self.step_of_few(|image, walk, items, written| unsafe {
+            call(&image.view(), walk, items.as_mut_ptr(), ROOM, written)
+        })
     }
 
     /// Why the step that returned an error did, by the call that says so of such a step, which takes where the walk stood.

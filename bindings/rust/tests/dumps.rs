@@ -145,7 +145,8 @@ fn the_stack_of_a_thread_is_memory_without_a_list() -> Result<(), Error> {
 #[test]
 fn the_stack_of_a_thread_comes_after_the_lists() -> Result<(), Error> {
     let thread = |start: u32, size: u32, rva: u32| words(&[1, 0, 0, 0, 0, 0, start, 0, size, rva, 0, 0]);
-    let threads = [words(&[3]), thread(0x2_0000, 24, DUMP_DATA + 8), thread(0x2_0000, 16, DUMP_DATA), thread(0x3_0000, 64, 0)];
+    let threads =
+        [words(&[3]), thread(0x2_0000, 24, DUMP_DATA + 8), thread(0x2_0000, 16, DUMP_DATA), thread(0x3_0000, 64, 0)];
     let streams = [x64_system(), pieces(&[(0x2_0000, 8, DUMP_DATA)]), (3, threads.concat())];
     let bytes = dump_of(&streams, &(0..32).collect::<Vec<u8>>());
     let memory = DumpMemory::new(&Dump::parse(&bytes)?);
@@ -205,6 +206,21 @@ fn memory_of_an_image_ends_at_its_gap() -> Result<(), Error> {
     let bytes = dump_of(&[modules(&[(BASE, SIZE, 0, 0, [0, 0])]), halves], &memory);
     let images = DumpImages::new(&Dump::parse(&bytes)?, |_| None)?;
     assert_eq!(images.image(0).unwrap().source, ImageSource::Memory);
+    Ok(())
+}
+
+/// Of all images 2^20 section headers are read, and it is said where some are left out.
+#[test]
+fn images_of_too_many_sections_are_left_out() -> Result<(), Error> {
+    let mut file = made::with_calls();
+    file.resize(0x148 + 40 * 0xFFFF, 0);
+    file[0x46..0x48].copy_from_slice(&[0xFF, 0xFF]);
+    let list: Vec<_> = (0..17).map(|it| (BASE + u64::from(SIZE) * it, SIZE, 0, 0, [0, 0])).collect();
+    for (count, is_limited) in [(16, false), (17, true)] {
+        let bytes = dump_of(&[modules(&list[..count])], &[]);
+        let images = DumpImages::new(&Dump::parse(&bytes)?, |_| Some(&file))?;
+        assert_eq!((images.is_limited(), images.image(count - 1).is_some()), (is_limited, !is_limited));
+    }
     Ok(())
 }
 

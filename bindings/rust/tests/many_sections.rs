@@ -102,11 +102,7 @@ fn items<W, T: Default>(mut walk: W, step: impl Fn(&mut W, &mut T) -> u32) -> Ve
 }
 
 /// What the lists of a walk write, so many entries a call.
-fn listed<W, T: Default + Clone>(
-    mut walk: W,
-    room: usize,
-    list: impl Fn(&mut W, &mut [T], &mut u64) -> u32,
-) -> Vec<T> {
+fn listed<W, T: Default + Clone>(mut walk: W, room: usize, list: impl Fn(&mut W, &mut [T], &mut u64) -> u32) -> Vec<T> {
     let (mut found, mut part) = (Vec::new(), vec![T::default(); room]);
     loop {
         let mut written = 0;

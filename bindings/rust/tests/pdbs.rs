@@ -99,7 +99,14 @@ fn lines_of_a_module_are_listed() {
     let row = |rva, file, line| (rva, Some(file), Some(line), None);
     assert_eq!(
         rows,
-        [row(0x1050, 0, 4), row(0x1058, 0, 5), row(0x1065, 1, 900), row(0x1071, 0, 9), row(0x1080, 0, 1), row(0x1085, 0, 2)]
+        [
+            row(0x1050, 0, 4),
+            row(0x1058, 0, 5),
+            row(0x1065, 1, 900),
+            row(0x1071, 0, 9),
+            row(0x1080, 0, 1),
+            row(0x1085, 0, 2)
+        ]
     );
     assert_eq!((found.files, found.is_limited), (vec!["b.c".to_owned(), "generated\\else.inc".to_owned()], false));
     assert_eq!(found.lines[0].code_size, 0x2D);
