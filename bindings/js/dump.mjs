@@ -1,6 +1,7 @@
 // Minidumps: their streams, and the records of each.
 import { File, listOf, placed } from './calls.mjs';
 import { constants } from './layouts.mjs';
+import { PeError } from './memory.mjs';
 import * as names from './names.mjs';
 
 const ARM64 = 12;
@@ -104,11 +105,15 @@ export class Dump extends File {
   }
 
   /** The stacks that the records of threads name, as far as the file has them: at offset 0, which full dumps say of all stacks, it has
-   * its header. */
+   * its header. A damaged list of threads has none. */
   *#stacks() {
-    for (const { stack: { start_of_memory_range: start, memory } } of this.list('threads')) {
-      const length = BigInt(Math.max(0, Math.min(memory.size, this.length - memory.rva)));
-      if (memory.rva !== 0) yield { start, offset: BigInt(memory.rva), length };
+    try {
+      for (const { stack: { start_of_memory_range: start, memory } } of this.list('threads')) {
+        const length = BigInt(Math.max(0, Math.min(memory.size, this.length - memory.rva)));
+        if (memory.rva !== 0) yield { start, offset: BigInt(memory.rva), length };
+      }
+    } catch (error) {
+      if (!(error instanceof PeError)) throw error;
     }
   }
 

@@ -970,6 +970,13 @@ test('the stack of a thread is memory that the lists lack', () => {
   assert.deepEqual(runsWith({ ...piece, length: 4n }, 8), [{ ...piece, length: 8n }]);
   // At offset 0, which full dumps say of all stacks, the file has its header.
   assert.deepEqual([0, 8].map((it) => runsWith({ ...piece, offset: 0n }, it)), [[], [{ ...piece, length: 8n }]]);
+  // A damaged list of threads costs the stacks that it names, and no memory of the lists.
+  const bytes = Uint8Array.from(readFileSync(join(folder, 'x64.dmp'))), view = new DataView(bytes.buffer);
+  const kinds = Array.from({ length: view.getUint32(8, true) }, (_, i) => view.getUint32(12, true) + 12 * i);
+  view.setUint32(view.getUint32(kinds.find((it) => view.getUint32(it, true) === 3) + 8, true), 0xFFFF, true);
+  const damaged = library.openDump(bytes);
+  assert.throws(() => [...damaged.list('threads')], (it) => it instanceof PeError);
+  assert.deepEqual(damaged.runs(), [piece]);
 });
 
 test('what no file, no mode and no list is, is said', () => {
