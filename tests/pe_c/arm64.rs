@@ -11,9 +11,9 @@ use crate::arm64::functions::{
 use crate::arm64::records::{
     Arm64Record, Arm64Scope, pe_c_arm64_unwind_record, pe_c_next_arm64_scope,
 };
-use crate::image::Image;
-use crate::ranges::Range;
-use crate::results::{DONE, NOTHING};
+use crate::headers::image::Image;
+use crate::base::ranges::Range;
+use crate::base::results::{DONE, NOTHING};
 use pe_unwind::Arm64RuntimeFunction;
 use std::alloc::Global;
 use std::test::Fail;

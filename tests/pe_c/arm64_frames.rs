@@ -5,7 +5,7 @@ use super::made::{
     ARM64, ARM64_CUT, ARM64_VERSION, SHORT, UNMAPPED, bytes_of_words, image, sections, view,
 };
 use crate::arm64::frames::{Arm64FrameRegisters, Arm64StackFrame, pe_c_step_arm64};
-use crate::results::{BAD_ADDRESS, BAD_OPERATION, DONE, MISSING, NOT_RISING};
+use crate::base::results::{BAD_ADDRESS, BAD_OPERATION, DONE, MISSING, NOT_RISING};
 use pe_frame::MemoryPiece;
 use pe_images::image as bytes_of;
 use pe_unwind::Arm64RuntimeFunction;

@@ -4,10 +4,10 @@
 use super::made::{ARM64, ARM64_VERSION, bytes_of_words, image, piece, range, sections, view};
 use crate::arm64::frames::Arm64FrameRegisters;
 use crate::arm64::stack_walk::{Arm64StackWalk, pe_c_next_arm64_frame, pe_c_next_arm64_frames};
-use crate::image::Image;
-use crate::ranges::Range;
-use crate::results::{DONE, MISSING, NOTHING};
-use crate::stack_walk::ModuleView;
+use crate::headers::image::Image;
+use crate::base::ranges::Range;
+use crate::base::results::{DONE, MISSING, NOTHING};
+use crate::stack::walk::ModuleView;
 use pe_core::SectionTable;
 use pe_images::image as bytes_of;
 use std::alloc::{AllocError, Global};

@@ -5,8 +5,8 @@ use super::made::{
     X64, directory, having, image, of_range, range, sections, untouched, view, words,
 };
 use super::steps::{pe_c_next_relocation, pe_c_next_relocation_block};
-use crate::base_relocations::{Relocation, RelocationBlock, pe_c_relocation_blocks};
-use crate::results::{DONE, NOTHING};
+use crate::directories::base_relocations::{Relocation, RelocationBlock, pe_c_relocation_blocks};
+use crate::base::results::{DONE, NOTHING};
 use std::alloc::{AllocError, Global};
 use std::test::Fail;
 

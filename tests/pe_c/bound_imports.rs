@@ -5,10 +5,10 @@ use super::made::{
     range, untouched, view,
 };
 use super::steps::{pe_c_next_bound_forwarder, pe_c_next_bound_import};
-use crate::bound_imports::{BoundForwarder, BoundImport, pe_c_bound_imports};
-use crate::image::Image;
-use crate::ranges::{NO_BYTES, Range};
-use crate::results::{DONE, NOTHING};
+use crate::directories::bound_imports::{BoundForwarder, BoundImport, pe_c_bound_imports};
+use crate::headers::image::Image;
+use crate::base::ranges::{NO_BYTES, Range};
+use crate::base::results::{DONE, NOTHING};
 use std::test::Fail;
 
 /// The directory at offset 4, 63 bytes: two DLLs, of which the first forwards to one, and an entry without a name. The last

@@ -4,9 +4,9 @@ use super::made::{
     CERTIFICATE_REVISION, CERTIFICATE_SIZE, CERTIFICATE_TABLE, CERTIFICATE_TYPE, OVER, SHORT,
     UNTOUCHED, of_range, range, untouched,
 };
-use crate::certificates::{Certificate, pe_c_next_certificate};
-use crate::ranges::Range;
-use crate::results::{DONE, NOTHING};
+use crate::directories::certificates::{Certificate, pe_c_next_certificate};
+use crate::base::ranges::Range;
+use crate::base::results::{DONE, NOTHING};
 use pe_images::{image as bytes_of, put};
 use std::alloc::Global;
 use std::test::Fail;

@@ -4,13 +4,13 @@ use super::made::{
     BAD_MAGIC, DIRECTORY_CLR_HEADER_SIZE, DIRECTORY_STREAM_NAME, OVER, SHORT, UNTOUCHED, X64,
     directory, having, image, of_range, range, sections, untouched, view, words,
 };
-use crate::clr::{
+use crate::directories::clr::{
     Metadata, MetadataStream, MetadataStreams, pe_c_clr_header, pe_c_clr_metadata,
     pe_c_next_metadata_stream,
 };
-use crate::image::Image;
-use crate::ranges::Range;
-use crate::results::{DONE, NOTHING};
+use crate::headers::image::Image;
+use crate::base::ranges::Range;
+use crate::base::results::{DONE, NOTHING};
 use pe_directories::ClrHeader;
 use std::alloc::{AllocError, Global};
 use std::test::Fail;

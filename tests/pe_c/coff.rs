@@ -14,13 +14,13 @@
 
 use super::made::{SHORT, STRING_TABLE, UNTOUCHED, of_range, range, sections, untouched};
 use super::steps::pe_c_symbol;
-use crate::coff::{
+use crate::headers::coff::{
     Symbol, SymbolWalk, pe_c_coff, pe_c_coff_sections, pe_c_coff_strings, pe_c_coff_symbols,
     pe_c_next_symbol, pe_c_symbol_name,
 };
 use crate::headers::CoffFields;
-use crate::ranges::Range;
-use crate::results::{DONE, NOTHING, ROOM};
+use crate::base::ranges::Range;
+use crate::base::results::{DONE, NOTHING, ROOM};
 use pe_core::SectionTable;
 use pe_images::{image as bytes_of, put};
 use std::alloc::{AllocError, Global};

@@ -4,9 +4,9 @@
 use super::made::{
     BAD_MAGIC, DEBUG_DATA, DEBUG_SIZE, NO_FAILURE, PERMISSIVE, POGO_SIZE, SHORT, STRICT,
 };
-use crate::debug_failure::pe_c_debug_failure;
-use crate::failure::Failure;
-use crate::results::{DONE, NOTHING};
+use crate::failures::debug::pe_c_debug_failure;
+use crate::failures::headers::Failure;
+use crate::base::results::{DONE, NOTHING};
 use pe_images::image as bytes_of;
 use pe_records::ImageDebugDirectory;
 use std::test::Fail;

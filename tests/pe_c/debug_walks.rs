@@ -2,9 +2,9 @@
 
 use super::made::{OVER, POGO_NAME, SHORT, UNTOUCHED, of_range, range, untouched};
 use super::steps::pe_c_next_pogo_entry;
-use crate::debug_walks::{PogoEntry, pe_c_next_debug_entry};
-use crate::ranges::Range;
-use crate::results::{DONE, NOTHING};
+use crate::debug::walks::{PogoEntry, pe_c_next_debug_entry};
+use crate::base::ranges::Range;
+use crate::base::results::{DONE, NOTHING};
 use pe_records::ImageDebugDirectory;
 
 const NO_ENTRY: ImageDebugDirectory = ImageDebugDirectory {

@@ -6,14 +6,14 @@ use super::made::{
     words,
 };
 use super::steps::{pe_c_next_delay_import, pe_c_next_delayed_function};
-use crate::delay_imports::{
+use crate::directories::delay_imports::{
     DelayLibrary, DelayWalk, DelayedFunction, DelayedFunctionWalk, DelayedFunctions,
     pe_c_delay_imports,
 };
-use crate::image::Image;
-use crate::kept_sections::NO_SECTIONS;
-use crate::ranges::Range;
-use crate::results::{DONE, NOTHING};
+use crate::headers::image::Image;
+use crate::base::kept_sections::NO_SECTIONS;
+use crate::base::ranges::Range;
+use crate::base::results::{DONE, NOTHING};
 use pe_directories::DelayImport;
 use std::alloc::{AllocError, Global};
 use std::test::Fail;

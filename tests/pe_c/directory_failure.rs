@@ -7,10 +7,10 @@ use super::made::{
     NO_FAILURE, PERMISSIVE, RESOURCE_BOUNDS, SHORT, UNMAPPED, X64, directory, having, image,
     in_mode, sections, view,
 };
-use crate::directory_failure::pe_c_directory_failure;
-use crate::failure::Failure;
-use crate::image::Image;
-use crate::results::{DONE, NOTHING};
+use crate::failures::directories::pe_c_directory_failure;
+use crate::failures::headers::Failure;
+use crate::headers::image::Image;
+use crate::base::results::{DONE, NOTHING};
 use pe_images::{image as bytes_of, put};
 use std::test::Fail;
 

@@ -5,14 +5,14 @@ use super::made::{
     RESOURCE_BOUNDS, SHORT, X64, directory, having, image, of_range, range, sections, view,
 };
 use super::resource_leaves::{of_size, with_tree};
-use crate::directory_tables::{
+use crate::directories::tables::{
     ExportFields, ResourceDirectory, ResourceItem, pe_c_export_directory, pe_c_next_resource_item,
     pe_c_resource_directory_at, pe_c_resource_root,
 };
-use crate::image::Image;
-use crate::ranges::Range;
-use crate::resource_leaves::ResourceName;
-use crate::results::{DONE, NOTHING};
+use crate::headers::image::Image;
+use crate::base::ranges::Range;
+use crate::resources::leaves::ResourceName;
+use crate::base::results::{DONE, NOTHING};
 use pe_images::put;
 use std::alloc::Global;
 use std::test::Fail;

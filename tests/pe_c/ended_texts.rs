@@ -1,8 +1,8 @@
 //! Texts for programs in C: GUIDs, texts in UTF-16, texts that end with a zero where they stand.
 
 use super::made::{SHORT, of_range, range};
-use crate::ended_texts::{TextInBytes, pe_c_guid_text, pe_c_text_in, pe_c_utf16_text};
-use crate::results::{DONE, ROOM};
+use crate::base::ended_texts::{TextInBytes, pe_c_guid_text, pe_c_text_in, pe_c_utf16_text};
+use crate::base::results::{DONE, ROOM};
 use std::test::Fail;
 
 /// The GUID of the README, as the bytes of a file have it.

@@ -4,13 +4,13 @@ use super::made::{
     OVER, SHORT, UNMAPPED, X64, directory, having, image, of_range, range, sections, view,
 };
 use super::steps::{pe_c_export_at, pe_c_next_export};
-use crate::export_addresses::{AddressTable, Exported, pe_c_export_addresses};
-use crate::exports::{Export, ExportWalk, Exports, pe_c_export_tables};
-use crate::image::Image;
-use crate::kept_sections::NO_SECTIONS;
+use crate::names::export_addresses::{AddressTable, Exported, pe_c_export_addresses};
+use crate::names::exports::{Export, ExportWalk, Exports, pe_c_export_tables};
+use crate::headers::image::Image;
+use crate::base::kept_sections::NO_SECTIONS;
 use crate::lists::exports::pe_c_list_exports;
-use crate::ranges::Range;
-use crate::results::{DONE, NOTHING};
+use crate::base::ranges::Range;
+use crate::base::results::{DONE, NOTHING};
 use pe_core::DataDirectory;
 use pe_images::{image as bytes_of, put};
 use std::alloc::Global;

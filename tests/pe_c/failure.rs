@@ -3,14 +3,14 @@
 use super::coff::{header_of, object};
 use super::made::{BAD_MAGIC, HEADER_POINTER, PERMISSIVE, SHORT, STRICT, TE_SIZE, X64, image};
 use super::te::image_of;
-use crate::failure::{
+use crate::failures::headers::{
     Failure, pe_c_coff_sections_failure, pe_c_image_failure, pe_c_sections_failure,
     pe_c_te_failure, pe_c_te_sections_failure,
 };
 use crate::headers::CoffFields;
-use crate::image::Image;
-use crate::results::{DONE, NOTHING};
-use crate::te::TeImage;
+use crate::headers::image::Image;
+use crate::base::results::{DONE, NOTHING};
+use crate::headers::te::TeImage;
 use pe_images::{headers_alone, image as bytes_of, pointer_below_64, put, te};
 use std::test::Fail;
 

@@ -4,11 +4,11 @@
 use super::made::{
     ARM64, BAD_MAGIC, X64, directory, having, image, of_range, range, sections, view,
 };
-use crate::exports::Exports;
-use crate::function_names::{
+use crate::names::exports::Exports;
+use crate::stack::function_names::{
     CodeAddress, FunctionName, NameSources, pe_c_function_names, pe_c_name_tables,
 };
-use crate::results::{DONE, NOTHING};
+use crate::base::results::{DONE, NOTHING};
 use pe_images::image as bytes_of;
 use std::alloc::{AllocError, Global};
 use std::test::Fail;

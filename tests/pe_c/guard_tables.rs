@@ -5,10 +5,10 @@ use super::made::{
     sections, view, words,
 };
 use super::steps::pe_c_next_guard_entry;
-use crate::guard_tables::{GuardEntries, GuardEntry, pe_c_guard_table};
-use crate::image::Image;
-use crate::ranges::Range;
-use crate::results::{DONE, NOTHING};
+use crate::directories::guard_tables::{GuardEntries, GuardEntry, pe_c_guard_table};
+use crate::headers::image::Image;
+use crate::base::ranges::Range;
+use crate::base::results::{DONE, NOTHING};
 use std::alloc::{AllocError, Global};
 use std::test::Fail;
 

@@ -3,8 +3,8 @@
 
 use super::made::{HEADER_POINTER, PERMISSIVE, SHORT, STRICT};
 use crate::headers::{CoffFields, DosFields, Headers, OptionalFields, pe_c_headers};
-use crate::ranges::Range;
-use crate::results::DONE;
+use crate::base::ranges::Range;
+use crate::base::results::DONE;
 use pe_core::DataDirectory;
 use pe_images::{pointer_below_64, put, with_every_directory, with_every_directory_of_x86};
 use std::test::Fail;

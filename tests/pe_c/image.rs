@@ -4,8 +4,8 @@ use super::made::{
     BAD_MAGIC, HEADER_POINTER, MAPPED, PERMISSIVE, SHORT, STRICT, directory, image, in_mode,
     section, sections, view,
 };
-use crate::image::{Image, pe_c_image, pe_c_offset, pe_c_sections};
-use crate::results::{DONE, NOTHING, ROOM};
+use crate::headers::image::{Image, pe_c_image, pe_c_offset, pe_c_sections};
+use crate::base::results::{DONE, NOTHING, ROOM};
 use pe_core::SectionTable;
 use pe_images::{
     headers_alone, image as bytes_of, pointer_below_64, put, with_every_directory,

@@ -5,9 +5,9 @@ use super::made::{
     CERTIFICATE_TABLE, NO_OPTIONAL_HEADER, PERMISSIVE, STRICT, WRITE_ALIGNMENT, WRITE_FIT,
     WRITE_OVERLAP, WRITE_SECTION, WRITE_SYMBOLS, X64, asked, image, in_mode, view,
 };
-use crate::image::{pe_c_image, pe_c_sections};
-use crate::image_write::{pe_c_write_certificates, pe_c_write_image, pe_c_write_whole};
-use crate::results::{DONE, ROOM};
+use crate::headers::image::{pe_c_image, pe_c_sections};
+use crate::write::image::{pe_c_write_certificates, pe_c_write_image, pe_c_write_whole};
+use crate::base::results::{DONE, ROOM};
 use pe_core::SectionTable;
 use pe_images::{pointer_below_64, put, with_every_directory, with_functions};
 use std::alloc::{AllocError, Global};

@@ -5,13 +5,13 @@ use super::made::{
     view,
 };
 use super::steps::{pe_c_next_import, pe_c_next_library};
-use crate::image::Image;
-use crate::imports::{
+use crate::headers::image::Image;
+use crate::names::imports::{
     Import, ImportWalk, Imports, Libraries, Library, LibraryWalk, pe_c_import_libraries,
 };
-use crate::kept_sections::NO_SECTIONS;
-use crate::ranges::Range;
-use crate::results::{DONE, NOTHING};
+use crate::base::kept_sections::NO_SECTIONS;
+use crate::base::ranges::Range;
+use crate::base::results::{DONE, NOTHING};
 use pe_images::{image as bytes_of, put};
 use std::alloc::Global;
 use std::test::Fail;

@@ -1,12 +1,12 @@
 //! The list of the functions of all delay-loaded DLLs, whose names are read together in a room of the caller.
 
 use super::made::{OVER, RUN, SHORT, X64, image, of_range, range, sections, view};
-use crate::delay_imports::{DelayedFunction, DelayedFunctions};
-use crate::image::Image;
-use crate::library_functions::{LibraryFunction, LibraryFunctions};
+use crate::directories::delay_imports::{DelayedFunction, DelayedFunctions};
+use crate::headers::image::Image;
+use crate::directories::all_delay_imports::{LibraryFunction, LibraryFunctions};
 use crate::lists::library_functions::pe_c_list_all_delayed_functions;
-use crate::ranges::Range;
-use crate::results::DONE;
+use crate::base::ranges::Range;
+use crate::base::results::DONE;
 use pe_images::image as bytes_of;
 use std::alloc::Global;
 use std::test::Fail;

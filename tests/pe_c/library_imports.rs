@@ -4,12 +4,12 @@ use super::imports::{NO_IMPORT as ONLY_ONES, with_imports};
 use super::made::{
     OVER, RUN, UNMAPPED, X64, directory, having, image, of_range, range, sections, view,
 };
-use crate::image::Image;
-use crate::imports::{Import, Imports, Libraries};
-use crate::library_imports::{LibraryImport, LibraryImports};
+use crate::headers::image::Image;
+use crate::names::imports::{Import, Imports, Libraries};
+use crate::names::all_imports::{LibraryImport, LibraryImports};
 use crate::lists::library_imports::pe_c_list_all_imports;
-use crate::ranges::Range;
-use crate::results::DONE;
+use crate::base::ranges::Range;
+use crate::base::results::DONE;
 use pe_images::put;
 use std::test::Fail;
 

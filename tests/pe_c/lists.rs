@@ -7,13 +7,13 @@ use super::made::{
     having, image, of_range, range, sections, view,
 };
 use super::resource_leaves::{NO_LEAF, of_size, walk as walk_over_leaves, with_tree};
-use crate::imports::Imports;
+use crate::names::imports::Imports;
 use crate::lists::imports::pe_c_list_imports;
 use crate::lists::resources::pe_c_list_resource_leaves;
 use crate::lists::x64::{CodeForm, pe_c_all_codes, pe_c_list_codes, pe_c_list_functions};
-use crate::ranges::Range;
-use crate::resource_leaves::pe_c_resource_leaves;
-use crate::results::{DONE, ROOM};
+use crate::base::ranges::Range;
+use crate::resources::leaves::pe_c_resource_leaves;
+use crate::base::results::{DONE, ROOM};
 use crate::unwinding::{Code, CodeWalk};
 use pe_images::put;
 use pe_unwind::RuntimeFunction;

@@ -10,11 +10,11 @@ use super::made::{
     DIRECTORY_BOUND_IMPORT_NAME, DIRECTORY_DELAY_IMPORT_NAME, IMPORT_NAME, NO_RANGE, OVER, RUN,
     STRING_TABLE, UNTOUCHED, X64, directory, image, of_range, range, sections, untouched, view,
 };
-use crate::bound_imports::{BoundForwarder, BoundImport};
-use crate::coff::{Symbol, SymbolWalk};
-use crate::export_addresses::{AddressTable, Exported};
-use crate::exports::{Export, Exports};
-use crate::imports::{Import, Imports, Libraries, Library};
+use crate::directories::bound_imports::{BoundForwarder, BoundImport};
+use crate::headers::coff::{Symbol, SymbolWalk};
+use crate::names::export_addresses::{AddressTable, Exported};
+use crate::names::exports::{Export, Exports};
+use crate::names::imports::{Import, Imports, Libraries, Library};
 use crate::lists::bound_imports::{pe_c_list_bound_forwarders, pe_c_list_bound_imports};
 use crate::lists::delay_imports::{pe_c_list_delay_imports, pe_c_list_delayed_functions};
 use crate::lists::exports::pe_c_list_exports;
@@ -22,8 +22,8 @@ use crate::lists::forwarders::pe_c_list_export_addresses;
 use crate::lists::imports::{pe_c_list_imports, pe_c_list_libraries};
 use crate::lists::section_names::pe_c_list_long_section_names;
 use crate::lists::symbols::{NamedSymbol, NamedSymbolWalk, pe_c_list_symbols};
-use crate::ranges::Range;
-use crate::results::DONE;
+use crate::base::ranges::Range;
+use crate::base::results::DONE;
 use pe_core::SectionTable;
 use pe_images::image as bytes_of;
 use std::alloc::Global;

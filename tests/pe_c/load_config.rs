@@ -1,9 +1,9 @@
 //! The load configuration of an image: each field, and which are there.
 
 use super::made::{SHORT, X64, directory, having, image, sections, view, words};
-use crate::image::Image;
-use crate::load_config::{LoadConfig, pe_c_load_config, pe_c_load_config_field};
-use crate::results::{DONE, NOTHING};
+use crate::headers::image::Image;
+use crate::directories::load_config::{LoadConfig, pe_c_load_config, pe_c_load_config_field};
+use crate::base::results::{DONE, NOTHING};
 use std::alloc::{AllocError, Global};
 use std::test::Fail;
 

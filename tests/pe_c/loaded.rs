@@ -5,9 +5,9 @@ use super::made::{
     DIRECTORY_RELOCATION_OUTSIDE, MAPPED, STRICT, UNMAPPED, X64, directory, having, image, in_mode,
     section, view, words,
 };
-use crate::image::Image;
-use crate::loaded::{pe_c_map, pe_c_relocate};
-use crate::results::{DONE, NOTHING, ROOM};
+use crate::headers::image::Image;
+use crate::headers::loaded::{pe_c_map, pe_c_relocate};
+use crate::base::results::{DONE, NOTHING, ROOM};
 use pe_core::SectionTable;
 use std::test::Fail;
 

@@ -1,11 +1,11 @@
 //! What calls are handed, and what they hand out, as plain numbers.
 
-use crate::failure::Failure;
-use crate::image::Image;
-use crate::ranges::Range;
-use crate::results::{DONE, ROOM};
-use crate::text_runs::Run;
-use crate::view::View;
+use crate::failures::headers::Failure;
+use crate::headers::image::Image;
+use crate::base::ranges::Range;
+use crate::base::results::{DONE, ROOM};
+use crate::base::text_runs::Run;
+use crate::base::view::View;
 use pe_core::{DataDirectory, SectionTable};
 use pe_frame::{IndexEntry, MemoryPiece};
 use pe_images::image as bytes_of;

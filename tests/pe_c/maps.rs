@@ -3,10 +3,10 @@
 use super::made::{
     MAPPED, STRICT, UNTOUCHED, X64, image, in_mode, of_range, section, untouched, view,
 };
-use crate::image::Image;
-use crate::map_ranges::{pe_c_range_at, pe_c_rva};
-use crate::maps::{pe_c_section_at, pe_c_section_range};
-use crate::results::{DONE, NOTHING};
+use crate::headers::image::Image;
+use crate::headers::map_ranges::{pe_c_range_at, pe_c_rva};
+use crate::headers::maps::{pe_c_section_at, pe_c_section_range};
+use crate::base::results::{DONE, NOTHING};
 use pe_core::SectionTable;
 
 fn aligned(file_alignment: u32, mode: u32) -> Image {

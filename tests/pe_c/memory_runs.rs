@@ -3,8 +3,8 @@
 
 use super::made::{SHORT, of_range, range};
 use crate::dump::memory_runs::{pe_c_memory_ranges, pe_c_memory_runs};
-use crate::ranges::Range;
-use crate::results::{DONE, ROOM};
+use crate::base::ranges::Range;
+use crate::base::results::{DONE, ROOM};
 use pe_frame::MemoryPiece;
 use pe_stacks::RangeEntry;
 use std::test::Fail;

@@ -3,9 +3,9 @@
 use super::made::{
     self, MAPPED, UNTOUCHED, X64, image, in_mode, of_range, sections, untouched, view,
 };
-use crate::image::Image;
-use crate::overlay::pe_c_overlay;
-use crate::results::{DONE, NOTHING};
+use crate::headers::image::Image;
+use crate::headers::overlay::pe_c_overlay;
+use crate::base::results::{DONE, NOTHING};
 use pe_core::SectionTable;
 
 fn overlay_of(length: usize, image: &Image, sections: &[SectionTable]) -> (u32, [u64; 2]) {

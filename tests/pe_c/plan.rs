@@ -2,10 +2,10 @@
 
 use super::made::{FUNCTION_CYCLE, X64, image, range, sections, view, words};
 use super::unwinding::no_record;
-use crate::kept_sections::NO_SECTIONS;
-use crate::plan::{Plan, PlanWalk, pe_c_next_record, pe_c_plan_from};
-use crate::ranges::Range;
-use crate::results::{DONE, NOTHING};
+use crate::base::kept_sections::NO_SECTIONS;
+use crate::unwinding::plan::{Plan, PlanWalk, pe_c_next_record, pe_c_plan_from};
+use crate::base::ranges::Range;
+use crate::base::results::{DONE, NOTHING};
 use crate::unwinding::UnwindRecord;
 use std::alloc::Global;
 use std::test::Fail;

@@ -3,9 +3,9 @@
 //! The bytes of the section follow from the format.
 
 use super::made::{X64, asked, image, view};
-use crate::image::Image;
-use crate::resource_edit::pe_c_edit;
-use crate::results::{DONE, ROOM};
+use crate::headers::image::Image;
+use crate::write::resources::pe_c_edit;
+use crate::base::results::{DONE, ROOM};
 use pe_edit::{RecordKey, RecordRange, ResourceRecord};
 use pe_images::{headers_alone, put};
 use std::alloc::{AllocError, Global};

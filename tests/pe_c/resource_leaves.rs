@@ -5,13 +5,13 @@ use super::made::{
     range, sections, view,
 };
 use super::steps::pe_c_next_resource_leaf;
-use crate::image::Image;
-use crate::kept_sections::NO_SECTIONS;
-use crate::ranges::Range;
-use crate::resource_leaves::{
+use crate::headers::image::Image;
+use crate::base::kept_sections::NO_SECTIONS;
+use crate::base::ranges::Range;
+use crate::resources::leaves::{
     LeafWalk, ResourceLeaf, ResourceLeaves, ResourceName, pe_c_resource_leaves,
 };
-use crate::results::{DONE, NOTHING};
+use crate::base::results::{DONE, NOTHING};
 use pe_images::image as bytes_of;
 use pe_resource::ResourceEntry;
 use std::alloc::{AllocError, Global};

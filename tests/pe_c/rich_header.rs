@@ -1,9 +1,9 @@
 //! The Rich header of an image, and its entries.
 
 use super::made::{OVER, SHORT, of_range, range};
-use crate::ranges::{NO_BYTES, Range};
-use crate::results::{DONE, NOTHING};
-use crate::rich_header::{RichHeader, pe_c_next_rich_entry, pe_c_rich_header};
+use crate::base::ranges::{NO_BYTES, Range};
+use crate::base::results::{DONE, NOTHING};
+use crate::headers::rich_header::{RichHeader, pe_c_next_rich_entry, pe_c_rich_header};
 use pe_directories::RichEntry;
 use std::test::Fail;
 

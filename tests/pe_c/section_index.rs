@@ -1,12 +1,12 @@
 //! An index of the sections, and what calls return by it.
 
 use super::made::{self, LEFT_ENTRY, STRICT, UNTOUCHED, X64, image, in_mode, of_range, untouched};
-use crate::image::Image;
-use crate::map_ranges::pe_c_range_at;
-use crate::maps::pe_c_section_at;
-use crate::results::{DONE, NOTHING, ROOM};
-use crate::section_index::pe_c_index;
-use crate::view::View;
+use crate::headers::image::Image;
+use crate::headers::map_ranges::pe_c_range_at;
+use crate::headers::maps::pe_c_section_at;
+use crate::base::results::{DONE, NOTHING, ROOM};
+use crate::base::section_index::pe_c_index;
+use crate::base::view::View;
 use pe_core::SectionTable;
 use pe_frame::IndexEntry;
 

@@ -4,9 +4,9 @@ use super::made::{
     MAPPED, SHORT, STRICT, STRING_TABLE, UNTOUCHED, X64, image, in_mode, of_range, range, sections,
     untouched, view,
 };
-use crate::ranges::Range;
-use crate::results::{DONE, NOTHING};
-use crate::section_names::{pe_c_long_section_name, pe_c_string_table};
+use crate::base::ranges::Range;
+use crate::base::results::{DONE, NOTHING};
+use crate::headers::section_names::{pe_c_long_section_name, pe_c_string_table};
 use pe_core::SectionTable;
 use pe_images::{image as bytes_of, put};
 use std::alloc::{AllocError, Global};

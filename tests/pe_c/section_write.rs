@@ -2,8 +2,8 @@
 //! numbers of four bytes virtual size, RVA, raw size, raw pointer.
 
 use super::made::{WRITE_FIT, WRITE_OVERLAP, WRITE_SECTION, X64, image, section, view};
-use crate::results::DONE;
-use crate::section_write::pe_c_write_sections;
+use crate::base::results::DONE;
+use crate::write::sections::pe_c_write_sections;
 use pe_core::SectionTable;
 use std::test::Fail;
 

@@ -3,8 +3,8 @@
 
 use super::made::{NO_RANGE, range};
 use super::signature_bytes::signature;
-use crate::ranges::Range;
-use crate::results::{DONE, NOTHING};
+use crate::base::ranges::Range;
+use crate::base::results::{DONE, NOTHING};
 use crate::signatures::elements::{
     Algorithm, DerElement, Oid, pe_c_algorithm_identifier, pe_c_next_element,
 };

@@ -6,8 +6,8 @@ use super::made::{
     CERTIFICATE_SIZE, CERTIFICATE_TABLE, SIGN_HEADERS, SIGN_NO_DIRECTORY, SIGN_SECTION,
     SIGN_TABLE_NOT_LAST, SIGN_TABLE_OFFSET, X64, asked, image, of_range, untouched, view,
 };
-use crate::results::{DONE, ROOM};
-use crate::signing::{
+use crate::base::results::{DONE, ROOM};
+use crate::write::signing::{
     ChecksumField, Digest, pe_c_attach, pe_c_checksum, pe_c_detach, pe_c_digest_ranges,
 };
 use pe_images::{put, with_functions};

@@ -5,9 +5,9 @@ use super::made::{
     FUNCTION_LINK, SHORT, UNMAPPED, UNWIND_CODE, UNWIND_VERSION, X64, bytes_of_words, image,
     sections, view,
 };
-use crate::ranges::Range;
-use crate::results::{BAD_ADDRESS, BAD_OPERATION, DONE, LONG_CHAIN, MISSING, NOT_RISING};
-use crate::stack_frames::{FrameRegisters, StackFrame, pe_c_step};
+use crate::base::ranges::Range;
+use crate::base::results::{BAD_ADDRESS, BAD_OPERATION, DONE, LONG_CHAIN, MISSING, NOT_RISING};
+use crate::stack::frames::{FrameRegisters, StackFrame, pe_c_step};
 use pe_frame::MemoryPiece;
 use pe_images::{image as bytes_of, put};
 use pe_unwind::RuntimeFunction;

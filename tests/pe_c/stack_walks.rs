@@ -2,11 +2,11 @@
 //! with.
 
 use super::made::{SHORT, UNMAPPED, X64, bytes_of_words, image, piece, range, sections, view};
-use crate::image::Image;
-use crate::ranges::Range;
-use crate::results::{DONE, MISSING, NOTHING};
-use crate::stack_frames::FrameRegisters;
-use crate::stack_walk::{ModuleView, StackWalk, pe_c_next_frame, pe_c_next_frames};
+use crate::headers::image::Image;
+use crate::base::ranges::Range;
+use crate::base::results::{DONE, MISSING, NOTHING};
+use crate::stack::frames::FrameRegisters;
+use crate::stack::walk::{ModuleView, StackWalk, pe_c_next_frame, pe_c_next_frames};
 use pe_core::SectionTable;
 use pe_frame::{IndexEntry, MemoryPiece};
 use pe_images::image as bytes_of;

@@ -5,10 +5,10 @@ use super::made::{
     BAD_MAGIC, DEBUG_BOUNDS, MAPPED, SHORT, TE_SIZE, UNTOUCHED, directory, of_range, range,
     sections, untouched,
 };
-use crate::debug_records::{SymbolKey, pe_c_symbol_key_of};
-use crate::ranges::Range;
-use crate::results::{DONE, NOTHING, ROOM};
-use crate::te::{
+use crate::debug::records::{SymbolKey, pe_c_symbol_key_of};
+use crate::base::ranges::Range;
+use crate::base::results::{DONE, NOTHING, ROOM};
+use crate::headers::te::{
     TeImage, pe_c_next_te_debug_entry, pe_c_te, pe_c_te_debug_entries, pe_c_te_first_debug_entry,
     pe_c_te_sections,
 };

@@ -4,9 +4,9 @@ use super::made::{
     DIRECTORY_VA_BELOW_BASE, OVER, SHORT, UNMAPPED, UNTOUCHED, X64, directory, having, image,
     of_range, range, sections, untouched, view, words,
 };
-use crate::image::Image;
-use crate::results::{DONE, NOTHING};
-use crate::tls::{pe_c_next_tls_callback, pe_c_tls, pe_c_tls_callbacks};
+use crate::headers::image::Image;
+use crate::base::results::{DONE, NOTHING};
+use crate::directories::tls::{pe_c_next_tls_callback, pe_c_tls, pe_c_tls_callbacks};
 use pe_directories::TlsDirectory;
 use std::alloc::{AllocError, Global};
 use std::test::Fail;

@@ -5,9 +5,9 @@ use super::made::{
     of_range, range, sections, untouched, view, words,
 };
 use super::steps::pe_c_function_at;
-use crate::image::Image;
-use crate::ranges::Range;
-use crate::results::{DONE, NOTHING};
+use crate::headers::image::Image;
+use crate::base::ranges::Range;
+use crate::base::results::{DONE, NOTHING};
 use crate::unwinding::{
     CodeWalk, UnwindRecord, pe_c_find_function, pe_c_function_table, pe_c_next_scope,
     pe_c_scope_table, pe_c_unwind_record,

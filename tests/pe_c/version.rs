@@ -5,10 +5,10 @@ use super::made::{
     sections, untouched, view,
 };
 use super::steps::{pe_c_fixed_version, pe_c_version_text};
-use crate::image::Image;
-use crate::ranges::Range;
-use crate::results::{DONE, NOTHING};
-use crate::version::{pe_c_fixed_version_in, pe_c_manifest, pe_c_version_text_in};
+use crate::headers::image::Image;
+use crate::base::ranges::Range;
+use crate::base::results::{DONE, NOTHING};
+use crate::resources::version::{pe_c_fixed_version_in, pe_c_manifest, pe_c_version_text_in};
 use pe_images::{image as bytes_of, put};
 use pe_resource::VsFixedFileInfo;
 use std::alloc::{AllocError, Global};

@@ -5,8 +5,8 @@ use super::made::{
     range, sections, untouched, view,
 };
 use super::steps::pe_c_next_version_block;
-use crate::results::{DONE, NOTHING};
-use crate::version_blocks::{VersionBlock, pe_c_version_blocks};
+use crate::base::results::{DONE, NOTHING};
+use crate::resources::version_blocks::{VersionBlock, pe_c_version_blocks};
 use pe_images::{image as bytes_of, put};
 use std::alloc::Global;
 use std::test::Fail;
@@ -127,7 +127,7 @@ fn tree(alloc: Global) -> Result<Vec<u8>, Fail> {
     )?)
 }
 
-fn blocks_of(bytes: &[u8], image: &crate::image::Image) -> (u32, [u64; 2]) {
+fn blocks_of(bytes: &[u8], image: &crate::headers::image::Image) -> (u32, [u64; 2]) {
     let mut out = untouched();
     let answer = pe_c_version_blocks(&view(bytes, image, &sections()), &mut out);
     (answer, of_range(out))

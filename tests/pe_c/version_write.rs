@@ -1,8 +1,8 @@
 //! Blocks of version information that are written: the bytes, by Microsoft's page on the members of String, and refusals.
 
 use super::made::asked;
-use crate::results::{DONE, ROOM};
-use crate::version_write::{pe_c_write_block, pe_c_write_version};
+use crate::base::results::{DONE, ROOM};
+use crate::write::version::{pe_c_write_block, pe_c_write_version};
 use pe_edit::RecordRange;
 use pe_resource::VsFixedFileInfo;
 use pe_version::{LanguageRecord, StringRecord, TableRecord};

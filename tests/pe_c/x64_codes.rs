@@ -2,8 +2,8 @@
 
 use super::made::{OVER, SHORT, UNWIND_CODE, of_range, range};
 use super::steps::pe_c_next_code;
-use crate::ranges::Range;
-use crate::results::{DONE, NOTHING};
+use crate::base::ranges::Range;
+use crate::base::results::{DONE, NOTHING};
 use crate::unwinding::{Code, CodeWalk};
 
 /// A walk whose spare bytes are not zero: nothing reads them, and no step changes them.

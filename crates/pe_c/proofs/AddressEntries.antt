@@ -15,9 +15,9 @@ use Rattle.pe_core.specs.declared.export.ExportDirectoryTable.{ExportDirectoryTa
 use Rattle.pe_c.specs.ExportAddresses.{address_table, addresses_in, exported_with, exported_at, text_range}
 use Rattle.pe_c.specs.Exports.{export_reported, index_at, one_if, reported_entry}
 use Rattle.pe_c.specs.Ranges.{IsPart, IsRange, bytes_at, or_no_bytes}
-use Rattle.pe_c.specs.declared.export_addresses.AddressTable.{AddressTable}
-use Rattle.pe_c.specs.declared.export_addresses.Exported.{Exported}
-use Rattle.pe_c.specs.declared.exports.Export.{Export}
+use Rattle.pe_c.specs.declared.names.export_addresses.AddressTable.{AddressTable}
+use Rattle.pe_c.specs.declared.names.export_addresses.Exported.{Exported}
+use Rattle.pe_c.specs.declared.names.exports.Export.{Export}
 use Rattle.pe_c.proofs.ExportParts.{tables_stand, text_stands}
 use Rattle.pe_core.proofs.Steps.{given, same_inside}
 

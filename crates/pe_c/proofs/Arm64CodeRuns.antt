@@ -20,7 +20,7 @@ use Rattle.pe_c.specs.Ranges.{range_after, bytes_at, no_bytes}
 use Rattle.pe_c.specs.Runs.{ReturnsItems, IsOver}
 use Rattle.pe_c.specs.declared.arm64.codes.Arm64Code.{Arm64Code}
 use Rattle.pe_c.specs.declared.arm64.codes.Arm64CodeWalk.{Arm64CodeWalk}
-use Rattle.pe_c.specs.declared.ranges.Range.{Range}
+use Rattle.pe_c.specs.declared.base.ranges.Range.{Range}
 
 -- ---- walks that are over
 

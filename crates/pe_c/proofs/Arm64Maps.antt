@@ -12,7 +12,7 @@ use Rattle.pe_c.specs.Arm64.{arm64_record_in, arm64_record_of, info_in}
 use Rattle.pe_c.specs.Images.{exception_directory, map_of_image}
 use Rattle.pe_c.specs.Modes.{options_of}
 use Rattle.pe_c.specs.declared.arm64.records.Arm64Record.{Arm64Record}
-use Rattle.pe_c.specs.declared.image.Image.{Image}
+use Rattle.pe_c.specs.declared.headers.image.Image.{Image}
 
 -- what follows the tests of a directory is asked of one record
 by_tests : (aligned inside : Bool) (v : ExceptionView) (f g : ExceptionView → Result (Option Arm64Record) Refusal) → f v ≡ g v →

@@ -7,7 +7,7 @@ use Rattle.pe_frame.specs.declared.memory_list.MemoryPiece.{MemoryPiece}
 use Rattle.pe_frame.specs.declared.walk.WalkEnd.{WalkEnd}
 use Rattle.pe_c.specs.FrameCalls.{CallsReturn, HandsOutBy, HandsOutFound, HandsOutFrame, HandsOutNext, HasEnd, IsOpen, ReturnsFrames, WalkRecords, marked_if, state_in}
 use Rattle.pe_c.specs.WalkModules.{has_table, modules_of}
-use Rattle.pe_c.specs.declared.stack_walk.ModuleView.{ModuleView}
+use Rattle.pe_c.specs.declared.stack.walk.ModuleView.{ModuleView}
 use Rattle.pe_c.proofs.FrameRuns.{KeepWalks, whole}
 use Rattle.pe_c.proofs.MarkedWalks.{KeepMarks, from_marked, from_unmarked}
 

@@ -14,8 +14,8 @@ use Rattle.pe_c.proofs.Runs.{Makes, reports_more, reports_none, reports_refused}
 use Rattle.pe_c.specs.Certificates.{StepsCertificates, ReportsCertificate, certificate_reported, listed, certificate_step, step_by, walk_from}
 use Rattle.pe_c.specs.Ranges.{no_bytes}
 use Rattle.pe_c.specs.Runs.{ReturnsItems, IsOver, ReturnsReported}
-use Rattle.pe_c.specs.declared.certificates.Certificate.{Certificate}
-use Rattle.pe_c.specs.declared.ranges.Range.{Range}
+use Rattle.pe_c.specs.declared.directories.certificates.Certificate.{Certificate}
+use Rattle.pe_c.specs.declared.base.ranges.Range.{Range}
 
 -- ---- one step
 

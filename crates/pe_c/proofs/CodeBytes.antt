@@ -22,7 +22,7 @@ use Rattle.pe_c.specs.Lists.{HandsOutList, Numbered, StepsByIndex, by_number, if
 use Rattle.pe_c.specs.Ranges.{bytes_at}
 use Rattle.pe_c.specs.Unwinding.{StepsCodes, StepsOver, WalksIn, code_stream_at, flat_answer, left_of, plain}
 use Rattle.pe_c.specs.declared.lists.x64.CodeBytes.{CodeBytes}
-use Rattle.pe_c.specs.declared.ranges.Range.{Range}
+use Rattle.pe_c.specs.declared.base.ranges.Range.{Range}
 use Rattle.pe_c.specs.declared.unwinding.Code.{Code}
 use Rattle.pe_c.specs.declared.unwinding.CodeWalk.{CodeWalk}
 

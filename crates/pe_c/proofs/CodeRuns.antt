@@ -13,7 +13,7 @@ use Rattle.pe_c.proofs.RecordRanges.{codes_of_record}
 use Rattle.pe_c.specs.Ranges.{bytes_at, no_bytes}
 use Rattle.pe_c.specs.Unwinding.{StepsCodes, StepsOver, WalksIn, flat, flat_answer, flat_item, flat_record, left_of, code_stream_at}
 use Rattle.pe_c.specs.Runs.{ReturnsItems, IsOver}
-use Rattle.pe_c.specs.declared.ranges.Range.{Range}
+use Rattle.pe_c.specs.declared.base.ranges.Range.{Range}
 use Rattle.pe_c.specs.declared.unwinding.Code.{Code}
 use Rattle.pe_c.specs.declared.unwinding.CodeWalk.{CodeWalk}
 

@@ -24,7 +24,7 @@ use Rattle.pe_c.specs.Debug.{characteristics_of, checksum_of, embedded_of, featu
 use Rattle.pe_c.specs.DebugLaws.{ReadsItsBytes, SameBytes, SameOrOther, StandsAlone, by_kind, by_length, by_signature, by_size, debug_table}
 use Rattle.pe_c.specs.Images.{debug_directory, is_absent}
 use Rattle.pe_c.specs.Modes.{options_of, resolves}
-use Rattle.pe_c.specs.declared.image.Image.{Image}
+use Rattle.pe_c.specs.declared.headers.image.Image.{Image}
 
 -- ---- parts of the same bytes
 

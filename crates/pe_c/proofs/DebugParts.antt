@@ -18,9 +18,9 @@ use Rattle.pe_c.specs.DebugLaws.{ReportsPart, ReturnsRecord, image_debug}
 use Rattle.pe_c.specs.Images.{debug_directory, is_absent}
 use Rattle.pe_c.specs.Modes.{options_of, resolves}
 use Rattle.pe_c.specs.Ranges.{IsPart, IsRange, no_bytes}
-use Rattle.pe_c.specs.declared.debug_records.Repro.{Repro}
-use Rattle.pe_c.specs.declared.image.Image.{Image}
-use Rattle.pe_c.specs.declared.ranges.Range.{Range}
+use Rattle.pe_c.specs.declared.debug.records.Repro.{Repro}
+use Rattle.pe_c.specs.declared.headers.image.Image.{Image}
+use Rattle.pe_c.specs.declared.base.ranges.Range.{Range}
 
 -- ---- ranges are parts
 

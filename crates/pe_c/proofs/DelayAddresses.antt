@@ -15,10 +15,10 @@ use Rattle.pe_c.specs.DelayLaws.{dll_reported, function_reported, table_reported
 use Rattle.pe_c.specs.Directories.{image_parts}
 use Rattle.pe_c.specs.Images.{map_of_image}
 use Rattle.pe_c.specs.Ranges.{no_bytes}
-use Rattle.pe_c.specs.declared.delay_imports.DelayedFunction.{DelayedFunction}
-use Rattle.pe_c.specs.declared.delay_imports.DelayedFunctions.{DelayedFunctions}
-use Rattle.pe_c.specs.declared.image.Image as images
-use Rattle.pe_c.specs.declared.ranges.Range.{Range}
+use Rattle.pe_c.specs.declared.directories.delay_imports.DelayedFunction.{DelayedFunction}
+use Rattle.pe_c.specs.declared.directories.delay_imports.DelayedFunctions.{DelayedFunctions}
+use Rattle.pe_c.specs.declared.headers.image.Image as images
+use Rattle.pe_c.specs.declared.base.ranges.Range.{Range}
 
 -- ---- addresses
 

@@ -11,8 +11,8 @@ use Rattle.pe_sign.specs.declared.file_ranges.DigestRanges.{DigestRanges}
 use Rattle.pe_sign.proofs.KeptRanges.{ranges_cover}
 use Rattle.pe_c.specs.Ranges.{range_of}
 use Rattle.pe_c.specs.Signing.{CoversDigest, digest_at, digest_reported, headers_of, part_at}
-use Rattle.pe_c.specs.declared.image.Image.{Image}
-use Rattle.pe_c.specs.declared.signing.Digest.{Digest}
+use Rattle.pe_c.specs.declared.headers.image.Image.{Image}
+use Rattle.pe_c.specs.declared.write.signing.Digest.{Digest}
 
 -- the four entries of an array
 pub four : (xs : List ByteRange) (d : ByteRange) → length xs ≡ 4 →

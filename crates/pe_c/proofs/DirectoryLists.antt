@@ -29,12 +29,12 @@ use Rattle.pe_c.specs.Directories.{block_reported, relocation_reported}
 use Rattle.pe_c.specs.Images.{directory}
 use Rattle.pe_c.specs.Ranges.{IsRange, bytes_at, no_bytes, range_after}
 use Rattle.pe_c.specs.Runs.{EachHas, IsOver, ReturnsItems, and_after, read_items}
-use Rattle.pe_c.specs.declared.base_relocations.RelocationBlock.{RelocationBlock}
-use Rattle.pe_c.specs.declared.bound_imports.BoundForwarder.{BoundForwarder}
-use Rattle.pe_c.specs.declared.bound_imports.BoundImport.{BoundImport}
-use Rattle.pe_c.specs.declared.delay_imports.DelayLibrary.{DelayLibrary}
-use Rattle.pe_c.specs.declared.image.Image as images
-use Rattle.pe_c.specs.declared.ranges.Range.{Range}
+use Rattle.pe_c.specs.declared.directories.base_relocations.RelocationBlock.{RelocationBlock}
+use Rattle.pe_c.specs.declared.directories.bound_imports.BoundForwarder.{BoundForwarder}
+use Rattle.pe_c.specs.declared.directories.bound_imports.BoundImport.{BoundImport}
+use Rattle.pe_c.specs.declared.directories.delay_imports.DelayLibrary.{DelayLibrary}
+use Rattle.pe_c.specs.declared.headers.image.Image as images
+use Rattle.pe_c.specs.declared.base.ranges.Range.{Range}
 
 -- ---- what stands first, and what it leaves
 

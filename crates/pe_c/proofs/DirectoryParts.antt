@@ -24,10 +24,10 @@ use Rattle.pe_c.specs.DelayLaws.{dll_reported, function_reported}
 use Rattle.pe_c.specs.Images.{map_of_image}
 use Rattle.pe_c.specs.Ranges.{IsRange, bytes_at, range_of}
 use Rattle.pe_c.specs.Directories.{first_of, image_parts}
-use Rattle.pe_c.specs.declared.clr.MetadataStreams.{MetadataStreams}
-use Rattle.pe_c.specs.declared.delay_imports.DelayedFunction.{DelayedFunction}
-use Rattle.pe_c.specs.declared.image.Image as images
-use Rattle.pe_c.specs.declared.ranges.Range.{Range}
+use Rattle.pe_c.specs.declared.directories.clr.MetadataStreams.{MetadataStreams}
+use Rattle.pe_c.specs.declared.directories.delay_imports.DelayedFunction.{DelayedFunction}
+use Rattle.pe_c.specs.declared.headers.image.Image as images
+use Rattle.pe_c.specs.declared.base.ranges.Range.{Range}
 
 -- ---- the metadata root
 

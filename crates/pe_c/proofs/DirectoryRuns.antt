@@ -10,7 +10,7 @@ use Rattle.pe_c.specs.DirectoryRuns.{StepsBy}
 use Rattle.pe_c.specs.Directories.{first_in, left_after, range_left, read_first, step_of}
 use Rattle.pe_c.specs.Ranges.{bytes_at, no_bytes, range_after}
 use Rattle.pe_c.specs.Runs.{EachHas, IsOver, ReturnsItems, and_after, read_in_turn, read_items}
-use Rattle.pe_c.specs.declared.ranges.Range.{Range}
+use Rattle.pe_c.specs.declared.base.ranges.Range.{Range}
 
 -- ---- what a step returns and leaves, by what stands first
 

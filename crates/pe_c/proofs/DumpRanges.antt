@@ -13,7 +13,7 @@ use Rattle.pe_c.specs.DumpLaws.{IsStreamOf, memory_range}
 use Rattle.pe_c.specs.DumpMemory.{piece_reported}
 use Rattle.pe_c.specs.Dumps.{dump_stream_at, range_of_entry}
 use Rattle.pe_c.specs.Ranges.{IsRange}
-use Rattle.pe_c.specs.declared.ranges.Range.{Range}
+use Rattle.pe_c.specs.declared.base.ranges.Range.{Range}
 
 -- ---- streams
 

@@ -23,7 +23,7 @@ use Rattle.pe_c.specs.DumpLaws.{as_reported}
 use Rattle.pe_c.specs.DumpRecords.{exception_reported, module_reported}
 use Rattle.pe_c.specs.DumpRuns.{part_in, range_in}
 use Rattle.pe_c.specs.Images.{image_info_by, image_info_of}
-use Rattle.pe_c.specs.declared.ranges.Range.{Range}
+use Rattle.pe_c.specs.declared.base.ranges.Range.{Range}
 
 -- ---- contexts
 

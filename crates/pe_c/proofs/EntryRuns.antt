@@ -18,7 +18,7 @@ use Rattle.pe_c.specs.Ranges.{no_bytes, range_after}
 use Rattle.pe_c.specs.RichHeaders.{rich_entry_at}
 use Rattle.pe_c.specs.Runs.{ReturnsItems, IsOver}
 use Rattle.pe_c.specs.Walks.{StepsEntries, walk_items, left_entry}
-use Rattle.pe_c.specs.declared.ranges.Range.{Range}
+use Rattle.pe_c.specs.declared.base.ranges.Range.{Range}
 
 -- ---- one step
 

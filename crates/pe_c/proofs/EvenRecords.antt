@@ -13,10 +13,10 @@ use Rattle.pe_c.specs.Images.{map_of_image}
 use Rattle.pe_c.specs.Ranges.{bytes_at}
 use Rattle.pe_c.specs.HandsOut.{HandsOut}
 use Rattle.pe_c.specs.Unwinding.{FindsOffset, HandsOutRecord, flat_record_at, links_at}
-use Rattle.pe_c.specs.declared.ranges.Range.{Range}
-use Rattle.pe_c.specs.declared.results.TheConstants.{DONE}
+use Rattle.pe_c.specs.declared.base.ranges.Range.{Range}
+use Rattle.pe_c.specs.declared.base.results.TheConstants.{DONE}
 use Rattle.pe_c.specs.declared.unwinding.UnwindRecord.{UnwindRecord}
-use Rattle.pe_c.specs.declared.view.View.{View}
+use Rattle.pe_c.specs.declared.base.view.View.{View}
 use Rattle.pe_c.specs.Views.{map_of}
 use Rattle.pe_c.proofs.NearMaps.{all_sections}
 use Rattle.pe_unwind.specs.Links.{Table, linked_table}

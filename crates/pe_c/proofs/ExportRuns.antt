@@ -16,8 +16,8 @@ use Rattle.pe_c.specs.Exports.{FindsNext, StepsExports, StepsExportsIf, StepsOve
 use Rattle.pe_c.specs.Parts.{HasTables, ReportsExport}
 use Rattle.pe_c.specs.Ranges.{no_bytes}
 use Rattle.pe_c.specs.Runs.{ReturnsItems, IsOver}
-use Rattle.pe_c.specs.declared.exports.Export.{Export}
-use Rattle.pe_c.specs.declared.exports.Exports.{Exports}
+use Rattle.pe_c.specs.declared.names.exports.Export.{Export}
+use Rattle.pe_c.specs.declared.names.exports.Exports.{Exports}
 
 -- ---- one step
 

@@ -15,7 +15,7 @@ use Rattle.pe_c.specs.HandsOut.{result_number}
 use Rattle.pe_c.specs.Images.{image_at, image_info_of}
 use Rattle.pe_c.specs.Modes.{mode_of_number}
 use Rattle.pe_c.specs.Te.{te_image_at, te_image_of}
-use Rattle.pe_c.specs.declared.failure.Failure.{Failure}
+use Rattle.pe_c.specs.declared.failures.headers.Failure.{Failure}
 
 -- ---- lists of tests
 

@@ -22,11 +22,11 @@ use Rattle.pe_c.specs.GuardTables.{HasGuarded, ReturnsEntries, StepsGuardEntries
 use Rattle.pe_c.specs.Images.{directory, is_absent}
 use Rattle.pe_c.specs.Ranges.{IsRange, bytes_at, range_after}
 use Rattle.pe_c.specs.Runs.{ReturnsItems}
-use Rattle.pe_c.specs.declared.guard_tables.GuardEntries.{GuardEntries}
-use Rattle.pe_c.specs.declared.guard_tables.GuardEntry.{GuardEntry}
-use Rattle.pe_c.specs.declared.guard_tables.Place.{Place}
-use Rattle.pe_c.specs.declared.image.Image as images
-use Rattle.pe_c.specs.declared.ranges.Range.{Range}
+use Rattle.pe_c.specs.declared.directories.guard_tables.GuardEntries.{GuardEntries}
+use Rattle.pe_c.specs.declared.directories.guard_tables.GuardEntry.{GuardEntry}
+use Rattle.pe_c.specs.declared.directories.guard_tables.Place.{Place}
+use Rattle.pe_c.specs.declared.headers.image.Image as images
+use Rattle.pe_c.specs.declared.base.ranges.Range.{Range}
 
 -- ---- what stands first, and what it leaves
 

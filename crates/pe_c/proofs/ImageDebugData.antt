@@ -36,8 +36,8 @@ use Rattle.pe_c.specs.ImageParts.{HasOption, HasResult, Reports}
 use Rattle.pe_c.specs.Images.{debug_directory, is_absent, or_absent}
 use Rattle.pe_c.specs.Modes.{options_of, resolves}
 use Rattle.pe_c.specs.Ranges.{IsRange, range_of}
-use Rattle.pe_c.specs.declared.image.Image.{Image}
-use Rattle.pe_c.specs.declared.ranges.Range.{Range}
+use Rattle.pe_c.specs.declared.headers.image.Image.{Image}
+use Rattle.pe_c.specs.declared.base.ranges.Range.{Range}
 
 -- ---- the kind of a CodeView record
 

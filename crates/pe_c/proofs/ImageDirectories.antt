@@ -27,8 +27,8 @@ use Rattle.pe_c.specs.Modes.{options_of}
 use Rattle.pe_c.specs.Ranges.{IsRange, range_of}
 use Rattle.pe_c.specs.Runs.{ReturnsReported}
 use Rattle.pe_c.specs.Unwinding.{exception_table_at}
-use Rattle.pe_c.specs.declared.image.Image.{Image}
-use Rattle.pe_c.specs.declared.ranges.Range.{Range}
+use Rattle.pe_c.specs.declared.headers.image.Image.{Image}
+use Rattle.pe_c.specs.declared.base.ranges.Range.{Range}
 
 -- ---- base relocations
 

@@ -27,10 +27,10 @@ use Rattle.pe_c.specs.ExportAddresses.{address_table, address_table_at, dll_name
 use Rattle.pe_c.specs.Exports.{one_if_some, tables_at, walk_over}
 use Rattle.pe_c.specs.ImageParts.{AreExports, AreExportsBy}
 use Rattle.pe_c.specs.Images.{export_directory, is_absent, map_of_image, or_absent}
-use Rattle.pe_c.specs.declared.directory_tables.ExportFields.{ExportFields}
-use Rattle.pe_c.specs.declared.exports.Exports.{Exports}
-use Rattle.pe_c.specs.declared.image.Image.{Image}
-use Rattle.pe_c.specs.declared.ranges.Range.{Range}
+use Rattle.pe_c.specs.declared.directories.tables.ExportFields.{ExportFields}
+use Rattle.pe_c.specs.declared.names.exports.Exports.{Exports}
+use Rattle.pe_c.specs.declared.headers.image.Image.{Image}
+use Rattle.pe_c.specs.declared.base.ranges.Range.{Range}
 
 -- ---- the name
 

@@ -18,7 +18,7 @@ use Rattle.pe_image.specs.Layout as layout
 use Rattle.pe_c.specs.ImageOfCalls.{mode_of, number_of_mode}
 use Rattle.pe_c.specs.Images.{directory, image_info_by, is_absent, map_of_image, or_absent}
 use Rattle.pe_c.specs.Modes.{mode_of_number, options_of}
-use Rattle.pe_c.specs.declared.image.Image.{Image}
+use Rattle.pe_c.specs.declared.headers.image.Image.{Image}
 
 -- ---- options
 

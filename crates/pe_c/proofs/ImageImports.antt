@@ -28,10 +28,10 @@ use Rattle.pe_c.specs.Images.{import_directory, is_absent, map_of_image, or_abse
 use Rattle.pe_c.specs.Imports.{libraries_at, libraries_from}
 use Rattle.pe_c.specs.Parts.{ReportsImport, ReportsLibrary}
 use Rattle.pe_c.specs.Ranges.{IsRange}
-use Rattle.pe_c.specs.declared.image.Image.{Image}
-use Rattle.pe_c.specs.declared.imports.Import.{Import}
-use Rattle.pe_c.specs.declared.imports.Libraries.{Libraries}
-use Rattle.pe_c.specs.declared.imports.Library.{Library}
+use Rattle.pe_c.specs.declared.headers.image.Image.{Image}
+use Rattle.pe_c.specs.declared.names.imports.Import.{Import}
+use Rattle.pe_c.specs.declared.names.imports.Libraries.{Libraries}
+use Rattle.pe_c.specs.declared.names.imports.Library.{Library}
 
 -- ---- the DLL of an import is that of its record
 

@@ -42,8 +42,8 @@ use Rattle.pe_c.specs.Modes.{options_of}
 use Rattle.pe_c.specs.Ranges.{IsRange, range_of}
 use Rattle.pe_c.specs.ResourceLeaves.{walk_at}
 use Rattle.pe_c.specs.Versions.{IsContentBy, IsContentOf, content_at, fixed_at, fixed_in, value_at}
-use Rattle.pe_c.specs.declared.directory_tables.ResourceDirectory.{ResourceDirectory}
-use Rattle.pe_c.specs.declared.image.Image.{Image}
+use Rattle.pe_c.specs.declared.directories.tables.ResourceDirectory.{ResourceDirectory}
+use Rattle.pe_c.specs.declared.headers.image.Image.{Image}
 
 -- ---- a content lies in the bytes
 

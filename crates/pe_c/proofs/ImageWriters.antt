@@ -12,8 +12,8 @@ use Rattle.pe_c.specs.ImageWrites.{IsViewOf, certificates_of, certificates_writt
 use Rattle.pe_c.specs.Images.{image_at, image_info_by, image_info_of}
 use Rattle.pe_c.specs.Modes.{mode_of_number, options_of}
 use Rattle.pe_c.specs.Signing.{headers_of}
-use Rattle.pe_c.specs.declared.image.Image.{Image}
-use Rattle.pe_c.specs.declared.view.View.{View}
+use Rattle.pe_c.specs.declared.headers.image.Image.{Image}
+use Rattle.pe_c.specs.declared.base.view.View.{View}
 use Rattle.pe_c.proofs.ImageFields.{same_mode}
 
 -- the law of pe_image, for each part

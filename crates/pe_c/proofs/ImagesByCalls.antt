@@ -31,7 +31,7 @@ use Rattle.pe_c.specs.Headers.{headers_of}
 use Rattle.pe_c.specs.HeadersRead.{header_of}
 use Rattle.pe_c.specs.ImageOfCalls.{AreParts, IsImageAfter, IsImageOfCalls, IsImageWith, Parts, image_of_parts, mode_of, part_by_mode}
 use Rattle.pe_c.specs.Images.{image_info_by, image_info_of}
-use Rattle.pe_c.specs.declared.image.Image.{Image}
+use Rattle.pe_c.specs.declared.headers.image.Image.{Image}
 
 -- ---- the parts
 

@@ -21,12 +21,12 @@ use Rattle.pe_core.specs.SectionMap.{mapped}
 use Rattle.pe_core.specs.Text.{text_at}
 use Rattle.pe_core.specs.declared.import.ImportDirectoryEntry.{ImportDirectoryEntry}
 use Rattle.pe_core.specs.declared.section_table.SectionTable.{SectionTable}
-use Rattle.pe_c.specs.declared.image.Image.{Image}
-use Rattle.pe_c.specs.declared.imports.Import.{Import}
-use Rattle.pe_c.specs.declared.imports.Imports.{Imports}
-use Rattle.pe_c.specs.declared.imports.Libraries.{Libraries}
-use Rattle.pe_c.specs.declared.imports.Library.{Library}
-use Rattle.pe_c.specs.declared.ranges.Range.{Range}
+use Rattle.pe_c.specs.declared.headers.image.Image.{Image}
+use Rattle.pe_c.specs.declared.names.imports.Import.{Import}
+use Rattle.pe_c.specs.declared.names.imports.Imports.{Imports}
+use Rattle.pe_c.specs.declared.names.imports.Libraries.{Libraries}
+use Rattle.pe_c.specs.declared.names.imports.Library.{Library}
+use Rattle.pe_c.specs.declared.base.ranges.Range.{Range}
 use Rattle.pe_c.specs.Images.{import_directory, is_absent, map_of_image}
 use Rattle.pe_c.specs.Imports.{import_at, import_by, import_left, import_step, import_reported, StepsImports, StepsLibraries, libraries_at, libraries_from, library_by, library_step, library_reported, no_imports, no_libraries, slot_entry}
 use Rattle.pe_c.specs.Parts.{ImportsInTurn, ReportsImport, ReportsLibrary}

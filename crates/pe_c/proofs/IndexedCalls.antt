@@ -35,9 +35,9 @@ use Rattle.pe_c.specs.SectionIndexes.{HasIndex, SameByAny, SameByIndex}
 use Rattle.pe_c.specs.Unwinding.{exception_table_at}
 use Rattle.pe_c.specs.Versions.{IsContentBy, IsContentOf}
 use Rattle.pe_c.specs.Views.{directory_sections, may_map}
-use Rattle.pe_c.specs.declared.guard_tables.Place.{Place}
-use Rattle.pe_c.specs.declared.image.Image.{Image}
-use Rattle.pe_c.specs.declared.view.View.{View}
+use Rattle.pe_c.specs.declared.directories.guard_tables.Place.{Place}
+use Rattle.pe_c.specs.declared.headers.image.Image.{Image}
+use Rattle.pe_c.specs.declared.base.view.View.{View}
 
 -- ---- what is read at the RVA of a directory
 

@@ -12,7 +12,7 @@ use Rattle.pe_c.specs.Arm64.{arm64_function_in}
 use Rattle.pe_c.specs.Ranges.{bytes_at}
 use Rattle.pe_c.specs.Unwinding.{function_in}
 use Rattle.pe_c.specs.Walks.{indexed, or_no_index}
-use Rattle.pe_c.specs.declared.ranges.Range.{Range}
+use Rattle.pe_c.specs.declared.base.ranges.Range.{Range}
 
 by_test : {X : Type 0} (entry_at : List ℕ → ℕ → X) (w : ℕ) (t : List ℕ) (i : ℕ) (inside : Bool) → nat_lt i (length t / w) ≡ inside →
     outcome ((inside, FunctionIndex) ∷ []) (entry_at t (w * i)) ≡ indexed (whole_entries entry_at w t) i

@@ -15,10 +15,10 @@ use Rattle.pe_c.specs.Modes.{resolves}
 use Rattle.pe_c.specs.NearMaps.{IsWindowOf}
 use Rattle.pe_c.specs.SectionIndexes.{is_searched}
 use Rattle.pe_c.specs.Views.{map_of, may_map}
-use Rattle.pe_c.specs.declared.image.Image.{Image}
-use Rattle.pe_c.specs.declared.kept_sections.KeptSections.{KeptSections}
-use Rattle.pe_c.specs.declared.near_map.Window.{Window}
-use Rattle.pe_c.specs.declared.view.View.{View}
+use Rattle.pe_c.specs.declared.headers.image.Image.{Image}
+use Rattle.pe_c.specs.declared.base.kept_sections.KeptSections.{KeptSections}
+use Rattle.pe_c.specs.declared.base.near_map.Window.{Window}
+use Rattle.pe_c.specs.declared.base.view.View.{View}
 use Rattle.pe_core.proofs.Equality.{both}
 
 -- ---- sections before others

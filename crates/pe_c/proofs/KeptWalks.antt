@@ -4,8 +4,8 @@ use Rattle.pe_c.proofs.KeptSections.{same_map}
 use Rattle.pe_c.specs.KeptSections.{ChangeNothing, StepsKept}
 use Rattle.pe_c.specs.Runs.{IsOver, ReturnsItems}
 use Rattle.pe_c.specs.Views.{map_of}
-use Rattle.pe_c.specs.declared.kept_sections.KeptSections.{KeptSections}
-use Rattle.pe_c.specs.declared.view.View.{View}
+use Rattle.pe_c.specs.declared.base.kept_sections.KeptSections.{KeptSections}
+use Rattle.pe_c.specs.declared.base.view.View.{View}
 
 -- a step by what changes no offset is one by the map of the view
 by_view : {W P X R : Type 0} (place : W → P) (kept : W → KeptSections) (Steps : (ℕ → Option ℕ) → P → Result (Option X) R → P → Type 0) (v : View) (w u : W) (answer : Result (Option X) R) →

@@ -17,10 +17,10 @@ use Rattle.pe_c.proofs.LeftBytes.{there}
 use Rattle.pe_c.specs.ResourceLeaves.{IsNameOf, StartsTree, StepsLeaves, after_item, first_item, item_reported, items_left, leaf_reported, leaves_walk, name_reported, no_leaves, position_of, walk_after, walk_at}
 use Rattle.pe_c.specs.Ranges.{bytes_at}
 use Rattle.pe_c.specs.Runs.{IsOver, ReturnsItems, read_items}
-use Rattle.pe_c.specs.declared.image.Image as images
-use Rattle.pe_c.specs.declared.ranges.Range.{Range}
-use Rattle.pe_c.specs.declared.resource_leaves.ResourceLeaf.{ResourceLeaf}
-use Rattle.pe_c.specs.declared.resource_leaves.ResourceLeaves.{ResourceLeaves}
+use Rattle.pe_c.specs.declared.headers.image.Image as images
+use Rattle.pe_c.specs.declared.base.ranges.Range.{Range}
+use Rattle.pe_c.specs.declared.resources.leaves.ResourceLeaf.{ResourceLeaf}
+use Rattle.pe_c.specs.declared.resources.leaves.ResourceLeaves.{ResourceLeaves}
 
 -- a walk that is over has no items
 pub over_has_none : (b : List ℕ) (offset : ℕ → Option ℕ) → items_left b offset no_leaves ≡ []

@@ -6,7 +6,7 @@ use Rattle.pe_core.proofs.Ranges.{length_range, rest_of_range}
 use Rattle.pe_core.specs.Bytes.{holds, range}
 use Rattle.pe_core.specs.Refusals.{Refusal, Short}
 use Rattle.pe_c.specs.Ranges.{IsRange, bytes_at}
-use Rattle.pe_c.specs.declared.ranges.Range.{Range}
+use Rattle.pe_c.specs.declared.base.ranges.Range.{Range}
 
 pub same_range : (r s : Range) → r.offset ≡ s.offset → r.length ≡ s.length → r ≡ s
 same_range r s offset size = ap (λ (p : ℕ). record { offset = p; length = r.length }) offset ∙ ap (λ (n : ℕ). record { offset = s.offset; length = n }) size

@@ -24,9 +24,9 @@ use Rattle.pe_c.specs.ImageParts.{AreImportsAfter, AreImportsBy, IsLibrary, in_t
 use Rattle.pe_c.specs.Images.{image_at, map_of_image}
 use Rattle.pe_c.specs.Imports.{StepsLibraries, libraries_at}
 use Rattle.pe_c.specs.LibrariesOfCalls.{AreLibrariesOfCalls, AreNamesAfter, AreNamesBy, IsNameOf}
-use Rattle.pe_c.specs.declared.image.Image.{Image}
-use Rattle.pe_c.specs.declared.imports.Libraries.{Libraries}
-use Rattle.pe_c.specs.declared.imports.Library.{Library}
+use Rattle.pe_c.specs.declared.headers.image.Image.{Image}
+use Rattle.pe_c.specs.declared.names.imports.Libraries.{Libraries}
+use Rattle.pe_c.specs.declared.names.imports.Library.{Library}
 
 -- records and imports
 abbrev Found : Type 0

@@ -12,13 +12,13 @@ use Rattle.pe_c.specs.LibraryFunctions.{AreFunctionsOf, StepsLibraryFunctions, T
 use Rattle.pe_c.specs.LibraryImports.{then_items}
 use Rattle.pe_c.specs.Ranges.{bytes_at, no_bytes}
 use Rattle.pe_c.specs.Runs.{IsOver, ReturnsItems}
-use Rattle.pe_c.specs.declared.delay_imports.DelayLibrary.{DelayLibrary}
-use Rattle.pe_c.specs.declared.delay_imports.DelayedFunction.{DelayedFunction}
-use Rattle.pe_c.specs.declared.delay_imports.DelayedFunctions.{DelayedFunctions}
-use Rattle.pe_c.specs.declared.image.Image as images
-use Rattle.pe_c.specs.declared.library_functions.LibraryFunction.{LibraryFunction}
-use Rattle.pe_c.specs.declared.library_functions.LibraryFunctions.{LibraryFunctions}
-use Rattle.pe_c.specs.declared.ranges.Range.{Range}
+use Rattle.pe_c.specs.declared.directories.delay_imports.DelayLibrary.{DelayLibrary}
+use Rattle.pe_c.specs.declared.directories.delay_imports.DelayedFunction.{DelayedFunction}
+use Rattle.pe_c.specs.declared.directories.delay_imports.DelayedFunctions.{DelayedFunctions}
+use Rattle.pe_c.specs.declared.headers.image.Image as images
+use Rattle.pe_c.specs.declared.directories.all_delay_imports.LibraryFunction.{LibraryFunction}
+use Rattle.pe_c.specs.declared.directories.all_delay_imports.LibraryFunctions.{LibraryFunctions}
+use Rattle.pe_c.specs.declared.base.ranges.Range.{Range}
 use Rattle.pe_c.proofs.DirectoryLists.{delay_taken, no_delay_import}
 use Rattle.pe_c.proofs.DirectoryRuns.{over_has_none}
 use Rattle.pe_c.proofs.LeftBytes.{size_of}

@@ -1,12 +1,12 @@
 -- The walk over the imports of all libraries returns those of each library in turn.
 use Rattle.std.proofs.Common.{◌≡◌, ℕ, zero, suc, List, [], ◌∷◌, Option, Some, None, Result, Ok, Err, refl, sym, ap, subst, ◌∙◌, arith}
 use Rattle.pe_core.specs.Refusals.{Refusal}
-use Rattle.pe_c.specs.declared.imports.Import.{Import}
-use Rattle.pe_c.specs.declared.imports.Imports.{Imports}
-use Rattle.pe_c.specs.declared.imports.Libraries.{Libraries}
-use Rattle.pe_c.specs.declared.imports.Library.{Library}
-use Rattle.pe_c.specs.declared.library_imports.LibraryImport.{LibraryImport}
-use Rattle.pe_c.specs.declared.library_imports.LibraryImports.{LibraryImports}
+use Rattle.pe_c.specs.declared.names.imports.Import.{Import}
+use Rattle.pe_c.specs.declared.names.imports.Imports.{Imports}
+use Rattle.pe_c.specs.declared.names.imports.Libraries.{Libraries}
+use Rattle.pe_c.specs.declared.names.imports.Library.{Library}
+use Rattle.pe_c.specs.declared.names.all_imports.LibraryImport.{LibraryImport}
+use Rattle.pe_c.specs.declared.names.all_imports.LibraryImports.{LibraryImports}
 use Rattle.pe_c.specs.Imports.{StepsImports, StepsLibraries, import_by, import_left, import_step, library_step, no_libraries}
 use Rattle.pe_c.specs.LibraryImports.{AreImportsOf, StepsLibraryImports, Turn, Turns, after_import, all_over, at_library, before_first, next_library, of_libraries, of_library, then_items, turn, turn_by_import, turn_by_library, with_library}
 use Rattle.pe_c.specs.Runs.{IsOver, ReturnsItems}

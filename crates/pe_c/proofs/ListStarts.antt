@@ -30,9 +30,9 @@ use Rattle.pe_c.specs.Directories.{image_parts, table_at}
 use Rattle.pe_c.specs.Images.{directory, is_absent, map_of_image}
 use Rattle.pe_c.specs.Ranges.{bytes_at, range_of}
 use Rattle.pe_c.specs.Runs.{ReturnsItems, read_items}
-use Rattle.pe_c.specs.declared.clr.Metadata as reported
-use Rattle.pe_c.specs.declared.image.Image as images
-use Rattle.pe_c.specs.declared.ranges.Range.{Range}
+use Rattle.pe_c.specs.declared.directories.clr.Metadata as reported
+use Rattle.pe_c.specs.declared.headers.image.Image as images
+use Rattle.pe_c.specs.declared.base.ranges.Range.{Range}
 
 -- ---- a record of an image lies in its bytes
 

@@ -12,8 +12,8 @@ use Rattle.pe_directories.specs.LoadedImages.{loaded_byte}
 use Rattle.pe_c.specs.Loaded.{PutsImage, PutsImageIf, loaded_of}
 use Rattle.pe_c.specs.Modes.{resolves}
 use Rattle.pe_c.specs.Views.{map_of, may_map}
-use Rattle.pe_c.specs.declared.results.TheConstants.{DONE}
-use Rattle.pe_c.specs.declared.view.View.{View}
+use Rattle.pe_c.specs.declared.base.results.TheConstants.{DONE}
+use Rattle.pe_c.specs.declared.base.view.View.{View}
 
 unresolved : (resolve : Bool) (alignment x : ℕ) (sections : List SectionTable) → resolve ≡ false → offset_of resolve alignment sections x ≡ Some x
 unfolding offset_of

@@ -10,7 +10,7 @@ use Rattle.pe_frame.proofs.Searches.{words_listed}
 use Rattle.pe_c.specs.FrameCalls.{HandsOutBy, HandsOutFound, HandsOutNext, OverMemory, OverModules, OverProcess, WalkRecords, is_set, marked_if, state_in}
 use Rattle.pe_c.specs.StackFrames.{OverPieces}
 use Rattle.pe_c.specs.WalkModules.{has_table, modules_of, viewed}
-use Rattle.pe_c.specs.declared.stack_walk.ModuleView.{ModuleView}
+use Rattle.pe_c.specs.declared.stack.walk.ModuleView.{ModuleView}
 
 -- what the mark leaves: it is no part of the walk that a record stands for, and stays
 pub record KeepMarks {W F : Type 0} (m : WalkRecords W F) : Type 0 where

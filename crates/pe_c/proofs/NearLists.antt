@@ -18,23 +18,23 @@ use Rattle.pe_c.specs.KeptWalks.{StepsKeptExports, StepsKeptImports}
 use Rattle.pe_c.specs.NearLists.{StepsKeptLibraryFunctions, StepsNear, StepsNearExports, StepsNearImports, StepsNearLibraryImports}
 use Rattle.pe_c.specs.Ranges.{bytes_at}
 use Rattle.pe_c.specs.Views.{map_of}
-use Rattle.pe_c.specs.declared.export_addresses.AddressTable.{AddressTable}
-use Rattle.pe_c.specs.declared.export_addresses.Exported.{Exported}
-use Rattle.pe_c.specs.declared.exports.Export.{Export}
-use Rattle.pe_c.specs.declared.exports.ExportWalk.{ExportWalk}
-use Rattle.pe_c.specs.declared.exports.Exports.{Exports}
-use Rattle.pe_c.specs.declared.imports.Import.{Import}
-use Rattle.pe_c.specs.declared.imports.ImportWalk.{ImportWalk}
-use Rattle.pe_c.specs.declared.imports.Imports.{Imports}
-use Rattle.pe_c.specs.declared.kept_sections.KeptSections.{KeptSections}
-use Rattle.pe_c.specs.declared.kept_sections.KeptWalk.{KeptWalk}
-use Rattle.pe_c.specs.declared.library_functions.LibraryFunction.{LibraryFunction}
-use Rattle.pe_c.specs.declared.library_functions.LibraryFunctions.{LibraryFunctions}
-use Rattle.pe_c.specs.declared.library_imports.LibraryImport.{LibraryImport}
-use Rattle.pe_c.specs.declared.near_exports.NearExports.{NearExports}
-use Rattle.pe_c.specs.declared.near_imports.NearImports.{NearImports}
-use Rattle.pe_c.specs.declared.near_imports.NearLibraryImports.{NearLibraryImports}
-use Rattle.pe_c.specs.declared.view.View.{View}
+use Rattle.pe_c.specs.declared.names.export_addresses.AddressTable.{AddressTable}
+use Rattle.pe_c.specs.declared.names.export_addresses.Exported.{Exported}
+use Rattle.pe_c.specs.declared.names.exports.Export.{Export}
+use Rattle.pe_c.specs.declared.names.exports.ExportWalk.{ExportWalk}
+use Rattle.pe_c.specs.declared.names.exports.Exports.{Exports}
+use Rattle.pe_c.specs.declared.names.imports.Import.{Import}
+use Rattle.pe_c.specs.declared.names.imports.ImportWalk.{ImportWalk}
+use Rattle.pe_c.specs.declared.names.imports.Imports.{Imports}
+use Rattle.pe_c.specs.declared.base.kept_sections.KeptSections.{KeptSections}
+use Rattle.pe_c.specs.declared.base.kept_sections.KeptWalk.{KeptWalk}
+use Rattle.pe_c.specs.declared.directories.all_delay_imports.LibraryFunction.{LibraryFunction}
+use Rattle.pe_c.specs.declared.directories.all_delay_imports.LibraryFunctions.{LibraryFunctions}
+use Rattle.pe_c.specs.declared.names.all_imports.LibraryImport.{LibraryImport}
+use Rattle.pe_c.specs.declared.names.near_exports.NearExports.{NearExports}
+use Rattle.pe_c.specs.declared.names.near_imports.NearImports.{NearImports}
+use Rattle.pe_c.specs.declared.names.near_imports.NearLibraryImports.{NearLibraryImports}
+use Rattle.pe_c.specs.declared.base.view.View.{View}
 
 near_steps : {S W X R : Type 0} (view : S → View) (walk : S → W) (Steps : View → W → Result (Option X) R → W → Type 0) (v : View)
     → StepsAs (λ (s : S). view s ≡ v) walk (StepsNear view walk Steps) (Steps v)

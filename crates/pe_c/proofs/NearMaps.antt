@@ -12,9 +12,9 @@ use Rattle.pe_c.specs.Images.{map_of_image}
 use Rattle.pe_c.specs.NearMaps.{FindsWindow, IsWindow, IsWindowOf}
 use Rattle.pe_frame.specs.SectionIndexes.{sections_by}
 use Rattle.pe_c.specs.Views.{map_of}
-use Rattle.pe_c.specs.declared.near_map.Window.{Window}
+use Rattle.pe_c.specs.declared.base.near_map.Window.{Window}
 use Rattle.pe_frame.specs.declared.section_index.IndexEntry.{IndexEntry}
-use Rattle.pe_c.specs.declared.view.View.{View}
+use Rattle.pe_c.specs.declared.base.view.View.{View}
 
 -- ---- sections in turn
 

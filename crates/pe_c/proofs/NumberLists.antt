@@ -24,10 +24,10 @@ use Rattle.pe_c.specs.Directories.{callbacks_at, first_in, first_va_in, image_pa
 use Rattle.pe_c.specs.Images.{map_of_image}
 use Rattle.pe_c.specs.Ranges.{bytes_at, no_bytes, range_after}
 use Rattle.pe_c.specs.Runs.{ReturnsItems, and_after, read_in_turn, read_items}
-use Rattle.pe_c.specs.declared.delay_imports.DelayedFunction.{DelayedFunction}
-use Rattle.pe_c.specs.declared.delay_imports.DelayedFunctions.{DelayedFunctions}
-use Rattle.pe_c.specs.declared.image.Image as images
-use Rattle.pe_c.specs.declared.ranges.Range.{Range}
+use Rattle.pe_c.specs.declared.directories.delay_imports.DelayedFunction.{DelayedFunction}
+use Rattle.pe_c.specs.declared.directories.delay_imports.DelayedFunctions.{DelayedFunctions}
+use Rattle.pe_c.specs.declared.headers.image.Image as images
+use Rattle.pe_c.specs.declared.base.ranges.Range.{Range}
 
 -- ---- what stands first, and what it leaves
 

@@ -12,7 +12,7 @@ use Rattle.pe_c.proofs.OneParts.{one_range}
 use Rattle.pe_c.proofs.OneRun.{ReportsOne, one_option, one_result}
 use Rattle.pe_c.specs.ImageDebug.{AreDebugData, IsDebugData, IsKey, IsPdb20, IsPogo, IsRepro, debug_results}
 use Rattle.pe_c.specs.ImageParts.{HasOption}
-use Rattle.pe_c.specs.declared.image.Image.{Image}
+use Rattle.pe_c.specs.declared.headers.image.Image.{Image}
 
 one_key : (b : List ℕ) → ReportsOne (IsKey b)
 one_key b y r s g h =

@@ -24,7 +24,7 @@ use Rattle.pe_c.specs.HeadersRead.{header_of}
 use Rattle.pe_c.specs.ImageOfCalls.{AreParts, IsImageAfter, IsImageOfCalls, IsImageWith, Parts, image_of_parts, mode_of}
 use Rattle.pe_c.specs.Images.{image_at}
 use Rattle.pe_c.specs.declared.headers.Headers.{Headers}
-use Rattle.pe_c.specs.declared.image.Image.{Image}
+use Rattle.pe_c.specs.declared.headers.image.Image.{Image}
 
 one_parts : OneContent → (b : List ℕ) (o : ParseOptions) (image : Image) (sections : List SectionTable) (p q : Parts) → AreParts b o image sections p → AreParts b o image sections q → p ≡ q
 one_parts law b o image sections p q g h =

@@ -13,10 +13,10 @@ use Rattle.pe_c.specs.Images.{map_of_image}
 use Rattle.pe_c.specs.Imports.{StepsImports, StepsLibraries, import_step, libraries_at, library_step}
 use Rattle.pe_c.specs.Parts.{ReportsImport}
 use Rattle.pe_c.specs.Ranges.{IsRange}
-use Rattle.pe_c.specs.declared.image.Image.{Image}
-use Rattle.pe_c.specs.declared.imports.Import.{Import}
-use Rattle.pe_c.specs.declared.imports.Libraries.{Libraries}
-use Rattle.pe_c.specs.declared.imports.Library.{Library}
+use Rattle.pe_c.specs.declared.headers.image.Image.{Image}
+use Rattle.pe_c.specs.declared.names.imports.Import.{Import}
+use Rattle.pe_c.specs.declared.names.imports.Libraries.{Libraries}
+use Rattle.pe_c.specs.declared.names.imports.Library.{Library}
 
 -- an import and its DLL
 abbrev IsOf : List ℕ → Library → Import → ImportView → Type 0

@@ -25,13 +25,13 @@ use Rattle.pe_c.specs.ImageParts.{AreCertificates, AreExceptions, AreExports, Ar
 use Rattle.pe_c.specs.Images.{directory, map_of_image}
 use Rattle.pe_c.specs.Parts.{ReportsExport}
 use Rattle.pe_c.specs.Ranges.{IsPart, IsRange, no_bytes}
-use Rattle.pe_c.specs.declared.certificates.Certificate.{Certificate}
-use Rattle.pe_c.specs.declared.export_addresses.AddressTable.{AddressTable}
-use Rattle.pe_c.specs.declared.exports.Export.{Export}
-use Rattle.pe_c.specs.declared.directory_tables.ExportFields.{ExportFields}
-use Rattle.pe_c.specs.declared.exports.Exports.{Exports}
-use Rattle.pe_c.specs.declared.image.Image.{Image}
-use Rattle.pe_c.specs.declared.ranges.Range.{Range}
+use Rattle.pe_c.specs.declared.directories.certificates.Certificate.{Certificate}
+use Rattle.pe_c.specs.declared.names.export_addresses.AddressTable.{AddressTable}
+use Rattle.pe_c.specs.declared.names.exports.Export.{Export}
+use Rattle.pe_c.specs.declared.directories.tables.ExportFields.{ExportFields}
+use Rattle.pe_c.specs.declared.names.exports.Exports.{Exports}
+use Rattle.pe_c.specs.declared.headers.image.Image.{Image}
+use Rattle.pe_c.specs.declared.base.ranges.Range.{Range}
 
 -- ---- ranges
 

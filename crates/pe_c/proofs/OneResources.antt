@@ -19,9 +19,9 @@ use Rattle.pe_c.specs.Images.{directory, is_absent, resource_directory}
 use Rattle.pe_c.specs.Modes.{options_of}
 use Rattle.pe_c.specs.Ranges.{IsRange, range_of}
 use Rattle.pe_c.specs.Versions.{IsContentBy, IsContentOf, fixed_in, text_in}
-use Rattle.pe_c.specs.declared.directory_tables.ResourceDirectory.{ResourceDirectory}
-use Rattle.pe_c.specs.declared.image.Image.{Image}
-use Rattle.pe_c.specs.declared.ranges.Range.{Range}
+use Rattle.pe_c.specs.declared.directories.tables.ResourceDirectory.{ResourceDirectory}
+use Rattle.pe_c.specs.declared.headers.image.Image.{Image}
+use Rattle.pe_c.specs.declared.base.ranges.Range.{Range}
 
 -- the law of pe_resource that the range of a resource is one
 abbrev pub OneContent : Type 0

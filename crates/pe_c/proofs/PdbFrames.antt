@@ -13,7 +13,7 @@ use Rattle.pe_c.specs.declared.pdb.inlined.FunctionName.{FunctionName}
 use Rattle.pe_c.specs.declared.pdb.inlined.PdbInlined.{PdbInlined}
 use Rattle.pe_c.specs.declared.pdb.modules.PdbModule.{PdbModule}
 use Rattle.pe_c.specs.declared.pdb.symbols.PdbSymbol.{PdbSymbol}
-use Rattle.pe_c.specs.declared.ranges.Range.{Range}
+use Rattle.pe_c.specs.declared.base.ranges.Range.{Range}
 
 -- ---- one function
 

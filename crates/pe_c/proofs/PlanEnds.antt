@@ -11,7 +11,7 @@ use Rattle.pe_unwind.proofs.OneChain.{one_answer}
 use Rattle.pe_unwind.specs.Links.{Table}
 use Rattle.pe_c.specs.Plans.{plan_from, ended, goes_on, leaves, StepsIf, ReturnsInTurn}
 use Rattle.pe_c.specs.Unwinding.{FindsOffset, FollowsToRecord, flat_record_at}
-use Rattle.pe_c.specs.declared.plan.Plan.{Plan}
+use Rattle.pe_c.specs.declared.unwinding.plan.Plan.{Plan}
 use Rattle.pe_c.specs.declared.unwinding.UnwindRecord.{UnwindRecord}
 use Rattle.pe_c.proofs.Addresses.{goes_below}
 use Rattle.pe_c.proofs.PlanSteps.{over_gives}

@@ -6,7 +6,7 @@ use Rattle.pe_core.specs.Refusals.{Refusal}
 use Rattle.pe_unwind.specs.Links.{Table}
 use Rattle.pe_c.specs.Plans.{plan_result, leaves, StepsIf, StepsPlan}
 use Rattle.pe_c.specs.Unwinding.{FollowsToRecord}
-use Rattle.pe_c.specs.declared.plan.Plan.{Plan}
+use Rattle.pe_c.specs.declared.unwinding.plan.Plan.{Plan}
 use Rattle.pe_c.specs.declared.unwinding.UnwindRecord.{UnwindRecord}
 
 -- a plan that is over returns nothing

@@ -10,8 +10,8 @@ use Rattle.pe_c.proofs.LeftBytes.{bytes_there, left_after, nothing_there, size_o
 use Rattle.pe_c.specs.DebugWalks.{StepsOverPogo, StepsPogoEntries, entries_reported, reported}
 use Rattle.pe_c.specs.Ranges.{range_after, bytes_at, no_bytes}
 use Rattle.pe_c.specs.Runs.{ReturnsItems, IsOver}
-use Rattle.pe_c.specs.declared.debug_walks.PogoEntry.{PogoEntry}
-use Rattle.pe_c.specs.declared.ranges.Range.{Range}
+use Rattle.pe_c.specs.declared.debug.walks.PogoEntry.{PogoEntry}
+use Rattle.pe_c.specs.declared.base.ranges.Range.{Range}
 
 -- ---- walks that are over
 

@@ -16,7 +16,7 @@ use Rattle.pe_c.specs.RecordCodes.{EndsAll, HandsOutAll, StepsStream}
 use Rattle.pe_c.specs.Unwinding.{flat_answer}
 use Rattle.pe_c.specs.declared.lists.x64.CodeBytes.{CodeBytes}
 use Rattle.pe_c.specs.declared.lists.x64.PutCodes.{PutCodes}
-use Rattle.pe_c.specs.declared.results.TheConstants.{ROOM}
+use Rattle.pe_c.specs.declared.base.results.TheConstants.{ROOM}
 use Rattle.pe_c.specs.declared.unwinding.Code.{Code}
 
 -- ---- writing

@@ -16,7 +16,7 @@ use Rattle.pe_c.specs.ResourceEdits.{edited_at, records_numbered, rewrite_number
 use Rattle.pe_c.specs.Signing.{headers_numbered}
 use Rattle.pe_c.specs.VersionWrites.{block_at, version_number, version_numbered}
 use Rattle.pe_c.specs.WrittenFiles.{length_numbered, numbered, written_numbered}
-use Rattle.pe_c.specs.declared.image.Image as images
+use Rattle.pe_c.specs.declared.headers.image.Image as images
 
 same_refusal : {X R : Type 0} (q r : R) → ◌≡◌ {A = Result X R} (Err q) (Err r) → q ≡ r
 same_refusal q r h = cc

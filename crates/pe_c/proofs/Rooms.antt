@@ -8,7 +8,7 @@ use Rattle.pe_core.specs.Rows.{each}
 use Rattle.pe_core.specs.declared.section_table.SectionTable.{SectionTable}
 use Rattle.pe_c.specs.Images.{PutsIf, PutsSectionsAt}
 use Rattle.pe_c.specs.Te.{PutsTeSections}
-use Rattle.pe_c.specs.declared.te.TeImage.{TeImage}
+use Rattle.pe_c.specs.declared.headers.te.TeImage.{TeImage}
 
 pub kept_more : {X : Type 0} (xs ys : List X) (i : ℕ) (y : X) → drop i xs ≡ drop i ys → drop (i + 1) (slice_set xs i y) ≡ drop (i + 1) ys
 kept_more xs ys i y e = rw (drop-set-lt (i + 1) xs i y (omega arith)) (drop_more_same xs ys i e)

@@ -12,7 +12,7 @@ use Rattle.pe_stacks.specs.MemoryRuns.{AreRuns}
 use Rattle.pe_c.specs.FrameCalls.{HandsOutFrame, HandsOutNext, OverMemory, OverModules, WalkRecords, is_set, marked_if}
 use Rattle.pe_c.specs.StackFrames.{OverPieces}
 use Rattle.pe_c.specs.WalkModules.{modules_of, viewed}
-use Rattle.pe_c.specs.declared.stack_walk.ModuleView.{ModuleView}
+use Rattle.pe_c.specs.declared.stack.walk.ModuleView.{ModuleView}
 use Rattle.pe_c.proofs.MarkedWalks.{KeepMarks, pieces_there, unmarked, with_mark, without_mark}
 
 module _ {W F : Type 0} (Calls : Process → F → Result F WalkEnd → Type 0) (m : WalkRecords W F) (keep : KeepMarks m) (number : ℕ) (memory : List ℕ) where

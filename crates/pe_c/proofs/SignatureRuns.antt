@@ -15,7 +15,7 @@ use Rattle.pe_c.proofs.Runs.{gives_first, gives_nothing, gives_refusal}
 use Rattle.pe_c.specs.Ranges.{no_bytes}
 use Rattle.pe_c.specs.Runs.{IsOver, ReturnsItems}
 use Rattle.pe_c.specs.SignatureParts.{StepsElements, elements_after, left_from, left_place, next_element, parsed, refused, up_to_range}
-use Rattle.pe_c.specs.declared.ranges.Range.{Range}
+use Rattle.pe_c.specs.declared.base.ranges.Range.{Range}
 use Rattle.pe_c.specs.declared.signatures.refused.SignatureFailure.{SignatureFailure}
 
 abbrev Place : Type 0

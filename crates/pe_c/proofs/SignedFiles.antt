@@ -9,7 +9,7 @@ use Rattle.pe_sign.specs.SignRefusals.{SignRefusal, Image}
 use Rattle.pe_sign.specs.declared.attachment.Placement.{Placement}
 use Rattle.pe_c.specs.Signing.{attached_at, detached_at, headers_numbered, placement_of, sign_number}
 use Rattle.pe_c.specs.WrittenFiles.{numbered, written_numbered}
-use Rattle.pe_c.specs.declared.image.Image as images
+use Rattle.pe_c.specs.declared.headers.image.Image as images
 
 spliced : (f old : List ℕ) → splice old 0 f ≡ f ++ drop (length f) old
 unfolding splice

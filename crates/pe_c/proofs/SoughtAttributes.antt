@@ -6,7 +6,7 @@ use Rattle.pe_pkcs7.specs.Signers.{FindsAttribute, Sought, first_with_number}
 use Rattle.pe_pkcs7.specs.Walks.{Items}
 use Rattle.pe_c.specs.SignatureParts.{left_from, left_place, outside, up_to_range}
 use Rattle.pe_c.specs.Signatures.{FindsInWalk, attribute_sought, sought_in}
-use Rattle.pe_c.specs.declared.ranges.Range.{Range}
+use Rattle.pe_c.specs.declared.base.ranges.Range.{Range}
 use Rattle.pe_c.specs.declared.signatures.refused.SignatureFailure.{SignatureFailure}
 use Rattle.pe_c.specs.declared.signatures.signer.SignerAttribute.{SignerAttribute}
 

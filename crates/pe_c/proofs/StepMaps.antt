@@ -8,11 +8,11 @@ use Rattle.pe_unwind.specs.ExceptionTable.{ExceptionView}
 use Rattle.pe_c.specs.Images.{map_of_image}
 use Rattle.pe_c.specs.Modes.{options_of}
 use Rattle.pe_c.specs.StackFrames.{exceptions_by}
-use Rattle.pe_c.specs.declared.ranges.Range.{Range}
+use Rattle.pe_c.specs.declared.base.ranges.Range.{Range}
 use Rattle.pe_c.specs.Views.{map_of}
 use Rattle.pe_c.specs.WalkModules.{exceptions_of, module_of}
-use Rattle.pe_c.specs.declared.stack_walk.ModuleView.{ModuleView}
-use Rattle.pe_c.specs.declared.view.View.{View}
+use Rattle.pe_c.specs.declared.stack.walk.ModuleView.{ModuleView}
+use Rattle.pe_c.specs.declared.base.view.View.{View}
 use Rattle.pe_frame.specs.Modules.{map_of_module}
 
 of_test : (inside : Bool) (x e : ExceptionView) → outcome ((inside, Short) ∷ []) x ≡ Ok e → x ≡ e

@@ -9,7 +9,7 @@ use Rattle.pe_core.specs.SectionMap.{rounded_up}
 use Rattle.pe_records.specs.Pogo.{StartsWith, ReturnsPogoEntry, pogo_entry_of}
 use Rattle.pe_records.specs.declared.debug.pogo.POGOInfoEntry.{POGOInfoEntry}
 use Rattle.pe_c.specs.DebugWalks.{IsNamed}
-use Rattle.pe_c.specs.declared.ranges.Range.{Range}
+use Rattle.pe_c.specs.declared.base.ranges.Range.{Range}
 
 -- a step that returns an entry takes its bytes
 pub taken : (left rest : List ℕ) (e : POGOInfoEntry) → ReturnsPogoEntry left (Some (Ok e)) rest → (length left - length rest ≡ rounded_up (8 + length e.name.now) 4) × (rounded_up (8 + length e.name.now) 4 ≤ length left)

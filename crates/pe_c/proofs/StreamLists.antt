@@ -16,9 +16,9 @@ use Rattle.pe_c.specs.DirectoryRuns.{HasContent, HasStream, StepsStreams, after_
 use Rattle.pe_c.specs.Directories.{first_of, range_left}
 use Rattle.pe_c.specs.Ranges.{bytes_at, range_after}
 use Rattle.pe_c.specs.Runs.{EachHas, ReturnsItems}
-use Rattle.pe_c.specs.declared.clr.MetadataStream.{MetadataStream}
-use Rattle.pe_c.specs.declared.clr.MetadataStreams.{MetadataStreams}
-use Rattle.pe_c.specs.declared.ranges.Range.{Range}
+use Rattle.pe_c.specs.declared.directories.clr.MetadataStream.{MetadataStream}
+use Rattle.pe_c.specs.declared.directories.clr.MetadataStreams.{MetadataStreams}
+use Rattle.pe_c.specs.declared.base.ranges.Range.{Range}
 
 -- ---- what stands first, and what it leaves
 

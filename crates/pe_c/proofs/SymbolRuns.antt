@@ -9,8 +9,8 @@ use Rattle.pe_c.proofs.Runs.{Makes, gives_first, gives_nothing, gives_refusal}
 use Rattle.pe_c.specs.Coff.{StepsSymbols, symbol_at, symbol_reported, symbol_with, symbols_after}
 use Rattle.pe_c.specs.Ranges.{bytes_at, no_bytes}
 use Rattle.pe_c.specs.Runs.{ReturnsItems, IsOver}
-use Rattle.pe_c.specs.declared.coff.Symbol.{Symbol}
-use Rattle.pe_c.specs.declared.coff.SymbolWalk.{SymbolWalk}
+use Rattle.pe_c.specs.declared.headers.coff.Symbol.{Symbol}
+use Rattle.pe_c.specs.declared.headers.coff.SymbolWalk.{SymbolWalk}
 
 -- ---- one step
 

@@ -19,7 +19,7 @@ use Rattle.pe_c.proofs.ExportParts.{text_stands}
 use Rattle.pe_c.proofs.LeftBytes.{size_of, there}
 use Rattle.pe_c.specs.Coff.{IsNameOf, name_range, name_range_by, symbol_name_at, symbol_name_in}
 use Rattle.pe_c.specs.Ranges.{IsRange, bytes_at}
-use Rattle.pe_c.specs.declared.ranges.Range.{Range}
+use Rattle.pe_c.specs.declared.base.ranges.Range.{Range}
 
 -- a part of the bytes of a range is a part of all bytes
 within : (b : List ℕ) (r : Range) (t part : List ℕ) (q : ℕ) → bytes_at b r ≡ Ok t → IsRange t (record { offset = q; length = length part }) part →

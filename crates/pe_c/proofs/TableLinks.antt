@@ -13,8 +13,8 @@ use Rattle.pe_c.specs.Images.{exception_directory, is_absent, map_of_image}
 use Rattle.pe_c.specs.Modes.{options_of}
 use Rattle.pe_c.specs.Ranges.{bytes_at, range_of}
 use Rattle.pe_c.specs.Unwinding.{exception_table_at, image_exceptions, links_at}
-use Rattle.pe_c.specs.declared.image.Image.{Image}
-use Rattle.pe_c.specs.declared.ranges.Range.{Range}
+use Rattle.pe_c.specs.declared.headers.image.Image.{Image}
+use Rattle.pe_c.specs.declared.base.ranges.Range.{Range}
 
 links_of_view : (b : List ℕ) (image : Image) (s : List SectionTable) (v : ExceptionView) → v.content ≡ b → v.alignment ≡ image.file_alignment → v.start + v.size ≤ length v.content →
     links_at (map_of_image image s) b (range_of (table_range v)) ≡ Ok (links_of v s (options_of image.mode))

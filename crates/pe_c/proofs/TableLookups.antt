@@ -5,7 +5,7 @@ use Rattle.pe_unwind.specs.FunctionTable.{Finds, functions}
 use Rattle.pe_unwind.specs.declared.function_table.RuntimeFunction.{RuntimeFunction}
 use Rattle.pe_c.specs.Ranges.{bytes_at}
 use Rattle.pe_c.specs.Unwinding.{LocatesIn}
-use Rattle.pe_c.specs.declared.ranges.Range.{Range}
+use Rattle.pe_c.specs.declared.base.ranges.Range.{Range}
 
 pub found_in : (b entries : List ℕ) (table : Range) (rva : ℕ) (found : Option RuntimeFunction) → bytes_at b table ≡ Ok entries → Finds (functions entries) rva found → LocatesIn (bytes_at b table) rva (Ok found)
 found_in b entries table rva found e h = subst (λ (r : Result (List ℕ) Refusal). LocatesIn r rva (Ok found)) (sym e) h

@@ -21,8 +21,8 @@ use Rattle.pe_c.specs.Versions.{HandsOutFixed, HandsOutText, IsContentBy, IsCont
 use Rattle.pe_c.specs.Images.{is_absent, resource_directory}
 use Rattle.pe_c.specs.Modes.{options_of}
 use Rattle.pe_c.specs.Ranges.{range_of}
-use Rattle.pe_c.specs.declared.image.Image.{Image}
-use Rattle.pe_c.specs.declared.ranges.Range.{Range}
+use Rattle.pe_c.specs.declared.headers.image.Image.{Image}
+use Rattle.pe_c.specs.declared.base.ranges.Range.{Range}
 
 -- the number of a refusal is not that of a call that is done
 refused_number : (r : Refusal) → (result_number r == 0) ≡ false

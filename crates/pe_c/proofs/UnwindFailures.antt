@@ -20,8 +20,8 @@ use Rattle.pe_c.specs.UnwindFailures.{IsWhyOfCode, IsWhyOfRecord, LinksEnd, code
 use Rattle.pe_c.specs.Unwinding.{FindsOffset, FollowsToRecord, WalksIn, flat_answer, links_at}
 use Rattle.pe_c.specs.declared.arm64.codes.Arm64Code.{Arm64Code}
 use Rattle.pe_c.specs.declared.arm64.codes.Arm64CodeWalk.{Arm64CodeWalk}
-use Rattle.pe_c.specs.declared.failure.Failure.{Failure}
-use Rattle.pe_c.specs.declared.ranges.Range.{Range}
+use Rattle.pe_c.specs.declared.failures.headers.Failure.{Failure}
+use Rattle.pe_c.specs.declared.base.ranges.Range.{Range}
 use Rattle.pe_c.specs.declared.unwinding.CodeWalk.{CodeWalk}
 use Rattle.pe_c.specs.declared.unwinding.UnwindRecord.{UnwindRecord}
 

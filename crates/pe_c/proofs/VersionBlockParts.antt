@@ -15,8 +15,8 @@ use Rattle.pe_c.proofs.LeftBytes.{there, left_after, size_of}
 use Rattle.pe_c.specs.Directories.{range_left}
 use Rattle.pe_c.specs.Ranges.{IsRange, bytes_at}
 use Rattle.pe_c.specs.VersionBlocks.{ArePartsOf, parts_reported, reported, with_language, ReportsBlock, StepsThrough, block_step, block_walk, item_of, left_by, walk_by, refusal_of}
-use Rattle.pe_c.specs.declared.ranges.Range.{Range}
-use Rattle.pe_c.specs.declared.version_blocks.VersionBlock.{VersionBlock}
+use Rattle.pe_c.specs.declared.base.ranges.Range.{Range}
+use Rattle.pe_c.specs.declared.resources.version_blocks.VersionBlock.{VersionBlock}
 use Rattle.pe_resource.specs.declared.version_block.Translation.{Translation}
 
 -- ---- the bytes of a block

@@ -11,7 +11,7 @@ use Rattle.pe_resource.specs.declared.entry.ResourceEntry.{ResourceEntry}
 use Rattle.pe_c.specs.Images.{is_absent, map_by, resource_directory}
 use Rattle.pe_c.specs.Modes.{options_of}
 use Rattle.pe_c.specs.Versions.{IsContentBy, IsContentOf, entry_range}
-use Rattle.pe_c.specs.declared.image.Image.{Image}
+use Rattle.pe_c.specs.declared.headers.image.Image.{Image}
 
 by_test : (f : List ℕ) (offset : ℕ → Option ℕ) (e : ResourceDataEntry) (inside : Bool) →
     (outcome ((inside, Short) ∷ []) (Some e) >>= entry_range f offset) ≡ ((outcome ((inside, Short) ∷ []) e >>= λ d. file_range f d.size (offset d.offset_to_data)) >>= λ r. Ok (Some r))

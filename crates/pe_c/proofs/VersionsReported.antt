@@ -18,8 +18,8 @@ use Rattle.pe_c.specs.Images.{is_absent, resource_directory}
 use Rattle.pe_c.specs.Modes.{options_of}
 use Rattle.pe_c.specs.Ranges.{range_of, IsRange}
 use Rattle.pe_c.specs.Versions.{IsContentBy, IsContentOf, HandsOutManifest, fixed_at, HandsOutFixed, value_at, HandsOutText, AreImageResources, ReportsRange, fixed_of, version_value}
-use Rattle.pe_c.specs.declared.image.Image.{Image}
-use Rattle.pe_c.specs.declared.ranges.Range.{Range}
+use Rattle.pe_c.specs.declared.headers.image.Image.{Image}
+use Rattle.pe_c.specs.declared.base.ranges.Range.{Range}
 
 content_range : (b : List ℕ) (image : Image) (sections : List SectionTable) (mode id : ℕ) (r : Result (Option ByteRange) Refusal) → is_absent (resource_directory image) ≡ false → IsContentOf b image (λ _. sections) mode id r → IsResourceRange (options_of mode) b (resource_directory image) id sections image.file_alignment r
 content_range b image sections mode id r there h = subst (λ (t : Bool). IsContentBy t (options_of mode) b image (λ _. sections) id r) there h

@@ -9,7 +9,7 @@ use Rattle.pe_directories.specs.declared.section_runs.Run.{Run}
 use Rattle.pe_c.specs.Images.{map_of_image}
 use Rattle.pe_c.specs.Loaded.{StartedUntil, number_of_last, start_of_last}
 use Rattle.pe_frame.specs.SectionIndexes.{no_entry, number_found, numbered, sections_by, start_by, started}
-use Rattle.pe_c.specs.declared.image.Image.{Image}
+use Rattle.pe_c.specs.declared.headers.image.Image.{Image}
 use Rattle.pe_frame.specs.declared.section_index.IndexEntry.{IndexEntry}
 use Rattle.pe_frame.proofs.IndexSearches.{skipped, turned_up, turned_down, started_at_0}
 

@@ -21,7 +21,7 @@ use Rattle.pe_frame.specs.declared.walk.StackFrame.{StackFrame}
 use Rattle.pe_frame.specs.declared.walk.WalkEnd.{WalkEnd}
 use Rattle.pe_frame.proofs.Lookups.{found_of_all}
 use Rattle.pe_c.specs.WalkModules.{exceptions_of, has_table, module_of, module_with, modules_of, view_base, view_size}
-use Rattle.pe_c.specs.declared.stack_walk.ModuleView.{ModuleView}
+use Rattle.pe_c.specs.declared.stack.walk.ModuleView.{ModuleView}
 
 by : {X Y : Type 0} (f : X → Y) (b : Bool) (x : X) (o : Option X) (q : Option Y) → q ≡ option_map f o → cond b (Some (f x)) q ≡ option_map f (cond b (Some x) o)
 by f true x o q e = refl

@@ -14,7 +14,7 @@ use Rattle.pe_frame.specs.declared.walk.Way.TheVariants.{Top, Records, Leaf, Int
 use Rattle.pe_c.specs.StackFrames.{half_xmm, whole_xmm}
 use Rattle.pe_c.specs.FrameCalls.{bit_of, is_set, state_in, way_number, way_of}
 use Rattle.pe_c.specs.StackWalks.{after_frame, frame_in, stack_walks}
-use Rattle.pe_c.specs.declared.stack_walk.StackWalk.{StackWalk}
+use Rattle.pe_c.specs.declared.stack.walk.StackWalk.{StackWalk}
 use Rattle.pe_c.proofs.FrameRuns.{KeepWalks}
 use Rattle.pe_c.proofs.MarkedWalks.{KeepMarks}
 

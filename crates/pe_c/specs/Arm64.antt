@@ -27,8 +27,8 @@ use Rattle.pe_c.specs.declared.arm64.functions.Arm64Packed.{Arm64Packed}
 use Rattle.pe_c.specs.declared.arm64.records.Arm64Record.{Arm64Record}
 use Rattle.pe_c.specs.declared.arm64.records.Arm64Scope.{Arm64Scope}
 use Rattle.pe_c.specs.Images.{exception_directory}
-use Rattle.pe_c.specs.declared.image.Image.{Image}
-use Rattle.pe_c.specs.declared.ranges.Range.{Range}
+use Rattle.pe_c.specs.declared.headers.image.Image.{Image}
+use Rattle.pe_c.specs.declared.base.ranges.Range.{Range}
 
 -- ---- function tables
 

@@ -15,9 +15,9 @@ use Rattle.pe_c.specs.HandsOut.{result_number}
 use Rattle.pe_c.specs.StackFrames.{OverPieces, error_number, error_address}
 use Rattle.pe_c.specs.declared.arm64.frames.Arm64FrameRegisters.{Arm64FrameRegisters}
 use Rattle.pe_c.specs.declared.arm64.frames.Arm64StackFrame.{Arm64StackFrame}
-use Rattle.pe_c.specs.declared.results.TheConstants.{DONE}
+use Rattle.pe_c.specs.declared.base.results.TheConstants.{DONE}
 use Rattle.pe_c.specs.Views.{map_of}
-use Rattle.pe_c.specs.declared.view.View.{View}
+use Rattle.pe_c.specs.declared.base.view.View.{View}
 
 -- ---- unwind data
 

@@ -7,8 +7,8 @@ use Rattle.pe_c.specs.Directories.{directory_number}
 use Rattle.pe_c.specs.FailureNumbers.{needed_at, needed_in, no_numbers, number_there, numbers}
 use Rattle.pe_c.specs.HandsOut.{result_number}
 use Rattle.pe_c.specs.Ranges.{bytes_there}
-use Rattle.pe_c.specs.declared.failure_numbers.ErrorNumbers.{ErrorNumbers}
-use Rattle.pe_c.specs.declared.ranges.Range.{Range}
+use Rattle.pe_c.specs.declared.failures.numbers.ErrorNumbers.{ErrorNumbers}
+use Rattle.pe_c.specs.declared.base.ranges.Range.{Range}
 
 -- how many bytes the entry at the start of a part of the directory needs: 8, and 8 for each of its forwarders, whose number is in
 -- the last 2 of the first 8

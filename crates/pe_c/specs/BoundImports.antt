@@ -9,10 +9,10 @@ use Rattle.pe_c.specs.Directories.{first_in, if_present, read_first}
 use Rattle.pe_c.specs.Images.{directory}
 use Rattle.pe_c.specs.Ranges.{bytes_at, no_bytes}
 use Rattle.pe_c.specs.Walks.{next_of, walk_of}
-use Rattle.pe_c.specs.declared.bound_imports.BoundForwarder.{BoundForwarder}
-use Rattle.pe_c.specs.declared.bound_imports.BoundImport.{BoundImport}
-use Rattle.pe_c.specs.declared.image.Image.{Image}
-use Rattle.pe_c.specs.declared.ranges.Range.{Range}
+use Rattle.pe_c.specs.declared.directories.bound_imports.BoundForwarder.{BoundForwarder}
+use Rattle.pe_c.specs.declared.directories.bound_imports.BoundImport.{BoundImport}
+use Rattle.pe_c.specs.declared.headers.image.Image.{Image}
+use Rattle.pe_c.specs.declared.base.ranges.Range.{Range}
 
 -- the bytes of the directory as a range, if it is not absent: its RVA is a file offset
 abbrev pub bound_imports_at : List ℕ → Image → Result (Option Range) DirectoryRefusal

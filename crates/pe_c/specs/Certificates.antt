@@ -3,8 +3,8 @@ use Rattle.std.specs.Prelude.{◌≡◌, ℕ, ◌+◌, ◌-◌, ◌==◌, List, 
 use Rattle.pe_core.specs.Bytes.{holds}
 use Rattle.pe_core.specs.Refusals.{Refusal, CertificateTable}
 use Rattle.pe_records.specs.Certificates.{CertificateView, certificate_at, certificates_at, revision_number, type_number}
-use Rattle.pe_c.specs.declared.certificates.Certificate.{Certificate}
-use Rattle.pe_c.specs.declared.ranges.Range.{Range}
+use Rattle.pe_c.specs.declared.directories.certificates.Certificate.{Certificate}
+use Rattle.pe_c.specs.declared.base.ranges.Range.{Range}
 use Rattle.pe_c.specs.Ranges.{IsRange, no_bytes}
 
 -- the certificate at offset p: its body follows the eight bytes of its header

@@ -14,11 +14,11 @@ use Rattle.pe_c.specs.Directories.{first_of, if_present, image_parts, range_left
 use Rattle.pe_c.specs.Exports.{one_if_some}
 use Rattle.pe_c.specs.Images.{directory}
 use Rattle.pe_c.specs.Ranges.{bytes_at, no_bytes, or_no_bytes, range_of as reported}
-use Rattle.pe_c.specs.declared.clr.Metadata.{Metadata}
-use Rattle.pe_c.specs.declared.clr.MetadataStream.{MetadataStream}
-use Rattle.pe_c.specs.declared.clr.MetadataStreams.{MetadataStreams}
-use Rattle.pe_c.specs.declared.image.Image as images
-use Rattle.pe_c.specs.declared.ranges.Range.{Range}
+use Rattle.pe_c.specs.declared.directories.clr.Metadata.{Metadata}
+use Rattle.pe_c.specs.declared.directories.clr.MetadataStream.{MetadataStream}
+use Rattle.pe_c.specs.declared.directories.clr.MetadataStreams.{MetadataStreams}
+use Rattle.pe_c.specs.declared.headers.image.Image as images
+use Rattle.pe_c.specs.declared.base.ranges.Range.{Range}
 
 -- ---- the header and the metadata root
 

@@ -15,10 +15,10 @@ use Rattle.pe_core.specs.declared.symbol.Symbol as core
 use Rattle.pe_c.specs.Headers.{coff_fields}
 use Rattle.pe_c.specs.Images.{PutsSectionsAt}
 use Rattle.pe_c.specs.Ranges.{bytes_at, no_bytes}
-use Rattle.pe_c.specs.declared.coff.Symbol.{Symbol}
-use Rattle.pe_c.specs.declared.coff.SymbolWalk.{SymbolWalk}
+use Rattle.pe_c.specs.declared.headers.coff.Symbol.{Symbol}
+use Rattle.pe_c.specs.declared.headers.coff.SymbolWalk.{SymbolWalk}
 use Rattle.pe_c.specs.declared.headers.CoffFields.{CoffFields}
-use Rattle.pe_c.specs.declared.ranges.Range.{Range}
+use Rattle.pe_c.specs.declared.base.ranges.Range.{Range}
 
 -- ---- an object
 

@@ -10,14 +10,14 @@ use Rattle.pe_records.specs.DebugRecords as records
 use Rattle.pe_records.specs.ManagedDebug as managed
 use Rattle.pe_records.specs.declared.debug.ImageDebugDirectory.{ImageDebugDirectory}
 use Rattle.pe_records.specs.declared.debug.records.VCFeatureInfo.{VCFeatureInfo}
-use Rattle.pe_c.specs.declared.debug_records.EmbeddedPdb.{EmbeddedPdb}
-use Rattle.pe_c.specs.declared.debug_records.PdbChecksum.{PdbChecksum}
-use Rattle.pe_c.specs.declared.debug_records.SymbolKey.{SymbolKey}
-use Rattle.pe_c.specs.declared.debug_records.Pdb20.{Pdb20}
-use Rattle.pe_c.specs.declared.debug_records.Repro.{Repro}
-use Rattle.pe_c.specs.declared.debug_records.Pogo.{Pogo}
-use Rattle.pe_c.specs.declared.image.Image.{Image}
-use Rattle.pe_c.specs.declared.ranges.Range.{Range}
+use Rattle.pe_c.specs.declared.debug.records.EmbeddedPdb.{EmbeddedPdb}
+use Rattle.pe_c.specs.declared.debug.records.PdbChecksum.{PdbChecksum}
+use Rattle.pe_c.specs.declared.debug.records.SymbolKey.{SymbolKey}
+use Rattle.pe_c.specs.declared.debug.records.Pdb20.{Pdb20}
+use Rattle.pe_c.specs.declared.debug.records.Repro.{Repro}
+use Rattle.pe_c.specs.declared.debug.records.Pogo.{Pogo}
+use Rattle.pe_c.specs.declared.headers.image.Image.{Image}
+use Rattle.pe_c.specs.declared.base.ranges.Range.{Range}
 use Rattle.pe_c.specs.Images.{debug_directory, is_absent}
 use Rattle.pe_c.specs.Modes.{options_of, resolves}
 use Rattle.pe_c.specs.Ranges.{bytes_at, no_bytes, range_of}

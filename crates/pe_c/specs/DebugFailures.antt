@@ -8,7 +8,7 @@ use Rattle.pe_c.specs.Debug.{characteristics_of, checksum_of, embedded_of, featu
 use Rattle.pe_c.specs.FailureNumbers.{needed_at, no_numbers, number_there, numbers, refused, refused_value}
 use Rattle.pe_c.specs.HandsOut.{result_number}
 use Rattle.pe_c.specs.Modes.{resolves}
-use Rattle.pe_c.specs.declared.failure_numbers.ErrorNumbers.{ErrorNumbers}
+use Rattle.pe_c.specs.declared.failures.numbers.ErrorNumbers.{ErrorNumbers}
 
 -- what refuses the record of an entry that is read as a record of this kind, PE_C_RECORD_..
 unfoldable pub record_refusal : ℕ → List ℕ → ℕ → ImageDebugDirectory → Option ℕ

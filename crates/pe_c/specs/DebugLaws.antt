@@ -13,8 +13,8 @@ use Rattle.pe_c.specs.Debug.{first_entry, read_first}
 use Rattle.pe_c.specs.Images.{debug_directory, is_absent}
 use Rattle.pe_c.specs.Modes.{options_of, resolves}
 use Rattle.pe_c.specs.Ranges.{IsPart}
-use Rattle.pe_c.specs.declared.image.Image.{Image}
-use Rattle.pe_c.specs.declared.ranges.Range.{Range}
+use Rattle.pe_c.specs.declared.headers.image.Image.{Image}
+use Rattle.pe_c.specs.declared.base.ranges.Range.{Range}
 
 -- ---- the bytes of a record, as many from its offset on
 

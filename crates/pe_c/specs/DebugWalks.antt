@@ -5,8 +5,8 @@ use Rattle.pe_core.specs.declared.error.Error.{Error}
 use Rattle.pe_core.specs.SectionMap.{rounded_up}
 use Rattle.pe_records.specs.Pogo.{Entry, ReturnsPogoEntry}
 use Rattle.pe_records.specs.declared.debug.pogo.POGOInfoEntry.{POGOInfoEntry}
-use Rattle.pe_c.specs.declared.debug_walks.PogoEntry.{PogoEntry}
-use Rattle.pe_c.specs.declared.ranges.Range.{Range}
+use Rattle.pe_c.specs.declared.debug.walks.PogoEntry.{PogoEntry}
+use Rattle.pe_c.specs.declared.base.ranges.Range.{Range}
 use Rattle.pe_c.specs.Ranges.{IsRange, range_after, bytes_at, no_bytes}
 
 -- the walk after a step that took n bytes: it stays at its end, and is over after a refusal

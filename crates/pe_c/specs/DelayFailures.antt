@@ -12,10 +12,10 @@ use Rattle.pe_c.specs.Exports.{or_zero}
 use Rattle.pe_c.specs.FailureNumbers.{needed_at, needed_in, no_numbers, number_there, numbers, refused_value}
 use Rattle.pe_c.specs.HandsOut.{result_number}
 use Rattle.pe_c.specs.Ranges.{bytes_there}
-use Rattle.pe_c.specs.declared.delay_imports.DelayedFunctions.{DelayedFunctions}
-use Rattle.pe_c.specs.declared.failure_numbers.ErrorNumbers.{ErrorNumbers}
-use Rattle.pe_c.specs.declared.image.Image.{Image}
-use Rattle.pe_c.specs.declared.ranges.Range.{Range}
+use Rattle.pe_c.specs.declared.directories.delay_imports.DelayedFunctions.{DelayedFunctions}
+use Rattle.pe_c.specs.declared.failures.numbers.ErrorNumbers.{ErrorNumbers}
+use Rattle.pe_c.specs.declared.headers.image.Image.{Image}
+use Rattle.pe_c.specs.declared.base.ranges.Range.{Range}
 
 -- of an address that is refused, by the attributes of the DLL's entry: its RVA, which is not mapped, or the address, which is below
 -- the image base

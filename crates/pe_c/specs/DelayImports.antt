@@ -10,11 +10,11 @@ use Rattle.pe_directories.specs.Walks.{First}
 use Rattle.pe_directories.specs.declared.delay_import.DelayImport.{DelayImport}
 use Rattle.pe_c.specs.Directories.{first_in, first_va_in, left_after, read_first}
 use Rattle.pe_c.specs.Ranges.{no_bytes}
-use Rattle.pe_c.specs.declared.delay_imports.DelayLibrary.{DelayLibrary}
-use Rattle.pe_c.specs.declared.delay_imports.DelayedFunction.{DelayedFunction}
-use Rattle.pe_c.specs.declared.delay_imports.DelayedFunctions.{DelayedFunctions}
-use Rattle.pe_c.specs.declared.image.Image as images
-use Rattle.pe_c.specs.declared.ranges.Range.{Range}
+use Rattle.pe_c.specs.declared.directories.delay_imports.DelayLibrary.{DelayLibrary}
+use Rattle.pe_c.specs.declared.directories.delay_imports.DelayedFunction.{DelayedFunction}
+use Rattle.pe_c.specs.declared.directories.delay_imports.DelayedFunctions.{DelayedFunctions}
+use Rattle.pe_c.specs.declared.headers.image.Image as images
+use Rattle.pe_c.specs.declared.base.ranges.Range.{Range}
 
 -- ---- addresses; `offset` maps an RVA to its file offset
 

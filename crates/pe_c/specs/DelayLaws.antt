@@ -7,9 +7,9 @@ use Rattle.pe_directories.specs.DirectoryRefusals.{DirectoryRefusal}
 use Rattle.pe_directories.specs.ImageParts.{ImageView}
 use Rattle.pe_directories.specs.declared.delay_import.DelayImport.{DelayImport}
 use Rattle.pe_c.specs.Ranges.{no_bytes}
-use Rattle.pe_c.specs.declared.delay_imports.DelayedFunction.{DelayedFunction}
-use Rattle.pe_c.specs.declared.delay_imports.DelayedFunctions.{DelayedFunctions}
-use Rattle.pe_c.specs.declared.ranges.Range.{Range}
+use Rattle.pe_c.specs.declared.directories.delay_imports.DelayedFunction.{DelayedFunction}
+use Rattle.pe_c.specs.declared.directories.delay_imports.DelayedFunctions.{DelayedFunctions}
+use Rattle.pe_c.specs.declared.base.ranges.Range.{Range}
 
 -- the range of the name of an entry's DLL
 abbrev pub dll_reported : ImageView → DelayImport → Result Range DirectoryRefusal

@@ -16,11 +16,11 @@ use Rattle.pe_c.specs.HandsOut.{result_number}
 use Rattle.pe_c.specs.Images.{directory, is_absent}
 use Rattle.pe_c.specs.Modes.{options_of}
 use Rattle.pe_c.specs.Ranges.{bytes_at, no_bytes, range_of as reported}
-use Rattle.pe_c.specs.declared.base_relocations.Relocation.{Relocation}
-use Rattle.pe_c.specs.declared.base_relocations.RelocationBlock.{RelocationBlock}
-use Rattle.pe_c.specs.declared.image.Image as images
-use Rattle.pe_c.specs.declared.ranges.Range.{Range}
-use Rattle.pe_c.specs.declared.results.TheConstants.{DONE, NOTHING}
+use Rattle.pe_c.specs.declared.directories.base_relocations.Relocation.{Relocation}
+use Rattle.pe_c.specs.declared.directories.base_relocations.RelocationBlock.{RelocationBlock}
+use Rattle.pe_c.specs.declared.headers.image.Image as images
+use Rattle.pe_c.specs.declared.base.ranges.Range.{Range}
+use Rattle.pe_c.specs.declared.base.results.TheConstants.{DONE, NOTHING}
 
 -- the number of a refusal of a directory, written by tools/make_errors
 abbrev pub directory_number : DirectoryRefusal → ℕ

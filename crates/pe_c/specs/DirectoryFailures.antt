@@ -20,10 +20,10 @@ use Rattle.pe_c.specs.Imports.{libraries_at}
 use Rattle.pe_c.specs.LoadConfigs.{load_config_at}
 use Rattle.pe_c.specs.ResourceLeaves.{leaves_start}
 use Rattle.pe_c.specs.StepFailures.{certificate_numbers}
-use Rattle.pe_c.specs.declared.directory_failure.NeededPart.{NeededPart}
-use Rattle.pe_c.specs.declared.failure_numbers.ErrorNumbers.{ErrorNumbers}
-use Rattle.pe_c.specs.declared.image.Image.{Image}
-use Rattle.pe_c.specs.declared.ranges.Range.{Range}
+use Rattle.pe_c.specs.declared.failures.directories.NeededPart.{NeededPart}
+use Rattle.pe_c.specs.declared.failures.numbers.ErrorNumbers.{ErrorNumbers}
+use Rattle.pe_c.specs.declared.headers.image.Image.{Image}
+use Rattle.pe_c.specs.declared.base.ranges.Range.{Range}
 
 -- the certificate table, as a walk at its start
 abbrev pub certificate_table : Image → Range

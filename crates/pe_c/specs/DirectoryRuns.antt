@@ -15,17 +15,17 @@ use Rattle.pe_c.specs.DelayImports.{first_library_in, first_of_walk, functions_a
 use Rattle.pe_c.specs.Directories.{block_reported, first_in, first_va_in, left_after, relocation_reported, step_of}
 use Rattle.pe_c.specs.Ranges.{IsRange, range_after}
 use Rattle.pe_c.specs.Runs.{read_in_turn, read_items, EachHas, ReturnsItems}
-use Rattle.pe_c.specs.declared.base_relocations.Relocation.{Relocation}
-use Rattle.pe_c.specs.declared.base_relocations.RelocationBlock.{RelocationBlock}
-use Rattle.pe_c.specs.declared.bound_imports.BoundForwarder.{BoundForwarder}
-use Rattle.pe_c.specs.declared.bound_imports.BoundImport.{BoundImport}
-use Rattle.pe_c.specs.declared.clr.MetadataStream.{MetadataStream}
-use Rattle.pe_c.specs.declared.clr.MetadataStreams.{MetadataStreams}
-use Rattle.pe_c.specs.declared.delay_imports.DelayLibrary.{DelayLibrary}
-use Rattle.pe_c.specs.declared.delay_imports.DelayedFunction.{DelayedFunction}
-use Rattle.pe_c.specs.declared.delay_imports.DelayedFunctions.{DelayedFunctions}
-use Rattle.pe_c.specs.declared.image.Image as images
-use Rattle.pe_c.specs.declared.ranges.Range.{Range}
+use Rattle.pe_c.specs.declared.directories.base_relocations.Relocation.{Relocation}
+use Rattle.pe_c.specs.declared.directories.base_relocations.RelocationBlock.{RelocationBlock}
+use Rattle.pe_c.specs.declared.directories.bound_imports.BoundForwarder.{BoundForwarder}
+use Rattle.pe_c.specs.declared.directories.bound_imports.BoundImport.{BoundImport}
+use Rattle.pe_c.specs.declared.directories.clr.MetadataStream.{MetadataStream}
+use Rattle.pe_c.specs.declared.directories.clr.MetadataStreams.{MetadataStreams}
+use Rattle.pe_c.specs.declared.directories.delay_imports.DelayLibrary.{DelayLibrary}
+use Rattle.pe_c.specs.declared.directories.delay_imports.DelayedFunction.{DelayedFunction}
+use Rattle.pe_c.specs.declared.directories.delay_imports.DelayedFunctions.{DelayedFunctions}
+use Rattle.pe_c.specs.declared.headers.image.Image as images
+use Rattle.pe_c.specs.declared.base.ranges.Range.{Range}
 
 -- a step by what stands first in a walk: what it returns of that, and the walk after it
 abbrev pub StepsBy : {W X Y S : Type 0} → (W → X → Y) → (W → First X S) → (W → First X S → W) → W → Result (Option Y) DirectoryRefusal → W → Type 0

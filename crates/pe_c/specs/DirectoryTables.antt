@@ -15,13 +15,13 @@ use Rattle.pe_c.specs.Images.{export_directory, is_absent}
 use Rattle.pe_c.specs.Ranges.{bytes_at}
 use Rattle.pe_c.specs.ResourceLeaves.{leaves_start, name_in}
 use Rattle.pe_c.specs.Walks.{next_of}
-use Rattle.pe_c.specs.declared.directory_tables.ExportFields.{ExportFields}
-use Rattle.pe_c.specs.declared.directory_tables.ResourceDirectory.{ResourceDirectory}
-use Rattle.pe_c.specs.declared.directory_tables.ResourceItem.{ResourceItem}
-use Rattle.pe_c.specs.declared.image.Image.{Image}
-use Rattle.pe_c.specs.declared.ranges.Range.{Range}
-use Rattle.pe_c.specs.declared.resource_leaves.ResourceLeaves.{ResourceLeaves}
-use Rattle.pe_c.specs.declared.resource_leaves.ResourceName.{ResourceName}
+use Rattle.pe_c.specs.declared.directories.tables.ExportFields.{ExportFields}
+use Rattle.pe_c.specs.declared.directories.tables.ResourceDirectory.{ResourceDirectory}
+use Rattle.pe_c.specs.declared.directories.tables.ResourceItem.{ResourceItem}
+use Rattle.pe_c.specs.declared.headers.image.Image.{Image}
+use Rattle.pe_c.specs.declared.base.ranges.Range.{Range}
+use Rattle.pe_c.specs.declared.resources.leaves.ResourceLeaves.{ResourceLeaves}
+use Rattle.pe_c.specs.declared.resources.leaves.ResourceName.{ResourceName}
 
 -- ---- exports
 

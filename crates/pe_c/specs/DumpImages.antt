@@ -1,8 +1,8 @@
 -- Which image is that of a module of a dump.
 use Rattle.std.specs.Prelude.{ℕ, ◌==◌, ◌&&◌, Bool, true, false, not}
 use Rattle.pe_c.specs.declared.dump.lists.DumpModule.{DumpModule}
-use Rattle.pe_c.specs.declared.image.Image.{Image}
-use Rattle.pe_c.specs.declared.results.TheConstants.{DONE, NOTHING}
+use Rattle.pe_c.specs.declared.headers.image.Image.{Image}
+use Rattle.pe_c.specs.declared.base.results.TheConstants.{DONE, NOTHING}
 
 -- it has an optional header, and its time stamp and its size are those of the module
 abbrev pub fits : Image → DumpModule → Bool

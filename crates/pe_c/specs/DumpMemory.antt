@@ -11,7 +11,7 @@ use Rattle.pe_minidump.specs.declared.memory.MemoryDescriptor.{MemoryDescriptor}
 use Rattle.pe_c.specs.Walks.{left_entry, walk_of}
 use Rattle.pe_c.specs.declared.dump.memory.DumpPiece.{DumpPiece}
 use Rattle.pe_c.specs.declared.dump.memory.Memory64Walk.{Memory64Walk}
-use Rattle.pe_c.specs.declared.ranges.Range.{Range}
+use Rattle.pe_c.specs.declared.base.ranges.Range.{Range}
 
 -- a piece as callers get it: its range ends where the file does, also where all of its bytes are lost
 abbrev pub piece_reported : List ℕ → PieceView → DumpPiece

@@ -21,7 +21,7 @@ use Rattle.pe_c.specs.declared.dump.lists.DumpThreadName.{DumpThreadName}
 use Rattle.pe_c.specs.declared.dump.records.DumpException.{DumpException}
 use Rattle.pe_c.specs.declared.dump.records.DumpProcess.{DumpProcess}
 use Rattle.pe_c.specs.declared.dump.records.DumpSystem.{DumpSystem}
-use Rattle.pe_c.specs.declared.ranges.Range.{Range}
+use Rattle.pe_c.specs.declared.base.ranges.Range.{Range}
 
 -- ---- lists
 

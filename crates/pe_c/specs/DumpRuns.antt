@@ -7,8 +7,8 @@ use Rattle.pe_frame.specs.declared.memory_list.MemoryPiece.{MemoryPiece}
 use Rattle.pe_stacks.specs.MemoryRuns.{PutsRuns, end_low, has_rooms}
 use Rattle.pe_core.specs.declared.range_index.RangeEntry.{RangeEntry}
 use Rattle.pe_c.specs.HandsOut.{result_number}
-use Rattle.pe_c.specs.declared.ranges.Range.{Range}
-use Rattle.pe_c.specs.declared.results.TheConstants.{DONE, OUT_OF_ORDER, ROOM}
+use Rattle.pe_c.specs.declared.base.ranges.Range.{Range}
+use Rattle.pe_c.specs.declared.base.results.TheConstants.{DONE, OUT_OF_ORDER, ROOM}
 
 -- by whether the pieces end below offset 2^64, and whether the rooms have room for what is written: else nothing changes
 abbrev pub HandsOutRunsIf : Bool → Bool → List MemoryPiece → ℕ → List RangeEntry × List MemoryPiece → List RangeEntry × List MemoryPiece → ℕ × ℕ → Type 0

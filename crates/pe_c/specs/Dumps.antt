@@ -9,8 +9,8 @@ use Rattle.pe_minidump.specs.declared.dump.DirectoryEntry.{DirectoryEntry}
 use Rattle.pe_minidump.specs.declared.error.DumpError.{DumpError}
 use Rattle.pe_minidump.specs.declared.location.Location as locations
 use Rattle.pe_c.specs.declared.dump.DumpInfo.{DumpInfo}
-use Rattle.pe_c.specs.declared.ranges.Range.{Range}
-use Rattle.pe_c.specs.declared.results.TheConstants.{DONE, NOTHING}
+use Rattle.pe_c.specs.declared.base.ranges.Range.{Range}
+use Rattle.pe_c.specs.declared.base.results.TheConstants.{DONE, NOTHING}
 
 -- the number of a refusal of a dump, written by tools/make_errors
 abbrev pub dump_number : DumpRefusal → ℕ

@@ -7,9 +7,9 @@ use Rattle.pe_core.specs.Refusals.{Refusal, Short, ◌>>=◌}
 use Rattle.pe_resource.specs.VersionStrings.{units}
 use Rattle.pe_c.specs.HandsOut.{result_number}
 use Rattle.pe_c.specs.Ranges.{bytes_at}
-use Rattle.pe_c.specs.declared.ended_texts.TextInBytes.{TextInBytes}
-use Rattle.pe_c.specs.declared.ranges.Range.{Range}
-use Rattle.pe_c.specs.declared.results.TheConstants.{DONE, ROOM}
+use Rattle.pe_c.specs.declared.base.ended_texts.TextInBytes.{TextInBytes}
+use Rattle.pe_c.specs.declared.base.ranges.Range.{Range}
+use Rattle.pe_c.specs.declared.base.results.TheConstants.{DONE, ROOM}
 
 -- ---- what a call writes
 

@@ -9,10 +9,10 @@ use Rattle.pe_core.specs.declared.export_addresses.ExportAddress.{ExportAddress}
 use Rattle.pe_c.specs.Exports.{export_table, one_if, one_if_some, text_from}
 use Rattle.pe_c.specs.Images.{export_directory, is_absent}
 use Rattle.pe_c.specs.Ranges.{bytes_at, or_no_bytes}
-use Rattle.pe_c.specs.declared.export_addresses.AddressTable.{AddressTable}
-use Rattle.pe_c.specs.declared.export_addresses.Exported.{Exported}
-use Rattle.pe_c.specs.declared.image.Image.{Image}
-use Rattle.pe_c.specs.declared.ranges.Range.{Range}
+use Rattle.pe_c.specs.declared.names.export_addresses.AddressTable.{AddressTable}
+use Rattle.pe_c.specs.declared.names.export_addresses.Exported.{Exported}
+use Rattle.pe_c.specs.declared.headers.image.Image.{Image}
+use Rattle.pe_c.specs.declared.base.ranges.Range.{Range}
 
 -- the range of the text at an RVA, if it is mapped and a text is there
 abbrev pub text_range : (ℕ → Option ℕ) → List ℕ → ℕ → Option Range

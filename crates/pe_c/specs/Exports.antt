@@ -8,11 +8,11 @@ use Rattle.pe_core.specs.Exports.{ExportDataView, ExportView, export_data_at, na
 use Rattle.pe_core.specs.Refusals.{Refusal, ◌>>=◌}
 use Rattle.pe_core.specs.Text.{text_at}
 use Rattle.pe_core.specs.declared.data_directories.DataDirectory.{DataDirectory}
-use Rattle.pe_c.specs.declared.exports.Export.{Export}
-use Rattle.pe_c.specs.declared.exports.Exports.{Exports}
-use Rattle.pe_c.specs.declared.exports.Tables.{Tables}
-use Rattle.pe_c.specs.declared.image.Image.{Image}
-use Rattle.pe_c.specs.declared.ranges.Range.{Range}
+use Rattle.pe_c.specs.declared.names.exports.Export.{Export}
+use Rattle.pe_c.specs.declared.names.exports.Exports.{Exports}
+use Rattle.pe_c.specs.declared.names.exports.Tables.{Tables}
+use Rattle.pe_c.specs.declared.headers.image.Image.{Image}
+use Rattle.pe_c.specs.declared.base.ranges.Range.{Range}
 use Rattle.pe_c.specs.Images.{export_directory, is_absent}
 use Rattle.pe_c.specs.Ranges.{bytes_at, no_bytes, or_no_bytes, range_from}
 

@@ -9,10 +9,10 @@ use Rattle.pe_resource.specs.Leaves.{TreeRefusal}
 use Rattle.pe_c.specs.Directories.{DirectoryHandsOut, directory_number}
 use Rattle.pe_c.specs.HandsOut.{HandsOutIf, result_number}
 use Rattle.pe_c.specs.ResourceLeaves.{TreeHandsOut, tree_number}
-use Rattle.pe_c.specs.declared.failure.Failure.{Failure}
-use Rattle.pe_c.specs.declared.failure_numbers.ErrorNumbers.{ErrorNumbers}
-use Rattle.pe_c.specs.declared.ranges.Range.{Range}
-use Rattle.pe_c.specs.declared.results.TheConstants.{DONE, NOTHING}
+use Rattle.pe_c.specs.declared.failures.headers.Failure.{Failure}
+use Rattle.pe_c.specs.declared.failures.numbers.ErrorNumbers.{ErrorNumbers}
+use Rattle.pe_c.specs.declared.base.ranges.Range.{Range}
+use Rattle.pe_c.specs.declared.base.results.TheConstants.{DONE, NOTHING}
 
 -- ---- the numbers of a failure
 

@@ -8,10 +8,10 @@ use Rattle.pe_core.specs.Refusals.{BadMagic, HeaderPointer, Refusal, Short, TeSi
 use Rattle.pe_core.specs.declared.options.ParseMode.{ParseMode}
 use Rattle.pe_c.specs.HandsOut.{result_number}
 use Rattle.pe_c.specs.Modes.{mode_of_number}
-use Rattle.pe_c.specs.declared.failure.Failure.{Failure}
+use Rattle.pe_c.specs.declared.failures.headers.Failure.{Failure}
 use Rattle.pe_c.specs.declared.headers.CoffFields.{CoffFields}
-use Rattle.pe_c.specs.declared.image.Image.{Image}
-use Rattle.pe_c.specs.declared.te.TeImage.{TeImage}
+use Rattle.pe_c.specs.declared.headers.image.Image.{Image}
+use Rattle.pe_c.specs.declared.headers.te.TeImage.{TeImage}
 use Rattle.pe_core.specs.declared.header.TheConstants.{DOS_MAGIC, PE_MAGIC, TE_MAGIC}
 use Rattle.pe_core.specs.declared.optional_header.TheConstants.{MAGIC_32}
 

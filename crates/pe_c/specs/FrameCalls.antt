@@ -14,8 +14,8 @@ use Rattle.pe_frame.specs.declared.walk.WalkEnd.TheVariants as ends
 use Rattle.pe_c.specs.HandsOut.{result_number}
 use Rattle.pe_c.specs.StackFrames.{OverPieces, error_address, error_number}
 use Rattle.pe_c.specs.WalkModules.{modules_of, viewed}
-use Rattle.pe_c.specs.declared.stack_walk.ModuleView.{ModuleView}
-use Rattle.pe_c.specs.declared.results.TheConstants.{DONE, LONG_CHAIN, NOTHING}
+use Rattle.pe_c.specs.declared.stack.walk.ModuleView.{ModuleView}
+use Rattle.pe_c.specs.declared.base.results.TheConstants.{DONE, LONG_CHAIN, NOTHING}
 
 -- ---- numbers
 

@@ -23,14 +23,14 @@ use Rattle.pe_c.specs.Modes.{resolves}
 use Rattle.pe_c.specs.Ranges.{bytes_at, bytes_there, no_bytes, or_no_bytes}
 use Rattle.pe_c.specs.Unwinding.{LocatesIn, exception_table_at}
 use Rattle.pe_c.specs.Views.{directory_sections, map_of}
-use Rattle.pe_c.specs.declared.exports.Exports.{Exports}
-use Rattle.pe_c.specs.declared.function_names.CodeAddress.{CodeAddress}
-use Rattle.pe_c.specs.declared.function_names.FunctionName.{FunctionName}
-use Rattle.pe_c.specs.declared.function_names.NameSources.{NameSources}
-use Rattle.pe_c.specs.declared.function_names.TheConstants.{EXPORT, MOST_OF_NAME, NO_NAME, SYMBOL}
-use Rattle.pe_c.specs.declared.ranges.Range.{Range}
-use Rattle.pe_c.specs.declared.results.TheConstants.{DONE, NOTHING, ROOM}
-use Rattle.pe_c.specs.declared.view.View.{View}
+use Rattle.pe_c.specs.declared.names.exports.Exports.{Exports}
+use Rattle.pe_c.specs.declared.stack.function_names.CodeAddress.{CodeAddress}
+use Rattle.pe_c.specs.declared.stack.function_names.FunctionName.{FunctionName}
+use Rattle.pe_c.specs.declared.stack.function_names.NameSources.{NameSources}
+use Rattle.pe_c.specs.declared.stack.function_names.TheConstants.{EXPORT, MOST_OF_NAME, NO_NAME, SYMBOL}
+use Rattle.pe_c.specs.declared.base.ranges.Range.{Range}
+use Rattle.pe_c.specs.declared.base.results.TheConstants.{DONE, NOTHING, ROOM}
+use Rattle.pe_c.specs.declared.base.view.View.{View}
 
 -- ---- the tables that names are read of
 

@@ -13,10 +13,10 @@ use Rattle.pe_c.specs.DirectoryRuns.{StepsBy}
 use Rattle.pe_c.specs.Images.{directory, is_absent}
 use Rattle.pe_c.specs.Ranges.{IsRange, bytes_at, no_bytes, range_after}
 use Rattle.pe_c.specs.Runs.{EachHas, ReturnsItems, read_in_turn}
-use Rattle.pe_c.specs.declared.guard_tables.GuardEntries.{GuardEntries}
-use Rattle.pe_c.specs.declared.guard_tables.GuardEntry.{GuardEntry}
-use Rattle.pe_c.specs.declared.guard_tables.Place.{Place}
-use Rattle.pe_c.specs.declared.image.Image as images
+use Rattle.pe_c.specs.declared.directories.guard_tables.GuardEntries.{GuardEntries}
+use Rattle.pe_c.specs.declared.directories.guard_tables.GuardEntry.{GuardEntry}
+use Rattle.pe_c.specs.declared.directories.guard_tables.Place.{Place}
+use Rattle.pe_c.specs.declared.headers.image.Image as images
 
 -- ---- where a table is
 

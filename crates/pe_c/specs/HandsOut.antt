@@ -1,7 +1,7 @@
 -- The result of a call: a number, and a value at `out`. DONE means that the value is there, others say why it is not.
 use Rattle.std.specs.Prelude.{◌≡◌, ℕ, List, Option, Some, None, Result, Ok, Err}
 use Rattle.pe_core.specs.Refusals.{Refusal, Memory, Short, BadMagic, HeaderPointer, ImportName, StringTable, CertificateRevision, CertificateType, CertificateSize, CertificateTable, Unmapped, DebugBounds, DebugSize, DebugData, PogoSize, PogoName, ExceptionSize, ExceptionOffset, ExceptionBounds, FunctionIndex, FunctionLink, FunctionCycle, UnwindVersion, UnwindCode, Arm64Version, Arm64Stream, Arm64Cut, ResourceBounds, ResourceCycle, ResourceString, TeSize, NoOptionalHeader, WriteAlignment, WriteSymbols, WriteOverlap, WriteSection, WriteFit, ImportsLimit}
-use Rattle.pe_c.specs.declared.results.TheConstants.{DONE, NOTHING}
+use Rattle.pe_c.specs.declared.base.results.TheConstants.{DONE, NOTHING}
 
 -- the number of a refusal, written by tools/make_errors
 abbrev pub result_number : Refusal → ℕ

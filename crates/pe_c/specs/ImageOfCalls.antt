@@ -23,7 +23,7 @@ use Rattle.pe_c.specs.ImageDebug.{AreDebugData}
 use Rattle.pe_c.specs.ImageParts.{AreCertificates, AreExceptions, AreExports, AreImports, AreRelocations, AreResources}
 use Rattle.pe_c.specs.Images.{image_at}
 use Rattle.pe_c.specs.declared.headers.Headers.{Headers}
-use Rattle.pe_c.specs.declared.image.Image.{Image}
+use Rattle.pe_c.specs.declared.headers.image.Image.{Image}
 
 -- the number of a way to read: bit 0 is permissive mode, bit 1 an image as loaded, whose RVAs are not mapped
 abbrev pub number_of_mode : ParseMode → Bool → ℕ

@@ -33,14 +33,14 @@ use Rattle.pe_c.specs.Ranges.{IsPart, IsRange, range_of}
 use Rattle.pe_c.specs.Runs.{ReturnsItems, ReturnsReported}
 use Rattle.pe_c.specs.Unwinding.{exception_table_at}
 use Rattle.pe_c.specs.Versions.{IsContentOf, fixed_in, text_in}
-use Rattle.pe_c.specs.declared.export_addresses.AddressTable.{AddressTable}
-use Rattle.pe_c.specs.declared.directory_tables.ExportFields.{ExportFields}
-use Rattle.pe_c.specs.declared.directory_tables.ResourceDirectory.{ResourceDirectory}
-use Rattle.pe_c.specs.declared.exports.Exports.{Exports}
-use Rattle.pe_c.specs.declared.image.Image.{Image}
-use Rattle.pe_c.specs.declared.imports.Libraries.{Libraries}
-use Rattle.pe_c.specs.declared.imports.Library.{Library}
-use Rattle.pe_c.specs.declared.ranges.Range.{Range}
+use Rattle.pe_c.specs.declared.names.export_addresses.AddressTable.{AddressTable}
+use Rattle.pe_c.specs.declared.directories.tables.ExportFields.{ExportFields}
+use Rattle.pe_c.specs.declared.directories.tables.ResourceDirectory.{ResourceDirectory}
+use Rattle.pe_c.specs.declared.names.exports.Exports.{Exports}
+use Rattle.pe_c.specs.declared.headers.image.Image.{Image}
+use Rattle.pe_c.specs.declared.names.imports.Libraries.{Libraries}
+use Rattle.pe_c.specs.declared.names.imports.Library.{Library}
+use Rattle.pe_c.specs.declared.base.ranges.Range.{Range}
 
 -- ---- what a call returned, and what it is
 

@@ -10,7 +10,7 @@ use Rattle.pe_image.specs.Writing.{certificates_by, image_by, image_length_by, w
 use Rattle.pe_c.specs.Images.{image_at}
 use Rattle.pe_c.specs.Modes.{mode_of_number, options_of}
 use Rattle.pe_c.specs.Signing.{headers_of}
-use Rattle.pe_c.specs.declared.view.View.{View}
+use Rattle.pe_c.specs.declared.base.view.View.{View}
 
 -- the certificates of an image with these headers: none without their directory. Strict mode refuses an invalid table, and
 -- permissive mode takes no certificate of it

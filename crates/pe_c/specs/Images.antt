@@ -7,10 +7,10 @@ use Rattle.pe_core.specs.SectionMap.{section_map}
 use Rattle.pe_core.specs.Sections.{sections_at, sections_offset}
 use Rattle.pe_core.specs.declared.data_directories.DataDirectory.{DataDirectory}
 use Rattle.pe_core.specs.declared.section_table.SectionTable.{SectionTable}
-use Rattle.pe_c.specs.declared.image.Image.{Image}
+use Rattle.pe_c.specs.declared.headers.image.Image.{Image}
 use Rattle.pe_c.specs.HandsOut.{result_number}
 use Rattle.pe_c.specs.Modes.{mode_of_number, options_of}
-use Rattle.pe_c.specs.declared.results.TheConstants.{DONE, ROOM}
+use Rattle.pe_c.specs.declared.base.results.TheConstants.{DONE, ROOM}
 use Rattle.pe_core.specs.declared.optional_header.TheConstants.{MAGIC_64}
 
 -- a directory, or zeros where it is absent

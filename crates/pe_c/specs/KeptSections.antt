@@ -6,10 +6,10 @@ use Rattle.pe_frame.specs.SectionIndexes.{numbered}
 use Rattle.pe_c.specs.Images.{map_of_image}
 use Rattle.pe_c.specs.Runs.{ReturnsItems}
 use Rattle.pe_c.specs.Views.{map_of, may_map}
-use Rattle.pe_c.specs.declared.image.Image.{Image}
-use Rattle.pe_c.specs.declared.kept_sections.KeptSections.{KeptSections}
-use Rattle.pe_c.specs.declared.near_map.Window.{Window}
-use Rattle.pe_c.specs.declared.view.View.{View}
+use Rattle.pe_c.specs.declared.headers.image.Image.{Image}
+use Rattle.pe_c.specs.declared.base.kept_sections.KeptSections.{KeptSections}
+use Rattle.pe_c.specs.declared.base.near_map.Window.{Window}
+use Rattle.pe_c.specs.declared.base.view.View.{View}
 
 -- a walk keeps none at its start
 abbrev pub no_sections : KeptSections

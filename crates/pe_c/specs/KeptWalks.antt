@@ -9,19 +9,19 @@ use Rattle.pe_c.specs.Exports.{StepsExports}
 use Rattle.pe_c.specs.Imports.{StepsImports, StepsLibraries}
 use Rattle.pe_c.specs.KeptSections.{StepsKept}
 use Rattle.pe_c.specs.ResourceLeaves.{StepsLeaves}
-use Rattle.pe_c.specs.declared.delay_imports.DelayLibrary.{DelayLibrary}
-use Rattle.pe_c.specs.declared.delay_imports.DelayWalk.{DelayWalk}
-use Rattle.pe_c.specs.declared.delay_imports.DelayedFunction.{DelayedFunction}
-use Rattle.pe_c.specs.declared.delay_imports.DelayedFunctionWalk.{DelayedFunctionWalk}
-use Rattle.pe_c.specs.declared.exports.Export.{Export}
-use Rattle.pe_c.specs.declared.exports.ExportWalk.{ExportWalk}
-use Rattle.pe_c.specs.declared.imports.Import.{Import}
-use Rattle.pe_c.specs.declared.imports.ImportWalk.{ImportWalk}
-use Rattle.pe_c.specs.declared.imports.Library.{Library}
-use Rattle.pe_c.specs.declared.imports.LibraryWalk.{LibraryWalk}
-use Rattle.pe_c.specs.declared.resource_leaves.LeafWalk.{LeafWalk}
-use Rattle.pe_c.specs.declared.resource_leaves.ResourceLeaf.{ResourceLeaf}
-use Rattle.pe_c.specs.declared.view.View.{View}
+use Rattle.pe_c.specs.declared.directories.delay_imports.DelayLibrary.{DelayLibrary}
+use Rattle.pe_c.specs.declared.directories.delay_imports.DelayWalk.{DelayWalk}
+use Rattle.pe_c.specs.declared.directories.delay_imports.DelayedFunction.{DelayedFunction}
+use Rattle.pe_c.specs.declared.directories.delay_imports.DelayedFunctionWalk.{DelayedFunctionWalk}
+use Rattle.pe_c.specs.declared.names.exports.Export.{Export}
+use Rattle.pe_c.specs.declared.names.exports.ExportWalk.{ExportWalk}
+use Rattle.pe_c.specs.declared.names.imports.Import.{Import}
+use Rattle.pe_c.specs.declared.names.imports.ImportWalk.{ImportWalk}
+use Rattle.pe_c.specs.declared.names.imports.Library.{Library}
+use Rattle.pe_c.specs.declared.names.imports.LibraryWalk.{LibraryWalk}
+use Rattle.pe_c.specs.declared.resources.leaves.LeafWalk.{LeafWalk}
+use Rattle.pe_c.specs.declared.resources.leaves.ResourceLeaf.{ResourceLeaf}
+use Rattle.pe_c.specs.declared.base.view.View.{View}
 
 -- over exports
 abbrev pub StepsKeptExports : View → ExportWalk → Result (Option Export) Refusal → ExportWalk → Type 0

@@ -9,9 +9,9 @@ use Rattle.pe_c.specs.Images.{map_of_image}
 use Rattle.pe_c.specs.Imports.{StepsLibraries, libraries_at}
 use Rattle.pe_c.specs.Ranges.{IsRange}
 use Rattle.pe_c.specs.Runs.{ReturnsItems}
-use Rattle.pe_c.specs.declared.image.Image.{Image}
-use Rattle.pe_c.specs.declared.imports.Libraries.{Libraries}
-use Rattle.pe_c.specs.declared.imports.Library.{Library}
+use Rattle.pe_c.specs.declared.headers.image.Image.{Image}
+use Rattle.pe_c.specs.declared.names.imports.Libraries.{Libraries}
+use Rattle.pe_c.specs.declared.names.imports.Library.{Library}
 
 -- the range that is the name of a library has these bytes
 abbrev pub IsNameOf : List ℕ → Library → List ℕ → Type 0

@@ -7,13 +7,13 @@ use Rattle.pe_c.specs.Directories.{left_after, step_of}
 use Rattle.pe_c.specs.LibraryImports.{one_more, then_items}
 use Rattle.pe_c.specs.Ranges.{no_bytes}
 use Rattle.pe_c.specs.Runs.{ReturnsItems, read_items}
-use Rattle.pe_c.specs.declared.delay_imports.DelayLibrary.{DelayLibrary}
-use Rattle.pe_c.specs.declared.delay_imports.DelayedFunction.{DelayedFunction}
-use Rattle.pe_c.specs.declared.delay_imports.DelayedFunctions.{DelayedFunctions}
-use Rattle.pe_c.specs.declared.image.Image.{Image}
-use Rattle.pe_c.specs.declared.library_functions.LibraryFunction.{LibraryFunction}
-use Rattle.pe_c.specs.declared.library_functions.LibraryFunctions.{LibraryFunctions}
-use Rattle.pe_c.specs.declared.ranges.Range.{Range}
+use Rattle.pe_c.specs.declared.directories.delay_imports.DelayLibrary.{DelayLibrary}
+use Rattle.pe_c.specs.declared.directories.delay_imports.DelayedFunction.{DelayedFunction}
+use Rattle.pe_c.specs.declared.directories.delay_imports.DelayedFunctions.{DelayedFunctions}
+use Rattle.pe_c.specs.declared.headers.image.Image.{Image}
+use Rattle.pe_c.specs.declared.directories.all_delay_imports.LibraryFunction.{LibraryFunction}
+use Rattle.pe_c.specs.declared.directories.all_delay_imports.LibraryFunctions.{LibraryFunctions}
+use Rattle.pe_c.specs.declared.base.ranges.Range.{Range}
 
 -- ---- a walk; `offset` maps an RVA to its file offset
 

@@ -4,9 +4,9 @@ use Rattle.std.specs.Prelude.{◌≡◌, ◌⊎◌, ℕ, zero, suc, ◌+◌, ◌
 use Rattle.pe_core.specs.Refusals.{Refusal, FunctionIndex}
 use Rattle.pe_c.specs.Runs.{ReturnsItems}
 use Rattle.pe_c.specs.VersionBlocks.{block_step, block_walk}
-use Rattle.pe_c.specs.declared.ranges.Range.{Range}
-use Rattle.pe_c.specs.declared.version_blocks.VersionBlock.{VersionBlock}
-use Rattle.pe_c.specs.declared.results.TheConstants.{DONE, ROOM}
+use Rattle.pe_c.specs.declared.base.ranges.Range.{Range}
+use Rattle.pe_c.specs.declared.resources.version_blocks.VersionBlock.{VersionBlock}
+use Rattle.pe_c.specs.declared.base.results.TheConstants.{DONE, ROOM}
 
 -- ---- what a list has
 

@@ -9,8 +9,8 @@ use Rattle.pe_directories.specs.declared.load_config.LoadConfig as structures
 use Rattle.pe_c.specs.Directories.{if_present, image_parts}
 use Rattle.pe_c.specs.Exports.{one_if_some, or_zero}
 use Rattle.pe_c.specs.Images.{directory, is_absent}
-use Rattle.pe_c.specs.declared.image.Image as images
-use Rattle.pe_c.specs.declared.load_config.LoadConfig.{LoadConfig}
+use Rattle.pe_c.specs.declared.headers.image.Image as images
+use Rattle.pe_c.specs.declared.directories.load_config.LoadConfig.{LoadConfig}
 
 -- a load configuration as callers get it: a field that is absent is 0, and so is the number that says
 -- whether it is there

@@ -13,10 +13,10 @@ use Rattle.pe_c.specs.Directories.{directory_number, if_present, image_parts}
 use Rattle.pe_c.specs.Images.{directory}
 use Rattle.pe_frame.specs.SectionIndexes.{no_entry, started}
 use Rattle.pe_c.specs.Views.{map_of}
-use Rattle.pe_c.specs.declared.image.Image.{Image}
-use Rattle.pe_c.specs.declared.results.TheConstants.{DONE, NOTHING, ROOM}
+use Rattle.pe_c.specs.declared.headers.image.Image.{Image}
+use Rattle.pe_c.specs.declared.base.results.TheConstants.{DONE, NOTHING, ROOM}
 use Rattle.pe_frame.specs.declared.section_index.IndexEntry.{IndexEntry}
-use Rattle.pe_c.specs.declared.view.View.{View}
+use Rattle.pe_c.specs.declared.base.view.View.{View}
 
 -- the image of a view as a loader lays it out
 abbrev pub loaded_of : View → List ℕ

@@ -6,8 +6,8 @@ use Rattle.pe_core.specs.SectionMap.{raw_start, reach}
 use Rattle.pe_core.specs.declared.section_table.SectionTable.{SectionTable}
 use Rattle.pe_c.specs.Maps.{bytes_between, covers}
 use Rattle.pe_c.specs.Modes.{resolves}
-use Rattle.pe_c.specs.declared.image.Image.{Image}
-use Rattle.pe_c.specs.declared.ranges.Range.{Range}
+use Rattle.pe_c.specs.declared.headers.image.Image.{Image}
+use Rattle.pe_c.specs.declared.base.ranges.Range.{Range}
 
 -- the bytes from an RVA to the end of what the section has, if it covers the RVA
 abbrev pub range_in : List ℕ → ℕ → ℕ → SectionTable → Option Range

@@ -5,8 +5,8 @@ use Rattle.pe_core.specs.SectionMap.{raw_start, reach}
 use Rattle.pe_core.specs.SectionMap as sections
 use Rattle.pe_core.specs.declared.section_table.SectionTable.{SectionTable}
 use Rattle.pe_c.specs.Modes.{resolves}
-use Rattle.pe_c.specs.declared.image.Image.{Image}
-use Rattle.pe_c.specs.declared.ranges.Range.{Range}
+use Rattle.pe_c.specs.declared.headers.image.Image.{Image}
+use Rattle.pe_c.specs.declared.base.ranges.Range.{Range}
 
 -- the section covers the RVA; none does where the file alignment is not a power of two
 abbrev pub covers : ℕ → ℕ → SectionTable → Bool

@@ -11,7 +11,7 @@ use Rattle.pe_pkcs7.specs.declared.error.SignatureError.TheVariants.{Tag}
 use Rattle.pe_pkcs7.specs.declared.name.NameAttribute.{NameAttribute}
 use Rattle.pe_c.specs.Ranges.{no_bytes}
 use Rattle.pe_c.specs.SignatureParts.{content_range, left_from, oid_part, parsed, read_in, up_to_range}
-use Rattle.pe_c.specs.declared.ranges.Range.{Range}
+use Rattle.pe_c.specs.declared.base.ranges.Range.{Range}
 use Rattle.pe_c.specs.declared.signatures.name.NamePart.{NamePart}
 use Rattle.pe_c.specs.declared.signatures.name.NameWalk.{NameWalk}
 use Rattle.pe_c.specs.declared.signatures.refused.SignatureFailure.{SignatureFailure}

@@ -5,11 +5,11 @@ use Rattle.pe_core.specs.Refusals.{Refusal, ◌>>=◌}
 use Rattle.pe_c.specs.Coff.{symbol_at, symbol_name_at}
 use Rattle.pe_c.specs.HandsOut.{result_number}
 use Rattle.pe_c.specs.Ranges.{no_bytes}
-use Rattle.pe_c.specs.declared.coff.Symbol.{Symbol}
-use Rattle.pe_c.specs.declared.coff.SymbolWalk.{SymbolWalk}
+use Rattle.pe_c.specs.declared.headers.coff.Symbol.{Symbol}
+use Rattle.pe_c.specs.declared.headers.coff.SymbolWalk.{SymbolWalk}
 use Rattle.pe_c.specs.declared.lists.symbols.NamedSymbol.{NamedSymbol}
-use Rattle.pe_c.specs.declared.ranges.Range.{Range}
-use Rattle.pe_c.specs.declared.results.TheConstants.{DONE, NOTHING}
+use Rattle.pe_c.specs.declared.base.ranges.Range.{Range}
+use Rattle.pe_c.specs.declared.base.results.TheConstants.{DONE, NOTHING}
 
 -- a symbol with what a call for its name returns: the range of the name, or the number of the error, and then no bytes
 abbrev pub named_by : Symbol → Result (Option Range) Refusal → NamedSymbol

@@ -8,16 +8,16 @@ use Rattle.pe_c.specs.Imports.{StepsImports}
 use Rattle.pe_c.specs.LibraryFunctions.{StepsLibraryFunctions}
 use Rattle.pe_c.specs.LibraryImports.{StepsLibraryImports}
 use Rattle.pe_c.specs.Views.{map_of}
-use Rattle.pe_c.specs.declared.exports.Export.{Export}
-use Rattle.pe_c.specs.declared.imports.Import.{Import}
-use Rattle.pe_c.specs.declared.kept_sections.KeptWalk.{KeptWalk}
-use Rattle.pe_c.specs.declared.library_functions.LibraryFunction.{LibraryFunction}
-use Rattle.pe_c.specs.declared.library_functions.LibraryFunctions.{LibraryFunctions}
-use Rattle.pe_c.specs.declared.library_imports.LibraryImport.{LibraryImport}
-use Rattle.pe_c.specs.declared.near_exports.NearExports.{NearExports}
-use Rattle.pe_c.specs.declared.near_imports.NearImports.{NearImports}
-use Rattle.pe_c.specs.declared.near_imports.NearLibraryImports.{NearLibraryImports}
-use Rattle.pe_c.specs.declared.view.View.{View}
+use Rattle.pe_c.specs.declared.names.exports.Export.{Export}
+use Rattle.pe_c.specs.declared.names.imports.Import.{Import}
+use Rattle.pe_c.specs.declared.base.kept_sections.KeptWalk.{KeptWalk}
+use Rattle.pe_c.specs.declared.directories.all_delay_imports.LibraryFunction.{LibraryFunction}
+use Rattle.pe_c.specs.declared.directories.all_delay_imports.LibraryFunctions.{LibraryFunctions}
+use Rattle.pe_c.specs.declared.names.all_imports.LibraryImport.{LibraryImport}
+use Rattle.pe_c.specs.declared.names.near_exports.NearExports.{NearExports}
+use Rattle.pe_c.specs.declared.names.near_imports.NearImports.{NearImports}
+use Rattle.pe_c.specs.declared.names.near_imports.NearLibraryImports.{NearLibraryImports}
+use Rattle.pe_c.specs.declared.base.view.View.{View}
 
 -- a step of a walk that a list keeps with the image: it is a step of the walk, and the image stays
 abbrev pub StepsNear : {S W X R : Type 0} → (S → View) → (S → W) → (View → W → Result (Option X) R → W → Type 0) → S → Result (Option X) R → S → Type 0

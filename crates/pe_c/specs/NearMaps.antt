@@ -1,6 +1,6 @@
 -- Windows of the section map, by which lists map most RVAs. Only contracts of private functions cite this.
 use Rattle.std.specs.Prelude.{◌≡◌, ℕ, ◌+◌, ◌-◌, ◌<◌, ◌≤◌, ◌^◌, Option, Some, None}
-use Rattle.pe_c.specs.declared.near_map.Window.{Window}
+use Rattle.pe_c.specs.declared.base.near_map.Window.{Window}
 
 -- by the map each RVA of the window has the offset that is as far after that of the first RVA
 pub record IsWindow (to_offset : ℕ → Option ℕ) (w : Window) : Type 0 where

@@ -5,8 +5,8 @@ use Rattle.pe_core.specs.declared.section_table.SectionTable.{SectionTable}
 use Rattle.pe_directories.specs.Overlays.{overlay_range}
 use Rattle.pe_c.specs.Modes.{resolves}
 use Rattle.pe_c.specs.Ranges.{range_of}
-use Rattle.pe_c.specs.declared.image.Image.{Image}
-use Rattle.pe_c.specs.declared.ranges.Range.{Range}
+use Rattle.pe_c.specs.declared.headers.image.Image.{Image}
+use Rattle.pe_c.specs.declared.base.ranges.Range.{Range}
 
 -- the range of the overlay of a file, if it has one; an image as loaded has none
 abbrev pub overlay_at : List ℕ → Image → List SectionTable → Option Range

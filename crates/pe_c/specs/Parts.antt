@@ -5,17 +5,17 @@ use Rattle.pe_core.specs.Exports.{ExportDataView, ExportView}
 use Rattle.pe_core.specs.Imports.{ImportRecordView, ImportView, imports, entry_size, import_data_at}
 use Rattle.pe_core.specs.Refusals.{Refusal, ◌>>=◌}
 use Rattle.pe_core.specs.declared.import.ImportDirectoryEntry.{ImportDirectoryEntry}
-use Rattle.pe_c.specs.declared.exports.Export.{Export}
-use Rattle.pe_c.specs.declared.exports.Exports.{Exports}
-use Rattle.pe_c.specs.declared.imports.Import.{Import}
-use Rattle.pe_c.specs.declared.imports.Library.{Library}
+use Rattle.pe_c.specs.declared.names.exports.Export.{Export}
+use Rattle.pe_c.specs.declared.names.exports.Exports.{Exports}
+use Rattle.pe_c.specs.declared.names.imports.Import.{Import}
+use Rattle.pe_c.specs.declared.names.imports.Library.{Library}
 use Rattle.pe_c.specs.Exports.{or_zero, one_if_some}
 use Rattle.pe_c.specs.Imports.{StepsImports, StepsLibraries}
 use Rattle.pe_c.specs.Ranges.{IsPart, IsRange}
 use Rattle.pe_c.specs.Runs.{ReturnsItems}
 use Rattle.pe_core.specs.declared.section_table.SectionTable.{SectionTable}
-use Rattle.pe_c.specs.declared.image.Image.{Image}
-use Rattle.pe_c.specs.declared.imports.Libraries.{Libraries}
+use Rattle.pe_c.specs.declared.headers.image.Image.{Image}
+use Rattle.pe_c.specs.declared.names.imports.Libraries.{Libraries}
 use Rattle.pe_c.specs.Images.{import_directory, map_of_image}
 
 -- a walk at its start has the tables of these export data

@@ -6,8 +6,8 @@ use Rattle.pe_pdb.specs.Refusals.{PdbRefusal}
 use Rattle.pe_pdb.specs.SectionHeaders.{headers_of}
 use Rattle.pe_pdb.specs.declared.contribution.ModuleRange.{ModuleRange}
 use Rattle.pe_c.specs.Pdbs.{part_of, pdb_number}
-use Rattle.pe_c.specs.declared.ranges.Range.{Range}
-use Rattle.pe_c.specs.declared.results.TheConstants.{DONE, ROOM}
+use Rattle.pe_c.specs.declared.base.ranges.Range.{Range}
+use Rattle.pe_c.specs.declared.base.results.TheConstants.{DONE, ROOM}
 
 -- the contributions in a range of the DBI stream
 abbrev pub contributions_at : List ℕ → Range → Result ContributionsView PdbRefusal

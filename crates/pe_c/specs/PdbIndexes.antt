@@ -13,8 +13,8 @@ use Rattle.pe_pdb.specs.declared.symbol_lookup.SymbolAddress.{SymbolAddress}
 use Rattle.pe_c.specs.Pdbs.{PdbHandsOut, part_of, pdb_number}
 use Rattle.pe_c.specs.PdbSymbols.{symbol_reported}
 use Rattle.pe_c.specs.declared.pdb.symbols.PdbSymbol.{PdbSymbol}
-use Rattle.pe_c.specs.declared.ranges.Range.{Range}
-use Rattle.pe_c.specs.declared.results.TheConstants.{DONE, NOTHING, ROOM}
+use Rattle.pe_c.specs.declared.base.ranges.Range.{Range}
+use Rattle.pe_c.specs.declared.base.results.TheConstants.{DONE, NOTHING, ROOM}
 
 -- the class with a number
 abbrev pub class_of : ℕ → SymbolClass

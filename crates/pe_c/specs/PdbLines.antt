@@ -16,8 +16,8 @@ use Rattle.pe_pdb.specs.declared.line.TheConstants.{DEBUG_S_FILECHKSMS}
 use Rattle.pe_pdb.specs.declared.line_entries.CodeLine.{CodeLine}
 use Rattle.pe_pdb.specs.declared.line_entries.LineEntry.{LineEntry}
 use Rattle.pe_c.specs.Pdbs.{part_of, pdb_number}
-use Rattle.pe_c.specs.declared.ranges.Range.{Range}
-use Rattle.pe_c.specs.declared.results.TheConstants.{DONE, NOTHING, ROOM}
+use Rattle.pe_c.specs.declared.base.ranges.Range.{Range}
+use Rattle.pe_c.specs.declared.base.results.TheConstants.{DONE, NOTHING, ROOM}
 
 -- the lines in a range of the stream of a module
 abbrev pub indexed_lines : List ℕ → Range → List ℕ → Result (List CodeLine) PdbRefusal

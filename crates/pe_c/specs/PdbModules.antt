@@ -8,7 +8,7 @@ use Rattle.pe_pdb.specs.declared.module.ModuleRecord.{ModuleRecord}
 use Rattle.pe_c.specs.Pdbs.{part_of}
 use Rattle.pe_c.specs.Ranges.{no_bytes, range_after}
 use Rattle.pe_c.specs.declared.pdb.modules.PdbModule.{PdbModule}
-use Rattle.pe_c.specs.declared.ranges.Range.{Range}
+use Rattle.pe_c.specs.declared.base.ranges.Range.{Range}
 
 -- the symbols of a module in its stream, after the number of 4 bytes at its start, if it has any
 abbrev pub symbols_range : ModuleRecord → Range

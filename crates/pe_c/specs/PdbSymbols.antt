@@ -10,8 +10,8 @@ use Rattle.pe_pdb.specs.declared.public.TheConstants.{S_PUB32}
 use Rattle.pe_c.specs.Pdbs.{part_of, pdb_number}
 use Rattle.pe_c.specs.Ranges.{no_bytes, range_after}
 use Rattle.pe_c.specs.declared.pdb.symbols.PdbSymbol.{PdbSymbol}
-use Rattle.pe_c.specs.declared.ranges.Range.{Range}
-use Rattle.pe_c.specs.declared.results.TheConstants.{DONE, NOTHING}
+use Rattle.pe_c.specs.declared.base.ranges.Range.{Range}
+use Rattle.pe_c.specs.declared.base.results.TheConstants.{DONE, NOTHING}
 
 -- a record that starts at an offset, without what it says
 abbrev pub record_reported : ℕ → Symbol → ℕ → PdbSymbol

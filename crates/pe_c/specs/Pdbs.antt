@@ -15,11 +15,11 @@ use Rattle.pe_pdb.specs.declared.info.PdbInfo.{PdbInfo}
 use Rattle.pe_pdb.specs.declared.msf.SuperBlock.{SuperBlock}
 use Rattle.pe_c.specs.Ranges.{no_bytes}
 use Rattle.pe_c.specs.WrittenFiles.{numbered}
-use Rattle.pe_c.specs.declared.debug_records.SymbolKey.{SymbolKey}
+use Rattle.pe_c.specs.declared.debug.records.SymbolKey.{SymbolKey}
 use Rattle.pe_c.specs.declared.pdb.DbiStreams.{DbiStreams}
 use Rattle.pe_c.specs.declared.pdb.Pdb.{Pdb}
-use Rattle.pe_c.specs.declared.ranges.Range.{Range}
-use Rattle.pe_c.specs.declared.results.TheConstants.{DONE, NOTHING, ROOM}
+use Rattle.pe_c.specs.declared.base.ranges.Range.{Range}
+use Rattle.pe_c.specs.declared.base.results.TheConstants.{DONE, NOTHING, ROOM}
 
 -- the number of a refusal of a PDB, written by tools/make_errors
 abbrev pub pdb_number : PdbRefusal → ℕ

@@ -5,7 +5,7 @@ use Rattle.pe_unwind.specs.Links.{Table}
 use Rattle.pe_unwind.specs.UnwindRecord.{UnwindInfoView, unwind_tests, unwind_record}
 use Rattle.pe_c.specs.HandsOut.{HandsOutIf}
 use Rattle.pe_c.specs.Unwinding.{FollowsToRecord, flat_record}
-use Rattle.pe_c.specs.declared.plan.Plan.{Plan}
+use Rattle.pe_c.specs.declared.unwinding.plan.Plan.{Plan}
 use Rattle.pe_c.specs.declared.unwinding.UnwindRecord.{UnwindRecord}
 
 -- the plan that starts at an unwind RVA

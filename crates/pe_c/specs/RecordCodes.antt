@@ -7,7 +7,7 @@ use Rattle.pe_c.specs.HandsOut.{result_number}
 use Rattle.pe_unwind.specs.declared.unwind_code.UnwindCode.{UnwindCode}
 use Rattle.pe_c.specs.Lists.{Numbered, Takes}
 use Rattle.pe_c.specs.Unwinding.{flat_answer}
-use Rattle.pe_c.specs.declared.results.TheConstants.{DONE, ROOM}
+use Rattle.pe_c.specs.declared.base.results.TheConstants.{DONE, ROOM}
 use Rattle.pe_c.specs.declared.unwinding.Code.{Code}
 
 -- the codes in some bytes, of a record of this version with this frame register

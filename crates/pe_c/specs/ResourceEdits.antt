@@ -13,7 +13,7 @@ use Rattle.pe_rewrite.specs.RewriteRefusals as rewrites
 use Rattle.pe_c.specs.HandsOut.{result_number}
 use Rattle.pe_c.specs.Signing.{headers_numbered}
 use Rattle.pe_c.specs.WrittenFiles.{numbered}
-use Rattle.pe_c.specs.declared.image.Image as images
+use Rattle.pe_c.specs.declared.headers.image.Image as images
 
 -- the numbers of refusals, written by tools/make_errors
 abbrev pub edit_number : EditRefusal → ℕ

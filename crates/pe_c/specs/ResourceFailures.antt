@@ -12,8 +12,8 @@ use Rattle.pe_resource.specs.declared.leaf_position.LeafPosition.{LeafPosition}
 use Rattle.pe_c.specs.FailureNumbers.{needed_at, no_numbers, numbers}
 use Rattle.pe_c.specs.Ranges.{bytes_there}
 use Rattle.pe_c.specs.ResourceLeaves.{position_of}
-use Rattle.pe_c.specs.declared.failure_numbers.ErrorNumbers.{ErrorNumbers}
-use Rattle.pe_c.specs.declared.resource_leaves.ResourceLeaves.{ResourceLeaves}
+use Rattle.pe_c.specs.declared.failures.numbers.ErrorNumbers.{ErrorNumbers}
+use Rattle.pe_c.specs.declared.resources.leaves.ResourceLeaves.{ResourceLeaves}
 
 -- n bytes are needed at offset p of data that start at this offset of the file
 abbrev pub needed_of : ℕ → ℕ → ℕ → ErrorNumbers

@@ -16,12 +16,12 @@ use Rattle.pe_c.specs.HandsOut.{result_number}
 use Rattle.pe_c.specs.Images.{is_absent, map_of_image, resource_directory}
 use Rattle.pe_c.specs.Modes.{options_of}
 use Rattle.pe_c.specs.Ranges.{IsRange, bytes_at, no_bytes, range_of}
-use Rattle.pe_c.specs.declared.image.Image as images
-use Rattle.pe_c.specs.declared.ranges.Range.{Range}
-use Rattle.pe_c.specs.declared.resource_leaves.ResourceLeaf.{ResourceLeaf}
-use Rattle.pe_c.specs.declared.resource_leaves.ResourceLeaves.{ResourceLeaves}
-use Rattle.pe_c.specs.declared.resource_leaves.ResourceName.{ResourceName}
-use Rattle.pe_c.specs.declared.results.TheConstants.{DONE, NOTHING}
+use Rattle.pe_c.specs.declared.headers.image.Image as images
+use Rattle.pe_c.specs.declared.base.ranges.Range.{Range}
+use Rattle.pe_c.specs.declared.resources.leaves.ResourceLeaf.{ResourceLeaf}
+use Rattle.pe_c.specs.declared.resources.leaves.ResourceLeaves.{ResourceLeaves}
+use Rattle.pe_c.specs.declared.resources.leaves.ResourceName.{ResourceName}
+use Rattle.pe_c.specs.declared.base.results.TheConstants.{DONE, NOTHING}
 
 -- the number of a refusal of a resource tree, written by tools/make_errors
 abbrev pub tree_number : TreeRefusal → ℕ

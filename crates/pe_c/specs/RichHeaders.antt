@@ -6,7 +6,7 @@ use Rattle.pe_core.specs.Records.{dos_header}
 use Rattle.pe_core.specs.Refusals.{Refusal, ◌>>=◌}
 use Rattle.pe_directories.specs.RichHeader.{Rich, rich_checksum, rich_entry, rich_header}
 use Rattle.pe_directories.specs.declared.rich_header.RichEntry.{RichEntry}
-use Rattle.pe_c.specs.declared.rich_header.RichHeader.{RichHeader}
+use Rattle.pe_c.specs.declared.headers.rich_header.RichHeader.{RichHeader}
 
 -- a Rich header as callers get it: its entries follow its first four words
 abbrev pub rich_reported : Rich → RichHeader

@@ -11,8 +11,8 @@ use Rattle.pe_directories.specs.SectionNames.{long_section_name, string_offset}
 use Rattle.pe_c.specs.Exports.{or_zero}
 use Rattle.pe_c.specs.Modes.{resolves}
 use Rattle.pe_c.specs.Ranges.{bytes_at, or_no_bytes}
-use Rattle.pe_c.specs.declared.image.Image.{Image}
-use Rattle.pe_c.specs.declared.ranges.Range.{Range}
+use Rattle.pe_c.specs.declared.headers.image.Image.{Image}
+use Rattle.pe_c.specs.declared.base.ranges.Range.{Range}
 
 -- the range of the string table of a file, if it has one; its COFF header follows the PE signature, 4 bytes
 abbrev pub strings_in : List ℕ → Result (Option Range) Refusal

@@ -2,7 +2,7 @@
 use Rattle.std.specs.Prelude.{ℕ, ◌==◌, List, Option, Some, None, Result, if◌then◌else◌}
 use Rattle.pe_core.specs.Refusals.{Refusal}
 use Rattle.pe_image.specs.Writing.{sections_written}
-use Rattle.pe_c.specs.declared.view.View.{View}
+use Rattle.pe_c.specs.declared.base.view.View.{View}
 
 -- the unit of which the zeros after a section fill a multiple; none for 0
 abbrev pub unit_of : ℕ → Option ℕ

@@ -12,12 +12,12 @@ use Rattle.pe_pkcs7.specs.declared.error.SignatureError.{SignatureError}
 use Rattle.pe_pkcs7.specs.declared.error.SignatureError.TheVariants.{Truncated, TagNumber, EndOfContents, IndefiniteLength, LengthOctets, LengthForm, PastParent, EmptyContent, Missing, Tag, Trailing, ContentType, BadTime}
 use Rattle.pe_pkcs7.specs.declared.indirect_data.AlgorithmIdentifier.{AlgorithmIdentifier}
 use Rattle.pe_c.specs.Ranges.{no_bytes}
-use Rattle.pe_c.specs.declared.ranges.Range.{Range}
+use Rattle.pe_c.specs.declared.base.ranges.Range.{Range}
 use Rattle.pe_c.specs.declared.signatures.elements.Algorithm.{Algorithm}
 use Rattle.pe_c.specs.declared.signatures.elements.DerElement.{DerElement}
 use Rattle.pe_c.specs.declared.signatures.elements.Oid.{Oid}
 use Rattle.pe_c.specs.declared.signatures.refused.SignatureFailure.{SignatureFailure}
-use Rattle.pe_c.specs.declared.results.TheConstants.{DONE, NOTHING}
+use Rattle.pe_c.specs.declared.base.results.TheConstants.{DONE, NOTHING}
 
 -- ---- refusals
 

@@ -21,7 +21,7 @@ use Rattle.pe_pkcs7.specs.declared.time_stamp.TstInfo.{TstInfo}
 use Rattle.pe_c.specs.Exports.{one_if_some}
 use Rattle.pe_c.specs.Ranges.{no_bytes}
 use Rattle.pe_c.specs.SignatureParts.{after_tag, algorithm_at, content_range, left_from, left_place, oid_part, optional_content, optional_whole, read_in, refused, up_to_range, whole_range}
-use Rattle.pe_c.specs.declared.ranges.Range.{Range}
+use Rattle.pe_c.specs.declared.base.ranges.Range.{Range}
 use Rattle.pe_c.specs.declared.signatures.elements.Algorithm.{Algorithm}
 use Rattle.pe_c.specs.declared.signatures.refused.SignatureFailure.{SignatureFailure}
 use Rattle.pe_c.specs.declared.signatures.signature.SignedData.{SignedData}

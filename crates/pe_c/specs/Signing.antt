@@ -16,10 +16,10 @@ use Rattle.pe_c.specs.HandsOut.{result_number}
 use Rattle.pe_c.specs.Modes.{mode_of_number}
 use Rattle.pe_c.specs.Ranges.{range_of}
 use Rattle.pe_c.specs.WrittenFiles.{numbered}
-use Rattle.pe_c.specs.declared.image.Image as images
-use Rattle.pe_c.specs.declared.ranges.Range.{Range}
-use Rattle.pe_c.specs.declared.signing.ChecksumField.{ChecksumField}
-use Rattle.pe_c.specs.declared.signing.Digest.{Digest}
+use Rattle.pe_c.specs.declared.headers.image.Image as images
+use Rattle.pe_c.specs.declared.base.ranges.Range.{Range}
+use Rattle.pe_c.specs.declared.write.signing.ChecksumField.{ChecksumField}
+use Rattle.pe_c.specs.declared.write.signing.Digest.{Digest}
 
 -- the number of a refusal of signing, written by tools/make_errors
 abbrev pub sign_number : SignRefusal → ℕ

@@ -15,11 +15,11 @@ use Rattle.pe_frame.specs.declared.memory_list.MemoryPiece.{MemoryPiece}
 use Rattle.pe_frame.specs.declared.registers.Registers.{Registers}
 use Rattle.pe_c.specs.HandsOut.{result_number}
 use Rattle.pe_c.specs.Views.{map_of}
-use Rattle.pe_c.specs.declared.ranges.Range.{Range}
-use Rattle.pe_c.specs.declared.stack_frames.FrameRegisters.{FrameRegisters}
-use Rattle.pe_c.specs.declared.stack_frames.StackFrame.{StackFrame}
-use Rattle.pe_c.specs.declared.view.View.{View}
-use Rattle.pe_c.specs.declared.results.TheConstants.{BAD_ADDRESS, BAD_OPERATION, DONE, LONG_CHAIN, MISSING, NOT_RISING}
+use Rattle.pe_c.specs.declared.base.ranges.Range.{Range}
+use Rattle.pe_c.specs.declared.stack.frames.FrameRegisters.{FrameRegisters}
+use Rattle.pe_c.specs.declared.stack.frames.StackFrame.{StackFrame}
+use Rattle.pe_c.specs.declared.base.view.View.{View}
+use Rattle.pe_c.specs.declared.base.results.TheConstants.{BAD_ADDRESS, BAD_OPERATION, DONE, LONG_CHAIN, MISSING, NOT_RISING}
 
 -- ---- registers
 

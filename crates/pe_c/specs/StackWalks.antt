@@ -5,7 +5,7 @@ use Rattle.pe_frame.specs.declared.walk.StackFrame.{StackFrame}
 use Rattle.pe_frame.specs.declared.walk.WalkEnd.{WalkEnd}
 use Rattle.pe_c.specs.FrameCalls.{WalkRecords, bit_of, end_address, end_error, end_number, is_set, way_number, way_of}
 use Rattle.pe_c.specs.StackFrames.{flat_registers, registers_of}
-use Rattle.pe_c.specs.declared.stack_walk.StackWalk.{StackWalk}
+use Rattle.pe_c.specs.declared.stack.walk.StackWalk.{StackWalk}
 
 -- the frame of a walk
 abbrev pub frame_in : StackWalk → StackFrame

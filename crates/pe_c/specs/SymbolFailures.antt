@@ -4,8 +4,8 @@ use Rattle.pe_core.specs.Refusals.{Short, StringTable}
 use Rattle.pe_c.specs.FailureNumbers.{needed_in, no_numbers, number_there, numbers}
 use Rattle.pe_c.specs.HandsOut.{result_number}
 use Rattle.pe_c.specs.Ranges.{bytes_there}
-use Rattle.pe_c.specs.declared.failure_numbers.ErrorNumbers.{ErrorNumbers}
-use Rattle.pe_c.specs.declared.ranges.Range.{Range}
+use Rattle.pe_c.specs.declared.failures.numbers.ErrorNumbers.{ErrorNumbers}
+use Rattle.pe_c.specs.declared.base.ranges.Range.{Range}
 
 -- the number in the last 4 of the 8 bytes of a name, which for a name in the string table is its offset there; an entry has 18
 -- bytes, its name first

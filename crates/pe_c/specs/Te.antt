@@ -11,8 +11,8 @@ use Rattle.pe_records.specs.DebugDirectory.{directory_range, directory_table, fi
 use Rattle.pe_records.specs.declared.debug.ImageDebugDirectory.{ImageDebugDirectory}
 use Rattle.pe_c.specs.Images.{PutsIf, is_absent}
 use Rattle.pe_c.specs.Ranges.{range_of}
-use Rattle.pe_c.specs.declared.ranges.Range.{Range}
-use Rattle.pe_c.specs.declared.te.TeImage.{TeImage}
+use Rattle.pe_c.specs.declared.base.ranges.Range.{Range}
+use Rattle.pe_c.specs.declared.headers.te.TeImage.{TeImage}
 
 -- what a header says, its RVAs reduced, and by how much
 abbrev pub te_image_of : TeHeader → TeImage

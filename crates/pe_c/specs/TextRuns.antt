@@ -4,7 +4,7 @@ use Rattle.std.specs.Str.{is_utf8}
 use Rattle.pe_core.specs.ImportSteps.{IsList}
 use Rattle.pe_core.specs.Text.{text_at}
 use Rattle.pe_core.specs.TextRuns.{last_of}
-use Rattle.pe_c.specs.declared.text_runs.Run.{Run}
+use Rattle.pe_c.specs.declared.base.text_runs.Run.{Run}
 
 -- the longest text that ends where a run does
 unfoldable pub run_text : List ℕ → Run → Option (List ℕ)

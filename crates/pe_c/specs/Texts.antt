@@ -1,8 +1,8 @@
 -- The texts of results.
 -- `tools/make_errors` writes the list of errors.
 use Rattle.std.specs.Prelude.{ℕ, ◌-◌, nat_lt, List, [], ◌∷◌, slice_index_or, codes, if◌then◌else◌}
-use Rattle.pe_c.specs.declared.results.TheConstants.{NOTHING}
-use Rattle.pe_c.specs.declared.texts.TheConstants.{DIRECTORIES, DUMPS, EDITS, PDBS, SIGNATURES, SIGNING, TREES}
+use Rattle.pe_c.specs.declared.base.results.TheConstants.{NOTHING}
+use Rattle.pe_c.specs.declared.base.texts.TheConstants.{DIRECTORIES, DUMPS, EDITS, PDBS, SIGNATURES, SIGNING, TREES}
 
 -- the texts of 0 and of the refusals, in the order of their numbers
 abbrev pub texts : List (List ℕ)

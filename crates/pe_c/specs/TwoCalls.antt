@@ -9,9 +9,9 @@ use Rattle.pe_c.specs.Debug.{first_entry, read_first}
 use Rattle.pe_c.specs.HandsOut.{HandsOutIf}
 use Rattle.pe_c.specs.VersionBlocks.{HandsOutBlocks}
 use Rattle.pe_c.specs.Versions.{HandsOutFixed, HandsOutText, fixed_in, text_in}
-use Rattle.pe_c.specs.declared.image.Image.{Image}
-use Rattle.pe_c.specs.declared.ranges.Range.{Range}
-use Rattle.pe_c.specs.declared.results.TheConstants.{DONE}
+use Rattle.pe_c.specs.declared.headers.image.Image.{Image}
+use Rattle.pe_c.specs.declared.base.ranges.Range.{Range}
+use Rattle.pe_c.specs.declared.base.results.TheConstants.{DONE}
 
 -- by whether the first call is done: the second over what that wrote, else its number, and nothing is written
 abbrev pub GoesOn : {X Y : Type 0} → (X → ℕ → Y → Y → Type 0) → Bool → ℕ → X → ℕ → Y → Y → Type 0

@@ -9,10 +9,10 @@ use Rattle.pe_c.specs.FailureNumbers.{failure_by, needed_at, needed_in, no_numbe
 use Rattle.pe_c.specs.HandsOut.{HandsOutIf, result_number}
 use Rattle.pe_c.specs.Ranges.{bytes_there}
 use Rattle.pe_c.specs.Unwinding.{FollowsToRecord, StepsCodes, links_at}
-use Rattle.pe_c.specs.declared.failure.Failure.{Failure}
-use Rattle.pe_c.specs.declared.failure_numbers.ErrorNumbers.{ErrorNumbers}
-use Rattle.pe_c.specs.declared.ranges.Range.{Range}
-use Rattle.pe_c.specs.declared.step_failures.unwinding.TheConstants.{UWOP_ALLOC_LARGE, UWOP_EPILOG, UWOP_SAVE_NONVOL, UWOP_SAVE_NONVOL_FAR, UWOP_SAVE_XMM128, UWOP_SAVE_XMM128_FAR, UWOP_SPARE_CODE}
+use Rattle.pe_c.specs.declared.failures.headers.Failure.{Failure}
+use Rattle.pe_c.specs.declared.failures.numbers.ErrorNumbers.{ErrorNumbers}
+use Rattle.pe_c.specs.declared.base.ranges.Range.{Range}
+use Rattle.pe_c.specs.declared.failures.steps.unwinding.TheConstants.{UWOP_ALLOC_LARGE, UWOP_EPILOG, UWOP_SAVE_NONVOL, UWOP_SAVE_NONVOL_FAR, UWOP_SAVE_XMM128, UWOP_SAVE_XMM128_FAR, UWOP_SPARE_CODE}
 use Rattle.pe_c.specs.declared.unwinding.Code.{Code}
 use Rattle.pe_c.specs.declared.unwinding.CodeWalk.{CodeWalk}
 use Rattle.pe_c.specs.declared.unwinding.UnwindRecord.{UnwindRecord}

@@ -12,9 +12,9 @@ use Rattle.pe_c.specs.Directories.{range_left}
 use Rattle.pe_c.specs.HandsOut.{HandsOutIf}
 use Rattle.pe_c.specs.Ranges.{bytes_at, no_bytes, range_of, IsRange}
 use Rattle.pe_c.specs.Versions.{IsContentOf}
-use Rattle.pe_c.specs.declared.image.Image.{Image}
-use Rattle.pe_c.specs.declared.ranges.Range.{Range}
-use Rattle.pe_c.specs.declared.version_blocks.VersionBlock.{VersionBlock}
+use Rattle.pe_c.specs.declared.headers.image.Image.{Image}
+use Rattle.pe_c.specs.declared.base.ranges.Range.{Range}
+use Rattle.pe_c.specs.declared.resources.version_blocks.VersionBlock.{VersionBlock}
 
 -- the refusal of a block as calls return it
 abbrev pub refusal_of : BlockRefusal → Refusal

@@ -15,13 +15,13 @@ use Rattle.pe_resource.specs.declared.content.ResourceDataEntry.{ResourceDataEnt
 use Rattle.pe_resource.specs.declared.version.VersionName.{VersionName}
 use Rattle.pe_resource.specs.declared.version.VersionName.TheVariants as names
 use Rattle.pe_resource.specs.declared.version.VsFixedFileInfo.{VsFixedFileInfo}
-use Rattle.pe_c.specs.declared.image.Image.{Image}
-use Rattle.pe_c.specs.declared.ranges.Range.{Range}
+use Rattle.pe_c.specs.declared.headers.image.Image.{Image}
+use Rattle.pe_c.specs.declared.base.ranges.Range.{Range}
 use Rattle.pe_c.specs.HandsOut.{HandsOutIf}
 use Rattle.pe_c.specs.Images.{is_absent, resource_directory}
 use Rattle.pe_c.specs.Modes.{options_of}
 use Rattle.pe_c.specs.Ranges.{range_of, IsRange}
-use Rattle.pe_c.specs.declared.results.TheConstants.{DONE, NOTHING}
+use Rattle.pe_c.specs.declared.base.results.TheConstants.{DONE, NOTHING}
 
 -- the range of the content of the first resource with an id, or what refuses it; none without a resource directory. `may_map` gives
 -- the sections that may map an RVA: one is that of the directory, one that of the content

@@ -1,7 +1,7 @@
 -- An image as calls take it in one argument.
 use Rattle.std.specs.Prelude.{ℕ, List, Option}
 use Rattle.pe_core.specs.declared.section_table.SectionTable.{SectionTable}
-use Rattle.pe_c.specs.declared.view.View.{View}
+use Rattle.pe_c.specs.declared.base.view.View.{View}
 use Rattle.pe_c.specs.Images.{for_directory, map_of_image}
 use Rattle.pe_frame.specs.SectionIndexes.{sections_by}
 

@@ -8,7 +8,7 @@ use Rattle.pe_core.specs.Refusals.{Refusal, Short, outcome}
 use Rattle.pe_unwind.specs.ExceptionTable.{ExceptionView}
 use Rattle.pe_frame.specs.declared.modules.Module.{Module}
 use Rattle.pe_c.specs.Modes.{options_of}
-use Rattle.pe_c.specs.declared.stack_walk.ModuleView.{ModuleView}
+use Rattle.pe_c.specs.declared.stack.walk.ModuleView.{ModuleView}
 
 -- where a module is loaded, and how many bytes it has there
 abbrev pub view_base : ModuleView → ℕ

@@ -16,10 +16,10 @@ use Rattle.pe_c.specs.Directories.{callbacks_at, image_parts, table_at}
 use Rattle.pe_c.specs.DirectoryRuns.{StepsDelayLibraries, StepsDelayedFunctions}
 use Rattle.pe_c.specs.Images.{directory, map_of_image}
 use Rattle.pe_c.specs.Runs.{ReturnsItems, read_items}
-use Rattle.pe_c.specs.declared.clr.Metadata.{Metadata}
-use Rattle.pe_c.specs.declared.delay_imports.DelayedFunctions.{DelayedFunctions}
-use Rattle.pe_c.specs.declared.image.Image.{Image}
-use Rattle.pe_c.specs.declared.ranges.Range.{Range}
+use Rattle.pe_c.specs.declared.directories.clr.Metadata.{Metadata}
+use Rattle.pe_c.specs.declared.directories.delay_imports.DelayedFunctions.{DelayedFunctions}
+use Rattle.pe_c.specs.declared.headers.image.Image.{Image}
+use Rattle.pe_c.specs.declared.base.ranges.Range.{Range}
 
 -- the walk over the directory with this index, and the bytes of its table
 pub record StartsTable (index : ℕ) (b : List ℕ) (image : Image) (sections : List SectionTable) (walk : Range) (table : List ℕ) : Type 0 where

@@ -5,7 +5,7 @@ use Rattle.pe_core.specs.Bytes.{holds, range}
 use Rattle.pe_core.specs.Refusals.{Refusal, Short, FunctionIndex, ◌>>=◌}
 use Rattle.pe_core.specs.Rows.{entry_items}
 use Rattle.pe_c.specs.Ranges.{no_bytes, range_after}
-use Rattle.pe_c.specs.declared.ranges.Range.{Range}
+use Rattle.pe_c.specs.declared.base.ranges.Range.{Range}
 
 -- the bytes that a walk has left, if any are: they start with its next entry. `Short` where that is truncated, or where
 -- the range is not inside the bytes

@@ -3,7 +3,7 @@ use Rattle.std.specs.Prelude.{◌≡◌, ℕ, Bool, true, false, List, [], ◌�
 use Rattle.pe_core.specs.Bytes.{splice}
 use Rattle.pe_core.specs.Refusals.{Refusal, ◌>>=◌, WriteFit, outcome}
 use Rattle.pe_c.specs.HandsOut.{HandsOutWritten, result_number}
-use Rattle.pe_c.specs.declared.results.TheConstants.{DONE, ROOM}
+use Rattle.pe_c.specs.declared.base.results.TheConstants.{DONE, ROOM}
 
 -- a result whose refusal is a number
 abbrev pub numbered : {X R : Type 0} → (R → ℕ) → Result X R → Result X ℕ

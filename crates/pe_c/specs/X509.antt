@@ -11,7 +11,7 @@ use Rattle.pe_pkcs7.specs.declared.certificate.Validity.{Validity}
 use Rattle.pe_pkcs7.specs.declared.der.Element.{Element}
 use Rattle.pe_pkcs7.specs.declared.error.SignatureError.{SignatureError}
 use Rattle.pe_c.specs.SignatureParts.{algorithm_at, bits_range, content_range, oid_part, optional_content, read_in, whole_range}
-use Rattle.pe_c.specs.declared.ranges.Range.{Range}
+use Rattle.pe_c.specs.declared.base.ranges.Range.{Range}
 use Rattle.pe_c.specs.declared.signatures.elements.Algorithm.{Algorithm}
 use Rattle.pe_c.specs.declared.signatures.refused.SignatureFailure.{SignatureFailure}
 use Rattle.pe_c.specs.declared.signatures.x509.X509.{X509}

@@ -16,14 +16,17 @@ ghost use Rattle.pe_c.specs.HandsOut.{HandsOutIf};
 ghost use Rattle.pe_c.specs.Modes.{options_of};
 ghost use Rattle.pe_c.specs.Views.{directory_sections, may_map};
 
-use crate::debug_records::{
+pub mod records;
+pub mod walks;
+
+use crate::base::ranges::{Range, range_of};
+use crate::base::results::{DONE, hand_out_some, number_of, options};
+use crate::base::view::{View, sections_of};
+use crate::debug::records::{
     Pdb20, Pogo, Repro, SymbolKey, characteristics_of, features_of, key_of, pdb20_of, pogo_of,
     repro_of,
 };
-use crate::image::{DEBUG_TABLE, directory, is_absent};
-use crate::ranges::{Range, range_of};
-use crate::results::{DONE, hand_out_some, number_of, options};
-use crate::view::{View, sections_of};
+use crate::headers::image::{DEBUG_TABLE, directory, is_absent};
 use pe_core::{ByteRange, DataDirectory, Result};
 use pe_records::{
     DebugData, FirstDebugEntries, IMAGE_DEBUG_TYPE_CODEVIEW,

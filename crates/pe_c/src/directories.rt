@@ -1,5 +1,7 @@
-//! What the calls share that read directories by pe_directories: the image as that crate takes it, and steps of walks by what
-//! stands first in what is left. A walk is the range of the bytes that are left.
+//! Directories of an image, a file each: thread-local storage, the load configuration and its tables of code, base relocations, delay
+//! and bound imports, .NET, certificates. This file has what they share: the image as pe_directories takes it, and steps of walks by
+//! what stands first in what is left. A walk is the range of the bytes that are left.
+//! https://learn.microsoft.com/windows/win32/debug/pe-format#optional-header-data-directories-image-only
 
 ghost use Rattle.std.specs.Prelude.{◌≡◌, ◌+◌, ◌<◌, ◌^◌, length};
 ghost use Rattle.pe_directories.specs.DirectoryRefusals.{directory_answer};
@@ -7,10 +9,21 @@ ghost use Rattle.pe_directories.specs.ImageParts.{image_view};
 ghost use Rattle.pe_c.specs.Directories.{image_parts, range_left, table_at, va_offset};
 ghost use Rattle.pe_c.specs.Views.{directory_sections, may_map};
 
-use crate::image::{directory, is_absent};
-use crate::ranges::{Range, range_of};
-use crate::results::options;
-use crate::view::View;
+pub mod all_delay_imports;
+pub mod base_relocations;
+pub mod bound_imports;
+pub mod certificates;
+pub mod clr;
+pub mod delay_imports;
+pub mod guard_tables;
+pub mod load_config;
+pub mod tables;
+pub mod tls;
+
+use crate::base::ranges::{Range, range_of};
+use crate::base::results::options;
+use crate::base::view::View;
+use crate::headers::image::{directory, is_absent};
 use pe_core::DataDirectory;
 use pe_directories::{DirectoryError, ImageBytes};
 use pe_frame::sections_by;

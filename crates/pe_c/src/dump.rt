@@ -13,8 +13,8 @@ ghost use Rattle.std.specs.Prelude.{◌≡◌};
 ghost use Rattle.pe_c.specs.Dumps.{DumpHandsOut, DumpHandsOutIf, dump_answer, dump_at, dump_entry_at, dump_number, dump_range_at, dump_stream_at, dump_text_at};
 ghost use Rattle.pe_minidump.specs.Refusals.{dump_kind_of};
 
-use crate::ranges::Range;
-use crate::results::{DONE, NOTHING};
+use crate::base::ranges::Range;
+use crate::base::results::{DONE, NOTHING};
 use pe_minidump::{
     DirectoryEntry, Dump, DumpError, DumpRecord, Location, Result, first_entry, located, text_at,
 };

@@ -8,9 +8,19 @@ ghost use Rattle.pe_core.specs.Refusals.{answer_of};
 ghost use Rattle.pe_c.specs.HandsOut.{HandsOut};
 ghost use Rattle.pe_c.specs.Headers.{coff_fields, dos_fields, headers_at, headers_of, optional_fields, with_fields};
 
-use crate::image::{ABSENT, SIZE_BEFORE_OPTIONAL_HEADER, directories_at, directories_of};
-use crate::ranges::Range;
-use crate::results::{hand_out, options};
+pub mod coff;
+pub mod image;
+pub mod loaded;
+pub mod map_ranges;
+pub mod maps;
+pub mod overlay;
+pub mod rich_header;
+pub mod section_names;
+pub mod te;
+
+use crate::base::ranges::Range;
+use crate::base::results::{hand_out, options};
+use crate::headers::image::{ABSENT, SIZE_BEFORE_OPTIONAL_HEADER, directories_at, directories_of};
 use pe_core::{
     CoffHeader, DataDirectory, DosHeader, Header, OptionalHeader, Result, SIZE_OF_DOS_HEADER,
     read_u16,

@@ -11,71 +11,30 @@
 //! every field that is passed: no call has a `requires`.
 #![tactic(auto)]
 
-mod arm64;
-mod base_relocations;
-mod bound_imports;
-mod certificates;
-mod clr;
-mod coff;
+// What all calls share.
+mod base;
+
+// What is read of an image: headers first, then each directory.
 mod debug;
-mod debug_failure;
-mod debug_records;
-mod debug_walks;
-mod delay_imports;
 mod directories;
-mod directory_failure;
-mod directory_tables;
-mod dump;
-mod ended_texts;
-mod entry_lists;
-mod export_addresses;
-mod export_texts;
-mod exports;
-mod failure;
-mod failure_numbers;
-mod frame_calls;
-mod function_names;
-mod guard_tables;
 mod headers;
-mod image;
-mod image_write;
-mod imports;
-mod kept_sections;
-pub mod laws;
-mod library_functions;
-mod library_imports;
-mod lists;
-mod load_config;
-mod loaded;
-mod map_ranges;
-mod maps;
-mod named_view;
-mod near_exports;
-mod near_imports;
-mod near_map;
-mod overlay;
-mod pdb;
-mod plan;
-mod ranges;
-mod resource_edit;
-mod resource_leaves;
-mod results;
-mod rich_header;
-mod section_index;
-mod section_names;
-mod section_write;
+mod names;
+mod resources;
 mod signatures;
-mod signing;
-mod stack_frames;
-mod stack_walk;
-mod step_failures;
-mod te;
-mod text_runs;
-mod texts;
-mod tls;
+
+// Functions of an image, and the stacks of programs.
+mod arm64;
+mod dump;
+mod pdb;
+mod stack;
 mod unwinding;
-mod version;
-mod version_blocks;
-mod version_write;
-mod view;
-mod walks;
+
+// Lists in one call, and why a call refuses.
+mod failures;
+mod lists;
+
+// What is written.
+mod write;
+
+// What holds of several calls.
+pub mod laws;

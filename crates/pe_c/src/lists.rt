@@ -9,7 +9,7 @@ ghost use Rattle.pe_core.specs.Refusals.{answer_of};
 ghost use Rattle.pe_c.specs.HandsOut.{result_number};
 ghost use Rattle.pe_c.specs.Lists.{HandsOutList, PutsList, by_number, if_there, index_after};
 
-use crate::results::{DONE, ROOM, number_of};
+use crate::base::results::{DONE, ROOM, number_of};
 use pe_core::{Error, Reason};
 
 pub mod arm64;

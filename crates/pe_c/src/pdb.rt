@@ -19,9 +19,9 @@ ghost use Rattle.pe_c.specs.Lists.{by_number};
 ghost use Rattle.pe_c.specs.Pdbs.{HandsOutStarts, IsPdbOf, Matches, PdbHandsOut, PdbHandsOutIf, dbi_in, dbi_streams, head_of, info_in, part_of, pdb_answer, pdb_at, pdb_number, pdb_reported, stream_at, stream_numbered, with_dbi};
 ghost use Rattle.pe_c.specs.WrittenFiles.{HandsOutFile};
 
-use crate::debug_records::SymbolKey;
-use crate::ranges::{NO_BYTES, Range};
-use crate::results::{DONE, NOTHING, ROOM};
+use crate::base::ranges::{NO_BYTES, Range};
+use crate::base::results::{DONE, NOTHING, ROOM};
+use crate::debug::records::SymbolKey;
 use pe_core::slice_at;
 use pe_pdb::{
     DBI_STREAM, DEBUG_OMAP_FROM_SOURCE, DEBUG_OMAP_TO_SOURCE, DEBUG_ORIGINAL_SECTION_HEADERS,

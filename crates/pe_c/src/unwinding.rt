@@ -20,11 +20,13 @@ ghost use Rattle.pe_c.specs.Unwinding.{exception_table_at, HandsOutFound, functi
 ghost use Rattle.pe_c.specs.Views.{directory_sections, map_of};
 ghost use Rattle.pe_c.specs.Walks.{next_of, walk_of};
 
-use crate::image::{EXCEPTION_TABLE, directory, is_absent};
-use crate::ranges::{NO_BYTES, Range, last_range, range_of, slice_of};
-use crate::results::{DONE, NOTHING, hand_out, hand_out_some, number_of, options};
-use crate::view::{View, map_by, sections_of};
-use crate::walks::next_entry;
+pub mod plan;
+
+use crate::base::ranges::{NO_BYTES, Range, last_range, range_of, slice_of};
+use crate::base::results::{DONE, NOTHING, hand_out, hand_out_some, number_of, options};
+use crate::base::view::{View, map_by, sections_of};
+use crate::base::walks::next_entry;
+use crate::headers::image::{EXCEPTION_TABLE, directory, is_absent};
 use pe_core::{
     COFF_MACHINE_X86_64, CountedTable, Result, RvaMap, SectionTable, TableEntry, read_u8, read_u32,
 };

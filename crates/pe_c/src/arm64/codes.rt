@@ -7,8 +7,8 @@ ghost use Rattle.pe_unwind.specs.Arm64Encoding.{bit};
 ghost use Rattle.pe_c.specs.HandsOut.{HandsOut};
 ghost use Rattle.pe_c.specs.Arm64.{case_number, numbers_of, arm64_walk_at, left_of_stream, StepsOverArm64, WalksInArm64};
 
-use crate::ranges::{NO_BYTES, Range, slice_of};
-use crate::results::hand_out;
+use crate::base::ranges::{NO_BYTES, Range, slice_of};
+use crate::base::results::hand_out;
 use pe_core::{Error, Reason, Result};
 use pe_unwind::{Arm64CustomStackCase, Arm64UnwindCode, Arm64UnwindCodeIterator};
 

@@ -9,9 +9,9 @@ ghost use Rattle.pe_unwind.specs.Arm64Record.{info_view};
 ghost use Rattle.pe_frame.specs.Arm64Walks.{stepped_out_packed};
 ghost use Rattle.pe_c.specs.Arm64Frames.{arm64_registers_of, flat_arm64_registers, arm64_info_of, HandsOutArm64By, HandsOutArm64Left, HandsOutArm64Over, HandsOutArm64Step, left_arm64};
 
-use crate::results::{DONE, number_of};
-use crate::stack_frames::reported;
-use crate::view::View;
+use crate::base::results::{DONE, number_of};
+use crate::base::view::View;
+use crate::stack::frames::reported;
 use pe_core::{Error, RvaMap};
 use pe_frame::{
     Arm64Registers, FrameError, Memory, MemoryList, MemoryPiece, leaf_arm64, step_arm64_packed,

@@ -10,10 +10,10 @@ ghost use Rattle.pe_c.specs.Ranges.{bytes_at};
 ghost use Rattle.pe_c.specs.Unwinding.{exception_table_at};
 ghost use Rattle.pe_c.specs.Views.{directory_sections, map_of};
 
-use crate::image::{EXCEPTION_TABLE, directory, is_absent};
-use crate::ranges::{Range, range_of, slice_of};
-use crate::results::{DONE, hand_out_some, options};
-use crate::view::{View, sections_of};
+use crate::base::ranges::{Range, range_of, slice_of};
+use crate::base::results::{DONE, hand_out_some, options};
+use crate::base::view::{View, sections_of};
+use crate::headers::image::{EXCEPTION_TABLE, directory, is_absent};
 use pe_core::{COFF_MACHINE_ARM64, CountedTable, Result};
 use pe_unwind::{Arm64RuntimeFunction, ExceptionData, search_arm64};
 

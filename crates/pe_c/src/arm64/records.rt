@@ -10,11 +10,11 @@ ghost use Rattle.pe_c.specs.Arm64.{arm64_exceptions, arm64_handler_range, arm64_
 ghost use Rattle.pe_c.specs.Views.{map_of};
 ghost use Rattle.pe_c.specs.Walks.{next_of, walk_of};
 
-use crate::image::{EXCEPTION_TABLE, directory};
-use crate::ranges::{NO_BYTES, Range, last_range};
-use crate::results::{hand_out_some, options};
-use crate::view::{View, sections_of};
-use crate::walks::next_entry;
+use crate::base::ranges::{NO_BYTES, Range, last_range};
+use crate::base::results::{hand_out_some, options};
+use crate::base::view::{View, sections_of};
+use crate::base::walks::next_entry;
+use crate::headers::image::{EXCEPTION_TABLE, directory};
 use pe_core::{Result, TableEntry};
 use pe_unwind::{
     Arm64EpilogScope, Arm64RuntimeFunction, Arm64UnwindExtension, Arm64UnwindHeader,

@@ -7,11 +7,11 @@ ghost use Rattle.pe_c.specs.Arm64StackWalks.{after_frame, arm64_stack_walks};
 ghost use Rattle.pe_c.specs.FrameCalls.{HandsOutFrame, HandsOutFrames};
 
 use crate::arm64::frames::{Arm64FrameRegisters, flat_registers, registers_of};
-use crate::frame_calls::{
+use crate::stack::calls::{
     ProcessView, WalkRecord, error_of_end, next_frame_over, next_frames_over, number_of_end,
     number_of_way, way_of,
 };
-use crate::stack_walk::ModuleView;
+use crate::stack::walk::ModuleView;
 use pe_frame::{Arm64StackFrame, MemoryPiece, WalkEnd, WalkPosition};
 
 /// A walk of a stack on ARM64, and the frame that was returned last.

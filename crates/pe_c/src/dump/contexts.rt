@@ -8,7 +8,7 @@ ghost use Rattle.pe_c.specs.Dumps.{DumpHandsOut, dump_answer};
 use crate::arm64::frames::Arm64FrameRegisters;
 use crate::dump::hand_out_dump;
 use crate::dump::records::DumpException;
-use crate::stack_frames::{FrameRegisters, flat_registers};
+use crate::stack::frames::{FrameRegisters, flat_registers};
 use pe_frame::Registers;
 use pe_minidump::{ContextArm64, ContextX64, Location, Result, Thread, located};
 

@@ -4,9 +4,9 @@
 ghost use Rattle.std.specs.Prelude.{◌≡◌};
 ghost use Rattle.pe_c.specs.DumpImages.{fits, fits_number};
 
+use crate::base::results::{DONE, NOTHING};
 use crate::dump::lists::DumpModule;
-use crate::image::Image;
-use crate::results::{DONE, NOTHING};
+use crate::headers::image::Image;
 
 /// Whether an image is that of a module.
 fn fits(image: &Image, module: &DumpModule) -> bool

@@ -7,8 +7,8 @@ ghost use Rattle.pe_c.specs.DumpRecords.{entry_in, module_reported, name_reporte
 ghost use Rattle.pe_minidump.specs.Lists.{counted_list, headed_list};
 ghost use Rattle.pe_minidump.specs.Records.{handle_descriptor, memory_region, module_entry, thread, thread_info, thread_name, unloaded_module};
 
+use crate::base::ranges::Range;
 use crate::dump::hand_out_dump_if;
-use crate::ranges::Range;
 use pe_minidump::{
     DumpRecord, FixedFileInfo, Handle, Location, MemoryRegion, Module, Result, Thread, ThreadInfo,
     ThreadName, UnloadedModule, counted_list, headed_list, headed_list_64, located,

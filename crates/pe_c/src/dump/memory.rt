@@ -13,11 +13,11 @@ ghost use Rattle.pe_minidump.specs.Lists.{counted_list};
 ghost use Rattle.pe_minidump.specs.Pieces.{piece_view};
 ghost use Rattle.pe_minidump.specs.Records.{memory_descriptor};
 
+use crate::base::ranges::Range;
+use crate::base::results::hand_out_some;
+use crate::base::walks::next_entry;
 use crate::dump::lists::counted_at;
 use crate::dump::{hand_out_dump, hand_out_dump_if};
-use crate::ranges::Range;
-use crate::results::hand_out_some;
-use crate::walks::next_entry;
 use pe_core::read_u64;
 use pe_frame::MemoryPiece;
 use pe_minidump::{Memory64List, MemoryDescriptor, Result, located, piece};

@@ -8,8 +8,8 @@ ghost use Rattle.pe_frame.specs.MemoryLists.{are_inside, ascend, lists_byte};
 ghost use Rattle.pe_c.specs.DumpRuns.{FindsRanges, HandsOutRuns, part_in, range_in};
 ghost use Rattle.pe_stacks.specs.MemoryRuns.{end_low};
 
-use crate::ranges::{NO_BYTES, Range};
-use crate::results::{DONE, OUT_OF_ORDER, ROOM, number_of};
+use crate::base::ranges::{NO_BYTES, Range};
+use crate::base::results::{DONE, OUT_OF_ORDER, ROOM, number_of};
 use pe_core::Error;
 use pe_frame::{MemoryList, MemoryPiece, first_overlap, first_with};
 use pe_stacks::{RangeEntry, put_memory_runs};

@@ -4,8 +4,8 @@ ghost use Rattle.std.specs.Prelude.{◌≡◌};
 ghost use Rattle.pe_c.specs.Dumps.{DumpHandsOut, dump_answer};
 ghost use Rattle.pe_c.specs.DumpRecords.{exception_at, exception_reported, misc_at, misc_reported, system_at, system_reported};
 
+use crate::base::ranges::Range;
 use crate::dump::hand_out_dump;
-use crate::ranges::Range;
 use pe_minidump::{
     Exception, Location, MiscInfo, ProcessTimes, ProcessorPower, Result, SystemInfo, exception_of,
     located, misc_of, system_of,

@@ -10,7 +10,7 @@ ghost use Rattle.pe_unwind.specs.declared.arm64.function.Arm64RuntimeFunction.{A
 ghost use Rattle.pe_c.specs.Arm64.{arm64_record_in, arm64_record_of};
 ghost use Rattle.pe_c.specs.Images.{map_of_image};
 ghost use Rattle.pe_c.specs.Modes.{options_of};
-ghost use Rattle.pe_c.specs.declared.image.Image.{Image};
+ghost use Rattle.pe_c.specs.declared.headers.image.Image.{Image};
 
 /// By the map of an image's sections the length of an ARM64 function, its record, and the record that a step of a stack walk reads,
 /// are those of pe_unwind.

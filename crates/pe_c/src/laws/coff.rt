@@ -6,8 +6,8 @@ ghost use Rattle.pe_core.specs.Symbols.{AreSymbols, SymbolItem, symbol_in, symbo
 ghost use Rattle.pe_c.specs.Coff.{StepsSymbols, symbol_name_at, symbol_reported};
 ghost use Rattle.pe_c.specs.Ranges.{IsRange, bytes_at};
 ghost use Rattle.pe_c.specs.Runs.{ReturnsItems};
-ghost use Rattle.pe_c.specs.declared.coff.SymbolWalk.{SymbolWalk};
-ghost use Rattle.pe_c.specs.declared.ranges.Range.{Range};
+ghost use Rattle.pe_c.specs.declared.headers.coff.SymbolWalk.{SymbolWalk};
+ghost use Rattle.pe_c.specs.declared.base.ranges.Range.{Range};
 
 /// A walk over symbols returns, one a step, those of its table from its entry on, and then nothing: auxiliary records are
 /// skipped. A table that is not inside the bytes is one error alone.

@@ -6,10 +6,10 @@ ghost use Rattle.pe_c.specs.DelayLaws.{dll_reported, import_reported, table_repo
 ghost use Rattle.pe_c.specs.Directories.{image_parts};
 ghost use Rattle.pe_c.specs.Images.{map_of_image};
 ghost use Rattle.pe_c.specs.Ranges.{IsRange, bytes_at, range_of};
-ghost use Rattle.pe_c.specs.declared.clr.MetadataStreams.{MetadataStreams};
-ghost use Rattle.pe_c.specs.declared.delay_imports.DelayedFunction.{DelayedFunction};
-ghost use Rattle.pe_c.specs.declared.image.Image.{Image};
-ghost use Rattle.pe_c.specs.declared.ranges.Range.{Range};
+ghost use Rattle.pe_c.specs.declared.directories.clr.MetadataStreams.{MetadataStreams};
+ghost use Rattle.pe_c.specs.declared.directories.delay_imports.DelayedFunction.{DelayedFunction};
+ghost use Rattle.pe_c.specs.declared.headers.image.Image.{Image};
+ghost use Rattle.pe_c.specs.declared.base.ranges.Range.{Range};
 ghost use Rattle.pe_core.specs.Bytes.{range};
 ghost use Rattle.pe_core.specs.declared.byte_range.ByteRange.{ByteRange};
 ghost use Rattle.pe_core.specs.declared.section_table.SectionTable.{SectionTable};

@@ -32,9 +32,9 @@ ghost use Rattle.pe_c.specs.Images.{image_info_of};
 ghost use Rattle.pe_c.specs.Ranges.{IsRange};
 ghost use Rattle.pe_c.specs.StackWalks.{marked, stack_walks};
 ghost use Rattle.pe_c.specs.declared.arm64.stack_walk.Arm64StackWalk.{Arm64StackWalk};
-ghost use Rattle.pe_c.specs.declared.ranges.Range.{Range};
-ghost use Rattle.pe_c.specs.declared.stack_walk.ModuleView.{ModuleView};
-ghost use Rattle.pe_c.specs.declared.stack_walk.StackWalk.{StackWalk};
+ghost use Rattle.pe_c.specs.declared.base.ranges.Range.{Range};
+ghost use Rattle.pe_c.specs.declared.stack.walk.ModuleView.{ModuleView};
+ghost use Rattle.pe_c.specs.declared.stack.walk.StackWalk.{StackWalk};
 
 /// The range that `pe_c_dump_stream` returns lies in the bytes, and these are the bytes of the stream of the kind, as `Dump::stream`
 /// returns it of a dump with this directory.

@@ -23,10 +23,10 @@ ghost use Rattle.pe_c.specs.StackWalks.{marked, stack_walks};
 ghost use Rattle.pe_c.specs.Views.{map_of};
 ghost use Rattle.pe_c.specs.WalkModules.{exceptions_of, has_table, module_of, modules_of};
 ghost use Rattle.pe_c.specs.declared.arm64.stack_walk.Arm64StackWalk.{Arm64StackWalk};
-ghost use Rattle.pe_c.specs.declared.ranges.Range.{Range};
-ghost use Rattle.pe_c.specs.declared.stack_walk.ModuleView.{ModuleView};
-ghost use Rattle.pe_c.specs.declared.stack_walk.StackWalk.{StackWalk};
-ghost use Rattle.pe_c.specs.declared.view.View.{View};
+ghost use Rattle.pe_c.specs.declared.base.ranges.Range.{Range};
+ghost use Rattle.pe_c.specs.declared.stack.walk.ModuleView.{ModuleView};
+ghost use Rattle.pe_c.specs.declared.stack.walk.StackWalk.{StackWalk};
+ghost use Rattle.pe_c.specs.declared.base.view.View.{View};
 
 /// The sections of a view map RVAs as the section map of its exception data does (`steps`), and a walk maps those of a module as its
 /// view does (`walks`). So by a view without an index, or with one that `pe_c_index` made (`laws::indexes`), steps and walks read

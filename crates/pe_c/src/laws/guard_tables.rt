@@ -11,8 +11,8 @@ ghost use Rattle.pe_c.specs.GuardTables.{ReturnsEntries, StartsEntries, StepsGua
 ghost use Rattle.pe_c.specs.Lists.{GiveLists};
 ghost use Rattle.pe_c.specs.Ranges.{bytes_at};
 ghost use Rattle.pe_c.specs.Runs.{ReturnsItems};
-ghost use Rattle.pe_c.specs.declared.guard_tables.GuardEntries.{GuardEntries};
-ghost use Rattle.pe_c.specs.declared.image.Image.{Image};
+ghost use Rattle.pe_c.specs.declared.directories.guard_tables.GuardEntries.{GuardEntries};
+ghost use Rattle.pe_c.specs.declared.headers.image.Image.{Image};
 
 /// A walk over a table returns its entries, as many as the load configuration says, each with its RVA and the range of its
 /// flags, and `SHORT` where the bytes end before that. The list call returns what the steps do.

@@ -21,7 +21,7 @@ ghost use Rattle.pe_c.specs.SectionIndexes.{HasIndex, SameByAny, SameByIndex, se
 ghost use Rattle.pe_c.specs.Unwinding.{exception_table_at};
 ghost use Rattle.pe_c.specs.Versions.{IsContentOf};
 ghost use Rattle.pe_c.specs.Views.{map_of, may_map};
-ghost use Rattle.pe_c.specs.declared.view.View.{View};
+ghost use Rattle.pe_c.specs.declared.base.view.View.{View};
 
 /// Where a view has an index of its sections, as `pe_c_index` writes it, its map of RVAs is that of the sections: so every call
 /// whose definition takes a map returns what it returns without the index. The section of an RVA and the bytes from it on are the

@@ -10,16 +10,16 @@ ghost use Rattle.pe_c.specs.Plans.{StepsPlan};
 ghost use Rattle.pe_c.specs.ResourceLeaves.{StepsLeaves};
 ghost use Rattle.pe_c.specs.Unwinding.{links_at};
 ghost use Rattle.pe_c.specs.Views.{map_of};
-ghost use Rattle.pe_c.specs.declared.delay_imports.DelayWalk.{DelayWalk};
-ghost use Rattle.pe_c.specs.declared.delay_imports.DelayedFunctionWalk.{DelayedFunctionWalk};
-ghost use Rattle.pe_c.specs.declared.exports.ExportWalk.{ExportWalk};
-ghost use Rattle.pe_c.specs.declared.imports.ImportWalk.{ImportWalk};
-ghost use Rattle.pe_c.specs.declared.imports.LibraryWalk.{LibraryWalk};
-ghost use Rattle.pe_c.specs.declared.kept_sections.KeptSections.{KeptSections};
-ghost use Rattle.pe_c.specs.declared.plan.PlanWalk.{PlanWalk};
-ghost use Rattle.pe_c.specs.declared.ranges.Range.{Range};
-ghost use Rattle.pe_c.specs.declared.resource_leaves.LeafWalk.{LeafWalk};
-ghost use Rattle.pe_c.specs.declared.view.View.{View};
+ghost use Rattle.pe_c.specs.declared.directories.delay_imports.DelayWalk.{DelayWalk};
+ghost use Rattle.pe_c.specs.declared.directories.delay_imports.DelayedFunctionWalk.{DelayedFunctionWalk};
+ghost use Rattle.pe_c.specs.declared.names.exports.ExportWalk.{ExportWalk};
+ghost use Rattle.pe_c.specs.declared.names.imports.ImportWalk.{ImportWalk};
+ghost use Rattle.pe_c.specs.declared.names.imports.LibraryWalk.{LibraryWalk};
+ghost use Rattle.pe_c.specs.declared.base.kept_sections.KeptSections.{KeptSections};
+ghost use Rattle.pe_c.specs.declared.unwinding.plan.PlanWalk.{PlanWalk};
+ghost use Rattle.pe_c.specs.declared.base.ranges.Range.{Range};
+ghost use Rattle.pe_c.specs.declared.resources.leaves.LeafWalk.{LeafWalk};
+ghost use Rattle.pe_c.specs.declared.base.view.View.{View};
 
 /// A walk keeps no section at its start, and what changes no offset after each step (`StepsKept`, `KeepsOn`), whatever the sections are.
 /// Such a walk maps RVAs as its view does: so each step returns what the laws of walks, of lists and of failures say of the view's map.

@@ -19,10 +19,10 @@ ghost use Rattle.pe_c.specs.Pdbs.{pdb_number};
 ghost use Rattle.pe_c.specs.ResourceLeaves.{tree_number};
 ghost use Rattle.pe_c.specs.SectionNames.{long_name_by_index};
 ghost use Rattle.pe_c.specs.Unwinding.{StepsCodes, function_in};
-ghost use Rattle.pe_c.specs.declared.export_addresses.AddressTable.{AddressTable};
-ghost use Rattle.pe_c.specs.declared.image.Image.{Image};
-ghost use Rattle.pe_c.specs.declared.ranges.Range.{Range};
-ghost use Rattle.pe_c.specs.declared.view.View.{View};
+ghost use Rattle.pe_c.specs.declared.names.export_addresses.AddressTable.{AddressTable};
+ghost use Rattle.pe_c.specs.declared.headers.image.Image.{Image};
+ghost use Rattle.pe_c.specs.declared.base.ranges.Range.{Range};
+ghost use Rattle.pe_c.specs.declared.base.view.View.{View};
 
 /// Where the steps of a walk return some items, which the laws of walks say for each of them, a list call with room for `n`
 /// entries returns the first `n`, or all that come before the end or before an error, and the walk after it has the other items

@@ -5,8 +5,8 @@ ghost use Rattle.pe_core.specs.Bytes.{range};
 ghost use Rattle.pe_c.specs.Loaded.{PutsImage};
 ghost use Rattle.pe_c.specs.Modes.{resolves};
 ghost use Rattle.pe_c.specs.Views.{map_of};
-ghost use Rattle.pe_c.specs.declared.results.TheConstants.{DONE};
-ghost use Rattle.pe_c.specs.declared.view.View.{View};
+ghost use Rattle.pe_c.specs.declared.base.results.TheConstants.{DONE};
+ghost use Rattle.pe_c.specs.declared.base.view.View.{View};
 
 /// By a view in a mode with `PE_C_MAPPED` each RVA is its own offset (`offsets`). After `pe_c_map` the room has there what the file has:
 /// where the file's view maps RVAs below `size_of_image` one after the other, as those of a part in one section, to bytes that the file

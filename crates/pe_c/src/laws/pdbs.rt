@@ -7,7 +7,7 @@ ghost use Rattle.pe_c.specs.PdbFrames.{all_named, all_placed, with_lines};
 ghost use Rattle.pe_c.specs.declared.pdb.inlined.PdbInlined.{PdbInlined};
 ghost use Rattle.pe_c.specs.declared.pdb.modules.PdbModule.{PdbModule};
 ghost use Rattle.pe_c.specs.declared.pdb.symbols.PdbSymbol.{PdbSymbol};
-ghost use Rattle.pe_c.specs.declared.ranges.Range.{Range};
+ghost use Rattle.pe_c.specs.declared.base.ranges.Range.{Range};
 
 /// Which functions are inlined at an RVA, and where, is read of the stream of their module, the one that the call takes. Whatever the stream
 /// of ids is, or the starts of its records, they have the same lines; whatever the lines of the module are, the same names. That other

@@ -7,7 +7,7 @@ ghost use Rattle.pe_pkcs7.specs.declared.der.Element.{Element};
 ghost use Rattle.pe_pkcs7.specs.declared.error.SignatureError.{SignatureError};
 ghost use Rattle.pe_c.specs.Runs.{ReturnsItems};
 ghost use Rattle.pe_c.specs.SignatureParts.{StepsElements, left_place, parsed};
-ghost use Rattle.pe_c.specs.declared.ranges.Range.{Range};
+ghost use Rattle.pe_c.specs.declared.base.ranges.Range.{Range};
 
 /// A walk over a range that lies in the bytes returns, one a step and in their order, exactly the elements that pe_pkcs7 walks
 /// through in the bytes up to the end of the range; where one of them is refused, it returns those before it, then its failure, and

@@ -5,8 +5,8 @@ ghost use Rattle.std.specs.List.{AllZip};
 ghost use Rattle.pe_core.specs.Refusals.{Refusal};
 ghost use Rattle.pe_c.specs.Ranges.{bytes_at};
 ghost use Rattle.pe_c.specs.VersionBlocks.{ArePartsOf, ReportsBlock, StepsThrough, reported};
-ghost use Rattle.pe_c.specs.declared.ranges.Range.{Range};
-ghost use Rattle.pe_c.specs.declared.version_blocks.VersionBlock.{VersionBlock};
+ghost use Rattle.pe_c.specs.declared.base.ranges.Range.{Range};
+ghost use Rattle.pe_c.specs.declared.resources.version_blocks.VersionBlock.{VersionBlock};
 ghost use Rattle.pe_resource.specs.VersionBlocks.{Block, blocks, first_block};
 
 /// The ranges of a block as calls return it lie in the bytes, and are its parts.

@@ -33,21 +33,21 @@ ghost use Rattle.pe_c.specs.Ranges.{bytes_at};
 ghost use Rattle.pe_c.specs.ResourceLeaves.{StartsTree, StepsLeaves, item_reported, items_left};
 ghost use Rattle.pe_c.specs.Runs.{ReturnsItems, read_items};
 ghost use Rattle.pe_c.specs.WalkStarts.{ReturnsDelayLibraries, ReturnsFunctions, StartsCallbacks, StartsFunctions, StartsStreams, StartsTable};
-ghost use Rattle.pe_c.specs.declared.base_relocations.RelocationBlock.{RelocationBlock};
-ghost use Rattle.pe_c.specs.declared.bound_imports.BoundImport.{BoundImport};
-ghost use Rattle.pe_c.specs.declared.clr.Metadata.{Metadata};
-ghost use Rattle.pe_c.specs.declared.clr.MetadataStreams.{MetadataStreams};
-ghost use Rattle.pe_c.specs.declared.delay_imports.DelayLibrary.{DelayLibrary};
-ghost use Rattle.pe_c.specs.declared.delay_imports.DelayedFunction.{DelayedFunction};
-ghost use Rattle.pe_c.specs.declared.delay_imports.DelayedFunctions.{DelayedFunctions};
-ghost use Rattle.pe_c.specs.declared.image.Image.{Image};
-ghost use Rattle.pe_c.specs.declared.imports.Import.{Import};
-ghost use Rattle.pe_c.specs.declared.imports.Libraries.{Libraries};
-ghost use Rattle.pe_c.specs.declared.imports.Library.{Library};
-ghost use Rattle.pe_c.specs.declared.library_functions.LibraryFunctions.{LibraryFunctions};
-ghost use Rattle.pe_c.specs.declared.library_imports.LibraryImports.{LibraryImports};
-ghost use Rattle.pe_c.specs.declared.ranges.Range.{Range};
-ghost use Rattle.pe_c.specs.declared.resource_leaves.ResourceLeaves.{ResourceLeaves};
+ghost use Rattle.pe_c.specs.declared.directories.base_relocations.RelocationBlock.{RelocationBlock};
+ghost use Rattle.pe_c.specs.declared.directories.bound_imports.BoundImport.{BoundImport};
+ghost use Rattle.pe_c.specs.declared.directories.clr.Metadata.{Metadata};
+ghost use Rattle.pe_c.specs.declared.directories.clr.MetadataStreams.{MetadataStreams};
+ghost use Rattle.pe_c.specs.declared.directories.delay_imports.DelayLibrary.{DelayLibrary};
+ghost use Rattle.pe_c.specs.declared.directories.delay_imports.DelayedFunction.{DelayedFunction};
+ghost use Rattle.pe_c.specs.declared.directories.delay_imports.DelayedFunctions.{DelayedFunctions};
+ghost use Rattle.pe_c.specs.declared.headers.image.Image.{Image};
+ghost use Rattle.pe_c.specs.declared.names.imports.Import.{Import};
+ghost use Rattle.pe_c.specs.declared.names.imports.Libraries.{Libraries};
+ghost use Rattle.pe_c.specs.declared.names.imports.Library.{Library};
+ghost use Rattle.pe_c.specs.declared.directories.all_delay_imports.LibraryFunctions.{LibraryFunctions};
+ghost use Rattle.pe_c.specs.declared.names.all_imports.LibraryImports.{LibraryImports};
+ghost use Rattle.pe_c.specs.declared.base.ranges.Range.{Range};
+ghost use Rattle.pe_c.specs.declared.resources.leaves.ResourceLeaves.{ResourceLeaves};
 
 /// A walk over TLS callbacks returns the numbers of its table up to the first zero, and `SHORT` where the bytes end before that.
 /// The range without bytes at offset 0 stands for a walk that is over.

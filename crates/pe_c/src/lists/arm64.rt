@@ -7,8 +7,8 @@ ghost use Rattle.pe_c.specs.Lists.{HandsOutList, Numbered, StepsByIndex, if_ther
 
 use crate::arm64::codes::{Arm64Code, Arm64CodeWalk, next_code};
 use crate::arm64::functions::function_in;
+use crate::base::ranges::Range;
 use crate::lists::{Steps, hand_out_list, if_there, next_index, numbered};
-use crate::ranges::Range;
 use pe_unwind::Arm64RuntimeFunction;
 
 /// Steps over the entries of a function table.

@@ -5,14 +5,14 @@ ghost use Rattle.pe_c.specs.Directories.{directory_number};
 ghost use Rattle.pe_c.specs.DirectoryRuns.{StepsBoundImports, StepsForwarders};
 ghost use Rattle.pe_c.specs.Lists.{HandsOutList, Numbered};
 
-use crate::bound_imports::{
+use crate::base::ranges::Range;
+use crate::base::results::number_of_directory;
+use crate::base::text_runs::{Run, first_runs};
+use crate::directories::bound_imports::{
     BoundForwarder, BoundImport, BoundNames, next_bound_import, next_forwarder,
     put_bound_forwarders, put_bound_names,
 };
 use crate::lists::{Steps, hand_out_list};
-use crate::ranges::Range;
-use crate::results::number_of_directory;
-use crate::text_runs::{Run, first_runs};
 
 impl<'a, 'b> Steps<Range, BoundImport> for BoundNames<'a, 'b> {
     ghost steps = { λ s. Numbered directory_number (StepsBoundImports s.bytes.now s.table) };

@@ -5,9 +5,9 @@ ghost use Rattle.pe_c.specs.DebugWalks.{StepsPogoEntries};
 ghost use Rattle.pe_c.specs.HandsOut.{result_number};
 ghost use Rattle.pe_c.specs.Lists.{HandsOutList, Numbered};
 
-use crate::debug_walks::{PogoEntry, next_pogo_reported};
+use crate::base::ranges::Range;
+use crate::debug::walks::{PogoEntry, next_pogo_reported};
 use crate::lists::{Steps, hand_out_list, numbered};
-use crate::ranges::Range;
 
 /// Steps over the entries of a POGO record.
 #[derive(Clone, Copy)]

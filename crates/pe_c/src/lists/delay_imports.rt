@@ -5,16 +5,16 @@ ghost use Rattle.pe_c.specs.Directories.{directory_number};
 ghost use Rattle.pe_c.specs.KeptWalks.{StepsKeptDelayLibraries, StepsKeptFunctions};
 ghost use Rattle.pe_c.specs.Lists.{HandsOutList, Numbered};
 
-use crate::delay_imports::{
+use crate::base::named_view::NamedView;
+use crate::base::near_map::NO_WINDOW;
+use crate::base::results::number_of_directory;
+use crate::base::text_runs::{Run, first_runs};
+use crate::base::view::View;
+use crate::directories::delay_imports::{
     DelayLibrary, DelayWalk, DelayedFunction, DelayedFunctionWalk, put_dll_names,
     put_function_names, step_dll, step_function,
 };
 use crate::lists::{Steps, hand_out_list};
-use crate::named_view::NamedView;
-use crate::near_map::NO_WINDOW;
-use crate::results::number_of_directory;
-use crate::text_runs::{Run, first_runs};
-use crate::view::View;
 
 impl<'a> Steps<DelayWalk, DelayLibrary> for NamedView<'a> {
     ghost steps = { λ s. Numbered directory_number (StepsKeptDelayLibraries s.view.now) };

@@ -12,17 +12,19 @@ ghost use Rattle.pe_c.specs.NearLists.{StepsNearExports};
 ghost use Rattle.pe_c.specs.NearMaps.{IsWindow};
 ghost use Rattle.pe_c.specs.Views.{map_of};
 
-use crate::export_addresses::{AddressTable, Exported, addresses_in, exported_at, exported_in};
-use crate::export_texts::{put_text_offsets, texts_cost_much};
-use crate::exports::{Export, ExportWalk, Exports, Tables, step_export, tables_of};
-use crate::kept_sections::keeps_none;
+use crate::base::kept_sections::keeps_none;
+use crate::base::named_view::NamedView;
+use crate::base::near_map::{Window, window_at};
+use crate::base::ranges::slice_of;
+use crate::base::text_runs::Run;
+use crate::base::view::View;
 use crate::lists::{Steps, hand_out_list, next_index, numbered};
-use crate::named_view::NamedView;
-use crate::near_exports::{NO_WINDOWS, NearExports, find_near};
-use crate::near_map::{Window, window_at};
-use crate::ranges::slice_of;
-use crate::text_runs::Run;
-use crate::view::View;
+use crate::names::export_addresses::{
+    AddressTable, Exported, addresses_in, exported_at, exported_in,
+};
+use crate::names::export_texts::{put_text_offsets, texts_cost_much};
+use crate::names::exports::{Export, ExportWalk, Exports, Tables, step_export, tables_of};
+use crate::names::near_exports::{NO_WINDOWS, NearExports, find_near};
 use pe_core::ExportAddresses;
 
 /// One step of a walk whose tables are inside the bytes.

@@ -7,13 +7,13 @@ ghost use Rattle.pe_c.specs.HandsOut.{result_number};
 ghost use Rattle.pe_c.specs.Lists.{HandsOutList, Numbered, StepsByIndex};
 ghost use Rattle.pe_c.specs.Views.{map_of};
 
-use crate::export_addresses::{AddressTable, Exported};
+use crate::base::named_view::NamedView;
+use crate::base::near_map::{map_in, window_at};
+use crate::base::ranges::slice_of;
+use crate::base::text_runs::{Run, end_of_next};
+use crate::base::view::View;
 use crate::lists::exports::list_addresses;
-use crate::named_view::NamedView;
-use crate::near_map::{map_in, window_at};
-use crate::ranges::slice_of;
-use crate::text_runs::{Run, end_of_next};
-use crate::view::View;
+use crate::names::export_addresses::{AddressTable, Exported};
 use pe_core::{lies_in, read_u32};
 
 /// Writes the offsets of the texts of the forwarders among the next entries, of so many at most, to a room, as starts, as far as it

@@ -5,9 +5,9 @@ ghost use Rattle.pe_c.specs.Directories.{directory_number};
 ghost use Rattle.pe_c.specs.GuardTables.{StepsGuardEntries};
 ghost use Rattle.pe_c.specs.Lists.{HandsOutList, Numbered};
 
-use crate::guard_tables::{GuardEntries, GuardEntry, next_entry};
+use crate::base::results::number_of_directory;
+use crate::directories::guard_tables::{GuardEntries, GuardEntry, next_entry};
 use crate::lists::{Steps, hand_out_list};
-use crate::results::number_of_directory;
 
 /// Steps over the entries of a table.
 #[derive(Clone, Copy)]

@@ -7,18 +7,18 @@ ghost use Rattle.pe_c.specs.KeptWalks.{StepsKeptImports, StepsKeptLibraries};
 ghost use Rattle.pe_c.specs.Lists.{HandsOutList, Numbered};
 ghost use Rattle.pe_c.specs.NearLists.{StepsNearImports};
 
-use crate::imports::{
+use crate::base::kept_sections::keeps_none;
+use crate::base::named_view::NamedView;
+use crate::base::near_map::NO_WINDOW;
+use crate::base::ranges::bytes_there;
+use crate::base::text_runs::Run;
+use crate::base::view::View;
+use crate::lists::{Steps, hand_out_list, numbered};
+use crate::names::imports::{
     Import, ImportWalk, Libraries, Library, LibraryWalk, put_entry_names, put_library_lists,
     put_library_names, step_import, step_library,
 };
-use crate::kept_sections::keeps_none;
-use crate::lists::{Steps, hand_out_list, numbered};
-use crate::named_view::NamedView;
-use crate::near_imports::{NearImports, step_near};
-use crate::near_map::NO_WINDOW;
-use crate::ranges::bytes_there;
-use crate::text_runs::Run;
-use crate::view::View;
+use crate::names::near_imports::{NearImports, step_near};
 
 impl<'a> Steps<LibraryWalk, Library> for NamedView<'a> {
     ghost steps = { λ s. Numbered result_number (StepsKeptLibraries s.view.now) };

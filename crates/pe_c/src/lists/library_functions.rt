@@ -7,13 +7,13 @@ ghost use Rattle.pe_c.specs.Lists.{HandsOutList, Numbered};
 ghost use Rattle.pe_c.specs.NearLists.{StepsKeptLibraryFunctions};
 ghost use Rattle.pe_c.specs.Views.{map_of};
 
-use crate::kept_sections::{KeptWalk, NO_SECTIONS};
-use crate::library_functions::{LibraryFunction, LibraryFunctions, put_names, step};
+use crate::base::kept_sections::{KeptWalk, NO_SECTIONS};
+use crate::base::named_view::NamedView;
+use crate::base::results::number_of_directory;
+use crate::base::text_runs::Run;
+use crate::base::view::View;
+use crate::directories::all_delay_imports::{LibraryFunction, LibraryFunctions, put_names, step};
 use crate::lists::{Steps, hand_out_list};
-use crate::named_view::NamedView;
-use crate::results::number_of_directory;
-use crate::text_runs::Run;
-use crate::view::View;
 
 /// Steps over the functions of all DLLs in a list.
 #[derive(Clone, Copy)]

@@ -8,14 +8,14 @@ ghost use Rattle.pe_c.specs.Lists.{HandsOutList, Numbered};
 ghost use Rattle.pe_c.specs.NearLists.{StepsNearLibraryImports};
 ghost use Rattle.pe_c.specs.Views.{map_of};
 
-use crate::kept_sections::NO_SECTIONS;
-use crate::library_imports::{LibraryImport, LibraryImports, put_names, step};
+use crate::base::kept_sections::NO_SECTIONS;
+use crate::base::named_view::NamedView;
+use crate::base::near_map::NO_WINDOW;
+use crate::base::text_runs::Run;
+use crate::base::view::View;
 use crate::lists::{Steps, hand_out_list, numbered};
-use crate::named_view::NamedView;
-use crate::near_imports::NearLibraryImports;
-use crate::near_map::NO_WINDOW;
-use crate::text_runs::Run;
-use crate::view::View;
+use crate::names::all_imports::{LibraryImport, LibraryImports, put_names, step};
+use crate::names::near_imports::NearLibraryImports;
 
 /// Steps over the imports of all libraries in a list.
 #[derive(Clone, Copy)]

@@ -5,10 +5,12 @@ ghost use Rattle.pe_c.specs.Directories.{directory_number};
 ghost use Rattle.pe_c.specs.DirectoryRuns.{StepsBlocks, StepsRelocations};
 ghost use Rattle.pe_c.specs.Lists.{HandsOutList, Numbered};
 
-use crate::base_relocations::{Relocation, RelocationBlock, next_block, next_relocation};
+use crate::base::ranges::Range;
+use crate::base::results::number_of_directory;
+use crate::directories::base_relocations::{
+    Relocation, RelocationBlock, next_block, next_relocation,
+};
 use crate::lists::{Steps, hand_out_list};
-use crate::ranges::Range;
-use crate::results::number_of_directory;
 
 /// Steps over the blocks of base relocations.
 #[derive(Clone, Copy)]

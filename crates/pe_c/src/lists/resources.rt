@@ -6,12 +6,12 @@ ghost use Rattle.pe_c.specs.KeptWalks.{StepsKeptLeaves};
 ghost use Rattle.pe_c.specs.Lists.{HandsOutList, Numbered, StepsVersionBlocks};
 ghost use Rattle.pe_c.specs.ResourceLeaves.{tree_number};
 
+use crate::base::ranges::Range;
+use crate::base::results::number_of_tree;
+use crate::base::view::View;
 use crate::lists::{Steps, hand_out_list, numbered};
-use crate::ranges::Range;
-use crate::resource_leaves::{LeafWalk, ResourceLeaf, step_leaf};
-use crate::results::number_of_tree;
-use crate::version_blocks::{VersionBlock, next_block};
-use crate::view::View;
+use crate::resources::leaves::{LeafWalk, ResourceLeaf, step_leaf};
+use crate::resources::version_blocks::{VersionBlock, next_block};
 
 /// Steps over the leaves of a resource tree.
 #[derive(Clone, Copy)]

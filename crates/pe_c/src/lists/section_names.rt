@@ -7,11 +7,11 @@ ghost use Rattle.pe_c.specs.Lists.{HandsOutList, Numbered, StepsByIndex};
 ghost use Rattle.pe_c.specs.Ranges.{bytes_at};
 ghost use Rattle.pe_c.specs.SectionNames.{long_name_by_index, reported_name};
 
+use crate::base::ranges::{NO_BYTES, Range, slice_of};
+use crate::base::text_runs::{Run, Texts};
+use crate::base::view::View;
+use crate::headers::section_names::{long_name_at, long_name_by, put_long_names};
 use crate::lists::{Steps, hand_out_list, next_index};
-use crate::ranges::{NO_BYTES, Range, slice_of};
-use crate::section_names::{long_name_at, long_name_by, put_long_names};
-use crate::text_runs::{Run, Texts};
-use crate::view::View;
 use pe_core::{Result, SectionTable};
 
 /// The range of a name as an entry of the list: empty without one.

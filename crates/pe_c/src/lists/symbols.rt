@@ -9,14 +9,14 @@ ghost use Rattle.pe_c.specs.Lists.{HandsOutList, Numbered, by_number};
 ghost use Rattle.pe_c.specs.NamedSymbols.{StepsNamedSymbols, named_after, named_at, named_by};
 ghost use Rattle.pe_c.specs.Ranges.{bytes_at};
 
-use crate::coff::{
+use crate::base::ranges::{NO_BYTES, Range, slice_of};
+use crate::base::results::{DONE, NOTHING, number_of};
+use crate::base::text_runs::{Run, Texts};
+use crate::headers::coff::{
     Symbol, SymbolWalk, any_range, ascii_range, name_range_by, put_string_offsets,
     strings_cost_much, symbol_at, symbol_name_at, symbol_with,
 };
 use crate::lists::{Steps, hand_out_list};
-use crate::ranges::{NO_BYTES, Range, slice_of};
-use crate::results::{DONE, NOTHING, number_of};
-use crate::text_runs::{Run, Texts};
 use pe_core::{Result, SIZE_OF_SYMBOL};
 
 /// A COFF symbol with its name.

@@ -10,9 +10,9 @@ ghost use Rattle.pe_c.specs.Ranges.{bytes_at};
 ghost use Rattle.pe_c.specs.RecordCodes.{HandsOutAll, code_stream};
 ghost use Rattle.pe_c.specs.Unwinding.{StepsCodes, flat_answer, function_in};
 
+use crate::base::ranges::{Range, slice_of};
+use crate::base::results::{DONE, ROOM, number_of};
 use crate::lists::{Steps, hand_out_list, if_there, next_index};
-use crate::ranges::{Range, slice_of};
-use crate::results::{DONE, ROOM, number_of};
 use crate::unwinding::{Code, CodeWalk, flat, function_in, next_code, plain};
 use pe_core::read_u16;
 use pe_unwind::{Register, RuntimeFunction, UnwindCode, UnwindCodeIterator};

@@ -6,9 +6,9 @@ ghost use Rattle.pe_pdb.specs.Contributions.{contributions_view};
 ghost use Rattle.pe_pdb.specs.Refusals.{PdbReturns};
 ghost use Rattle.pe_c.specs.PdbContributions.{HandsOutRanges, contributions_at, module_rows};
 
+use crate::base::ranges::Range;
+use crate::base::results::{DONE, ROOM};
 use crate::pdb::{number_of_pdb, part_of};
-use crate::ranges::Range;
-use crate::results::{DONE, ROOM};
 use pe_pdb::{ModuleRange, Result, SectionContributions, SectionHeaders};
 
 /// The contributions in a range of the DBI stream.

@@ -7,10 +7,10 @@ ghost use Rattle.pe_pdb.specs.SymbolIndexes.{PutsIndex};
 ghost use Rattle.pe_c.specs.PdbIndexes.{FindsAddress, FindsSymbol, HandsOutIndex, class_of, indexed, symbol_found, up_to};
 ghost use Rattle.pe_c.specs.Pdbs.{pdb_answer};
 
+use crate::base::ranges::Range;
+use crate::base::results::{DONE, NOTHING, ROOM};
 use crate::pdb::symbols::{PdbSymbol, symbol_reported};
 use crate::pdb::{hand_out_pdb, number_of_pdb, part_of};
-use crate::ranges::Range;
-use crate::results::{DONE, NOTHING, ROOM};
 use pe_pdb::{
     Result, SectionHeaders, SymbolAddress, SymbolClass, SymbolRecord, covering_address,
     nearest_address, put_symbol_index,

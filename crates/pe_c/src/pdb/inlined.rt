@@ -12,12 +12,12 @@ ghost use Rattle.pe_pdb.specs.Walks.{step_view};
 ghost use Rattle.pe_c.specs.PdbInlined.{HandsOutIds, HandsOutInlined, bare, function_name, id_name, ids_in, inlined_by, inlined_functions, inlinee_in, inlinees_at, line_put, name_found, name_put, scope_range, stack_at, text_range};
 ghost use Rattle.pe_c.specs.Pdbs.{pdb_answer};
 
+use crate::base::ranges::{NO_BYTES, Range};
+use crate::base::results::{DONE, NOTHING, ROOM};
 use crate::pdb::index::up_to;
 use crate::pdb::modules::PdbModule;
 use crate::pdb::symbols::PdbSymbol;
 use crate::pdb::{number_of_pdb, part_of};
-use crate::ranges::{NO_BYTES, Range};
-use crate::results::{DONE, NOTHING, ROOM};
 use pe_pdb::{
     DEBUG_S_INLINEELINES, FunctionId, InlineFrame, InlineRow, InlineStack, InlineeLine, LF_FUNC_ID,
     LF_MFUNC_ID, LF_STRING_ID, Result, Subsection, SymbolRecord, TypeRecords, string_id,

@@ -10,9 +10,9 @@ ghost use Rattle.pe_pdb.specs.LineIndexes.{PutsLineIndex};
 ghost use Rattle.pe_pdb.specs.Lines.{subsections};
 ghost use Rattle.pe_pdb.specs.Names.{named_stream};
 
+use crate::base::ranges::Range;
+use crate::base::results::{DONE, NOTHING, ROOM};
 use crate::pdb::{hand_out_pdb, hand_out_pdb_if, number_of_pdb, part_of};
-use crate::ranges::Range;
-use crate::results::{DONE, NOTHING, ROOM};
 use pe_pdb::{
     CodeLine, DEBUG_S_FILECHKSMS, FileChecksum, LineEntry, Names, Result, SectionHeaders,
     Subsection, line_in, named_stream, put_line_index,

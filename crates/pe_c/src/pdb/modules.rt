@@ -8,9 +8,9 @@ ghost use Rattle.pe_c.specs.Lists.{HandsOutList, Numbered};
 ghost use Rattle.pe_c.specs.PdbModules.{StepsModules, first_module, module_reported, module_step, module_walk, symbols_range};
 ghost use Rattle.pe_c.specs.Pdbs.{pdb_answer, pdb_number};
 
+use crate::base::ranges::{NO_BYTES, Range};
 use crate::lists::{Steps, hand_out_list};
 use crate::pdb::{numbered_pdb, part_of};
-use crate::ranges::{NO_BYTES, Range};
 use pe_pdb::{FIRST_SYMBOL, Module, ModuleRecord};
 
 /// The size of a record before its names in bytes.

@@ -10,10 +10,10 @@ ghost use Rattle.pe_c.specs.Lists.{HandsOutList, Numbered};
 ghost use Rattle.pe_c.specs.PdbSymbols.{StepsPdbSymbols, first_symbol, procedure_reported, public_reported, record_reported, symbol_reported, symbol_step, symbol_walk, with_rva};
 ghost use Rattle.pe_c.specs.Pdbs.{pdb_answer, pdb_number};
 
+use crate::base::ranges::{NO_BYTES, Range};
+use crate::base::results::{DONE, NOTHING};
 use crate::lists::{Steps, hand_out_list};
 use crate::pdb::{number_of_pdb, numbered_pdb, part_of};
-use crate::ranges::{NO_BYTES, Range};
-use crate::results::{DONE, NOTHING};
 use pe_pdb::{
     ProcedureSymbol, PublicSymbol, S_GPROC32, S_GPROC32_ID, S_LPROC32, S_LPROC32_ID, S_PUB32,
     SectionHeaders, SymbolRecord,

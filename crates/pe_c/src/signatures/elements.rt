@@ -7,7 +7,7 @@ ghost use Rattle.pe_c.specs.SignatureParts.{SignatureHandsOut, SignatureHandsOut
 use super::refused::{
     Parsed, Read, SignatureFailure, element_in, hand_out_part, hand_out_part_if, up_to_range,
 };
-use crate::ranges::{NO_BYTES, Range, range_of};
+use crate::base::ranges::{NO_BYTES, Range, range_of};
 use pe_pkcs7::{AlgorithmIdentifier, Element, algorithm_number, element_at};
 
 /// An object identifier.

@@ -9,7 +9,7 @@ use super::elements::{Oid, content_range, oid_part};
 use super::refused::{
     Parsed, Read, SignatureFailure, element_in, hand_out_part, hand_out_part_if, up_to_range,
 };
-use crate::ranges::{NO_BYTES, Range};
+use crate::base::ranges::{NO_BYTES, Range};
 use pe_pkcs7::{Element, NameAttribute, SignatureError, name_attribute_at, name_number};
 
 /// A walk over the attributes of a name.

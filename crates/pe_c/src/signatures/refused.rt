@@ -3,8 +3,8 @@
 ghost use Rattle.std.specs.Prelude.{◌≡◌, ◌+◌, length, IfOk};
 ghost use Rattle.pe_c.specs.SignatureParts.{GivesPart, SignatureHandsOut, SignatureHandsOutIf, element_in, failure, outside, refused, signature_number, up_to_range};
 
-use crate::ranges::{Range, slice_of};
-use crate::results::{DONE, NOTHING};
+use crate::base::ranges::{Range, slice_of};
+use crate::base::results::{DONE, NOTHING};
 use pe_pkcs7::{Element, SignatureError, element_at};
 
 /// Why an element is refused.

@@ -9,7 +9,7 @@ use super::elements::{
     Algorithm, Oid, algorithm_at, content_range, oid_part, optional_content, optional_whole,
 };
 use super::refused::{Parsed, Read, SignatureFailure, element_in, hand_out_part};
-use crate::ranges::Range;
+use crate::base::ranges::Range;
 use pe_pkcs7::{
     ContentInfo, DigestInfo, Element, EncapsulatedContent, SpcIndirectData, SpcPeImageData,
     TypeAndValue, content_type_number,

@@ -17,7 +17,7 @@ use super::elements::{
 use super::refused::{
     Parsed, Read, SignatureFailure, element_in, hand_out_part, hand_out_part_if, up_to_range,
 };
-use crate::ranges::{NO_BYTES, Range};
+use crate::base::ranges::{NO_BYTES, Range};
 use pe_pkcs7::{
     Attribute, Element, IssuerAndSerial, SignerInfo, SpcSpOpusInfo, attribute_number,
     find_attribute_at,

@@ -8,7 +8,7 @@ use super::elements::{
     Algorithm, algorithm_at, content_range, optional_content, optional_whole, whole_range,
 };
 use super::refused::{Parsed, Read, SignatureFailure, element_in, hand_out_part};
-use crate::ranges::Range;
+use crate::base::ranges::Range;
 use pe_pkcs7::{DigestInfo, Element, Time, TstInfo};
 
 /// A time in UTC.

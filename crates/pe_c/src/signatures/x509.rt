@@ -11,7 +11,7 @@ use super::elements::{
     whole_range,
 };
 use super::refused::{Parsed, Read, SignatureFailure, element_in, hand_out_part, hand_out_part_if};
-use crate::ranges::Range;
+use crate::base::ranges::Range;
 use pe_pkcs7::{Certificate, Element, Extension, ToBeSigned, Validity, extension_number};
 
 /// A certificate. Ranges are of whole elements, but for `serial`, `extensions` and `signature`.

@@ -8,21 +8,21 @@ use Rattle.pe_c.specs.Imports.{StepsImports, StepsLibraries}
 use Rattle.pe_c.specs.Plans.{StepsPlan}
 use Rattle.pe_c.specs.ResourceLeaves.{StepsLeaves}
 use Rattle.pe_c.specs.Unwinding.{links_at}
-use Rattle.pe_c.specs.declared.delay_imports.DelayWalk.{DelayWalk}
-use Rattle.pe_c.specs.declared.delay_imports.DelayedFunctionWalk.{DelayedFunctionWalk}
-use Rattle.pe_c.specs.declared.delay_imports.DelayedFunctions.{DelayedFunctions}
-use Rattle.pe_c.specs.declared.exports.ExportWalk.{ExportWalk}
-use Rattle.pe_c.specs.declared.exports.Exports.{Exports}
-use Rattle.pe_c.specs.declared.imports.ImportWalk.{ImportWalk}
-use Rattle.pe_c.specs.declared.imports.Imports.{Imports}
-use Rattle.pe_c.specs.declared.imports.Libraries.{Libraries}
-use Rattle.pe_c.specs.declared.imports.LibraryWalk.{LibraryWalk}
-use Rattle.pe_c.specs.declared.kept_sections.KeptSections.{KeptSections}
-use Rattle.pe_c.specs.declared.plan.Plan.{Plan}
-use Rattle.pe_c.specs.declared.plan.PlanWalk.{PlanWalk}
-use Rattle.pe_c.specs.declared.ranges.Range.{Range}
-use Rattle.pe_c.specs.declared.resource_leaves.LeafWalk.{LeafWalk}
-use Rattle.pe_c.specs.declared.resource_leaves.ResourceLeaves.{ResourceLeaves}
+use Rattle.pe_c.specs.declared.directories.delay_imports.DelayWalk.{DelayWalk}
+use Rattle.pe_c.specs.declared.directories.delay_imports.DelayedFunctionWalk.{DelayedFunctionWalk}
+use Rattle.pe_c.specs.declared.directories.delay_imports.DelayedFunctions.{DelayedFunctions}
+use Rattle.pe_c.specs.declared.names.exports.ExportWalk.{ExportWalk}
+use Rattle.pe_c.specs.declared.names.exports.Exports.{Exports}
+use Rattle.pe_c.specs.declared.names.imports.ImportWalk.{ImportWalk}
+use Rattle.pe_c.specs.declared.names.imports.Imports.{Imports}
+use Rattle.pe_c.specs.declared.names.imports.Libraries.{Libraries}
+use Rattle.pe_c.specs.declared.names.imports.LibraryWalk.{LibraryWalk}
+use Rattle.pe_c.specs.declared.base.kept_sections.KeptSections.{KeptSections}
+use Rattle.pe_c.specs.declared.unwinding.plan.Plan.{Plan}
+use Rattle.pe_c.specs.declared.unwinding.plan.PlanWalk.{PlanWalk}
+use Rattle.pe_c.specs.declared.base.ranges.Range.{Range}
+use Rattle.pe_c.specs.declared.resources.leaves.LeafWalk.{LeafWalk}
+use Rattle.pe_c.specs.declared.resources.leaves.ResourceLeaves.{ResourceLeaves}
 use Rattle.pe_c.proofs.laws.kept_sections.walks_return_as_they_keep.Goals as goal
 
 abbrev with_exports : Exports → KeptSections → ExportWalk

@@ -1,0 +1,12 @@
+use Rattle.std.proofs.Common.{◌≤◌, length, ◌≡◌}
+use Rattle.pe_c.proofs.directories.all_delay_imports.put_names.Given as goal
+use Rattle.pe_c.specs.NearMaps.{IsWindow}
+use Rattle.pe_c.specs.Views.{map_of}
+
+-- as many as there is room for
+abbrev pub invariant-loop-i : goal.invariant-loop-i
+invariant-loop-i l = record {
+  few : l.count ≤ length l.room;
+  same : length l.room ≡ length l.initial.room;
+  near : IsWindow (map_of l.view) l.near;
+}
