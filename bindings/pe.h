@@ -2001,7 +2001,7 @@ typedef struct {
 
 /* A module of a process: its image, which has size_of_image bytes where it is loaded. What the view leads to stays readable
  * as long as the record is passed. One whose image is not at hand has no bytes and no sections, and an image of which
- * size_of_image is set: a leaf function may have been called from it. */
+ * size_of_image is set: frames are found in it by its addresses alone, as guesses. */
 typedef struct {
     pe_c_view image;                /* the image */
     pe_c_range table;               /* of pe_c_function_table, on ARM64 pe_c_arm64_table; all 0 where that returned
@@ -2018,8 +2018,8 @@ enum {
     PE_C_WAY_INTERRUPT = 3,         /* an interrupt stopped it: the records before it show what the processor pushed, on
                                        ARM64 what the operating system saved */
     PE_C_WAY_SCANNED = 4,           /* by a scan of the stack, where no records led on: at the call that leads nearest into
-                                       the code without records, on x64, else at the first call. It may be wrong, and
-                                       those after it */
+                                       the code without records, on x64, else at the first call, else from a module
+                                       without an image at the first address of one. It may be wrong, and those after it */
     PE_C_WAY_FRAME_POINTER = 5      /* by the frame pointer, where no records led on: the words to which rbp, or x29, leads
                                        are the frame pointer of the caller and a return address. It may be wrong, and
                                        those after it */
@@ -2028,8 +2028,9 @@ enum {
 /* Why a walk is over. */
 enum {
     PE_C_END_BOUND = 0,             /* as many frames were returned as the caller wants */
-    PE_C_END_BOTTOM = 1,            /* the stack is whole: by records its last frame returns to 0, no frame is found there,
-                                       and no frame is a guess */
+    PE_C_END_BOTTOM = 1,            /* by records the last frame returns to 0, no frame is found there, and no frame is a guess.
+                                       The stack is whole, unless one by PE_C_WAY_RECORDS has not called: it may be that
+                                       its return address was overwritten */
     PE_C_END_NO_MODULE = 2,         /* the last instruction pointer is in no module, or in one without an image, and no
                                        return address is found */
     PE_C_END_NO_FUNCTION = 3,       /* no function covers the call in the last frame, and no return address is found */

@@ -511,6 +511,28 @@ fn a_leaf_function_returns_into_a_module_without_an_image(rt: HostRuntime) -> Re
         (found.registers.pc, found.registers.sp, found.way),
         (caller, 0x2020, Way::FramePointer)
     );
+    // Without one, and without a return address into code, it is the first address of such a module, without its signature.
+    let signed = 0x0040_0000_0000_0000 | (NT + 8);
+    let stack = stack_of(alloc, &[(0x2008, signed), (0x2010, NT + 0x10)])?;
+    let memory = Stack {
+        start: 0x2000,
+        bytes: &stack,
+    };
+    for (pc, found) in [(NT + 4, 2), (0x1234, 0)] {
+        let mut walk = Arm64StackFrames::new(modules, &memory, registers(pc, 0x2000, 7), 100);
+        walk.next().ok_or("the top frame")?;
+        for (pc, sp) in [(NT + 8, 0x2010), (NT + 0x10, 0x2018)]
+            .into_iter()
+            .take(found)
+        {
+            let caller = walk.next().ok_or("a caller")?;
+            assert_eq!(rt; (caller.registers.pc, caller.registers.sp), (pc, sp));
+            assert_eq!(rt; (caller.way, caller.is_guess), (Way::Scanned, true));
+        }
+        assert!(rt; walk.next().is_none());
+        let why = format!(in alloc; "{}", walk.end().ok_or("an end")?)?;
+        assert_eq!(rt; why.as_str(), NO_MODULE);
+    }
     Ok(())
 }
 

@@ -929,6 +929,101 @@ fn a_leaf_function_returns_into_a_module_without_an_image(rt: HostRuntime) -> Re
     expect_guesses(&rt, alloc, &[low, app], &[0xFFFF, 7], &frames, end)
 }
 
+/// In a module whose image is not at hand, where no return address into code is found, each address of such a module may be one: one to
+/// which the frame pointer leads, else the first on the stack. None below 64 KB is, nor is any from no module.
+#[test]
+fn without_images_stacks_are_walked_by_the_ranges_of_modules(rt: HostRuntime) -> Result<(), Fail> {
+    let alloc = rt.alloc();
+    let program = program(alloc)?;
+    let data = exceptions(&program, 3)?;
+    let sections = [section(0x40, 0x80, CODE), section(0xC0, 0x40, DATA)];
+    let app = Module {
+        size: 0x100,
+        sections: &sections,
+        ..module(APP, &program, &data)
+    };
+    let unknown = Module {
+        base: LIB,
+        bytes: &[],
+        sections: &[],
+        exceptions: None,
+        ..app
+    };
+    let end = WalkEnd::NoModule;
+    let top = (LIB + 0x90, 0x1000, Way::Top, false);
+    let first = (LIB + 0x44, 0x1010, Way::Scanned, true);
+    let last = (LIB + 0x100, 0x1020, Way::Scanned, true);
+    let words = [7, LIB + 0x44, LIB, LIB + 0x100, LIB + 0x101];
+    expect_guesses(&rt, alloc, &[unknown], &words, &[top, first, last], end)?;
+    // A return address into code comes before them.
+    let words = [7, LIB + 0x44, APP + 0x50, 0, 0, 0, 0, 0xB0, 0];
+    let call = (APP + 0x50, 0x1018, Way::Scanned, true);
+    expect_guesses(
+        &rt,
+        alloc,
+        &[app, unknown],
+        &words,
+        &[top, call],
+        WalkEnd::Zero,
+    )?;
+    let outside = (0, 0x1000, Way::Top, false);
+    let words = [7, LIB + 0x44];
+    expect_guesses(
+        &rt,
+        alloc,
+        &[unknown],
+        &words,
+        &[outside],
+        WalkEnd::NoModule,
+    )?;
+    let low = Module {
+        base: 0xFFF0,
+        ..unknown
+    };
+    let words = [7, 0xFFFF, 0x1_0000];
+    let found = (0x1_0000, 0x1018, Way::Scanned, true);
+    expect_guesses(
+        &rt,
+        alloc,
+        &[low, unknown],
+        &words,
+        &[top, found],
+        WalkEnd::NoModule,
+    )?;
+    // The frame pointer of the second record leads nowhere.
+    let bytes = bytes_of(
+        alloc,
+        &[7, LIB + 0x44, 0x1020, LIB + 0x60, 7, LIB + 0x70, 9],
+    )?;
+    let memory = Stack {
+        start: 0x1000,
+        bytes: &bytes,
+    };
+    let mut top = registers(LIB + 0x90, 0x1000);
+    top.general[RBP] = 0x1010;
+    let modules = [unknown];
+    let modules = Modules::new(&modules).map_err(|_| "the modules ascend")?;
+    let mut walk = StackFrames::new(modules, &memory, top, 100);
+    walk.next().ok_or("the top frame")?;
+    for (rip, rsp, rbp, way) in [
+        (LIB + 0x60, 0x1020, 0x1020, Way::FramePointer),
+        (LIB + 0x70, 0x1030, 0x1020, Way::Scanned),
+    ] {
+        let found = walk.next().ok_or("a frame")?;
+        let general = found.registers.general;
+        assert_eq!(rt;
+            (found.registers.rip, general[RSP], general[RBP]),
+            (rip, rsp, rbp)
+        );
+        assert_eq!(rt;
+            (found.way, found.has_called, found.is_guess),
+            (way, true, true)
+        );
+    }
+    assert!(rt; walk.next().is_none());
+    Ok(())
+}
+
 /// The walk from the first of these frames, over words from address 0x1000 on, has these, all of them guesses but the first, and ends
 /// so.
 fn expect_guesses(

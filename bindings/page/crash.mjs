@@ -2,8 +2,8 @@
 // images are those that the dump has in its memory.
 import { PeError, constants } from './library.mjs';
 
-// Frames of a thread and of all of them; how often the bytes of the dump are copied for images.
-const FRAMES = 100, ALL_FRAMES = 20000, READINGS = 16;
+// Frames of a thread and of all of them; how many modules cost as much as a frame; how often the bytes of the dump are copied for images.
+const FRAMES = 100, ALL_FRAMES = 20000, MODULES_A_FRAME = 100, READINGS = 16;
 const WAYS = ['top', 'records', 'leaf', 'interrupt', 'scanned', 'frame-pointer'];
 const ENDS = ['bound', 'bottom', 'no-module', 'no-function', 'records', 'long-chain', 'step', 'zero', 'no-return-address'];
 const MODE = constants.PE_C_PERMISSIVE | constants.PE_C_MAPPED;
@@ -70,7 +70,7 @@ function framesOf(process, dump, thread, most, modules, said) {
     const before = modules[lastUpTo(modules, ip, (one) => one.base_va)];
     const module = before && ip < before.base_va + BigInt(before.size) ? before : null;
     return { ip_va: ip, module: module && module.name, offset: module && ip - module.base_va, way: WAYS[it.way],
-      has_called: it.has_called === 1, is_guess: it.is_guess === 1 };
+      has_image: module && module.bytes !== null, has_called: it.has_called === 1, is_guess: it.is_guess === 1 };
   });
   return { frames, end: ENDS[walk.end] };
 }
@@ -79,13 +79,15 @@ function framesOf(process, dump, thread, most, modules, said) {
 export function dumpFacts(library, bytes) {
   const said = [], dump = library.openDump(bytes), runs = attempt(said, 'memory', () => dump.runs()) ?? [];
   const modules = modulesOf(library, dump, bytes, runs, said), raised = attempt(said, 'exception', () => dump.exception());
-  const known = modules.filter((it) => it.bytes).map((it) => ({ bytes: it.bytes, base: it.base_va, mode: MODE }));
+  const known = modules.map(({ bytes: image, size, base_va: base }) => (image ? { bytes: image, base, mode: MODE } : { size, base }));
   const process = attempt(said, 'memory', () => library.process({ modules: known, memory: bytes, pieces: runs }));
   const ascending = [...modules].sort((one, other) => (one.base_va < other.base_va ? -1 : 1));
+  // A frame costs a test of each module.
+  const cost = 1 + Math.floor(modules.length / MODULES_A_FRAME);
   let left = ALL_FRAMES;
   const threads = attempt(said, 'threads', () => [...dump.list('threads')].map((thread) => {
-    const walked = framesOf(process, dump, thread, Math.min(FRAMES, left), ascending, said);
-    left -= walked.frames.length;
+    const walked = framesOf(process, dump, thread, Math.min(FRAMES, Math.floor(left / cost)), ascending, said);
+    left -= walked.frames.length * cost;
     return { id: thread.thread_id, is_crashed: raised?.thread_id === thread.thread_id, ...walked };
   })) ?? [];
   threads.sort((one, other) => other.is_crashed - one.is_crashed);

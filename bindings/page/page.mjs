@@ -238,6 +238,20 @@ const END_WORDS = {
   'long-chain': 'LOST: more than 32 unwind records are chained',
 };
 
+const isAfterNoCall = (it) => it.way === 'records' && !it.has_called;
+
+/** How a frame was found. */
+const foundBy = (it) => it.way + (it.has_image === false && it.way !== 'top' ? ', in a module without an image'
+  : isAfterNoCall(it) ? ', after no call' : '') + (it.is_guess ? ', a guess' : '');
+
+/** How the walk of a stack ended. */
+function endOf(frames, end) {
+  if (end === 'bottom' && frames.some(isAfterNoCall)) {
+    return 'the last frame returns to 0, but no call precedes the address of a frame: an interrupt stopped it, or the stack was overwritten';
+  }
+  return end === null ? 'not walked' : END_WORDS[end] ?? 'LOST';
+}
+
 /** What `pe report` shows of a dump; images of modules are those in its memory. */
 function showDump(to, { reason, address_va: address, threads, modules, refused: errors }) {
   pairs(to, [['Why it crashed', reason], ['At', address !== null && hex(address)], ['Images', 'those in the memory of the dump alone;'
@@ -246,9 +260,8 @@ function showDump(to, { reason, address_va: address, threads, modules, refused: 
   const place = (it) => (it.module === null ? '' : `${escaped(it.module)}+${hex(it.offset)}`);
   threads.forEach(({ id, is_crashed: isCrashed, frames, end }) => {
     add(to, 'h3', `Thread ${id}${isCrashed ? ', which crashed' : ''}`);
-    add(to, 'p', end === null ? 'not walked' : END_WORDS[end] ?? 'LOST', 'faint');
-    table(to, ['Frame', 'Place', 'Address', 'Found by'], frames.map((it, i) => [i, place(it), hex(it.ip_va),
-      `${it.way}${it.way === 'records' && !it.has_called ? ', after no call' : ''}${it.is_guess ? ', a guess' : ''}`]), [0, 2]);
+    add(to, 'p', endOf(frames, end), 'faint');
+    table(to, ['Frame', 'Place', 'Address', 'Found by'], frames.map((it, i) => [i, place(it), hex(it.ip_va), foundBy(it)]), [0, 2]);
   });
   add(to, 'h3', count(modules.length, 'module'));
   table(to, ['Name', 'Base', 'Size', 'Image from'], modules.map((it) => [shown(it), hex(it.base_va), hex(it.size), it.image ?? 'none']), [1, 2]);

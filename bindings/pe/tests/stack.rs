@@ -99,8 +99,8 @@ const OTHER: u64 = 0x2_0000_0000;
 /// A folder, the size of the function table, the top frame's RVA, the stack, the frames, the end, and words of the text.
 type Case<'a> = (&'a str, u32, u64, &'a [u64], Value, &'a str, &'a str);
 
-/// A stack is whole where records lead to 0 and no frame is a guess. Of a function table of another size than its entries have, here a
-/// byte more, the whole entries serve.
+/// A stack is whole where records lead to 0, each time after a call, and no frame is a guess. Of a function table of another size than
+/// its entries have, here a byte more, the whole entries serve.
 #[test]
 fn a_stack_is_whole_only_without_a_guess() {
     let call = 0x1_8000_1010;
@@ -130,7 +130,7 @@ fn a_stack_is_whole_only_without_a_guess() {
             &overwritten,
             json!([["top", false], ["records", false]]),
             "bottom",
-            "records, after no call",
+            "the last frame returns to 0, but no call precedes the address of a frame",
         ),
         (
             "stack-no-table",
@@ -307,15 +307,15 @@ fn without_an_image_a_walk_is_lost() {
     );
 }
 
-/// Neither images nor a list of memory: the stack is the one that the thread names, and what a leaf function returns to is by the range
-/// of a module, as a guess.
+/// Neither images nor a list of memory: the stack is the one that the thread names, and its frames are found by the range of a module,
+/// as guesses: what a leaf function returns to, and what a scan finds.
 #[test]
 fn without_images_and_lists_a_stack_is_walked_by_ranges_of_modules() {
-    let stack: Vec<u8> = [OTHER + 0x44, 7].iter().flat_map(|it| it.to_le_bytes()).collect();
+    let stack: Vec<u8> = [OTHER + 0x44, 7, OTHER + 0x88, 9].iter().flat_map(|it| it.to_le_bytes()).collect();
     let data = [made::context(OTHER + 0x123, 0x2_0000), stack].concat();
     let (kind, mut threads) = made::threads(&[(0x24, made::DUMP_DATA)]);
     threads[28..36].copy_from_slice(&0x2_0000u64.to_le_bytes());
-    threads[36..44].copy_from_slice(&made::words(&[16, made::DUMP_DATA + 1232]));
+    threads[36..44].copy_from_slice(&made::words(&[32, made::DUMP_DATA + 1232]));
     let streams = [made::x64_system(), (kind, threads), made::modules(&[(OTHER, 0x1000, 9, 0, [0, 0])])];
     let bytes = made::dump_of(&streams, &data);
     let (said, status) = said_of("stack-ranges", &bytes, &[]);
@@ -328,12 +328,32 @@ fn without_images_and_lists_a_stack_is_walked_by_ranges_of_modules() {
         .collect();
     assert_eq!(
         (json!(frames), &thread["end"]),
-        (json!([[0x123, "top", false], [0x44, "leaf", true]]), &json!("no-module"))
+        (json!([[0x123, "top", false], [0x44, "leaf", true], [0x88, "scanned", true]]), &json!("no-module"))
     );
-    assert_eq!((status, &said["memory"]["pieces"], &said["memory"]["bytes"]), (LOST, &json!(1), &json!(16)));
+    assert_eq!((status, &said["memory"]["pieces"], &said["memory"]["bytes"]), (LOST, &json!(1), &json!(32)));
     let folder = Folder::new("stack-ranges-text");
     let (out, _, _) = run(&["stack", &folder.file("a.dmp", &bytes)]);
-    assert!(out.contains("leaf, a guess") && out.contains("--images FOLDER"), "{out}");
+    let marked = ["leaf", "scanned"].map(|it| format!("{it}, in a module without an image, a guess"));
+    assert!(marked.iter().all(|it| out.contains(it)) && out.contains("--images FOLDER"), "{out}");
+}
+
+/// Of all images 2^20 section headers are read. These share their memory.
+#[test]
+fn images_of_too_many_sections_are_said() {
+    let (size, mut loaded) = (0x30_0000u32, made::with_functions());
+    loaded.resize(size as usize, 0);
+    loaded[0x46..0x48].copy_from_slice(&[0xFF, 0xFF]);
+    loaded[0x90..0x94].copy_from_slice(&size.to_le_bytes());
+    let bases: Vec<u64> = (0..17).map(|it| 0x1_8000_0000 + u64::from(size) * it).collect();
+    let folder = Folder::new("stack-sections");
+    for (count, is_limited) in [(16, false), (17, true)] {
+        let list: Vec<_> = bases[..count].iter().map(|base| (*base, size, 0, 0, [0, 0])).collect();
+        let memory: Vec<_> = bases[..count].iter().map(|base| (*base, size, made::DUMP_DATA)).collect();
+        let dump = folder.file("a.dmp", &made::dump_of(&[made::modules(&list), made::pieces(&memory)], &loaded));
+        let [text, json] = [&[][..], &["--json"]].map(|more| run(&[&["stack", &dump], more].concat()).0);
+        assert_eq!(text.contains("those of the modules have too many sections: some are not read"), is_limited);
+        assert_eq!(serde_json::from_str::<Value>(&json).unwrap()["modules_is_limited"], is_limited);
+    }
 }
 
 #[test]

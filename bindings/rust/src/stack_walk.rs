@@ -82,7 +82,8 @@ pub enum Way {
     Interrupt,
     /// By a scan of the stack, where no records led on. It is the word whose call leads to the code without records in which the
     /// frame before it is, to the nearest address before that, or if there is none, the first that is after a call in executable
-    /// code. It may be a return address that was left there, so this frame and those after it may be wrong.
+    /// code; or, from a module without an image, the first address of such a module. It may be a return address that was left there, so
+    /// this frame and those after it may be wrong.
     Scanned,
     /// By a chain of frame pointers: the function below it keeps one in `rbp`, on ARM64 in `x29`, which leads to what that saved of it,
     /// by what is there. No records say so. A function that keeps none leaves that of its caller, so this frame and those after it may
@@ -131,8 +132,9 @@ impl<R> Frame<R> {
 pub enum End {
     /// As many frames were returned as the caller wants.
     Bound,
-    /// The stack is whole: by its records the last frame returns to 0, as that does with which a thread starts, no frame is found
-    /// there, and none of the frames is a guess.
+    /// By its records the last frame returns to 0, as that does with which a thread starts, no frame is found there, and none of the
+    /// frames is a guess. The stack is whole, unless a frame by [`Way::Records`] has not called: its return address may have been
+    /// overwritten.
     Bottom,
     /// The instruction pointer of the last frame is in no module, or in one without an image, and no return address is found.
     NoModule,
@@ -268,7 +270,9 @@ const MOST_AT_ONCE: usize = 1024;
 /// then at its stack pointer, on ARM64 in its link register, if a call ends at it, or if it is in a module without an image. If
 /// not, and of any other frame in no function, it is one of the 128 words from the stack pointer on that is after a call in an
 /// executable section: [`Way::Scanned`] says which. In an image without a function table, or between its entries, the frame pointer
-/// comes before it where that leads to a return address: [`Way::FramePointer`]. Frames found so are guesses, as [`Frame::is_guess`] says, and the stack is whole only without any.
+/// comes before it where that leads to a return address: [`Way::FramePointer`]. From a module without an image, where no such word is found,
+/// the addresses of such modules are return addresses too: one to which the frame pointer leads, else the first of the words. Frames found so
+/// are guesses, as [`Frame::is_guess`] says, and the stack is whole only without any.
 ///
 /// On x64:
 ///

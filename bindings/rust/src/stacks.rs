@@ -225,6 +225,7 @@ pub struct DumpImages<'a> {
     owned: Vec<MemoryPiece>,
     /// What is known of the images that are not found, of the modules that no other one overlaps, in the order of `owned`.
     missing: Vec<ImageInfo>,
+    is_limited: bool,
 }
 
 impl fmt::Debug for DumpImages<'_> {
@@ -237,7 +238,10 @@ impl fmt::Debug for DumpImages<'_> {
 
 /// What is known of images as they are found.
 struct Search {
+    /// How many more sections images may have.
     sections: usize,
+    /// Whether an image that is the module's has more.
+    is_limited: bool,
 }
 
 impl Search {
@@ -249,9 +253,14 @@ impl Search {
         let number = unsafe { sys::pe_c_image(bytes.as_ptr(), bytes.len(), way, &mut info) };
         // SAFETY: both records are lent for the call.
         let is_its_own = number == sys::DONE && unsafe { sys::pe_c_is_image_of(&info, module) } == sys::DONE;
-        let sections = self.sections.checked_sub(info.number_of_sections.into())?;
-        let image = if is_its_own { Image::parse_as(bytes, Mode::Permissive, layout).ok()? } else { return None };
-        self.sections = sections;
+        if !is_its_own {
+            return None;
+        }
+        let sections = self.sections.checked_sub(info.number_of_sections.into());
+        self.is_limited |= sections.is_none();
+        let left = sections?;
+        let image = Image::parse_as(bytes, Mode::Permissive, layout).ok()?;
+        self.sections = left;
         Some(image)
     }
 
@@ -288,12 +297,12 @@ impl<'a> DumpImages<'a> {
     pub fn new(dump: &Dump<'a>, mut look_up: impl FnMut(&DumpModule) -> Option<&'a [u8]>) -> Result<Self, Error> {
         let memory = DumpMemory::new(dump);
         let modules: Vec<DumpModule> = dump.modules()?.into_iter().flatten().collect();
-        let mut search = Search { sections: MOST_SECTIONS };
+        let mut search = Search { sections: MOST_SECTIONS, is_limited: false };
         let loaded = memory.loaded(&modules);
         let image_of = |(module, loaded)| search.image_of(module, loaded, &mut look_up);
         let images = modules.iter().zip(loaded).map(image_of).collect();
-        let owned = owned_by(&modules);
-        let mut found = DumpImages { memory, modules, images, owned, missing: Vec::new() };
+        let (owned, is_limited) = (owned_by(&modules), search.is_limited);
+        let mut found = DumpImages { memory, modules, images, owned, missing: Vec::new(), is_limited };
         found.missing = found.whole().filter(|it| found.image_of(it).is_none()).map(info_of).collect();
         Ok(found)
     }
@@ -311,6 +320,11 @@ impl<'a> DumpImages<'a> {
     /// The image of the module with an index. `None` where none is found.
     pub fn image(&self, index: usize) -> Option<&DumpImage<'a>> {
         self.images.get(index)?.as_ref()
+    }
+
+    /// Whether images are left out: those of one dump have at most 2^20 sections together.
+    pub fn is_limited(&self) -> bool {
+        self.is_limited
     }
 
     /// The index of the module that has an address: the first that does.

@@ -1199,7 +1199,8 @@ const _: () = assert!(core::mem::size_of::<MemoryPiece>() == 24);
 /// A module of a process: its image, which has `size_of_image` bytes where it is loaded.
 ///
 /// What the view leads to stays readable as long as the record is passed. One whose image is not at hand has no bytes
-/// and no sections, and an image of which `size_of_image` is set: a leaf function may have been called from it.
+/// and no sections, and an image of which `size_of_image` is set: frames are found in it by its addresses alone, as
+/// guesses.
 #[repr(C)]
 #[derive(Clone, Copy, Debug)]
 pub struct Module {

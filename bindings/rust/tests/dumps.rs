@@ -208,6 +208,21 @@ fn memory_of_an_image_ends_at_its_gap() -> Result<(), Error> {
     Ok(())
 }
 
+/// Of all images 2^20 section headers are read, and it is said where some are left out.
+#[test]
+fn images_of_too_many_sections_are_left_out() -> Result<(), Error> {
+    let mut file = made::with_calls();
+    file.resize(0x148 + 40 * 0xFFFF, 0);
+    file[0x46..0x48].copy_from_slice(&[0xFF, 0xFF]);
+    let list: Vec<_> = (0..17).map(|it| (BASE + u64::from(SIZE) * it, SIZE, 0, 0, [0, 0])).collect();
+    for (count, is_limited) in [(16, false), (17, true)] {
+        let bytes = dump_of(&[modules(&list[..count])], &[]);
+        let images = DumpImages::new(&Dump::parse(&bytes)?, |_| Some(&file))?;
+        assert_eq!((images.is_limited(), images.image(count - 1).is_some()), (is_limited, !is_limited));
+    }
+    Ok(())
+}
+
 #[test]
 fn modules_are_found_by_address() -> Result<(), Error> {
     let list = modules(&[(0x5000, 0x1000, 0, 0, [0, 0]), (0x4800, 0x1000, 0, 0, [0, 0]), (0x1000, 0x10, 0, 0, [0, 0])]);

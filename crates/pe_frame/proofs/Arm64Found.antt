@@ -14,9 +14,9 @@ use Rattle.pe_unwind.specs.declared.arm64.function.Arm64RuntimeFunction.{Arm64Ru
 use Rattle.pe_frame.specs.Arm64Packed.{is_canonical, packed_left, stepped_arm64_packed}
 use Rattle.pe_frame.specs.Arm64Steps.{StepsOutArm64}
 use Rattle.pe_frame.specs.Arm64Undoing.{caller_by_codes, entry_of, left_arm64, link_register, put_pc, returned_arm64, undone_codes}
-use Rattle.pe_frame.specs.Arm64Walks.{Calls, CallsBy, CallsByInfo, CallsFound, CallsIn, after_leaf, called_frame, caller_in_code, caller_without_table, chained, is_leaf_return, record_of, returned_by, frame_after, frame_of, has_called, is_bottom, jumped_frame, caller_of_leaf, leaf_frame, leaf_if, leaf_is_guess, leaf_without_image, lookup_address, caller_outside, place_of, returned_to, scanned, stepped_out_packed, top_frame, without_records}
+use Rattle.pe_frame.specs.Arm64Walks.{Calls, CallsBy, CallsByInfo, CallsFound, CallsIn, after_leaf, called_frame, caller_in_code, caller_without_table, chained, is_leaf_return, record_of, returned_by, frame_after, frame_of, has_called, is_bottom, jumped_frame, caller_of_leaf, leaf_frame, leaf_if, leaf_is_guess, leaf_without_image, lookup_address, caller_outside, found_outside, found_by_ranges, record_return, place_of, returned_to, scanned, scanned_by, stepped_out_packed, top_frame, without_records}
 use Rattle.pe_frame.specs.FrameWalks.{IsWalk, Process, starting_walk}
-use Rattle.pe_frame.specs.Modules.{is_after_call_arm64, is_after_call_arm64_in, is_after_call_arm64_of, is_code, is_code_of, is_code_return_arm64, is_code_return_arm64_of, is_executable, is_unknown, map_of_module, may_end_call, module_at}
+use Rattle.pe_frame.specs.Modules.{is_after_call_arm64, is_after_call_arm64_in, is_after_call_arm64_of, is_code, is_code_of, is_code_return_arm64, is_code_return_arm64_of, is_executable, is_in_unknown, is_unknown, map_of_module, may_end_call, module_at}
 use Rattle.pe_frame.specs.Walks.{by_records, by_words, end_at_0}
 use Rattle.pe_frame.specs.declared.arm64.entry.Arm64Entry.{Arm64Entry}
 use Rattle.pe_frame.specs.declared.arm64.registers.Arm64Registers.{Arm64Registers}
@@ -161,6 +161,10 @@ next_leaf memory modules guess s t given is =
     (λ at. made_found by_scan (Err ends.NoFunction) t (λ by. next_by_words modules s t (made_scan modules s.registers _ t by)) (λ none. absurd (cc none)) at)
     (λ waits at. next_led modules guess s t given waits (made_found found rest t (made_without memory modules guess s.registers t) (made_jumped modules guess s.registers t) at))
 
+made_by_ranges : (memory : ℕ → Option ℕ) (modules : List Module) (s t : Arm64StackFrame) (b : Bool) → cond b (scanned_by (record_return modules) memory modules s.registers) None ≡ Some t → IsByWords modules t
+made_by_ranges memory modules s t true is = made_scan modules s.registers _ t is
+made_by_ranges memory modules s t false is = absurd (cc is)
+
 outside_if : (memory : ℕ → Option ℕ) (modules : List Module) (s t : Arm64StackFrame) (b : Bool) → s.has_called ≡ b → cond b (scanned memory modules s.registers) (without_records memory modules true s.registers) ≡ Some t → IsNext modules s t
 outside_if memory modules s t true called is = next_by_words modules s t (made_scan modules s.registers _ t is)
 outside_if memory modules s t false waits is =
@@ -168,8 +172,11 @@ outside_if memory modules s t false waits is =
 
 next_outside : (memory : ℕ → Option ℕ) (modules : List Module) (s t : Arm64StackFrame) → Ok t ≡ caller_outside memory modules s → IsNext modules s t
 next_outside memory modules s t is =
-    let found = cond s.has_called (scanned memory modules s.registers) (without_records memory modules true s.registers) in
-    made_found found (Err ends.NoModule) t (outside_if memory modules s t s.has_called refl) (λ none. absurd (cc none)) is
+    let first = found_outside memory modules s in
+    let second = found_by_ranges memory modules s in
+    made_found (option_or first second) (Err ends.NoModule) t
+    (λ found. made_or first second t (outside_if memory modules s t s.has_called refl) (λ by. next_by_words modules s t (made_by_ranges memory modules s t (is_in_unknown modules (lookup_address s)) by)) found)
+    (λ none. absurd (cc none)) is
 
 next_in_code : (memory : ℕ → Option ℕ) (modules : List Module) (guess : Bool) (s t : Arm64StackFrame) → (s.is_guess ≡ true → guess ≡ true) → Ok t ≡ caller_in_code memory modules guess s → IsNext modules s t
 next_in_code memory modules guess s t given is =
@@ -499,8 +506,7 @@ code_at_bottom memory modules guess s is =
 
 pub outside_at_bottom : (memory : ℕ → Option ℕ) (modules : List Module) (s : Arm64StackFrame) → caller_outside memory modules s ≡ Err ends.Bottom → ⊥
 outside_at_bottom memory modules s is =
-    let found = cond s.has_called (scanned memory modules s.registers) (without_records memory modules true s.registers) in
-    no_bottom found (Err ends.NoModule) (λ e. cc e) (sym is)
+    no_bottom (option_or (found_outside memory modules s) (found_by_ranges memory modules s)) (Err ends.NoModule) (λ e. cc e) (sym is)
 
 unchained_at_bottom : (memory : ℕ → Option ℕ) (modules : List Module) (s : Arm64StackFrame) (b : Bool) → Err ends.Bottom ≡ cond b (caller_outside memory modules s) (caller_of_leaf memory modules true s) → ⊥
 unchained_at_bottom memory modules s true is = outside_at_bottom memory modules s (sym is)

@@ -9,10 +9,10 @@ use Rattle.pe_unwind.specs.ExceptionTable.{ExceptionView}
 use Rattle.pe_unwind.specs.UnwindRecord.{UnwindInfoView}
 use Rattle.pe_unwind.specs.declared.function_table.RuntimeFunction.{RuntimeFunction}
 use Rattle.pe_frame.specs.Jumps.{StepsInImage}
-use Rattle.pe_frame.specs.Modules.{is_after_call, is_after_call_in, is_after_call_of, is_code_of, is_code_return, is_code_return_of, is_code, is_executable, is_unknown, may_end_call, module_at, map_of_module}
+use Rattle.pe_frame.specs.Modules.{is_after_call, is_after_call_in, is_after_call_of, is_code_of, is_code_return, is_code_return_of, is_code, is_executable, is_in_unknown, is_unknown, may_end_call, module_at, map_of_module}
 use Rattle.pe_frame.specs.Undoing.{popped, stack_pointer}
 use Rattle.pe_frame.specs.FrameWalks.{IsWalk, Process, starting_walk}
-use Rattle.pe_frame.specs.Walks.{Calls, CallsBy, CallsByPlan, CallsFound, CallsIn, after_leaf, by_records, by_words, caller_in_code, chained, code_of_frame, end_at_0, frame_after, frame_of, has_called, is_bottom, caller_of_leaf, leaf_frame, leaf_if, leaf_is_guess, is_leaf_return, leaf_without_image, lookup_address, lower_frame, caller_outside, record_of, returned_by, returned_to, scanned, scanned_frame, top_frame, without_records, called_in_gap, caller_in_gap, scanned_in_gap}
+use Rattle.pe_frame.specs.Walks.{Calls, CallsBy, CallsByPlan, CallsFound, CallsIn, after_leaf, by_records, by_words, caller_in_code, chained, code_of_frame, code_return, end_at_0, frame_after, frame_of, has_called, is_bottom, caller_of_leaf, leaf_frame, leaf_if, leaf_is_guess, is_leaf_return, leaf_without_image, lookup_address, lower_frame, caller_outside, found_outside, found_by_ranges, record_of, record_return, returned_by, returned_to, scanned, scanned_by, scanned_frame, top_frame, without_records, called_in_gap, caller_in_gap, scanned_in_gap}
 use Rattle.pe_frame.specs.declared.chain.FrameRecord.{FrameRecord}
 use Rattle.pe_frame.specs.declared.error.FrameError.{FrameError}
 use Rattle.pe_frame.specs.declared.modules.Module.{Module}
@@ -110,9 +110,12 @@ made_frame modules frame None t made is = absurd (cc is)
 made_frame modules frame (Some x) t made is =
     let same : frame x ≡ t = cc is in subst (λ (f : StackFrame). IsByWords modules f) same (made x)
 
-made_scan : (memory : ℕ → Option ℕ) (modules : List Module) (g : Registers) (t : StackFrame) → scanned memory modules g ≡ Some t → IsByWords modules t
-made_scan memory modules g t is =
+made_scan_by : (returns memory : ℕ → Option ℕ) (modules : List Module) (g : Registers) (t : StackFrame) → scanned_by returns memory modules g ≡ Some t → IsByWords modules t
+made_scan_by returns memory modules g t is =
     made_frame modules (scanned_frame modules g) _ t (λ found. (Scanned, refl, returned_to g found, refl)) is
+
+made_scan : (memory : ℕ → Option ℕ) (modules : List Module) (g : Registers) (t : StackFrame) → scanned memory modules g ≡ Some t → IsByWords modules t
+made_scan memory modules g t is = made_scan_by (code_return modules) memory modules g t is
 
 made_in_gap : (memory : ℕ → Option ℕ) (modules : List Module) (gap : Gap) (g : Registers) (t : StackFrame) → scanned_in_gap memory modules gap g ≡ Some t → IsByWords modules t
 made_in_gap memory modules gap g t is =
@@ -195,6 +198,12 @@ next_in_gap memory modules guess gap s t given is =
     (λ other. next_leaf memory modules guess s t given other)
     is
 
+made_by_ranges : (memory : ℕ → Option ℕ) (modules : List Module) (s t : StackFrame) (b : Bool) → cond b (option_or (chained memory modules s) (scanned_by (record_return modules) memory modules s.registers)) None ≡ Some t → IsByWords modules t
+made_by_ranges memory modules s t true is =
+    let scan = scanned_by (record_return modules) memory modules s.registers in
+    made_or (chained memory modules s) scan t (made_chain memory modules s t) (made_scan_by (record_return modules) memory modules s.registers t) is
+made_by_ranges memory modules s t false is = absurd (cc is)
+
 outside_if : (memory : ℕ → Option ℕ) (modules : List Module) (s t : StackFrame) (b : Bool) → s.has_called ≡ b → cond b (scanned memory modules s.registers) (without_records memory modules true s.registers) ≡ Some t → IsNext modules s t
 outside_if memory modules s t true called is = next_by_words modules s t (made_scan memory modules s.registers t is)
 outside_if memory modules s t false waits is =
@@ -202,8 +211,11 @@ outside_if memory modules s t false waits is =
 
 next_outside : (memory : ℕ → Option ℕ) (modules : List Module) (s t : StackFrame) → Ok t ≡ caller_outside memory modules s → IsNext modules s t
 next_outside memory modules s t is =
-    let found = cond s.has_called (scanned memory modules s.registers) (without_records memory modules true s.registers) in
-    made_found found (Err ends.NoModule) t (outside_if memory modules s t s.has_called refl) (λ none. absurd (cc none)) is
+    let first = found_outside memory modules s in
+    let second = found_by_ranges memory modules s in
+    made_found (option_or first second) (Err ends.NoModule) t
+    (λ found. made_or first second t (outside_if memory modules s t s.has_called refl) (λ by. next_by_words modules s t (made_by_ranges memory modules s t (is_in_unknown modules (lookup_address s)) by)) found)
+    (λ none. absurd (cc none)) is
 
 next_in_code : (memory : ℕ → Option ℕ) (modules : List Module) (s t : StackFrame) → Ok t ≡ caller_in_code memory modules true s → IsNext modules s t
 next_in_code memory modules s t is =
@@ -459,8 +471,7 @@ gap_at_bottom memory modules guess gap s is =
 
 pub outside_at_bottom : (memory : ℕ → Option ℕ) (modules : List Module) (s : StackFrame) → caller_outside memory modules s ≡ Err ends.Bottom → ⊥
 outside_at_bottom memory modules s is =
-    let found = cond s.has_called (scanned memory modules s.registers) (without_records memory modules true s.registers) in
-    no_bottom found (Err ends.NoModule) (λ e. cc e) (sym is)
+    no_bottom (option_or (found_outside memory modules s) (found_by_ranges memory modules s)) (Err ends.NoModule) (λ e. cc e) (sym is)
 
 no_table_at_bottom : (memory : ℕ → Option ℕ) (modules : List Module) (s : StackFrame) (b : Bool) → Err ends.Bottom ≡ cond b (caller_outside memory modules s) (caller_in_code memory modules true s) → ⊥
 no_table_at_bottom memory modules s true is = outside_at_bottom memory modules s (sym is)

@@ -16,7 +16,7 @@ use Rattle.pe_frame.specs.Arm64Steps.{StepsOutArm64}
 use Rattle.pe_frame.specs.Arm64Undoing.{link_register, put_pc, put_sp, stripped}
 use Rattle.pe_frame.specs.FrameRecords.{frame_record}
 use Rattle.pe_frame.specs.FrameWalks.{FrameWalk, Process, state_of}
-use Rattle.pe_frame.specs.Modules.{is_after_call_arm64, is_code, is_code_of, is_code_return_arm64, is_unknown, map_of_module, may_end_call, module_at}
+use Rattle.pe_frame.specs.Modules.{is_after_call_arm64, is_code, is_code_of, is_code_return_arm64, is_in_unknown, is_unknown, map_of_module, may_end_call, module_at}
 use Rattle.pe_frame.specs.Scans.{first_return, most_words}
 use Rattle.pe_frame.specs.Walks.{IsUnreadable, end_at_0}
 use Rattle.pe_frame.specs.declared.arm64.registers.Arm64Registers.{Arm64Registers}
@@ -67,11 +67,15 @@ code_return modules w = if is_code_return_arm64 modules (stripped w) then Some (
 abbrev pub returned_to : Arm64Registers → (ℕ × ℕ) → Arm64Registers
 returned_to g found = put_pc (put_sp g (found.0 + 8)) found.1
 
--- the frame that a scan of the stack finds, which is a guess: by the first word from the stack pointer on, rounded up to 8
+-- the frame that a scan of the stack finds, which is a guess: by the first word from the stack pointer on, rounded up to 8, that is a
+-- return address by `returns`
+abbrev pub scanned_by : (ℕ → Option ℕ) → (ℕ → Option ℕ) → List Module → Arm64Registers → Option Arm64StackFrame
+scanned_by returns memory modules g =
+    option_map (λ found. frame_of modules Scanned true (returned_to g found)) (first_return most_words memory returns (rounded_up g.sp 8))
+
+-- into executable code
 abbrev pub scanned : (ℕ → Option ℕ) → List Module → Arm64Registers → Option Arm64StackFrame
-scanned memory modules g =
-    option_map (λ found. frame_of modules Scanned true (returned_to g found))
-    (first_return most_words memory (code_return modules) (rounded_up g.sp 8))
+scanned memory modules g = scanned_by (code_return modules) memory modules g
 
 -- the caller of a leaf function goes on at the link register
 abbrev pub after_leaf : Arm64Registers → Arm64Registers
@@ -149,10 +153,20 @@ abbrev pub caller_in_code : (ℕ → Option ℕ) → List Module → Bool → Ar
 caller_in_code memory modules guess s = option_map_or Ok (chained memory modules s) (caller_of_leaf memory modules guess s)
 
 -- In no module, to which a wild jump or call may lead, no frame pointer is followed.
+abbrev pub found_outside : (ℕ → Option ℕ) → List Module → Arm64StackFrame → Option Arm64StackFrame
+found_outside memory modules s =
+    if s.has_called then scanned memory modules s.registers else without_records memory modules true s.registers
+
+-- In a module whose image is not at hand, where that finds none, any address of such a module may be a return address: the first on
+-- the stack is taken for one.
+abbrev pub found_by_ranges : (ℕ → Option ℕ) → List Module → Arm64StackFrame → Option Arm64StackFrame
+found_by_ranges memory modules s =
+    if is_in_unknown modules (lookup_address s) then scanned_by (record_return modules) memory modules s.registers else None
+
+-- the caller in no module, or in one whose image is not at hand
 abbrev pub caller_outside : (ℕ → Option ℕ) → List Module → Arm64StackFrame → Result Arm64StackFrame WalkEnd
 caller_outside memory modules s =
-    option_map_or Ok (if s.has_called then scanned memory modules s.registers else without_records memory modules true s.registers)
-    (Err ends.NoModule)
+    option_map_or Ok (option_or (found_outside memory modules s) (found_by_ranges memory modules s)) (Err ends.NoModule)
 
 -- the bottom of a stack: a call that returns to 0, and from there no frame is found
 abbrev pub is_bottom : (ℕ → Option ℕ) → List Module → Arm64Registers → Bool

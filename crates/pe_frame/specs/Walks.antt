@@ -14,7 +14,7 @@ use Rattle.pe_plan.specs.ShortPlans.{PlansShort}
 use Rattle.pe_frame.specs.FrameWalks.{FrameWalk, Process, state_of}
 use Rattle.pe_frame.specs.Jumps.{StepsInImage}
 use Rattle.pe_frame.specs.FrameRecords.{frame_record}
-use Rattle.pe_frame.specs.Modules.{module_at, map_of_module, code_in, is_after_call, is_code, is_code_of, is_code_return, is_unknown, may_end_call, call_target}
+use Rattle.pe_frame.specs.Modules.{module_at, map_of_module, code_in, is_after_call, is_code, is_code_of, is_code_return, is_in_unknown, is_unknown, may_end_call, call_target}
 use Rattle.pe_frame.specs.Scans.{first_return, highest_call, most_words}
 use Rattle.pe_frame.specs.Steps.{ErrorKind, error_kind}
 use Rattle.pe_frame.specs.Undoing.{stack_pointer, popped, put_register, put_rip}
@@ -88,10 +88,14 @@ returned_to g found = put_rip (put_register g RSP (found.0 + 8)) found.1
 abbrev pub scanned_frame : List Module → Registers → (ℕ × ℕ) → StackFrame
 scanned_frame modules g found = frame_of modules Scanned true (returned_to g found)
 
--- that of the first word from the stack pointer on, rounded up to 8, that is a return address
+-- that of the first word from the stack pointer on, rounded up to 8, that is a return address by `returns`
+abbrev pub scanned_by : (ℕ → Option ℕ) → (ℕ → Option ℕ) → List Module → Registers → Option StackFrame
+scanned_by returns memory modules g =
+    option_map (scanned_frame modules g) (first_return most_words memory returns (rounded_up (stack_pointer g) 8))
+
+-- into executable code
 abbrev pub scanned : (ℕ → Option ℕ) → List Module → Registers → Option StackFrame
-scanned memory modules g =
-    option_map (scanned_frame modules g) (first_return most_words memory (code_return modules) (rounded_up (stack_pointer g) 8))
+scanned memory modules g = scanned_by (code_return modules) memory modules g
 
 -- The caller of a leaf function, which has the return address at the stack pointer, if a test of that holds. It is a guess where no
 -- call in an executable section ends there, as after bytes of data that look like one.
@@ -250,10 +254,21 @@ abbrev pub caller_in_code : (ℕ → Option ℕ) → List Module → Bool → St
 caller_in_code memory modules guess s = option_map_or Ok (chained memory modules s) (caller_of_leaf memory modules guess s)
 
 -- In no module, to which a wild jump or call may lead, nothing speaks for a leaf function, and no frame pointer is followed.
+abbrev pub found_outside : (ℕ → Option ℕ) → List Module → StackFrame → Option StackFrame
+found_outside memory modules s =
+    if s.has_called then scanned memory modules s.registers else without_records memory modules true s.registers
+
+-- In a module whose image is not at hand, where that finds none, any address of such a module may be a return address: one to which
+-- the frame pointer leads, else the first on the stack.
+abbrev pub found_by_ranges : (ℕ → Option ℕ) → List Module → StackFrame → Option StackFrame
+found_by_ranges memory modules s =
+    if is_in_unknown modules (lookup_address s)
+    then option_or (chained memory modules s) (scanned_by (record_return modules) memory modules s.registers) else None
+
+-- the caller in no module, or in one whose image is not at hand
 abbrev pub caller_outside : (ℕ → Option ℕ) → List Module → StackFrame → Result StackFrame WalkEnd
 caller_outside memory modules s =
-    option_map_or Ok (if s.has_called then scanned memory modules s.registers else without_records memory modules true s.registers)
-    (Err ends.NoModule)
+    option_map_or Ok (option_or (found_outside memory modules s) (found_by_ranges memory modules s)) (Err ends.NoModule)
 
 -- Where lookup finds no function, the table of a module says that the function of a frame is a leaf function: of code alone.
 abbrev pub leaf_is_guess : Module → StackFrame → Bool
@@ -268,7 +283,7 @@ CallsFound memory modules m e s (Some f) answer =
     × PlansShort (links_with e (map_of_module m e)) e.content f plan × CallsByPlan memory modules m e f s plan answer
 
 -- In a module without exception data: nothing says which of its functions are leaf functions. One whose image is not at hand is as no
--- module, so that the end says so; nor does anything say that its code keeps a frame pointer.
+-- module, so that the end says so.
 abbrev pub caller_without_table : (ℕ → Option ℕ) → List Module → Module → StackFrame → Result StackFrame WalkEnd
 caller_without_table memory modules m s =
     if is_unknown m then caller_outside memory modules s else caller_in_code memory modules true s

@@ -9,7 +9,8 @@
 //! dispatcher of exceptions saved the registers without a machine frame. After a call of a null pointer the frame is in no module:
 //! its return address is at the stack pointer, if a call ends at that, or if its module has no image that would say so. Where neither
 //! leads on, the stack is scanned: first for the call of the function itself, which starts between the entries of the function table
-//! around it, then for any call. Before a scan for any call a chain of frame pointers leads on, in code of an image: `chain`.
+//! around it, then for any call. Before a scan for any call a chain of frame pointers leads on, in code of an image: `chain`. From a
+//! module whose image is not at hand the last resort is any address of such a module.
 //!
 //! What is found so may be wrong, and so may all that follows. Each frame says whether it is such a guess, and a stack is called whole
 //! only where none is.
@@ -21,7 +22,7 @@ ghost use Rattle.pe_frame.specs.AddressRanges.{has_address};
 ghost use Rattle.pe_frame.specs.InPlace.{changed_with};
 ghost use Rattle.pe_frame.specs.FrameWalks.{frame_left};
 ghost use Rattle.pe_frame.specs.Modules.{may_end_call, module_base, module_size};
-ghost use Rattle.pe_frame.specs.Walks.{has_called, frame_of, lookup_address, code_of_frame, code_return, scanned, leaf_frame, without_records, is_bottom, end_at_0, after_leaf, caller_of_leaf, caller_outside, caller_without_table, leaf_is_guess, frame_after, CallsFound, CallsIn, scanned_frame, IsGap, is_in_gap, gap_target, scanned_in_gap, called_in_gap, caller_in_gap, leaf_without_image, record_return, is_leaf_return, chained, caller_in_code, lower_frame};
+ghost use Rattle.pe_frame.specs.Walks.{has_called, frame_of, lookup_address, code_of_frame, code_return, scanned, scanned_by, leaf_frame, without_records, is_bottom, end_at_0, after_leaf, caller_of_leaf, found_outside, found_by_ranges, caller_outside, caller_without_table, leaf_is_guess, frame_after, CallsFound, CallsIn, scanned_frame, IsGap, is_in_gap, gap_target, scanned_in_gap, called_in_gap, caller_in_gap, leaf_without_image, record_return, is_leaf_return, chained, caller_in_code, lower_frame};
 ghost use Rattle.pe_frame.specs.declared.modules.Module.{Module};
 
 use crate::chain::frame_record;
@@ -54,7 +55,7 @@ pub enum Way {
     Interrupt,
     /// By a scan of the stack, where no records led on. It is the word whose call leads to the code without records in which the
     /// frame before it is, to the nearest address before that, or if there is none, the first that is after a call in executable
-    /// code. It may be a return address that was left there, so this frame and those after it may be wrong.
+    /// code; or, from a module whose image is not at hand, the first address of such a module. It may be a return address that was left there, so this frame and those after it may be wrong.
     Scanned,
     /// By a chain of frame pointers: the function that it called keeps one in rbp, on ARM64 in x29, which leads to what that saved of
     /// it, by what is there. No records say so. A function that keeps none leaves that of its caller, so this frame and those after it
@@ -84,8 +85,9 @@ pub enum WalkEnd {
     /// As many frames were returned as the caller of the walk asked for.
     #[error("as many frames as were asked for")]
     Bound,
-    /// The stack is whole: by its records the last frame returns to 0, as that does with which a thread starts, no frame is found
-    /// there, and none of the frames is a guess.
+    /// By its records the last frame returns to 0, as that does with which a thread starts, no frame is found there, and none of the
+    /// frames is a guess. The stack is whole, unless a frame that records lead to has not called: its return address may have been
+    /// overwritten.
     #[error("bottom of the stack")]
     Bottom,
     /// The last frame returns to 0, but a frame is a guess, as after a call of a null pointer, or no records describe the code of the
@@ -225,6 +227,20 @@ fn scanned_frame<L: CallSites>(
     frame_of(modules, Way::Scanned, true, caller)
 }
 
+/// The frame that a scan of the stack finds by a return address of these.
+fn scanned_by<R: ReturnWords, L: CallSites, M: Memory>(
+    returns: &R,
+    modules: &L,
+    memory: &M,
+    registers: &Registers,
+) -> Option<StackFrame>
+    ensures { result ≡ scanned_by (R.returns returns.now)
+        (M.word memory.now) (L.list modules.now) registers.now }
+{
+    let (address, word) = first_return_above(returns, memory, registers.general[RSP])?;
+    Some(scanned_frame(modules, registers, address, word))
+}
+
 /// The frame that a scan of the stack finds by any call.
 fn scanned<L: CallSites, M: Memory>(
     modules: &L,
@@ -233,9 +249,7 @@ fn scanned<L: CallSites, M: Memory>(
 ) -> Option<StackFrame>
     ensures { result ≡ scanned (M.word memory.now) (L.list modules.now) registers.now }
 {
-    let returns = CodeReturns { modules };
-    let (address, word) = first_return_above(&returns, memory, registers.general[RSP])?;
-    Some(scanned_frame(modules, registers, address, word))
+    scanned_by(&CodeReturns { modules }, modules, memory, registers)
 }
 
 /// The frame that a scan of the stack finds by the call into code that no entry covers which leads highest there.
@@ -552,8 +566,45 @@ fn become_caller_in_gap<L: CallSites, M: Memory>(
     put(caller_in_gap(modules, is_guess, gap, frame, memory), frame)
 }
 
-/// Makes a frame in no module that of its caller, or says why there is none: then the frame stays. Out of line, as
-/// `become_caller_by_words`.
+/// The frame that is found of one in no module.
+fn found_outside<L: CallSites, M: Memory>(
+    modules: &L,
+    frame: &StackFrame,
+    memory: &M,
+) -> Option<StackFrame>
+    ensures { result ≡ found_outside (M.word memory.now) (L.list modules.now) frame.now }
+{
+    if frame.has_called {
+        scanned(modules, memory, &frame.registers)
+    } else {
+        without_records(modules, memory, true, &frame.registers)
+    }
+}
+
+/// The frame that is found of one in a module whose image is not at hand, by the addresses that such modules have.
+fn found_by_ranges<L: CallSites, M: Memory>(
+    modules: &L,
+    frame: &StackFrame,
+    memory: &M,
+) -> Option<StackFrame>
+    ensures { result ≡ found_by_ranges (M.word memory.now) (L.list modules.now) frame.now }
+{
+    if !modules.is_in_unknown(frame.lookup_address()) {
+        return None;
+    }
+    match chained(modules, frame, memory) {
+        Some(caller) => Some(caller),
+        None => scanned_by(
+            &RecordReturns { modules },
+            modules,
+            memory,
+            &frame.registers,
+        ),
+    }
+}
+
+/// Makes a frame in no module, or in one whose image is not at hand, that of its caller, or says why there is none: then the frame
+/// stays. Out of line, as `become_caller_by_words`.
 #[inline(never)]
 pub fn caller_outside<L: CallSites, M: Memory>(
     modules: &L,
@@ -564,18 +615,11 @@ pub fn caller_outside<L: CallSites, M: Memory>(
         ≡ caller_outside (M.word memory.now) (L.list modules.now) frame.old }
     ensures kept { OnErr result (frame.new ≡ frame.old) }
 {
-    let caller = if frame.has_called {
-        scanned(modules, memory, &frame.registers)
-    } else {
-        without_records(modules, memory, true, &frame.registers)
+    let caller = match found_outside(modules, frame, memory) {
+        Some(caller) => Some(caller),
+        None => found_by_ranges(modules, frame, memory),
     };
-    match caller {
-        Some(caller) => {
-            *frame = caller;
-            Ok(())
-        }
-        None => Err(WalkEnd::NoModule),
-    }
+    put(caller.ok_or(WalkEnd::NoModule), frame)
 }
 
 /// Makes a frame in a module without exception data that of its caller, or says why there is none: then the frame stays.
@@ -771,6 +815,9 @@ impl WalkFrame for StackFrame {
 /// two entries of a function table the word whose call, E8, leads there, up to the frame, comes before all others after a call but
 /// that at the stack pointer and one to which the frame pointer leads lower on the stack: of several the one whose call leads
 /// highest, to the nearest start of a function. Where none is found, a walk that comes to 0 says `Zero`.
+///
+/// In a module whose image is not at hand, where no return address into code is found, the addresses of such modules are return addresses
+/// too: one to which the frame pointer leads, else the first of the 128 words.
 #[derive(Drop)]
 pub struct StackFrames<'a, M> {
     modules: Modules<'a>,

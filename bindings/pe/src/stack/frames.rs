@@ -35,12 +35,14 @@ fn frame_of(frame: &pe_c::Frame<DumpRegisters>, loaded: &Loaded<'_>, has_registe
     };
     let code = if frame.has_called { ip.wrapping_sub(call) } else { ip };
     let (module, offset) = loaded.place_of(code, ip);
+    let module_index = loaded.images.module_at(code);
     Frame {
         ip_va: ip,
         sp_va: frame.registers.sp(),
         module,
         offset,
-        module_index: loaded.images.module_at(code),
+        module_index,
+        has_image: module_index.is_some_and(|it| loaded.images.image(it).is_some()),
         function: None,
         way: way_of(frame.way),
         has_called: frame.has_called,

@@ -39,7 +39,7 @@ pub fn of<'d>(dump: &Dump<'d>, loaded: &Loaded<'d>, files: &Images<'_>, mut pdbs
             function_table_error: loaded.images.image(index).and_then(|it| damage_of(&it.image)),
         }
     });
-    List { entries: told.collect(), error: None, is_limited: false }
+    List { entries: told.collect(), error: None, is_limited: loaded.images.is_limited() }
 }
 
 /// Why the function table of an image is refused.

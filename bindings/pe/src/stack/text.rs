@@ -99,6 +99,9 @@ pub fn summary(told: &Told) -> Vec<Row> {
             format!("{without} without one, {lost} lost: --images FOLDER reads the images below a folder"),
         ));
     }
+    if told.modules.present().is_some_and(|it| it.is_limited) {
+        rows.push(("images", "those of the modules have too many sections: some are not read".to_string()));
+    }
     rows.extend(told.symbols_left_out.iter().map(|it| ("left out", format!("of _NT_SYMBOL_PATH {}", escaped(it)))));
     if told.threads.present().is_some_and(|it| it.is_limited) {
         rows.push(("frames", format!("the stacks have more than the {FRAMES} that are shown of a dump")));
@@ -165,12 +168,20 @@ pub fn title_of(thread: &Thread) -> String {
     format!("thread {}{name}{crashed}", thread.id)
 }
 
-/// How a frame was found. Records may lead to an address that no call precedes: to what an interrupt stopped, or where a return
-/// address was overwritten.
+/// Whether records lead to an address that no call precedes: to what an interrupt stopped, or where a return address was overwritten.
+fn is_after_no_call(frame: &Frame) -> bool {
+    frame.way == "records" && !frame.has_called
+}
+
+/// How a frame was found. Without an image of its module nothing but the range of that says that it may be one.
 fn found_by(frame: &Frame) -> String {
-    let call = if frame.way == "records" && !frame.has_called { ", after no call" } else { "" };
+    let of_image = match frame.module_index {
+        Some(_) if !frame.has_image && frame.way != "top" => ", in a module without an image",
+        _ if is_after_no_call(frame) => ", after no call",
+        _ => "",
+    };
     let guess = if frame.is_guess { ", a guess" } else { "" };
-    format!("{}{call}{guess}", frame.way)
+    format!("{}{of_image}{guess}", frame.way)
 }
 
 /// The rows of a frame: the innermost function in the row of its number, and those that it is inlined in below.
@@ -223,6 +234,9 @@ fn thread_of(thread: &Thread, page: &mut Page) {
 /// How the walk of a stack ended.
 pub fn end_of(thread: &Thread) -> String {
     let words = match thread.end {
+        Some("bottom") if thread.frames.iter().any(is_after_no_call) => {
+            "the last frame returns to 0, but no call precedes the address of a frame: an interrupt stopped it, or the stack was overwritten"
+        }
         Some("bottom") => "the stack is whole",
         Some("zero") => {
             "the last frame returns to 0, but a frame is a guess, or no records describe the last one: frames may be missing or wrong"
@@ -326,6 +340,7 @@ mod tests {
             module: Some("app.exe".to_string()),
             offset: Some(0x1071),
             module_index: Some(0),
+            has_image: true,
             function: Some(function),
             way: "top",
             has_called: false,

@@ -120,8 +120,8 @@ pub struct Thread {
     pub is_crashed: bool,
     /// From the top frame outwards.
     pub frames: Vec<Frame>,
-    /// Why there are no more: `bottom` where the stack is whole, `zero` where it comes to 0 too, but a frame is a guess or no records
-    /// describe the last one.
+    /// Why there are no more: `bottom` where records lead to 0 and no frame is a guess, `zero` where it comes to 0 too, but a frame is one
+    /// or no records describe the last one.
     pub end: Option<&'static str>,
     /// More on it; or why the registers of the thread cannot be read.
     pub end_error: Option<Refusal>,
@@ -137,6 +137,9 @@ pub struct Frame {
     /// The number of the module in the dump's list.
     #[serde(skip)]
     pub module_index: Option<usize>,
+    /// Whether that has an image.
+    #[serde(skip)]
+    pub has_image: bool,
     /// What names it, in the image of the module. Null where nothing does, as without an image.
     pub function: Option<Function>,
     /// How it was found: `top`, `records`, `leaf`, `interrupt`, `scanned`, `frame-pointer`.

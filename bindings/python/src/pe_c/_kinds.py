@@ -380,7 +380,8 @@ class Way(enum.IntEnum):
     operating system saved"""
     SCANNED = 4
     """by a scan of the stack, where no records led on: at the call that leads nearest into the code without
-    records, on x64, else at the first call. It may be wrong, and those after it"""
+    records, on x64, else at the first call, else from a module without an image at the first address of one. It
+    may be wrong, and those after it"""
     FRAME_POINTER = 5
     """by the frame pointer, where no records led on: the words to which rbp, or x29, leads are the frame
     pointer of the caller and a return address. It may be wrong, and those after it"""
@@ -392,8 +393,8 @@ class End(enum.IntEnum):
     BOUND = 0
     """as many frames were returned as the caller wants"""
     BOTTOM = 1
-    """the stack is whole: by records its last frame returns to 0, no frame is found there, and no frame is a
-    guess"""
+    """by records the last frame returns to 0, no frame is found there, and no frame is a guess. The stack is
+    whole, unless one by PE_C_WAY_RECORDS has not called: it may be that its return address was overwritten"""
     NO_MODULE = 2
     """the last instruction pointer is in no module, or in one without an image, and no return address is
     found"""

@@ -16,7 +16,7 @@ ghost use Rattle.pe_core.specs.Refusals.{answer_by};
 ghost use Rattle.pe_unwind.specs.Arm64Record.{info_view};
 ghost use Rattle.pe_unwind.specs.Arm64Unwinding.{info_by};
 ghost use Rattle.pe_frame.specs.AddressRanges.{has_address};
-ghost use Rattle.pe_frame.specs.Arm64Walks.{frame_of, code_return, scanned, leaf_frame, leaf_without_image, without_records, lookup_address, place_of, jumped_frame, record_return, chained, caller_in_code, caller_of_leaf, caller_outside, caller_without_table, leaf_is_guess, is_bottom, called_frame, frame_after, stepped_out_packed, CallsByInfo, CallsFound, CallsIn};
+ghost use Rattle.pe_frame.specs.Arm64Walks.{frame_of, code_return, scanned, scanned_by, leaf_frame, leaf_without_image, without_records, lookup_address, place_of, jumped_frame, record_return, chained, caller_in_code, caller_of_leaf, found_outside, found_by_ranges, caller_outside, caller_without_table, leaf_is_guess, is_bottom, called_frame, frame_after, stepped_out_packed, CallsByInfo, CallsFound, CallsIn};
 ghost use Rattle.pe_frame.specs.Modules.{map_of_module, module_base, module_size};
 
 use super::registers::{Arm64Registers, FRAME_POINTER, LINK_REGISTER};
@@ -108,7 +108,24 @@ impl<'a, L: CallSites> ReturnWords for CodeReturns<'a, L> {
     }
 }
 
-/// The frame that a scan of the stack finds.
+/// The frame that a scan of the stack finds by a return address of these.
+fn scanned_by<R: ReturnWords, L: CallSites, M: Memory>(
+    returns: &R,
+    modules: &L,
+    memory: &M,
+    registers: &Arm64Registers,
+) -> Option<Arm64StackFrame>
+    ensures { result ≡ scanned_by (R.returns returns.now)
+        (M.word memory.now) (L.list modules.now) registers.now }
+{
+    let (address, word) = first_return_above(returns, memory, registers.sp)?;
+    let mut caller = *registers;
+    caller.sp = address + SIZE_OF_WORD;
+    caller.pc = word;
+    Some(frame_of(modules, Way::Scanned, true, caller))
+}
+
+/// The frame that a scan of the stack finds by any call.
 fn scanned<L: CallSites, M: Memory>(
     modules: &L,
     memory: &M,
@@ -116,12 +133,7 @@ fn scanned<L: CallSites, M: Memory>(
 ) -> Option<Arm64StackFrame>
     ensures { result ≡ scanned (M.word memory.now) (L.list modules.now) registers.now }
 {
-    let returns = CodeReturns { modules };
-    let (address, word) = first_return_above(&returns, memory, registers.sp)?;
-    let mut caller = *registers;
-    caller.sp = address + SIZE_OF_WORD;
-    caller.pc = word;
-    Some(frame_of(modules, Way::Scanned, true, caller))
+    scanned_by(&CodeReturns { modules }, modules, memory, registers)
 }
 
 /// The frame of the caller of a leaf function, if a call ends at the link register.
@@ -271,7 +283,42 @@ fn caller_in_code<L: CallSites, M: Memory>(
     }
 }
 
-/// The frame of the caller of a frame in no module.
+/// The frame that is found of one in no module.
+fn found_outside<L: CallSites, M: Memory>(
+    modules: &L,
+    frame: &Arm64StackFrame,
+    memory: &M,
+) -> Option<Arm64StackFrame>
+    ensures { result ≡ found_outside (M.word memory.now) (L.list modules.now) frame.now }
+{
+    if frame.has_called {
+        scanned(modules, memory, &frame.registers)
+    } else {
+        without_records(modules, memory, true, &frame.registers)
+    }
+}
+
+/// The frame that is found of one in a module whose image is not at hand, by the addresses that such modules have.
+fn found_by_ranges<L: CallSites, M: Memory>(
+    modules: &L,
+    frame: &Arm64StackFrame,
+    memory: &M,
+) -> Option<Arm64StackFrame>
+    ensures { result ≡ found_by_ranges (M.word memory.now) (L.list modules.now) frame.now }
+{
+    if modules.is_in_unknown(frame.lookup_address()) {
+        scanned_by(
+            &RecordReturns { modules },
+            modules,
+            memory,
+            &frame.registers,
+        )
+    } else {
+        None
+    }
+}
+
+/// The frame of the caller of a frame in no module, or in one whose image is not at hand.
 pub fn caller_outside_arm64<L: CallSites, M: Memory>(
     modules: &L,
     frame: &Arm64StackFrame,
@@ -279,15 +326,11 @@ pub fn caller_outside_arm64<L: CallSites, M: Memory>(
 ) -> Result<Arm64StackFrame, WalkEnd>
     ensures { result ≡ caller_outside (M.word memory.now) (L.list modules.now) frame.now }
 {
-    let caller = if frame.has_called {
-        scanned(modules, memory, &frame.registers)
-    } else {
-        without_records(modules, memory, true, &frame.registers)
+    let caller = match found_outside(modules, frame, memory) {
+        Some(caller) => Some(caller),
+        None => found_by_ranges(modules, frame, memory),
     };
-    match caller {
-        Some(caller) => Ok(caller),
-        None => Err(WalkEnd::NoModule),
-    }
+    caller.ok_or(WalkEnd::NoModule)
 }
 
 /// The frame of the caller of a frame in a module without exception data.
@@ -496,7 +539,8 @@ impl WalkFrame for Arm64StackFrame {
 /// an address of an executable section. In a frame that has called it is the first such word after a call. In code of a module the
 /// frame pointer comes before such a word: where x29 is a multiple of 8 and leads to two words, the frame pointer of the caller, which
 /// is higher or 0, and at or above the stack pointer a return address, these are the caller's, and the stack pointer is that after
-/// them, which may be too low. Where none is found, a walk that comes to 0 says `Zero`.
+/// them, which may be too low. Where none is found, a walk that comes to 0 says `Zero`. In a module whose image is not at hand the last
+/// resort is the first of the 128 words that is an address of such a module.
 #[derive(Drop)]
 pub struct Arm64StackFrames<'a, M> {
     modules: Modules<'a>,

@@ -71,7 +71,8 @@ pub fn no_code_is_no_epilog()
 {}
 
 /// A scan finds the first word that is a return address into executable code (`first`), of the 128 words from an address on. Where
-/// it finds none, none of them is (`none`). Which words are says `code_return` of each machine.
+/// it finds none, none of them is (`none`). Which words are says `code_return` of each machine, and from a module whose image is not at
+/// hand `record_return`.
 pub fn scans_find_the_first()
     ensures first { (memory returns : ℕ → Option ℕ) (start a w : ℕ) →
         first_return most_words memory returns start ≡ Some (a, w) →
