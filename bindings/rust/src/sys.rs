@@ -3764,13 +3764,14 @@ extern "C" {
     /// a call in an executable section: the last section of its module that starts at or before the call's last byte is
     /// asked, so sections have to be in ascending order. In a frame that has called it is the first such word. In a
     /// module with an image the frame pointer comes before such a word where rbp leads to two words, the frame pointer
-    /// of the caller, which is higher or 0, and at or above rsp a return address. In a module with a table that has no
-    /// function there, the word whose call, E8, leads nearest before the frame among such code comes before all but a
-    /// call at rsp and a frame pointer that leads lower on the stack. What is found so may be wrong: `walk->is_guess`
-    /// says so of each frame, but not of the caller of code in a module with a table that has no function there, if
-    /// both are executable and a call ends at the return address: that is a leaf function. Without such a call a leaf
-    /// function of a module, which was jumped to, returns to executable code. Only past an interrupt may the stack
-    /// pointer not rise.
+    /// of the caller, which is higher or 0, and at or above rsp a return address. In a module without one, where none
+    /// is found, each address of such a module is a return address: rbp leads on, else the first such word does. In a
+    /// module with a table that has no function there, the word whose call, E8, leads nearest before the frame among
+    /// such code comes before all but a call at rsp and a frame pointer that leads lower on the stack. What is found so
+    /// may be wrong: `walk->is_guess` says so of each frame, but not of the caller of code in a module with a table
+    /// that has no function there, if both are executable and a call ends at the return address: that is a leaf
+    /// function. Without such a call a leaf function of a module, which was jumped to, returns to executable code. Only
+    /// past an interrupt may the stack pointer not rise.
     ///
     /// Errors, which change nothing: [`Error::SHORT`] where the table of a module is not inside its bytes, or, where
     /// `walk->is_searched` is 0, a piece not inside the memory.
@@ -3887,8 +3888,9 @@ extern "C" {
     /// found by the link register, if a call ends there or it is in a module without an image, else by the first of 128
     /// words from the stack pointer on that is, without its signature, after a call in an executable section; in a
     /// frame that has called by the first such word. In a module, also one without an image, x29 comes before such a
-    /// word, as rbp does on x64; the stack pointer is then that after the two words, and may be too low. It may stay
-    /// where it is in the first two alone, and sink past an interrupt alone.
+    /// word, as rbp does on x64; the stack pointer is then that after the two words, and may be too low. In a module
+    /// without an image, where none is found, it is the first word that is an address of such a module. The stack
+    /// pointer may stay where it is in the first two alone, and sink past an interrupt alone.
     ///
     /// Errors, which change nothing: those of [`pe_c_next_frame`].
     pub fn pe_c_next_arm64_frame(
