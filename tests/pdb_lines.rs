@@ -523,14 +523,14 @@ fn inlined_functions_are_where_pdbutil_says(rt: HostRuntime) -> Result<(), Fail>
         Err(_) => None,
     };
     assert_eq!(rt; (line(5), line(6)), (Some(7), Some(9)));
-    // shows: pe_pdb/src/inlinee.rt inlinee_end RecordTruncated
+    // shows: pe_pdb/src/inlinee.rt record_end RecordTruncated
     let truncated = PdbError::RecordTruncated {
         offset: 40,
         needed: 20,
         length: 56,
     };
     assert!(rt; refused(InlineeLine::find(&other, 8), truncated));
-    // shows: pe_pdb/src/inlinee.rt inlinee_end Short
+    // shows: pe_pdb/src/inlinee.rt record_end Short
     let short = PdbError::Short {
         needed: 4,
         length: 3,
@@ -538,7 +538,7 @@ fn inlined_functions_are_where_pdbutil_says(rt: HostRuntime) -> Result<(), Fail>
     assert!(rt; refused(InlineeLine::find(&other[..19], 8), short));
     // shows: pe_pdb/src/inlinee.rt find Short
     assert!(rt; refused(InlineeLine::find(&other[..3], 8), short));
-    // shows: pe_pdb/src/inlinee.rt parse Short
+    // shows: pe_pdb/src/inlinee.rt record_end Short
     let short = PdbError::Short {
         needed: 12,
         length: 11,

@@ -51,7 +51,7 @@ fn debug_entries_in_turn(rt: HostRuntime) {
     assert_eq!(rt; step(&bytes, &mut walk), (DONE, first, [31, 28]));
     assert_eq!(rt; step(&bytes, &mut walk), (DONE, second, [59, 0]));
     assert_eq!(rt; step(&bytes, &mut walk), (NOTHING, NO_ENTRY, [59, 0]));
-    // shows: pe_c/src/walks.rt next_entry Short
+    // shows: pe_c/src/base/walks.rt next_entry Short
     let mut cut = range(3, 55);
     assert_eq!(rt; step(&bytes, &mut cut), (DONE, first, [31, 27]));
     assert_eq!(rt; step(&bytes, &mut cut), (SHORT, NO_ENTRY, OVER));

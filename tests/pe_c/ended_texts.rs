@@ -34,7 +34,7 @@ fn guids_with_hyphens_and_without(rt: HostRuntime) -> Result<(), Fail> {
     }
     let mut room = [0x55; 40];
     let mut written = 9;
-    // shows: pe_c/src/ended_texts.rt pe_c_guid_text Short
+    // shows: pe_c/src/base/ended_texts.rt pe_c_guid_text Short
     let found = pe_c_guid_text(&GUID[..15], 0, &mut room, &mut written);
     assert_eq!(rt; found, SHORT);
     assert_eq!(rt; (written, room), (9, [0x55; 40]));

@@ -161,7 +161,7 @@ fn imports_in_lists(rt: HostRuntime) -> Result<(), Fail> {
     let mut written = UNWRITTEN;
     for (answer, count, rvas, left) in [
         (DONE, 1, [0x2000, 1], [0x68, 8]),
-        // shows: pe_c/src/near_imports.rt named_near ImportName
+        // shows: pe_c/src/names/near_imports.rt named_near ImportName
         (IMPORT_NAME, 1, [0x2000, 1], OVER),
     ] {
         let view = view(&bytes, &image, &sections);
@@ -175,7 +175,7 @@ fn imports_in_lists(rt: HostRuntime) -> Result<(), Fail> {
     walk.imports.left = range(0x60, 8);
     let view = view(&bytes, &image, &sections);
     let number = pe_c_list_imports(&view, &mut walk, &mut [], &mut entries, &mut written);
-    // shows: pe_c/src/near_imports.rt require_near Unmapped
+    // shows: pe_c/src/names/near_imports.rt require_near Unmapped
     assert_eq!(rt; (number, of_range(walk.imports.left)), (UNMAPPED, OVER));
     Ok(())
 }

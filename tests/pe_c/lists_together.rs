@@ -319,7 +319,7 @@ fn symbols(table: Range, strings: Range) -> NamedSymbolWalk {
 fn symbols_with_their_names(rt: HostRuntime) -> Result<(), Fail> {
     let bytes = with_texts(rt.alloc(), &SYMBOLS)?;
     let (table, strings) = (range(0x20, 126), range(0xF0, 0x110));
-    // shows: pe_c/src/coff.rt name_by StringTable
+    // shows: pe_c/src/headers/coff.rt name_by StringTable
     let want = [
         (0, [0x20, 3], DONE),
         (2, [0x100, 82], DONE),

@@ -306,7 +306,7 @@ fn ranges_that_lie(rt: HostRuntime) -> Result<(), Fail> {
     for length in [0x181, 24] {
         modules[1].table.length = length;
         let mut walk = walk_from(DISPATCHER, STACK, 9);
-        // shows: pe_c/src/stack_walk.rt new Short
+        // shows: pe_c/src/stack/walk.rt new Short
         let found = pe_c_next_frame(&modules[1..], &stack, &[pieces], &mut walk);
         assert_eq!(rt; found, SHORT);
         assert_eq!(rt; [walk.remaining, u64::from(walk.has_returned)], [9, 0]);

@@ -73,13 +73,13 @@ fn blocks_in_turn(rt: HostRuntime) -> Result<(), Fail> {
             (DONE, [[34, 2], [40, 4], [44, 0]], [1, 0, 0, 0], [44, 0]),
         ),
         ([44, 0], nothing_but(NOTHING, [44, 0])),
-        // shows: pe_c/src/version_blocks.rt error_of ResourceString
+        // shows: pe_c/src/resources/version_blocks.rt error_of ResourceString
         ([44, 26], nothing_but(RESOURCE_STRING, [52, 18])),
         (
             [52, 18],
             (DONE, [[58, 2], [62, 0], [62, 0]], [0, 0, 0, 0], [64, 6]),
         ),
-        // shows: pe_c/src/version_blocks.rt error_of Short
+        // shows: pe_c/src/resources/version_blocks.rt error_of Short
         ([64, 6], nothing_but(SHORT, [70, 0])),
         // A length of 0 with bytes after it.
         ([46, 8], nothing_but(NOTHING, [46, 8])),

@@ -56,7 +56,7 @@ pub mod VersionBlockParts
 pub mod DebugAlone
 pub mod DebugParts
 pub mod SymbolRuns
-pub mod Failures
+pub mod FailureParts
 pub mod SymbolTexts
 pub mod TeRanges
 pub mod ViewedModules

@@ -49,7 +49,7 @@ ghost use Rattle.pe_c.specs.declared.unwinding.UnwindRecord.{UnwindRecord};
 /// `pe_c_sections_failure` where the section headers are refused that `pe_c_sections` reads, `pe_c_te_sections_failure` and
 /// `pe_c_coff_sections_failure` where those are that `pe_c_te_sections` and `pe_c_coff_sections` read, and `pe_c_te_failure` where
 /// `pe_c_te` refuses the header.
-#[tactic(auto, using(crate::proofs::Failures::failures_of_images, crate::proofs::Failures::failures_of_rows, crate::proofs::Failures::failures_of_te_images))]
+#[tactic(auto, using(crate::proofs::FailureParts::failures_of_images, crate::proofs::FailureParts::failures_of_rows, crate::proofs::FailureParts::failures_of_te_images))]
 pub fn failures_are_those_of_the_calls()
     ensures images { (b : List ℕ) (mode : ℕ) → Explains (image_at b mode) (image_failure b mode) }
     ensures sections { (b : List ℕ) (image : Image)
