@@ -5,11 +5,11 @@
 use crate::images::{put, with_byte};
 use crate::pdbs::{all_of, pdb, refused, scattered};
 use pe_pdb::{
-    DBI_STREAM, DEBUG_OMAP_FROM_SOURCE, DEBUG_S_FILECHKSMS, DEBUG_S_LINES, DEBUG_SECTION_HEADERS,
-    Dbi, FIRST_SYMBOL, INFO_STREAM, LineBlock, LineBlocks, LineHeader, LineRow, Module, Modules,
-    Msf, NO_STREAM, PdbError, PdbInfo, PdbKey, ProcedureSymbol, PublicSymbol, S_GPROC32, S_LPROC32,
-    S_PUB32, SectionHeaders, Subsection, Subsections, SymbolAddress, SymbolClass, SymbolIndex,
-    SymbolRecord, SymbolRecords,
+    CountedEntries, DBI_STREAM, DEBUG_OMAP_FROM_SOURCE, DEBUG_S_FILECHKSMS, DEBUG_S_LINES,
+    DEBUG_SECTION_HEADERS, Dbi, FIRST_SYMBOL, INFO_STREAM, LineBlock, LineBlocks, LineHeader,
+    LineRow, Module, Modules, Msf, NO_STREAM, PdbError, PdbInfo, PdbKey, ProcedureSymbol,
+    PublicSymbol, S_GPROC32, S_LPROC32, S_PUB32, SectionHeaders, Subsection, Subsections,
+    SymbolAddress, SymbolClass, SymbolIndex, SymbolRecord, SymbolRecords, search_symbols,
 };
 use std::alloc::Global;
 use std::test::Fail;
@@ -521,5 +521,24 @@ fn damaged_lines_are_refused(rt: HostRuntime) -> Result<(), Fail> {
         length: 28,
     };
     assert!(rt; refused(LineBlock::parse(content, 12), truncated));
+    Ok(())
+}
+
+/// Among 1,000 entries a lookup halves ten times, reads what is left, and then the entry that it found.
+#[test]
+fn lookups_read_few_entries(rt: HostRuntime) -> Result<(), Fail> {
+    let mut entries = vec![in rt.alloc(); 0u64; 1000]?;
+    for index in 0..1000u64 {
+        entries[index as usize] = (index + 1) << 32;
+    }
+    for rva in [1, 2, 499, 500, 999, 1000, 5000] {
+        let mut counted = CountedEntries::new(&entries);
+        let found = search_symbols(&mut counted, rva);
+        assert!(rt; matches!(found, Some(it) if it.rva == rva.min(1000)));
+        assert!(rt; counted.reads() == 12);
+    }
+    let mut counted = CountedEntries::new(&entries);
+    assert!(rt; search_symbols(&mut counted, 0).is_none());
+    assert!(rt; counted.reads() == 11);
     Ok(())
 }
