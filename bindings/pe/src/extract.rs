@@ -312,7 +312,7 @@ fn write_resources((path, image): (&Path, &Image<'_>), which: &Which, to: &Targe
         report.status = report.status.max(one.status);
     }
     if has_more_leaves(image) {
-        let more = format_args!("it has more than {LEAVES} resources: only the first {LEAVES} are looked at");
+        let more = format!("it has more than {LEAVES} resources: only the first {LEAVES} are looked at");
         let more = Report::refused(path, more);
         report.complaints += &more.complaints;
         report.status = report.status.max(more.status);

@@ -51,8 +51,7 @@ pub fn of(verified: &Verified, style: Style) -> String {
     }
     for catalog in verified.catalogs.iter().filter(|it| !it.is_listed) {
         let entries = if catalog.entries == 1 { "entry" } else { "entries" };
-        let said =
-            format_args!("{}, which does not list the image ({} {entries})", escaped(&catalog.file), catalog.entries);
+        let said = format!("{}, which does not list the image ({} {entries})", escaped(&catalog.file), catalog.entries);
         page.row("catalog", said);
     }
     if verified.other_entries > 0 {
