@@ -218,6 +218,30 @@ fn a_name_that_is_refused_is_reported() {
     assert_eq!((damaged.error, damaged.has_names, symbolizer.ids_error()), (Error::PDB_NAME, true, None));
 }
 
+/// Damage is refused or costs names: whatever bytes have other values, each call ends, and each frame is of the RVA that was asked for.
+#[test]
+fn mutants_are_read_or_refused() {
+    let whole = made::pdb_inlined();
+    let places: Vec<usize> = (0..whole.len()).filter(|at| whole[*at] != 0).collect();
+    let (mut seed, mut read, mut damaged) = (83u64, 0, 0);
+    for count in 0..4000 {
+        let mut bytes = whole.clone();
+        for _ in 0..=count % 3 {
+            seed = seed.wrapping_mul(6364136223846793005).wrapping_add(1442695040888963407);
+            bytes[places[(seed >> 33) as usize % places.len()]] = (seed >> 24) as u8;
+        }
+        let Ok(pdb) = Pdb::parse(&bytes) else { continue };
+        let Ok(symbolizer) = pdb.symbolizer() else { continue };
+        read += 1;
+        for rva in (0xFF8..0x1090).step_by(5) {
+            let frames = symbolizer.frames(rva);
+            assert!(frames.len() <= 65 && frames.iter().all(|it| it.function_rva + it.offset == rva), "{frames:?}");
+        }
+        damaged += usize::from(!symbolizer.damaged().is_empty());
+    }
+    assert!(read < 4000 && read > 1000 && damaged > 100, "{read} {damaged}");
+}
+
 /// Threads take turns with one.
 #[test]
 fn a_symbolizer_is_shared_under_a_lock() {
