@@ -3,7 +3,7 @@
 
 use super::made::*;
 use crate::arm64::frames::{Arm64FrameRegisters, Arm64StackFrame, pe_c_step_arm64};
-use crate::results::{BAD_ADDRESS, BAD_OPERATION, MISSING, NOT_RISING};
+use crate::base::results::{BAD_ADDRESS, BAD_OPERATION, MISSING, NOT_RISING};
 use pe_images::image as bytes_of;
 use pe_unwind::Arm64RuntimeFunction;
 

@@ -4,8 +4,8 @@
 use super::made::*;
 use crate::arm64::frames::Arm64FrameRegisters;
 use crate::arm64::stack_walk::{Arm64StackWalk, pe_c_next_arm64_frame, pe_c_next_arm64_frames};
-use crate::results::MISSING;
-use crate::stack_walk::ModuleView;
+use crate::base::results::MISSING;
+use crate::stack::walk::ModuleView;
 use pe_images::image as bytes_of;
 
 /// Where the image is loaded.

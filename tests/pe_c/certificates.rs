@@ -1,7 +1,7 @@
 //! The certificates of a table, one a step.
 
 use super::made::*;
-use crate::certificates::{Certificate, pe_c_next_certificate};
+use crate::directories::certificates::{Certificate, pe_c_next_certificate};
 use pe_images::image as bytes_of;
 
 /// Body, length, revision and type of a certificate.
@@ -99,7 +99,7 @@ fn certificates_that_are_refused(rt: HostRuntime) -> Result<(), Fail> {
     assert_eq!(rt; step(&bytes, &mut range(8, 40)), empty);
     let mut cut = range(49, 7);
     assert_eq!(rt; step(&bytes, &mut cut), (SHORT, NO_CERTIFICATE, OVER));
-    // shows: pe_c/src/certificates.rt step CertificateTable
+    // shows: pe_c/src/directories/certificates.rt step CertificateTable
     let mut lie = range(8, 49);
     let want = (CERTIFICATE_TABLE, NO_CERTIFICATE, OVER);
     assert_eq!(rt; step(&bytes, &mut lie), want);

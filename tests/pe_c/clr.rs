@@ -1,7 +1,7 @@
 //! The CLR header of an image, the root of its metadata, and the streams of these, one a step.
 
 use super::made::*;
-use crate::clr::{
+use crate::directories::clr::{
     Metadata, MetadataStream, MetadataStreams, pe_c_clr_header, pe_c_clr_metadata,
     pe_c_next_metadata_stream,
 };

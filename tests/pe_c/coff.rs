@@ -14,7 +14,7 @@
 
 use super::made::*;
 use super::steps::pe_c_symbol;
-use crate::coff::{
+use crate::headers::coff::{
     Symbol, SymbolWalk, pe_c_coff, pe_c_coff_sections, pe_c_coff_strings, pe_c_coff_symbols,
     pe_c_next_symbol, pe_c_symbol_name,
 };

@@ -2,7 +2,7 @@
 //! hand.
 
 use super::made::*;
-use crate::debug_failure::pe_c_debug_failure;
+use crate::failures::debug::pe_c_debug_failure;
 use pe_images::image as bytes_of;
 use pe_records::ImageDebugDirectory;
 

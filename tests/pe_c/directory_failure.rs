@@ -2,7 +2,7 @@
 //! the RVAs from 0x1000 on are the offsets from 0 on; every number is worked out by hand.
 
 use super::made::*;
-use crate::directory_failure::pe_c_directory_failure;
+use crate::failures::directories::pe_c_directory_failure;
 use pe_images::image as bytes_of;
 
 /// The answer; the error, its offset, needed bytes and value; and the last field.

@@ -3,11 +3,11 @@
 use super::exports::with_exports;
 use super::made::*;
 use super::resource_leaves::{of_size, with_tree};
-use crate::directory_tables::{
+use crate::directories::tables::{
     ExportFields, ResourceDirectory, ResourceItem, pe_c_export_directory, pe_c_next_resource_item,
     pe_c_resource_directory_at, pe_c_resource_root,
 };
-use crate::resource_leaves::ResourceName;
+use crate::resources::leaves::ResourceName;
 
 /// The fields in the order of winnt.h.
 type Fields = ([u32; 2], [u16; 2], [u32; 7]);

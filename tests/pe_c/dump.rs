@@ -2,7 +2,7 @@
 
 use super::made::*;
 use crate::arm64::frames::Arm64FrameRegisters;
-use crate::debug_records::{SymbolKey, pe_c_codeview};
+use crate::debug::records::{SymbolKey, pe_c_codeview};
 use crate::dump::contexts::{
     Arm64Context, X64Context, pe_c_dump_context, pe_c_dump_context_arm64, pe_c_dump_thread_context,
     pe_c_dump_thread_context_arm64,
@@ -23,7 +23,7 @@ use crate::dump::records::{
 use crate::dump::{
     DumpInfo, pe_c_dump, pe_c_dump_entry_at, pe_c_dump_range, pe_c_dump_stream, pe_c_dump_text,
 };
-use crate::stack_frames::FrameRegisters;
+use crate::stack::frames::FrameRegisters;
 use pe_images::image as bytes_of;
 use pe_minidump::{
     DirectoryEntry, FixedFileInfo, Handle, Location, MemoryDescriptor, ProcessTimes,

@@ -1,7 +1,7 @@
 //! Texts for programs in C: GUIDs, texts in UTF-16, texts that end with a zero where they stand.
 
 use super::made::*;
-use crate::ended_texts::{TextInBytes, pe_c_guid_text, pe_c_text_in, pe_c_utf16_text};
+use crate::base::ended_texts::{TextInBytes, pe_c_guid_text, pe_c_text_in, pe_c_utf16_text};
 
 /// The GUID of the README, as the bytes of a file have it.
 const GUID: [u8; 16] = *b"\xF6\x72\x7B\x49\x0A\x39\xFC\x44\x87\x8E\x5A\x2D\x63\xB6\xCC\x4B";
@@ -30,7 +30,7 @@ fn guids_with_hyphens_and_without(rt: HostRuntime) -> Result<(), Fail> {
     }
     let mut room = [0x55; 40];
     let mut written = 9;
-    // shows: pe_c/src/ended_texts.rt pe_c_guid_text Short
+    // shows: pe_c/src/base/ended_texts.rt pe_c_guid_text Short
     let found = pe_c_guid_text(&GUID[..15], 0, &mut room, &mut written);
     assert_eq!(rt; found, SHORT);
     assert_eq!(rt; (written, room), (9, [0x55; 40]));

@@ -2,8 +2,8 @@
 
 use super::made::*;
 use super::steps::{pe_c_export_at, pe_c_next_export};
-use crate::export_addresses::{AddressTable, Exported, pe_c_export_addresses};
-use crate::exports::{Export, ExportWalk, Exports, pe_c_export_tables};
+use crate::names::export_addresses::{AddressTable, Exported, pe_c_export_addresses};
+use crate::names::exports::{Export, ExportWalk, Exports, pe_c_export_tables};
 use crate::lists::exports::pe_c_list_exports;
 use pe_images::image as bytes_of;
 

@@ -3,12 +3,12 @@
 use super::coff::{header_of, object};
 use super::made::*;
 use super::te::image_of;
-use crate::failure::{
+use crate::failures::headers::{
     pe_c_coff_sections_failure, pe_c_image_failure, pe_c_sections_failure, pe_c_te_failure,
     pe_c_te_sections_failure,
 };
 use crate::headers::CoffFields;
-use crate::te::TeImage;
+use crate::headers::te::TeImage;
 use pe_images::{headers_alone, image as bytes_of, pointer_below_64, te};
 
 const NO_FAILURE: Failure = Failure {

@@ -2,8 +2,8 @@
 //! `pe_c_function_names` says.
 
 use super::made::*;
-use crate::exports::Exports;
-use crate::function_names::{
+use crate::names::exports::Exports;
+use crate::stack::function_names::{
     CodeAddress, FunctionName, NameSources, pe_c_function_names, pe_c_name_tables,
 };
 use pe_images::image as bytes_of;

@@ -2,7 +2,7 @@
 
 use super::made::*;
 use super::steps::pe_c_next_guard_entry;
-use crate::guard_tables::{GuardEntries, GuardEntry, pe_c_guard_table};
+use crate::directories::guard_tables::{GuardEntries, GuardEntry, pe_c_guard_table};
 
 /// What `out` is before each call.
 const NO_WALK: GuardEntries = GuardEntries {

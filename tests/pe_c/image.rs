@@ -1,7 +1,7 @@
 //! Headers, sections, and the file offsets of RVAs.
 
 use super::made::*;
-use crate::image::{pe_c_image, pe_c_offset, pe_c_sections};
+use crate::headers::image::{pe_c_image, pe_c_offset, pe_c_sections};
 use pe_images::{
     headers_alone, image as bytes_of, pointer_below_64, with_every_directory,
     with_every_directory_of_x86,

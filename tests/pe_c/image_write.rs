@@ -2,8 +2,8 @@
 //! 0x400. Written unchanged it is itself, and where something was changed the bytes follow from the format.
 
 use super::made::*;
-use crate::image::{pe_c_image, pe_c_sections};
-use crate::image_write::{pe_c_write_certificates, pe_c_write_image, pe_c_write_whole};
+use crate::headers::image::{pe_c_image, pe_c_sections};
+use crate::write::image::{pe_c_write_certificates, pe_c_write_image, pe_c_write_whole};
 use pe_images::{pointer_below_64, with_every_directory, with_functions};
 
 /// What a byte of the room, and the number, is before a call.

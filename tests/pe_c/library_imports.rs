@@ -2,8 +2,8 @@
 
 use super::imports::{NO_IMPORT as ONLY_ONES, with_imports};
 use super::made::*;
-use crate::imports::{Import, Imports, Libraries};
-use crate::library_imports::{LibraryImport, LibraryImports};
+use crate::names::imports::{Import, Imports, Libraries};
+use crate::names::all_imports::{LibraryImport, LibraryImports};
 use crate::lists::library_imports::pe_c_list_all_imports;
 
 /// What is in the array before a call.

@@ -3,9 +3,9 @@
 
 use super::exports::from as from_exports;
 use super::made::*;
-use crate::coff::{Symbol, SymbolWalk};
-use crate::export_addresses::{AddressTable, Exported};
-use crate::exports::{Export, Exports};
+use crate::headers::coff::{Symbol, SymbolWalk};
+use crate::names::export_addresses::{AddressTable, Exported};
+use crate::names::exports::{Export, Exports};
 use crate::lists::exports::pe_c_list_exports;
 use crate::lists::forwarders::pe_c_list_export_addresses;
 use crate::lists::section_names::pe_c_list_long_section_names;
@@ -191,7 +191,7 @@ fn symbols(table: Range, strings: Range) -> NamedSymbolWalk {
 fn symbols_with_their_names(rt: HostRuntime) -> Result<(), Fail> {
     let bytes = with_texts(rt.alloc(), &SYMBOLS)?;
     let (table, strings) = (range(0x20, 126), range(0xF0, 0x110));
-    // shows: pe_c/src/coff.rt name_by StringTable
+    // shows: pe_c/src/headers/coff.rt name_by StringTable
     let want = [
         (0, [0x20, 3], DONE),
         (2, [0x100, 82], DONE),

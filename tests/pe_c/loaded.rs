@@ -1,7 +1,7 @@
 //! The image as a loader lays it out, and base relocations applied to it.
 
 use super::made::*;
-use crate::loaded::{pe_c_map, pe_c_relocate};
+use crate::headers::loaded::{pe_c_map, pe_c_relocate};
 
 /// An image of 0x28 bytes with headers of 5, which is mapped byte by byte.
 fn small(mode: u32) -> Image {

@@ -1,8 +1,8 @@
 //! Which section maps an RVA, and the bytes to which a section maps its RVAs.
 
 use super::made::*;
-use crate::map_ranges::{pe_c_range_at, pe_c_rva};
-use crate::maps::{pe_c_section_at, pe_c_section_range};
+use crate::headers::map_ranges::{pe_c_range_at, pe_c_rva};
+use crate::headers::maps::{pe_c_section_at, pe_c_section_range};
 
 fn aligned(file_alignment: u32, mode: u32) -> Image {
     Image {

@@ -2,7 +2,7 @@
 
 use super::made;
 use super::made::*;
-use crate::overlay::pe_c_overlay;
+use crate::headers::overlay::pe_c_overlay;
 
 fn overlay_of(length: usize, image: &Image, sections: &[SectionTable]) -> (u32, [u64; 2]) {
     let bytes = [0; 0x1800];

@@ -2,7 +2,7 @@
 
 use super::made::*;
 use super::unwinding::no_record;
-use crate::plan::{Plan, PlanWalk, pe_c_next_record, pe_c_plan_from};
+use crate::unwinding::plan::{Plan, PlanWalk, pe_c_next_record, pe_c_plan_from};
 use crate::unwinding::UnwindRecord;
 
 /// Records of version 1 that go on with other functions, whose prologs have different lengths: 16 bytes each from the offset
@@ -125,7 +125,7 @@ fn plans_that_never_end(rt: HostRuntime) -> Result<(), Fail> {
     let bytes = with_chains(rt.alloc())?;
     let table = table_of_chains();
     let mut ring = plan_from(0x1070);
-    // shows: pe_c/src/plan.rt advance FunctionCycle
+    // shows: pe_c/src/unwinding/plan.rt advance FunctionCycle
     let refused = (FUNCTION_CYCLE, NO_KEY, [0x1070, 1, 0x1070, 0, 0, 1]);
     assert_eq!(rt; step(&bytes, &table, &mut ring), refused);
     assert_eq!(rt; step(&bytes, &table, &mut ring).0, NOTHING);

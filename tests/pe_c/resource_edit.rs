@@ -3,7 +3,7 @@
 //! The bytes of the section follow from the format.
 
 use super::made::*;
-use crate::resource_edit::pe_c_edit;
+use crate::write::resources::pe_c_edit;
 use pe_edit::{RecordKey, RecordRange, ResourceRecord};
 use pe_images::headers_alone;
 

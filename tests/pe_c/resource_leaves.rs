@@ -2,7 +2,7 @@
 
 use super::made::*;
 use super::steps::pe_c_next_resource_leaf;
-use crate::resource_leaves::{
+use crate::resources::leaves::{
     LeafWalk, ResourceLeaf, ResourceLeaves, ResourceName, pe_c_resource_leaves,
 };
 use pe_images::image as bytes_of;

@@ -1,10 +1,10 @@
 //! The numbers of results, and their texts.
 
 use super::made::*;
-use crate::results::{
+use crate::base::results::{
     number_of, number_of_directory, number_of_signing, number_of_tree, pe_c_abi_5,
 };
-use crate::texts::pe_c_text;
+use crate::base::texts::pe_c_text;
 use pe_core::{Error, Reason};
 use pe_directories::DirectoryError;
 use pe_resource::ResourceTreeError;

@@ -1,7 +1,7 @@
 //! The COFF string table, and names of sections in it.
 
 use super::made::*;
-use crate::section_names::{pe_c_long_section_name, pe_c_string_table};
+use crate::headers::section_names::{pe_c_long_section_name, pe_c_string_table};
 use pe_images::image as bytes_of;
 
 /// The headers of a file with one symbol at 0x60, and the string table after it, of 32 bytes at 0x72.

@@ -2,7 +2,7 @@
 //! numbers of four bytes virtual size, RVA, raw size, raw pointer.
 
 use super::made::*;
-use crate::section_write::pe_c_write_sections;
+use crate::write::sections::pe_c_write_sections;
 
 /// What a byte of the room is before a call.
 const OLD: u8 = 0xEE;

@@ -3,7 +3,7 @@
 //! the checksums are those that `osslsigncode verify` 2.9 calculates of the same bytes.
 
 use super::made::*;
-use crate::signing::{
+use crate::write::signing::{
     ChecksumField, Digest, pe_c_attach, pe_c_checksum, pe_c_detach, pe_c_digest_ranges,
 };
 use pe_images::with_functions;

@@ -2,8 +2,8 @@
 //! state before the prolog, with the return address popped.
 
 use super::made::*;
-use crate::results::{BAD_ADDRESS, BAD_OPERATION, LONG_CHAIN, MISSING, NOT_RISING};
-use crate::stack_frames::{FrameRegisters, StackFrame, pe_c_step};
+use crate::base::results::{BAD_ADDRESS, BAD_OPERATION, LONG_CHAIN, MISSING, NOT_RISING};
+use crate::stack::frames::{FrameRegisters, StackFrame, pe_c_step};
 use pe_images::image as bytes_of;
 use pe_unwind::RuntimeFunction;
 

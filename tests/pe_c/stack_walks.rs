@@ -2,9 +2,9 @@
 //! with.
 
 use super::made::*;
-use crate::results::MISSING;
-use crate::stack_frames::FrameRegisters;
-use crate::stack_walk::{ModuleView, StackWalk, pe_c_next_frame, pe_c_next_frames};
+use crate::base::results::MISSING;
+use crate::stack::frames::FrameRegisters;
+use crate::stack::walk::{ModuleView, StackWalk, pe_c_next_frame, pe_c_next_frames};
 use pe_images::image as bytes_of;
 
 /// Where the image is loaded.
@@ -271,7 +271,7 @@ fn ranges_that_lie(rt: HostRuntime) -> Result<(), Fail> {
     for length in [0x181, 24] {
         modules[1].table.length = length;
         let mut walk = walk_from(DISPATCHER, STACK, 9);
-        // shows: pe_c/src/stack_walk.rt new Short
+        // shows: pe_c/src/stack/walk.rt new Short
         let found = pe_c_next_frame(&modules[1..], &stack, &[pieces], &mut walk);
         assert_eq!(rt; found, SHORT);
         assert_eq!(rt; [walk.remaining, u64::from(walk.has_returned)], [9, 0]);

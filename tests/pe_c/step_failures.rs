@@ -13,16 +13,16 @@ use super::resource_leaves::{NO_LEAF, of_size, start, with_tree};
 use super::steps::pe_c_next_resource_leaf;
 use super::unwinding::{no_record, with_records};
 use crate::arm64::codes::Arm64CodeWalk;
-use crate::imports::{Imports, Libraries};
-use crate::step_failures::arm64::{pe_c_arm64_code_failure, pe_c_arm64_record_failure};
-use crate::step_failures::bound_imports::pe_c_bound_import_failure;
-use crate::step_failures::delay_imports::{
+use crate::names::imports::{Imports, Libraries};
+use crate::failures::steps::arm64::{pe_c_arm64_code_failure, pe_c_arm64_record_failure};
+use crate::failures::steps::bound_imports::pe_c_bound_import_failure;
+use crate::failures::steps::delay_imports::{
     pe_c_delay_import_failure, pe_c_delayed_function_failure,
 };
-use crate::step_failures::resources::pe_c_resource_leaf_failure;
-use crate::step_failures::symbols::pe_c_symbol_name_failure;
-use crate::step_failures::unwinding::{pe_c_code_failure, pe_c_unwind_record_failure};
-use crate::step_failures::{
+use crate::failures::steps::resources::pe_c_resource_leaf_failure;
+use crate::failures::steps::symbols::pe_c_symbol_name_failure;
+use crate::failures::steps::unwinding::{pe_c_code_failure, pe_c_unwind_record_failure};
+use crate::failures::steps::{
     pe_c_certificate_failure, pe_c_import_failure, pe_c_library_failure,
     pe_c_relocation_block_failure, pe_c_relocation_failure,
 };

@@ -2,8 +2,8 @@
 //! specification; every number is worked out by hand.
 
 use super::made::*;
-use crate::debug_records::{SymbolKey, pe_c_symbol_key_of};
-use crate::te::{
+use crate::debug::records::{SymbolKey, pe_c_symbol_key_of};
+use crate::headers::te::{
     TeImage, pe_c_next_te_debug_entry, pe_c_te, pe_c_te_debug_entries, pe_c_te_first_debug_entry,
     pe_c_te_sections,
 };

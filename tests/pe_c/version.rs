@@ -2,7 +2,7 @@
 
 use super::made::*;
 use super::steps::{pe_c_fixed_version, pe_c_version_text};
-use crate::version::{pe_c_fixed_version_in, pe_c_manifest, pe_c_version_text_in};
+use crate::resources::version::{pe_c_fixed_version_in, pe_c_manifest, pe_c_version_text_in};
 use pe_images::image as bytes_of;
 use pe_resource::VsFixedFileInfo;
 
