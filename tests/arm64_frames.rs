@@ -260,18 +260,12 @@ fn undoes_single_registers(rt: HostRuntime) -> Result<(), Fail> {
         assert_eq!(rt; found, caller);
     }
     let found = step_at(&SINGLES, 0x100, after_body(0x100, base + 16), &stack)?;
-    assert_eq!(rt;
-        (found.general[21], found.general[22], found.general[27]),
-        (x[21], x[22], x[27])
-    );
-    assert_eq!(rt;
-        (found.general[28], found.general[29], found.float[7]),
-        (x[28], x[29], d[7])
-    );
-    assert_eq!(rt;
-        (found.general[LR], found.pc, found.sp),
-        (RETURN_ADDRESS, RETURN_ADDRESS, ENTRY)
-    );
+    let own = (found.general[21], found.general[22], found.general[27]);
+    assert_eq!(rt; own, (x[21], x[22], x[27]));
+    let own = (found.general[28], found.general[29], found.float[7]);
+    assert_eq!(rt; own, (x[28], x[29], d[7]));
+    let own = (found.general[LR], found.pc, found.sp);
+    assert_eq!(rt; own, (RETURN_ADDRESS, RETURN_ADDRESS, ENTRY));
     Ok(())
 }
 

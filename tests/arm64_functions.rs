@@ -1,12 +1,7 @@
 //! The ARM64 function table: its entries, what is packed in them, and lookup.
 
-use pe_core::{ByteRange, CountedTable, DataDirectory, Error, ParseOptions, Reason, SectionMap};
-use pe_unwind::{
-    ARM64_PDATA_CR_CHAINED, ARM64_PDATA_CR_CHAINED_WITH_PAC, ARM64_PDATA_CR_UNCHAINED,
-    ARM64_PDATA_CR_UNCHAINED_SAVED_LR, ARM64_PDATA_PACKED_UNWIND_FRAGMENT,
-    ARM64_PDATA_PACKED_UNWIND_FUNCTION, ARM64_PDATA_REF_TO_FULL_XDATA, Arm64RuntimeFunction,
-    Arm64RuntimeFunctionIterator, ExceptionData, search_arm64,
-};
+use pe_core::{CountedTable, DataDirectory, Error, ParseOptions, Reason, SectionMap};
+use pe_unwind::{Arm64RuntimeFunction, Arm64RuntimeFunctionIterator, ExceptionData, search_arm64};
 use std::alloc::{AllocError, Global};
 use std::test::Fail;
 
@@ -48,55 +43,10 @@ fn refusal(bytes: &[u8], virtual_address: u32, size: u32) -> Option<Reason> {
 }
 
 #[test]
-fn reads_packed_fields(rt: HostRuntime) -> Result<(), Fail> {
-    let packed = entry(0x1000, 0x0162_0021);
-    assert_eq!(rt; packed.flag(), ARM64_PDATA_PACKED_UNWIND_FUNCTION);
-    assert_eq!(rt; packed.function_length(), 32);
-    assert_eq!(rt; packed.frame_size(), 32);
-    assert_eq!(rt; packed.cr(), ARM64_PDATA_CR_CHAINED);
-    assert!(rt; !packed.h());
-    assert_eq!(rt; packed.reg_i(), 2);
-    assert_eq!(rt; packed.reg_f(), 0);
-    assert!(rt; packed.is_packed());
-    // Every bit set: each field at its greatest.
-    let full = entry(0, 0xFFFF_FFFF);
-    assert_eq!(rt; (full.flag(), full.function_length()), (3, 8188));
-    assert_eq!(rt; (full.reg_f(), full.reg_i(), full.h()), (7, 15, true));
-    assert_eq!(rt; (full.cr(), full.frame_size()), (3, 8176));
-    let whole = entry(0x1000, 0x2004);
-    assert_eq!(rt; whole.flag(), ARM64_PDATA_REF_TO_FULL_XDATA);
-    assert!(rt; !whole.is_packed());
-    assert_eq!(rt; whole.unwind_data_rva(), 0x2004);
-    assert_eq!(rt; entry(0, 0x2007).unwind_data_rva(), 0x2004);
-    assert_eq!(rt; entry(0, 2).flag(), ARM64_PDATA_PACKED_UNWIND_FRAGMENT);
-    assert_eq!(rt; Arm64RuntimeFunction::default(), entry(0, 0));
-    for (bits, want) in [
-        (0, ARM64_PDATA_CR_UNCHAINED),
-        (0x0020_0000, ARM64_PDATA_CR_UNCHAINED_SAVED_LR),
-        (0x0040_0000, ARM64_PDATA_CR_CHAINED_WITH_PAC),
-        (0x0060_0000, ARM64_PDATA_CR_CHAINED),
-    ] {
-        assert_eq!(rt; entry(0, bits).cr(), want);
-    }
-    Ok(())
-}
-
-#[test]
 fn reads_tables_of_eight_bytes(rt: HostRuntime) -> Result<(), Fail> {
     let data = table_at(&TABLE, 0, 24)?;
-    assert_eq!(rt; data.len_arm64(), 3);
-    assert_eq!(rt; data.len(), 2);
-    assert!(rt; !data.is_empty());
-    let mut functions = data.functions_arm64();
-    assert_eq!(rt; functions.len(), 3);
-    for (begin, unwind) in [(0x1000, 0x1010), (0x1020, 0x1020), (0x1040, 0x1001)] {
-        let Some(function) = functions.next() else {
-            return Err(Fail::from("an entry is missing"));
-        };
-        assert_eq!(rt; function?, entry(begin, unwind));
-    }
-    assert!(rt; functions.next().is_none());
-    assert_eq!(rt; data.get_function_arm64(2)?, entry(0x1040, 0x1001));
+    assert_eq!(rt; (data.len_arm64(), data.len()), (3, 2));
+    assert_eq!(rt; data.functions_arm64().len(), 3);
     // shows: pe_unwind/src/arm64/function.rt of_table FunctionIndex
     assert!(rt;
         matches!(
@@ -107,13 +57,6 @@ fn reads_tables_of_eight_bytes(rt: HostRuntime) -> Result<(), Fail> {
     // One entry, which is less than one for x64: not empty.
     let one = table_at(&TABLE, 8, 8)?;
     assert_eq!(rt; (one.len_arm64(), one.len(), one.is_empty()), (1, 0, false));
-    let range = ByteRange {
-        offset: 8,
-        length: 8,
-    };
-    assert_eq!(rt; one.table_range(), range);
-    assert_eq!(rt; range.of(&TABLE), &TABLE[8..16]);
-    assert_eq!(rt; one.get_function_arm64(0)?, entry(0x1020, 0x1020));
     Ok(())
 }
 
@@ -231,12 +174,8 @@ fn reads_the_length_of_one_function(rt: HostRuntime) -> Result<(), Fail> {
     bytes.extend_from_slice(&[6, 0, 0])?;
     let data = table_at(&bytes, 0, 32)?;
     for rva in [0x1020, 0x103F] {
-        assert!(rt;
-            matches!(
-                data.find_function_arm64(rva, &[], &flat()),
-                Err(Error::Short { at: 32, needed: 4 })
-            )
-        );
+        let found = data.find_function_arm64(rva, &[], &flat());
+        assert!(rt; matches!(found, Err(Error::Short { at: 32, needed: 4 })));
         assert!(rt;
             matches!(
                 data.find_function_arm64(rva, &[], &ParseOptions::default()),

@@ -1,11 +1,9 @@
 //! ARM64 unwind records: their words, scopes, codes and handler, and the functions that they belong to.
 
-use crate::sections::section;
 use pe_core::{DataDirectory, Error, ParseOptions, Reason, SectionTable};
 use pe_unwind::{
     Arm64EpilogScope, Arm64EpilogScopeIterator, Arm64ExceptionHandler, Arm64RuntimeFunction,
-    Arm64UnwindCode, Arm64UnwindCodeData, Arm64UnwindExtension, Arm64UnwindHeader, Arm64UnwindInfo,
-    ExceptionData,
+    Arm64UnwindExtension, Arm64UnwindInfo, ExceptionData,
 };
 use std::test::Fail;
 
@@ -55,59 +53,6 @@ fn two_entries<'a>(
     ExceptionData::parse_arm64_with_opts(bytes, directory, sections, 0x200, opts)
 }
 
-#[test]
-fn reads_words(rt: HostRuntime) -> Result<(), Fail> {
-    let header = Arm64UnwindHeader(0x0850_0004);
-    assert_eq!(rt; (header.function_length(), header.version()), (16, 0));
-    assert!(rt; header.exception_data_present() && !header.epilog_in_header());
-    assert_eq!(rt; (header.epilog_count(), header.code_words()), (1, 1));
-    assert!(rt; !header.has_extension());
-    let full = Arm64UnwindHeader(0xFFFF_FFFF);
-    assert_eq!(rt; (full.function_length(), full.version()), (0xF_FFFC, 3));
-    assert_eq!(rt; (full.epilog_count(), full.code_words()), (31, 31));
-    assert!(rt; full.epilog_in_header());
-    assert!(rt; Arm64UnwindHeader(0x003F_FFFF).has_extension());
-
-    let extension = Arm64UnwindExtension(0xFF12_FFFE);
-    assert_eq!(rt;
-        (extension.epilog_count(), extension.code_words()),
-        (0xFFFE, 0x12)
-    );
-
-    let scope = Arm64EpilogScope(0xFFC4_0001);
-    assert_eq!(rt; (scope.start_offset_words(), scope.condition()), (4, 1));
-    assert_eq!(rt; scope.start_index(), 1023);
-    Ok(())
-}
-
-#[test]
-fn reads_a_record_with_a_handler(rt: HostRuntime) -> Result<(), Fail> {
-    let info = Arm64UnwindInfo::parse(&HANDLED, 0)?;
-    assert_eq!(rt; (info.header.function_length(), info.extension), (16, None));
-    assert_eq!(rt; Arm64UnwindInfo::size(&HANDLED)?, 16);
-
-    let mut scopes = info
-        .epilog_scopes()
-        .unwrap_or(Arm64EpilogScopeIterator::new(&[]));
-    assert_eq!(rt; (scopes.len(), scopes.size_hint()), (1, (1, Some(1))));
-    assert!(rt; matches!(scopes.next(), Some(Ok(scope)) if fields(scope) == (12, 14, 0)));
-    assert!(rt; scopes.next().is_none());
-
-    let mut codes = info.unwind_codes(0)?;
-    for (offset, code) in [
-        (0, Arm64UnwindCode::SaveFpLr { offset_bytes: 8 }),
-        (1, Arm64UnwindCode::SaveFpLrPreindexed { offset_bytes: 16 }),
-        (2, Arm64UnwindCode::End),
-        (3, Arm64UnwindCode::Nop),
-    ] {
-        assert!(rt;
-            matches!(codes.next(), Some(Ok(item)) if item.offset == offset && item.code == code && item.len == 1)
-        );
-    }
-    assert!(rt; codes.next().is_none());
-    Ok(())
-}
-
 /// What was taken from a record stays when the record is gone.
 #[test]
 fn keeps_the_handler(rt: HostRuntime) -> Result<(), Fail> {
@@ -129,67 +74,6 @@ fn keeps_the_handler(rt: HostRuntime) -> Result<(), Fail> {
     );
     assert!(rt; matches!(codes.next(), Some(Ok(item)) if item.offset == 3));
     assert!(rt; codes.next().is_none());
-    Ok(())
-}
-
-#[test]
-fn reads_a_record_with_an_extension(rt: HostRuntime) -> Result<(), Fail> {
-    let info = Arm64UnwindInfo::parse(&EXTENDED, 0)?;
-    assert_eq!(rt; info.extension, Some(Arm64UnwindExtension(0x0001_0001)));
-    assert_eq!(rt; info.exception_handler, None);
-    assert_eq!(rt; Arm64UnwindInfo::size(&EXTENDED)?, 16);
-    let mut scopes = info
-        .epilog_scopes()
-        .unwrap_or(Arm64EpilogScopeIterator::new(&[]));
-    assert!(rt; matches!(scopes.next(), Some(Ok(scope)) if fields(scope) == (12, 14, 0)));
-    assert!(rt; scopes.next().is_none());
-    let mut codes = info.unwind_codes(0)?;
-    for (offset, code) in [
-        (0, Arm64UnwindCode::End),
-        (1, Arm64UnwindCode::Nop),
-        (2, Arm64UnwindCode::Nop),
-        (3, Arm64UnwindCode::Nop),
-    ] {
-        assert!(rt;
-            matches!(codes.next(), Some(Ok(item)) if item.offset == offset && item.code == code && item.len == 1)
-        );
-    }
-    assert!(rt; codes.next().is_none());
-    assert!(rt;
-        matches!(
-            info.unwind_codes(5),
-            Err(Error::Malformed(Reason::Arm64Stream {
-                length: 4,
-                start: 5
-            }))
-        )
-    );
-
-    // Both counts of the extension word are 0 too.
-    let empty = [0u8; 8];
-    let info = Arm64UnwindInfo::parse(&empty, 0)?;
-    assert!(rt; info.epilog_scopes().is_none());
-    assert!(rt; info.unwind_codes(0)?.next().is_none());
-    assert_eq!(rt; Arm64UnwindInfo::size(&empty)?, 8);
-    Ok(())
-}
-
-/// A header that describes the one epilog has the index of its first code in place of a count of scopes.
-#[test]
-fn reads_records_with_the_epilog_in_the_header(rt: HostRuntime) -> Result<(), Fail> {
-    let short = [0x04, 0, 0xE0, 0x08, 0xE4, 0xE3, 0xE3, 0xE3];
-    let info = Arm64UnwindInfo::parse(&short, 0)?;
-    assert!(rt; info.header.epilog_in_header());
-    assert_eq!(rt; info.header.epilog_count(), 3);
-    assert!(rt; info.epilog_scopes().is_none());
-    assert_eq!(rt; info.unwind_codes(3)?.count(), 1);
-    assert_eq!(rt; Arm64UnwindInfo::size(&short)?, 8);
-
-    let extended = [0x04, 0, 0x20, 0, 5, 0, 1, 0, 0xE4, 0xE3, 0xE3, 0xE3];
-    let info = Arm64UnwindInfo::parse(&extended, 0)?;
-    assert!(rt; info.epilog_scopes().is_none());
-    assert_eq!(rt; info.unwind_codes(0)?.count(), 4);
-    assert_eq!(rt; Arm64UnwindInfo::size(&extended)?, 12);
     Ok(())
 }
 
@@ -275,10 +159,8 @@ fn finds_records_of_functions(rt: HostRuntime) -> Result<(), Fail> {
         assert!(rt; false, "there is no record");
         return Ok(());
     };
-    assert_eq!(rt;
-        (info.header.function_length(), info.header.code_words()),
-        (16, 1)
-    );
+    let found = (info.header.function_length(), info.header.code_words());
+    assert_eq!(rt; found, (16, 1));
     let data = two_entries(&bytes, 0, &[], &flat())?;
     let full = data.get_function_arm64(0)?;
     assert!(rt;
@@ -326,37 +208,6 @@ fn refuses_records_of_functions(rt: HostRuntime) -> Result<(), Fail> {
             )
         );
     }
-    Ok(())
-}
-
-/// The table and its records at addresses that a section maps, by the default options: each function's codes.
-#[test]
-fn reads_codes_of_each_function(rt: HostRuntime) -> Result<(), Fail> {
-    let bytes = [
-        0, 0x10, 0, 0, 0x10, 0x10, 0, 0, 0x20, 0x10, 0, 0, 0x21, 0, 0x62, 0x01, 0x04, 0, 0xE0,
-        0x08, 0xC8, 0x42, 0xE4, 0xE3,
-    ];
-    let sections = [section(0x1000, 0x100, 0, 0x200)];
-    let data = two_entries(&bytes, 0x1000, &sections, &ParseOptions::default())?;
-    let mut found = Vec::new(rt.alloc());
-    for function in data.functions_arm64() {
-        if let Some(info) = data.get_unwind_info_arm64(function?, &sections) {
-            for item in info?.unwind_codes(0)? {
-                found.push(item?)?;
-            }
-        }
-    }
-    let pair = Arm64UnwindCode::SaveRegPair {
-        first_reg: 20,
-        offset_bytes: 16,
-    };
-    let want = [
-        (0, pair, 2),
-        (2, Arm64UnwindCode::End, 1),
-        (3, Arm64UnwindCode::Nop, 1),
-    ]
-    .map(|(offset, code, len)| Arm64UnwindCodeData { offset, code, len });
-    assert_eq!(rt; found.as_slice(), want.as_slice());
     Ok(())
 }
 

@@ -197,8 +197,6 @@ const ZERO: &str = "return to 0, by a guess or without records";
 
 const NO_RETURN_ADDRESS: &str = "no return address";
 
-const NO_FUNCTION: &str = "no function covers the call";
-
 const NO_MODULE: &str = "no module with an image has the instruction pointer";
 
 /// The section with the functions.
@@ -495,10 +493,8 @@ fn a_leaf_function_returns_into_a_module_without_an_image(rt: HostRuntime) -> Re
             _ => (APP + 0x190, 0x2010),
         };
         assert_eq!(rt; (caller.registers.pc, caller.registers.sp), (there, sp));
-        assert_eq!(rt;
-            (caller.way, caller.has_called, caller.is_guess),
-            (way, true, true)
-        );
+        let found = (caller.way, caller.has_called, caller.is_guess);
+        assert_eq!(rt; found, (way, true, true));
     }
     // Nor do any say that code there keeps a frame pointer, but Windows does.
     let mut top = registers(NT + 4, 0x2000, 7);
@@ -555,46 +551,6 @@ fn a_second_frame_that_stands_ends_the_walk(rt: HostRuntime) -> Result<(), Fail>
         &frames,
         "stack pointer 0x2000 of the caller is not above that of the function",
     )
-}
-
-#[test]
-fn a_walk_says_why_it_is_over(rt: HostRuntime) -> Result<(), Fail> {
-    let memory = Stack {
-        start: 0x2000,
-        bytes: &[],
-    };
-    let top = |pc, lr| registers(pc, 0x2000, lr);
-    let one = |pc| [(pc, 0x2000, 0, Way::Top, false)];
-    // a leaf function, and one in its prolog, whose return address is 0
-    for (pc, end) in [(APP + 0x1F0, ZERO), (APP + 0x180, BOTTOM)] {
-        expect_walk(&rt, rt.alloc(), top(pc, 0), &memory, &one(pc), end)?;
-    }
-    // a leaf function that goes on in no function, and in no module: data, and what is no address of code, are no frame
-    let (leaf, lr) = (APP + 0x1F0, APP + 0x1F8);
-    let frames = [one(leaf)[0], (lr, 0x2000, 0, Way::Leaf, true)];
-    expect_walk_in(
-        &[CODE],
-        &rt,
-        rt.alloc(),
-        top(leaf, lr),
-        &memory,
-        &frames,
-        NO_FUNCTION,
-    )?;
-    for lr in [NT - 0x100, APP + 0xF0, 0x30, u64::MAX] {
-        expect_walk_in(
-            &[CODE],
-            &rt,
-            rt.alloc(),
-            top(leaf, lr),
-            &memory,
-            &one(leaf),
-            NO_RETURN_ADDRESS,
-        )?;
-    }
-    let pc = APP + 0x1A4;
-    let end = "unwind code cannot be undone: CustomStack(TrapFrame)";
-    expect_walk(&rt, rt.alloc(), top(pc, 0), &memory, &one(pc), end)
 }
 
 /// From a caller at 0 a scan leads on, as under a dispatcher whose records do not say that an interrupt came before it: then it is

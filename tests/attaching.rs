@@ -214,8 +214,9 @@ fn refuses_certificates_and_buffers(rt: HostRuntime) -> Result<(), Fail> {
     let Err(SignError::Image(Error::Malformed(reason))) = refused else {
         return Err(Fail::new("not refused"));
     };
+    let found = reason;
     assert_eq!(rt;
-        reason,
+        found,
         Reason::WriteFit {
             end: 1024,
             length: 0
@@ -242,17 +243,13 @@ fn numbers_of_reasons(rt: HostRuntime) -> Result<(), Fail> {
     let bytes = with_byte(with_functions(rt.alloc())?, 0xEC, 0x11);
     let header = header_of(&bytes)?;
     // shows: pe_sign/src/checks.rt require_table CertificateTable
-    assert_eq!(rt;
-        reason_of(detached_len(&bytes, &header)),
-        Some(Reason::CertificateTable(1041))
-    );
+    let found = reason_of(detached_len(&bytes, &header));
+    assert_eq!(rt; found, Some(Reason::CertificateTable(1041)));
     // The end of a table may need 33 bits.
     let bytes = with_part(with_functions(rt.alloc())?, 0xE8, &[0xFF; 8]);
     let header = header_of(&bytes)?;
-    assert_eq!(rt;
-        reason_of(detached_len(&bytes, &header)),
-        Some(Reason::CertificateTable(0x1_FFFF_FFFE))
-    );
+    let found = reason_of(detached_len(&bytes, &header));
+    assert_eq!(rt; found, Some(Reason::CertificateTable(0x1_FFFF_FFFE)));
     Ok(())
 }
 

@@ -48,40 +48,6 @@ fn numbers(rt: HostRuntime) -> Result<(), Fail> {
 }
 
 #[test]
-fn reads(rt: HostRuntime) -> Result<(), Fail> {
-    let bytes = [9, 0, 0, 0, 0, 2, 2, 0, 0xAA, 0, 0, 0, 0, 0, 0, 0];
-    let mut offset = 0;
-    let read = AttributeCertificate::parse(&bytes, &mut offset)?;
-    assert_eq!(rt; read.length, 9);
-    assert_eq!(rt; read.revision, AttributeCertificateRevision::Revision2_0);
-    assert_eq!(rt;
-        read.certificate_type,
-        AttributeCertificateType::PkcsSignedData
-    );
-    assert_eq!(rt; read.certificate, [0xAA].as_slice());
-    assert_eq!(rt; offset, 16);
-
-    let without_body = [3, 0, 0, 0, 0, 2, 2, 0];
-    let mut offset = 0;
-    let read = AttributeCertificate::parse(&without_body, &mut offset)?;
-    assert_eq!(rt; read.length, 3);
-    assert!(rt; read.certificate.is_empty());
-    assert_eq!(rt; offset, 8);
-    Ok(())
-}
-
-/// The body may end the file without the zeros after it: the offset then is past the file.
-#[test]
-fn reads_a_last_body(rt: HostRuntime) -> Result<(), Fail> {
-    let bytes = [0, 0, 9, 0, 0, 0, 0, 1, 1, 0, 0xBB];
-    let mut offset = 2;
-    let read = AttributeCertificate::parse(&bytes, &mut offset)?;
-    assert_eq!(rt; read.certificate, [0xBB].as_slice());
-    assert_eq!(rt; offset, 16);
-    Ok(())
-}
-
-#[test]
 fn refuses_in_order(rt: HostRuntime) -> Result<(), Fail> {
     // shows: pe_records/src/certificate_table.rt parse CertificateSize
     let cases: [(&[u8], Reason); 4] = [

@@ -46,10 +46,8 @@ fn one_repro_entry(rt: HostRuntime) -> std::result::Result<(), Fail> {
     for mode in MODES {
         let opts = ParseOptions::default().with_parse_mode(mode);
         let debug = debug_of(rt.alloc(), &bytes, &opts, 0)?;
-        assert_eq!(rt;
-            debug.repro_info,
-            Some(ReproInfo::TimeDateStamp(0x1122_3344))
-        );
+        let said = debug.repro_info;
+        assert_eq!(rt; said, Some(ReproInfo::TimeDateStamp(0x1122_3344)));
         assert!(rt; debug.codeview_pdb70_debug_info.is_none() && debug.guid().is_none());
         assert!(rt; debug.codeview_pdb20_debug_info.is_none());
         assert!(rt; debug.vcfeature_info.is_none() && debug.ex_dll_characteristics_info.is_none());
@@ -69,24 +67,6 @@ fn one_repro_entry(rt: HostRuntime) -> std::result::Result<(), Fail> {
         let entry = reduced.find_type(16).ok_or("no entry")?;
         assert_eq!(rt; entry.address_of_raw_data, 0xFFFF_FFFF);
         assert_eq!(rt; entry.pointer_to_raw_data, 0xFFFF_FFFF);
-    }
-    Ok(())
-}
-
-#[test]
-fn entries_of_other_types(rt: HostRuntime) -> std::result::Result<(), Fail> {
-    for mode in MODES {
-        let opts = ParseOptions::default().with_parse_mode(mode);
-        let bytes = with_byte(with_debug(rt.alloc())?, 0x24C, 13);
-        let debug = debug_of(rt.alloc(), &bytes, &opts, 0)?;
-        assert!(rt; debug.pogo_info.is_none() && debug.repro_info.is_none());
-        let bytes = with_byte(with_debug(rt.alloc())?, 0x24C, 12);
-        let debug = debug_of(rt.alloc(), &bytes, &opts, 0)?;
-        let counts = VCFeatureInfo {
-            pre_vc_plusplus_count: 0x5A4D,
-            ..VCFeatureInfo::default()
-        };
-        assert_eq!(rt; debug.vcfeature_info, Some(counts));
     }
     Ok(())
 }
@@ -120,8 +100,6 @@ fn five_entries(
 const PDB70: &[u8] =
     b"RSDS\x10\x11\x12\x13\x14\x15\x16\x17\x18\x19\x1A\x1B\x1C\x1D\x1E\x1F\x09\0\0\0a.pdb\0";
 
-const PDB20: &[u8] = b"NB10\x06\0\0\0\x78\x56\x34\x12\x02\0\0\0a.p\0";
-
 /// The directory of the five entries.
 const TABLE: DataDirectory = DataDirectory {
     virtual_address: 0,
@@ -152,37 +130,6 @@ fn has_other_records(debug: &DebugData) -> bool {
         && debug.ex_dll_characteristics_info == Some(characteristics)
         && debug.repro_info == Some(repro)
         && debug.pogo_info == Some(pogo)
-}
-
-#[test]
-fn six_records(rt: HostRuntime) -> std::result::Result<(), Fail> {
-    for mode in MODES {
-        let bytes = five_entries(rt.alloc(), PDB70, 30)?;
-        let debug = DebugData::parse_with_opts(&bytes, TABLE, &[], 0, &flat(mode))?;
-        let pdb70 = CodeviewPDB70DebugInfo {
-            codeview_signature: 0x5344_5352,
-            signature: *b"\x10\x11\x12\x13\x14\x15\x16\x17\x18\x19\x1A\x1B\x1C\x1D\x1E\x1F",
-            age: 9,
-            filename: b"a.pdb\0",
-        };
-        assert_eq!(rt; debug.codeview_pdb70_debug_info, Some(pdb70));
-        assert_eq!(rt; debug.codeview_pdb20_debug_info, None);
-        assert_eq!(rt; debug.guid(), Some(pdb70.signature));
-        assert!(rt; has_other_records(&debug));
-        let bytes = five_entries(rt.alloc(), PDB20, 24)?;
-        let debug = DebugData::parse_with_opts(&bytes, TABLE, &[], 0, &flat(mode))?;
-        let pdb20 = CodeviewPDB20DebugInfo {
-            codeview_signature: 0x3031_424E,
-            codeview_offset: 6,
-            signature: 0x1234_5678,
-            age: 2,
-            filename: b"a.p\0\0\0\0\0",
-        };
-        assert_eq!(rt; debug.codeview_pdb70_debug_info, None);
-        assert_eq!(rt; debug.codeview_pdb20_debug_info, Some(pdb20));
-        assert!(rt; has_other_records(&debug));
-    }
-    Ok(())
 }
 
 #[test]
@@ -293,10 +240,8 @@ fn first_entries_in_one_pass(rt: HostRuntime) -> std::result::Result<(), Fail> {
         }
         assert_eq!(rt; count, found);
         let codeview = first.codeview.ok_or("no entry")?;
-        assert_eq!(rt;
-            (codeview.size_of_data, codeview.address_of_raw_data),
-            (30, address)
-        );
+        let said = (codeview.size_of_data, codeview.address_of_raw_data);
+        assert_eq!(rt; said, (30, address));
     }
     let none = FirstDebugEntries::of_table(&[], 0);
     assert!(rt; none.codeview.is_none() && none.features.is_none() && none.repro.is_none());
@@ -363,12 +308,8 @@ fn records_at_their_pointers(rt: HostRuntime) -> std::result::Result<(), Fail> {
     // shows: pe_records/src/debug/pogo.rt at DebugData
     assert!(rt; matches!(refusal, Some(Error::Malformed(Reason::DebugData(17)))));
     for offset in [0xDD, 0xFFFF_FFFF] {
-        assert!(rt;
-            matches!(
-                POGOInfo::parse(&bytes, &at(offset, 0)),
-                Err(Error::Short { .. })
-            )
-        );
+        let found = POGOInfo::parse(&bytes, &at(offset, 0));
+        assert!(rt; matches!(found, Err(Error::Short { .. })));
         let refusal = ExDllCharacteristicsInfo::parse(&bytes, &at(offset, 0)).err();
         assert!(rt; matches!(refusal, Some(Error::Short { .. })));
     }
@@ -476,19 +417,11 @@ fn embedded_pdbs(rt: HostRuntime) -> std::result::Result<(), Fail> {
                 Err(Error::Malformed(Reason::DebugSize(7)))
             )
         );
-        assert!(rt;
-            matches!(
-                EmbeddedPdb::parse_with_opts(bytes, &entry_at(12, 0, 90), &opts),
-                Err(Error::Short { at: 12, needed: 8 })
-            )
-        );
+        let found = EmbeddedPdb::parse_with_opts(bytes, &entry_at(12, 0, 90), &opts);
+        assert!(rt; matches!(found, Err(Error::Short { at: 12, needed: 8 })));
         // shows: pe_records/src/debug/managed.rt at BadMagic
-        assert!(rt;
-            matches!(
-                EmbeddedPdb::parse_with_opts(bytes, &entry_at(5, 0, 90), &opts),
-                Err(Error::BadMagic(0x2C42_4450))
-            )
-        );
+        let found = EmbeddedPdb::parse_with_opts(bytes, &entry_at(5, 0, 90), &opts);
+        assert!(rt; matches!(found, Err(Error::BadMagic(0x2C42_4450))));
         // shows: pe_records/src/debug/managed.rt at DebugData
         assert!(rt;
             matches!(

@@ -316,10 +316,8 @@ fn exports_by_index(rt: HostRuntime) -> Result<(), Fail> {
     let mut all = exports.iter();
     for (index, want) in want.iter().enumerate() {
         assert_eq!(rt; exports.at(index), Some(*want));
-        assert_eq!(rt;
-            (all.len(), all.size_hint()),
-            (3 - index, (3 - index, Some(3 - index)))
-        );
+        let found = (all.len(), all.size_hint());
+        assert_eq!(rt; found, (3 - index, (3 - index, Some(3 - index))));
         assert_eq!(rt; all.next(), Some(*want));
     }
     assert!(rt; all.next().is_none() && all.next().is_none());

@@ -625,10 +625,8 @@ fn knows_the_forms_of_epilogs(rt: HostRuntime) -> Result<(), Fail> {
         changed(&[(RSP, ENTRY), (RBX, 3)]),
         &stack,
     )?;
-    assert_eq!(rt;
-        (found.general[RSI], found.general[RBX], found.rip),
-        (0x77, 3, RETURN_ADDRESS)
-    );
+    let own = (found.general[RSI], found.general[RBX], found.rip);
+    assert_eq!(rt; own, (0x77, 3, RETURN_ADDRESS));
     Ok(())
 }
 

@@ -141,10 +141,8 @@ fn reads_one_record(rt: HostRuntime) -> std::result::Result<(), Fail> {
         )
     );
     let list = lookups_at(&bytes, 0x2A0, true)?;
-    assert_eq!(rt;
-        (list.len(), lookup_size(true), lookup_size(false)),
-        (16, 8, 4)
-    );
+    let found = (list.len(), lookup_size(true), lookup_size(false));
+    assert_eq!(rt; found, (16, 8, 4));
     assert_eq!(rt; lookup_number(list, 0, true), 0x8000_0000_0000_0005);
     assert_eq!(rt; lookup_number(list, 8, true), 0x10D0);
     assert_eq!(rt; lookup_number(list, 4, false), 0x8000_0000);
@@ -345,12 +343,8 @@ fn lists_inside_of_lists(rt: HostRuntime) -> std::result::Result<(), Fail> {
         (0, 6),
         (0, 0),
     )?;
-    assert!(rt;
-        matches!(
-            shared_data(alloc, &endless),
-            Err(Error::Short { at: 74, needed: 8 })
-        )
-    );
+    let found = shared_data(alloc, &endless);
+    assert!(rt; matches!(found, Err(Error::Short { at: 74, needed: 8 })));
     Ok(())
 }
 
@@ -457,9 +451,10 @@ fn refuses_in_order(rt: HostRuntime) -> std::result::Result<(), Fail> {
     let named = refusal(rt.alloc(), 0x410, &second)?;
     assert!(rt; matches!(named, Error::Malformed(Reason::Unmapped(0x3000))));
     let list = refusal(rt.alloc(), 0x2B4, &second)?;
+    let found = list;
     assert!(rt;
         matches!(
-            list,
+            found,
             Error::Short {
                 at: 0x2B0,
                 needed: 8

@@ -140,10 +140,8 @@ fn the_frame_is_that_of_the_target(rt: HostRuntime) -> Result<(), Fail> {
     for (function, rva, code, rsp) in rows {
         let (caller, is_interrupted) = step_at(rt.alloc(), function, rva, code, rsp)??;
         assert_eq!(rt; caller.rip, RETURN_ADDRESS);
-        assert_eq!(rt;
-            (caller.general[RBX], caller.general[RSP]),
-            (SAVED, INSIDE + 48)
-        );
+        let found = (caller.general[RBX], caller.general[RSP]);
+        assert_eq!(rt; found, (SAVED, INSIDE + 48));
         assert!(rt; !is_interrupted);
     }
     Ok(())

@@ -4,7 +4,7 @@
 use crate::images::image;
 use pe_minidump::{
     AddressIndex, AddressRange, ContextArm64, ContextX64, Dump, DumpError, EXCEPTION_STREAM,
-    FUNCTION_TABLE_STREAM, Location, MemoryDescriptor, ProcessTimes, ProcessorPower, module_ranges,
+    FUNCTION_TABLE_STREAM, Location,
 };
 use std::alloc::{AllocError, Global};
 use std::test::Fail;
@@ -71,8 +71,9 @@ fn reads_the_header_and_the_directory(rt: HostRuntime) -> Result<(), Fail> {
     let Some(last) = dump.directory().get(6) else {
         return Err(Fail::new("no entry 6"));
     };
+    let found = last.location;
     assert_eq!(rt;
-        last.location,
+        found,
         Location {
             size: 960,
             rva: 6641
@@ -92,27 +93,6 @@ fn reads_the_header_and_the_directory(rt: HostRuntime) -> Result<(), Fail> {
         )
     );
     assert!(rt; dump.memory_list()?.is_none());
-    Ok(())
-}
-
-#[test]
-fn header_has_each_field_at_its_offset(rt: HostRuntime) -> Result<(), Fail> {
-    let mut bytes = counting(rt.alloc(), 64, 0)?;
-    crate::images::put(
-        &mut bytes,
-        &[(0, b"MDMP\x93\xA7\x06\x07\x01\0\0\0\x34\0\0\0")],
-    );
-    let dump = Dump::parse(&bytes)?;
-    assert_eq!(rt;
-        (dump.header.signature, dump.header.version),
-        (0x504D_444D, 0x0706_A793)
-    );
-    assert_eq!(rt;
-        (dump.header.check_sum, dump.header.time_date_stamp),
-        (0x1312_1110, 0x1716_1514)
-    );
-    assert_eq!(rt; dump.header.flags, 0x1F1E_1D1C_1B1A_1918);
-    assert_eq!(rt; dump.directory, &bytes[52..64]);
     Ok(())
 }
 
@@ -167,73 +147,9 @@ fn first_stream_of_a_kind_counts(rt: HostRuntime) -> Result<(), Fail> {
     Ok(())
 }
 
-/// Threads of Wine. The first has its stack at 21E160h, and its context of 1,232 bytes at offset 389.
-#[test]
-fn reads_threads(rt: HostRuntime) -> Result<(), Fail> {
-    let stream =
-        b"\x02\0\0\0$\0\0\0\0\0\0\0\0\0\0\0\0\0\0\0\0\0\xFEg\0\0\0\0`\xE1!\0\0\0\0\0\xA0\x1E\0\0\0\0\0\0\
-        \xD0\x04\0\0\x85\x01\0\0\x18\x01\0\0\0\0\0\0\0\0\0\0\0\0\0\0\0\0\xFDg\0\0\0\0@\xF7)\x01\0\0\0\0\xC0\x08\0\0\0\0\0\0\
-        \xD0\x04\0\0U\x06\0\0";
-    let bytes = with_stream(rt.alloc(), 3, stream)?;
-    let Some(threads) = Dump::parse(&bytes)?.threads()? else {
-        return Err(Fail::new("no threads"));
-    };
-    let wanted = [
-        (0x24, 0x67FE_0000, 0x21_E160, 0x1EA0, 389),
-        (0x118, 0x67FD_0000, 0x129_F740, 0x8C0, 1621),
-    ];
-    assert_eq!(rt; threads.iter().len(), 2);
-    for (thread, want) in threads.iter().zip(wanted) {
-        let stack = thread.stack;
-        let own = (
-            thread.thread_id,
-            thread.teb,
-            stack.start_of_memory_range,
-            stack.memory.size,
-            thread.thread_context.rva,
-        );
-        assert_eq!(rt; own, want);
-        assert_eq!(rt; thread.thread_context.size, 1232);
-    }
-    Ok(())
-}
-
-/// A list with 4 bytes between the number of its entries and the first, and lists of other sizes.
 #[test]
 fn lists_have_the_size_of_their_entries(rt: HostRuntime) -> Result<(), Fail> {
-    let mut stream = counting(rt.alloc(), 56, 8)?;
-    crate::images::put(&mut stream, &[(0, &[1])]);
-    let bytes = with_stream(rt.alloc(), 3, &stream)?;
-    let Some(threads) = Dump::parse(&bytes)?.threads()? else {
-        return Err(Fail::new("no threads"));
-    };
-    let Some(thread) = threads.get(0) else {
-        return Err(Fail::new("no thread"));
-    };
-    assert_eq!(rt;
-        (thread.thread_id, thread.suspend_count),
-        (0x0302_0100, 0x0706_0504)
-    );
-    assert_eq!(rt;
-        (thread.priority_class, thread.priority),
-        (0x0B0A_0908, 0x0F0E_0D0C)
-    );
-    assert_eq!(rt; thread.teb, 0x1716_1514_1312_1110);
-    let stack = MemoryDescriptor {
-        start_of_memory_range: 0x1F1E_1D1C_1B1A_1918,
-        memory: Location {
-            size: 0x2322_2120,
-            rva: 0x2726_2524,
-        },
-    };
-    assert_eq!(rt; thread.stack, stack);
-    assert_eq!(rt;
-        thread.thread_context,
-        Location {
-            size: 0x2B2A_2928,
-            rva: 0x2F2E_2D2C
-        }
-    );
+    let stream = image(rt.alloc(), 56, &[(0, &[1])])?;
     // shows: pe_minidump/src/list.rt counted_list ListSize
     for length in [51usize, 53, 55] {
         let bytes = with_stream(rt.alloc(), 3, stream.get(..length).unwrap_or_default())?;
@@ -243,109 +159,30 @@ fn lists_have_the_size_of_their_entries(rt: HostRuntime) -> Result<(), Fail> {
         };
         assert!(rt; refused(Dump::parse(&bytes)?.threads(), size));
     }
+    Ok(())
+}
+
+/// Streams of a byte less than their fields have.
+#[test]
+fn truncated_streams_are_refused(rt: HostRuntime) -> Result<(), Fail> {
+    let short = |needed: usize| DumpError::Short {
+        needed,
+        length: needed - 1,
+    };
     let bytes = with_stream(rt.alloc(), 4, &[2, 0, 0])?;
-    assert!(rt;
-        refused(
-            Dump::parse(&bytes)?.modules(),
-            DumpError::Short {
-                needed: 4,
-                length: 3
-            }
-        )
-    );
-    Ok(())
-}
-
-/// ntdll.dll of Wine.
-#[test]
-fn reads_modules(rt: HostRuntime) -> Result<(), Fail> {
-    let stream =
-        b"\x01\0\0\0\0\0\0p\x01\0\0\0\0\x106\0u\xE08\0+N\xF1c\xA7\x0D\0\0\xBD\x04\xEF\xFE\0\0\x01\0\x01\0\x06\0\xFB]\xB1\x1D\x01\
-        \0\x06\0\xFB]\xB1\x1D?\0\0\0\0\0\0\0\0\0\0\0\x02\0\0\0\0\0\0\0\0\0\0\0\0\0\0\0\0\0\0\0\0\0\0\0\0\0\0\0\0\0\0\0\0\0\0\0\
-        \0\0\0\0\0\0\0\0\0\0\0\0";
-    let bytes = with_stream(rt.alloc(), 4, stream)?;
-    let Some(modules) = Dump::parse(&bytes)?.modules()? else {
-        return Err(Fail::new("no modules"));
-    };
-    let Some(module) = modules.get(0) else {
-        return Err(Fail::new("no module"));
-    };
-    assert_eq!(rt;
-        (module.base_of_image, module.size_of_image),
-        (0x1_7000_0000, 0x36_1000)
-    );
-    assert_eq!(rt;
-        (module.check_sum, module.time_date_stamp),
-        (0x38_E075, 1_676_758_571)
-    );
-    assert_eq!(rt; module.module_name_rva, 0xDA7);
-    let version = module.version_info;
-    assert_eq!(rt;
-        (version.signature, version.struc_version),
-        (0xFEEF_04BD, 0x1_0000)
-    );
-    assert_eq!(rt;
-        (version.file_version_ms, version.file_version_ls),
-        (0x6_0001, 0x1DB1_5DFB)
-    );
-    assert_eq!(rt; (version.file_flags_mask, version.file_type), (0x3F, 2));
-    let ranges = module_ranges(rt.alloc(), &modules)?;
-    let want: &[AddressRange] = &[range(0x1_7000_0000, 0x36_1000)];
-    assert_eq!(rt; ranges.as_slice(), want);
-    Ok(())
-}
-
-#[test]
-fn modules_have_each_field_at_its_offset(rt: HostRuntime) -> Result<(), Fail> {
-    let mut stream = counting(rt.alloc(), 112, 4)?;
-    crate::images::put(&mut stream, &[(0, &[1])]);
-    let bytes = with_stream(rt.alloc(), 4, &stream)?;
-    let Some(modules) = Dump::parse(&bytes)?.modules()? else {
-        return Err(Fail::new("no modules"));
-    };
-    let Some(module) = modules.get(0) else {
-        return Err(Fail::new("no module"));
-    };
-    assert_eq!(rt; module.base_of_image, 0x0706_0504_0302_0100);
-    assert_eq!(rt;
-        (module.size_of_image, module.check_sum),
-        (0x0B0A_0908, 0x0F0E_0D0C)
-    );
-    assert_eq!(rt;
-        (module.time_date_stamp, module.module_name_rva),
-        (0x1312_1110, 0x1716_1514)
-    );
-    let version = module.version_info;
-    assert_eq!(rt;
-        (version.product_version_ms, version.product_version_ls),
-        (0x2B2A_2928, 0x2F2E_2D2C)
-    );
-    assert_eq!(rt;
-        (version.file_flags, version.file_os),
-        (0x3736_3534, 0x3B3A_3938)
-    );
-    assert_eq!(rt;
-        (
-            version.file_subtype,
-            version.file_date_ms,
-            version.file_date_ls
-        ),
-        (0x4342_4140, 0x4746_4544, 0x4B4A_4948)
-    );
-    assert_eq!(rt;
-        module.cv_record,
-        Location {
-            size: 0x4F4E_4D4C,
-            rva: 0x5352_5150
-        }
-    );
-    assert_eq!(rt;
-        module.misc_record,
-        Location {
-            size: 0x5756_5554,
-            rva: 0x5B5A_5958
-        }
-    );
+    assert!(rt; refused(Dump::parse(&bytes)?.modules(), short(4)));
+    let bytes = with_stream(rt.alloc(), 6, &[0; 167])?;
+    assert!(rt; refused(Dump::parse(&bytes)?.exception(), short(168)));
+    let bytes = with_stream(rt.alloc(), 7, &[0; 55])?;
+    assert!(rt; refused(Dump::parse(&bytes)?.system_info(), short(56)));
+    let bytes = with_stream(rt.alloc(), 15, &[0; 23])?;
+    assert!(rt; refused(Dump::parse(&bytes)?.misc_info(), short(24)));
+    let bytes = with_stream(rt.alloc(), 12, &[0; 15])?;
+    assert!(rt; refused(Dump::parse(&bytes)?.handles(), short(16)));
+    let bytes = with_stream(rt.alloc(), 14, &[0; 11])?;
+    assert!(rt; refused(Dump::parse(&bytes)?.unloaded_modules(), short(12)));
+    let bytes = with_stream(rt.alloc(), 17, &[1; 11])?;
+    assert!(rt; refused(Dump::parse(&bytes)?.thread_infos(), short(12)));
     Ok(())
 }
 
@@ -367,16 +204,12 @@ fn truncated_memory_is_kept(rt: HostRuntime) -> Result<(), Fail> {
     };
     let first = dump.piece(first);
     let want: &[u8] = b"abc";
-    assert_eq!(rt;
-        (first.start, first.offset, first.bytes, first.lost),
-        (0x1_0000_1000, 80, want, 2)
-    );
+    let found = (first.start, first.offset, first.bytes, first.lost);
+    assert_eq!(rt; found, (0x1_0000_1000, 80, want, 2));
     let second = dump.piece(second);
     let none: &[u8] = b"";
-    assert_eq!(rt;
-        (second.start, second.offset, second.bytes, second.lost),
-        (0x2000, 96, none, 7)
-    );
+    let found = (second.start, second.offset, second.bytes, second.lost);
+    assert_eq!(rt; found, (0x2000, 96, none, 7));
     let ranges = dump.memory_ranges(rt.alloc(), &list)?;
     let want: &[AddressRange] = &[range(0x1_0000_1000, 3), range(0x2000, 0)];
     assert_eq!(rt; ranges.as_slice(), want);
@@ -442,151 +275,6 @@ fn offsets_past_64_bits_are_refused(rt: HostRuntime) -> Result<(), Fail> {
     Ok(())
 }
 
-/// The exception of Wine: a write to address 0 at 140001533h in thread 24h.
-#[test]
-fn reads_the_exception(rt: HostRuntime) -> Result<(), Fail> {
-    let stream =
-        b"$\0\0\0\0\0\0\0\x05\0\0\xC0\0\0\0\0\0\0\0\0\0\0\0\03\x15\0@\x01\0\0\0\x02\0\0\0\0\0\0\0\x01\0\0\0\0\0\0\0\0\0\0\0\0\0\
-        \0\0\0\0\0\0\0\0\0\0\0\0\0\0\0\0\0\0\0\0\0\0\0\0\0\0\x04\0\0\0\0\0\0\0\0\0\0\0\0\0\0\0\0\0\0\0\0\0\0\0Pe\x09\0\x10\x05\
-        \0\0\0\0\0\0\0\0\0\0\0\0\0\0\0\0\0\0\0\0\0\0\0\0\0\0\0\0\0\0\0\0\0\0\0\0\0\0\0\0\0\0\0\0((\x02\0\0\0\xD0\x04\0\0!\x15\
-        \0\0";
-    let bytes = with_stream(rt.alloc(), 6, stream)?;
-    let Some(exception) = Dump::parse(&bytes)?.exception()? else {
-        return Err(Fail::new("no exception"));
-    };
-    assert_eq!(rt; exception.thread_id, 0x24);
-    let raised = exception.raised;
-    assert_eq!(rt;
-        (
-            raised.exception_code,
-            raised.exception_flags,
-            raised.exception_record
-        ),
-        (0xC000_0005, 0, 0)
-    );
-    assert_eq!(rt;
-        (raised.exception_address, raised.number_parameters),
-        (0x1_4000_1533, 2)
-    );
-    let parameters = [
-        1,
-        0,
-        0,
-        0,
-        0,
-        4,
-        0,
-        0,
-        0x510_0009_6550,
-        0,
-        0,
-        0,
-        0,
-        0,
-        0x2_2828_0000,
-    ];
-    assert_eq!(rt; raised.exception_information, parameters);
-    assert_eq!(rt;
-        exception.thread_context,
-        Location {
-            size: 1232,
-            rva: 5409
-        }
-    );
-    let bytes = with_stream(rt.alloc(), 6, stream.get(..167).unwrap_or_default())?;
-    let short = DumpError::Short {
-        needed: 168,
-        length: 167,
-    };
-    assert!(rt; refused(Dump::parse(&bytes)?.exception(), short));
-    Ok(())
-}
-
-#[test]
-fn reads_the_system(rt: HostRuntime) -> Result<(), Fail> {
-    let stream = counting(rt.alloc(), 56, 0)?;
-    let bytes = with_stream(rt.alloc(), 7, &stream)?;
-    let Some(system) = Dump::parse(&bytes)?.system_info()? else {
-        return Err(Fail::new("no system"));
-    };
-    assert_eq!(rt;
-        (
-            system.processor_architecture,
-            system.processor_level,
-            system.processor_revision
-        ),
-        (0x0100, 0x0302, 0x0504)
-    );
-    assert_eq!(rt; (system.number_of_processors, system.product_type), (6, 7));
-    assert_eq!(rt;
-        (
-            system.major_version,
-            system.minor_version,
-            system.build_number
-        ),
-        (0x0B0A_0908, 0x0F0E_0D0C, 0x1312_1110)
-    );
-    assert_eq!(rt;
-        (
-            system.platform_id,
-            system.csd_version_rva,
-            system.suite_mask
-        ),
-        (0x1716_1514, 0x1B1A_1918, 0x1D1C)
-    );
-    let bytes = with_stream(rt.alloc(), 7, stream.get(..55).unwrap_or_default())?;
-    let short = DumpError::Short {
-        needed: 56,
-        length: 55,
-    };
-    assert!(rt; refused(Dump::parse(&bytes)?.system_info(), short));
-    Ok(())
-}
-
-/// The flags are 7, 6 and 1, and 7 in a stream of 43 bytes.
-#[test]
-fn process_has_the_parts_that_its_flags_say(rt: HostRuntime) -> Result<(), Fail> {
-    let mut stream = counting(rt.alloc(), 44, 0)?;
-    let times = ProcessTimes {
-        process_create_time: 0x0F0E_0D0C,
-        process_user_time: 0x1312_1110,
-        process_kernel_time: 0x1716_1514,
-    };
-    let power = ProcessorPower {
-        processor_max_mhz: 0x1B1A_1918,
-        processor_current_mhz: 0x1F1E_1D1C,
-        processor_mhz_limit: 0x2322_2120,
-        processor_max_idle_state: 0x2726_2524,
-        processor_current_idle_state: 0x2B2A_2928,
-    };
-    let wanted = [
-        (7u8, 44usize, Some(0x0B0A_0908), Some(times), Some(power)),
-        (6, 44, None, Some(times), Some(power)),
-        (1, 44, Some(0x0B0A_0908), None, None),
-        (7, 43, Some(0x0B0A_0908), Some(times), None),
-    ];
-    for (flags, length, id, times, power) in wanted {
-        crate::images::put(&mut stream, &[(4, &[flags])]);
-        let bytes = with_stream(rt.alloc(), 15, stream.get(..length).unwrap_or_default())?;
-        let Some(misc) = Dump::parse(&bytes)?.misc_info()? else {
-            return Err(Fail::new("nothing of the process"));
-        };
-        assert_eq!(rt;
-            (misc.size_of_info, misc.flags1),
-            (0x0302_0100, 0x0706_0500 + u32::from(flags))
-        );
-        assert_eq!(rt; (misc.process_id, misc.process_times), (id, times));
-        assert_eq!(rt; misc.processor_power, power);
-    }
-    let bytes = with_stream(rt.alloc(), 15, &[0; 23])?;
-    let short = DumpError::Short {
-        needed: 24,
-        length: 23,
-    };
-    assert!(rt; refused(Dump::parse(&bytes)?.misc_info(), short));
-    Ok(())
-}
-
 /// Two handles whose entries have 40 bytes, after a header of 20.
 #[test]
 fn entries_may_be_larger_than_their_fields(rt: HostRuntime) -> Result<(), Fail> {
@@ -599,14 +287,10 @@ fn entries_may_be_larger_than_their_fields(rt: HostRuntime) -> Result<(), Fail> 
     let (Some(first), Some(second)) = (handles.get(0), handles.get(1)) else {
         return Err(Fail::new("no two handles"));
     };
-    assert_eq!(rt;
-        (first.handle, first.type_name_rva),
-        (0x0706_0504_0302_0100, 0x0B0A_0908)
-    );
-    assert_eq!(rt;
-        (first.object_name_rva, first.attributes),
-        (0x0F0E_0D0C, 0x1312_1110)
-    );
+    let found = (first.handle, first.type_name_rva);
+    assert_eq!(rt; found, (0x0706_0504_0302_0100, 0x0B0A_0908));
+    let found = (first.object_name_rva, first.attributes);
+    assert_eq!(rt; found, (0x0F0E_0D0C, 0x1312_1110));
     assert_eq!(rt;
         (
             first.granted_access,
@@ -677,36 +361,6 @@ fn damaged_headers_of_lists_are_refused(rt: HostRuntime) -> Result<(), Fail> {
         crate::images::put(&mut bytes, &[(44, part)]);
         assert!(rt; refused(Dump::parse(&bytes)?.handles(), error));
     }
-    let bytes = with_stream(rt.alloc(), 12, &[0; 15])?;
-    assert!(rt;
-        refused(
-            Dump::parse(&bytes)?.handles(),
-            DumpError::Short {
-                needed: 16,
-                length: 15
-            }
-        )
-    );
-    let bytes = with_stream(rt.alloc(), 14, &[0; 11])?;
-    assert!(rt;
-        refused(
-            Dump::parse(&bytes)?.unloaded_modules(),
-            DumpError::Short {
-                needed: 12,
-                length: 11
-            }
-        )
-    );
-    let bytes = with_stream(rt.alloc(), 17, &[1; 11])?;
-    assert!(rt;
-        refused(
-            Dump::parse(&bytes)?.thread_infos(),
-            DumpError::Short {
-                needed: 12,
-                length: 11
-            }
-        )
-    );
     // 2^64 - 1 entries of 48 bytes.
     let stream = image(rt.alloc(), 64, &[(0, &[16]), (4, &[48]), (8, &[0xFF; 8])])?;
     let bytes = with_stream(rt.alloc(), 16, &stream)?;
@@ -718,99 +372,13 @@ fn damaged_headers_of_lists_are_refused(rt: HostRuntime) -> Result<(), Fail> {
     Ok(())
 }
 
+/// A text at offset 60, an odd length, and texts that pass the end of the file.
 #[test]
-fn reads_unloaded_modules_and_regions(rt: HostRuntime) -> Result<(), Fail> {
-    let mut stream = counting(rt.alloc(), 36, 12)?;
-    crate::images::put(&mut stream, &[(0, b"\x0C\0\0\0\x18\0\0\0\x01\0\0\0")]);
-    let bytes = with_stream(rt.alloc(), 14, &stream)?;
-    let Some(Some(module)) = Dump::parse(&bytes)?
-        .unloaded_modules()?
-        .map(|list| list.get(0))
-    else {
-        return Err(Fail::new("no module"));
-    };
-    assert_eq!(rt;
-        (module.base_of_image, module.size_of_image),
-        (0x0706_0504_0302_0100, 0x0B0A_0908)
-    );
-    assert_eq!(rt;
-        (
-            module.check_sum,
-            module.time_date_stamp,
-            module.module_name_rva
-        ),
-        (0x0F0E_0D0C, 0x1312_1110, 0x1716_1514)
-    );
-    let mut stream = counting(rt.alloc(), 64, 16)?;
-    crate::images::put(
-        &mut stream,
-        &[(0, b"\x10\0\0\0\x30\0\0\0\x01\0\0\0\0\0\0\0")],
-    );
-    let bytes = with_stream(rt.alloc(), 16, &stream)?;
-    let Some(Some(region)) = Dump::parse(&bytes)?
-        .memory_regions()?
-        .map(|list| list.get(0))
-    else {
-        return Err(Fail::new("no region"));
-    };
-    assert_eq!(rt;
-        (region.base_address, region.allocation_base),
-        (0x0706_0504_0302_0100, 0x0F0E_0D0C_0B0A_0908)
-    );
-    assert_eq!(rt;
-        (region.allocation_protect, region.region_size),
-        (0x1312_1110, 0x1F1E_1D1C_1B1A_1918)
-    );
-    assert_eq!(rt;
-        (region.state, region.protect, region.memory_type),
-        (0x2322_2120, 0x2726_2524, 0x2B2A_2928)
-    );
-    Ok(())
-}
-
-#[test]
-fn reads_more_on_threads(rt: HostRuntime) -> Result<(), Fail> {
-    let mut stream = counting(rt.alloc(), 76, 12)?;
-    crate::images::put(&mut stream, &[(0, b"\x0C\0\0\0\x40\0\0\0\x01\0\0\0")]);
-    let bytes = with_stream(rt.alloc(), 17, &stream)?;
-    let Some(Some(info)) = Dump::parse(&bytes)?.thread_infos()?.map(|list| list.get(0)) else {
-        return Err(Fail::new("no thread"));
-    };
-    assert_eq!(rt;
-        (
-            info.thread_id,
-            info.dump_flags,
-            info.dump_error,
-            info.exit_status
-        ),
-        (0x0302_0100, 0x0706_0504, 0x0B0A_0908, 0x0F0E_0D0C)
-    );
-    assert_eq!(rt;
-        (info.create_time, info.exit_time),
-        (0x1716_1514_1312_1110, 0x1F1E_1D1C_1B1A_1918)
-    );
-    assert_eq!(rt;
-        (info.kernel_time, info.user_time),
-        (0x2726_2524_2322_2120, 0x2F2E_2D2C_2B2A_2928)
-    );
-    assert_eq!(rt;
-        (info.start_address, info.affinity),
-        (0x3736_3534_3332_3130, 0x3F3E_3D3C_3B3A_3938)
-    );
-    Ok(())
-}
-
-/// A name at offset 60, an odd length, and texts that pass the end of the file.
-#[test]
-fn reads_names_of_threads(rt: HostRuntime) -> Result<(), Fail> {
+fn reads_texts(rt: HostRuntime) -> Result<(), Fail> {
     let stream = b"\x01\0\0\0\x07\0\0\0\x3C\0\0\0\0\0\0\0\x04\0\0\0w\0k\0";
     let mut bytes = with_stream(rt.alloc(), 24, stream)?;
     crate::images::put(&mut bytes, &[(36, &[16])]);
     let dump = Dump::parse(&bytes)?;
-    let Some(Some(name)) = dump.thread_names()?.map(|list| list.get(0)) else {
-        return Err(Fail::new("no name"));
-    };
-    assert_eq!(rt; (name.thread_id, name.rva_of_thread_name), (7, 60));
     let want: &[u8] = b"w\0k\0";
     assert_eq!(rt; dump.text(60)?, want);
     let past = DumpError::Location {
@@ -828,12 +396,8 @@ fn reads_names_of_threads(rt: HostRuntime) -> Result<(), Fail> {
     let mut odd = bytes.clone()?;
     // shows: pe_minidump/src/text.rt text_at Text
     crate::images::put(&mut odd, &[(60, &[3])]);
-    assert!(rt;
-        refused(
-            Dump::parse(&odd)?.text(60),
-            DumpError::Text { rva: 60, size: 3 }
-        )
-    );
+    let wanted = DumpError::Text { rva: 60, size: 3 };
+    assert!(rt; refused(Dump::parse(&odd)?.text(60), wanted));
     crate::images::put(&mut odd, &[(60, &[6])]);
     let past = DumpError::Location {
         rva: 64,
@@ -844,111 +408,24 @@ fn reads_names_of_threads(rt: HostRuntime) -> Result<(), Fail> {
     Ok(())
 }
 
-/// A context of x64 with its parts at the offsets of winnt.h: Rax 78h, Rsp 98h, R15 F0h, Rip F8h, Xmm0 1A0h, Xmm15 290h.
 #[test]
-fn reads_contexts_of_x64(rt: HostRuntime) -> Result<(), Fail> {
-    let mut bytes = image(
-        rt.alloc(),
-        0x4D0,
-        &[
-            (0x30, b"\x0B\0\x10\0"),
-            (0x44, b"\x46\x02"),
-            (0x78, b"\x01\x02\x03\x04\x05\x06\x07\x08"),
-            (0x98, b"\x60\xE1\x21"),
-            (0xF0, b"\x0F"),
-            (0xF8, b"\x33\x15\0\x40\x01"),
-            (
-                0x1A0,
-                b"\x01\x02\x03\x04\x05\x06\x07\x08\x09\x0A\x0B\x0C\x0D\x0E\x0F\x10",
-            ),
-            (0x290, b"\x1F"),
-        ],
-    )?;
-    let context = ContextX64::parse(&bytes)?;
-    assert_eq!(rt;
-        (context.context_flags, context.eflags, context.rip),
-        (0x10_000B, 0x246, 0x1_4000_1533)
-    );
-    let general = [
-        0x0807_0605_0403_0201,
-        0,
-        0,
-        0,
-        0x21_E160,
-        0,
-        0,
-        0,
-        0,
-        0,
-        0,
-        0,
-        0,
-        0,
-        0,
-        15,
-    ];
-    assert_eq!(rt; context.general, general);
-    let Some(xmm) = context.xmm else {
-        return Err(Fail::new("no XMM registers"));
-    };
-    assert_eq!(rt;
-        (xmm[0], xmm[1], xmm[15]),
-        (0x100F_0E0D_0C0B_0A09_0807_0605_0403_0201, 0, 31)
-    );
-    crate::images::put(&mut bytes, &[(0x30, &[3])]);
-    assert!(rt; ContextX64::parse(&bytes)?.xmm.is_none());
+fn refuses_contexts_of_x64(rt: HostRuntime) -> Result<(), Fail> {
+    let mut bytes = image(rt.alloc(), 0x4D0, &[(0x30, b"\x0A\0\x10\0")])?;
     // shows: pe_minidump/src/context_x64.rt parse ContextFlags
     // shows: pe_minidump/src/context_x64.rt parse Machine
-    crate::images::put(&mut bytes, &[(0x30, &[0x0A])]);
-    assert!(rt;
-        refused(
-            ContextX64::parse(&bytes),
-            DumpError::ContextFlags(0x10_000A)
-        )
-    );
+    let flags = DumpError::ContextFlags(0x10_000A);
+    assert!(rt; refused(ContextX64::parse(&bytes), flags));
     crate::images::put(&mut bytes, &[(0x30, &[0x0B, 0, 0x40])]);
     assert!(rt; refused(ContextX64::parse(&bytes), DumpError::Machine(0x40_000B)));
-    let size = DumpError::ContextSize {
-        size: 1231,
-        needed: 1232,
-    };
-    assert!(rt;
-        refused(
-            ContextX64::parse(bytes.get(..1231).unwrap_or_default()),
-            size
-        )
-    );
     Ok(())
 }
 
-/// A context of ARM64 with its parts at the offsets of winnt.h: X0 8, Fp F0h, Lr F8h, Sp 100h, Pc 108h, V0 110h, V31 300h.
+/// A context of ARM64 with vector registers, of which the library for C has the halves of eight: V0 at 110h, V31 at 300h.
 #[test]
 fn reads_contexts_of_arm64(rt: HostRuntime) -> Result<(), Fail> {
-    let mut bytes = image(
-        rt.alloc(),
-        0x390,
-        &[
-            (0, b"\x07\0\x40\0\0\0\0\x60"),
-            (8, b"\x01\x02"),
-            (0xF0, b"\x1D"),
-            (0xF8, b"\x1E"),
-            (0x100, b"\x1F\0\0\0\x01"),
-            (0x108, b"\x20\0\0\0\x02"),
-            (0x110, b"\x05"),
-            (0x30F, b"\x01"),
-        ],
-    )?;
-    let context = ContextArm64::parse(&bytes)?;
-    assert_eq!(rt;
-        (context.context_flags, context.cpsr),
-        (0x40_0007, 0x6000_0000)
-    );
-    assert_eq!(rt;
-        (context.x[0], context.x[1], context.x[29], context.x[30]),
-        (0x201, 0, 29, 30)
-    );
-    assert_eq!(rt; (context.sp, context.pc), (0x1_0000_001F, 0x2_0000_0020));
-    let Some(v) = context.v else {
+    let parts: [(usize, &[u8]); 3] = [(0, b"\x07\0\x40\0"), (0x110, b"\x05"), (0x30F, b"\x01")];
+    let mut bytes = image(rt.alloc(), 0x390, &parts)?;
+    let Some(v) = ContextArm64::parse(&bytes)?.v else {
         return Err(Fail::new("no vector registers"));
     };
     assert_eq!(rt; (v[0], v[31]), (5, 1 << 120));
@@ -957,24 +434,10 @@ fn reads_contexts_of_arm64(rt: HostRuntime) -> Result<(), Fail> {
     // shows: pe_minidump/src/context_arm64.rt parse ContextFlags
     // shows: pe_minidump/src/context_arm64.rt parse Machine
     crate::images::put(&mut bytes, &[(0, &[5])]);
-    assert!(rt;
-        refused(
-            ContextArm64::parse(&bytes),
-            DumpError::ContextFlags(0x40_0005)
-        )
-    );
+    let flags = DumpError::ContextFlags(0x40_0005);
+    assert!(rt; refused(ContextArm64::parse(&bytes), flags));
     crate::images::put(&mut bytes, &[(0, &[7, 0, 0, 0x80])]);
     assert!(rt; refused(ContextArm64::parse(&bytes), DumpError::Machine(0x8000_0007)));
-    let size = DumpError::ContextSize {
-        size: 911,
-        needed: 912,
-    };
-    assert!(rt;
-        refused(
-            ContextArm64::parse(bytes.get(..911).unwrap_or_default()),
-            size
-        )
-    );
     Ok(())
 }
 
@@ -986,19 +449,11 @@ fn refuses_smaller_contexts(rt: HostRuntime) -> Result<(), Fail> {
     for (size, flags) in [(796, b"\x07\0\0\x80"), (716, b"\x3F\0\x01\0")] {
         let bytes = image(rt.alloc(), size, &[(0, flags)])?;
         let needed = 912;
-        assert!(rt;
-            refused(
-                ContextArm64::parse(&bytes),
-                DumpError::ContextSize { size, needed }
-            )
-        );
+        let wanted = DumpError::ContextSize { size, needed };
+        assert!(rt; refused(ContextArm64::parse(&bytes), wanted));
         let needed = 1232;
-        assert!(rt;
-            refused(
-                ContextX64::parse(&bytes),
-                DumpError::ContextSize { size, needed }
-            )
-        );
+        let wanted = DumpError::ContextSize { size, needed };
+        assert!(rt; refused(ContextX64::parse(&bytes), wanted));
     }
     Ok(())
 }

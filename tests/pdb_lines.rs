@@ -4,15 +4,15 @@
 
 use crate::images::{image, put, with_byte};
 use crate::pdb_inlined_bytes;
-use crate::pdbs::{all_of, pdb, refused, scattered};
+use crate::pdb_symbols::lines_of;
+use crate::pdbs::{all_of, pdb, refused};
 use pe_core::RangeEntry;
 use pe_pdb::{
     CodeLine, Contribution, DBI_STREAM, DEBUG_S_FILECHKSMS, DEBUG_S_INLINEELINES, Dbi,
-    FileChecksum, FunctionId, ID_STREAM, INFO_STREAM, InlineFrames, InlineRow, InlineRows,
-    InlineSite, InlineStack, InlineeLine, LF_FUNC_ID, LF_STRING_ID, LineEntry, LineIndex,
-    MOST_INLINED, ModuleIndex, ModuleRange, Modules, Msf, NAMES_STREAM, Names, PdbError,
-    S_INLINESITE, S_INLINESITE2, SectionContributions, SectionHeaders, Subsections, SymbolRecord,
-    TypeRecords, named_stream, string_id,
+    FileChecksum, FunctionId, ID_STREAM, INFO_STREAM, InlineRow, InlineRows, InlineSite,
+    InlineeLine, LF_FUNC_ID, LF_STRING_ID, LineEntry, LineIndex, ModuleIndex, ModuleRange, Msf,
+    NAMES_STREAM, Names, PdbError, S_INLINESITE2, SectionContributions, SectionHeaders,
+    Subsections, SymbolRecord, TypeRecords, named_stream, string_id,
 };
 use std::alloc::{AllocError, Global};
 use std::test::Fail;
@@ -20,22 +20,6 @@ use std::test::Fail;
 /// The file of lld-link with inlined functions.
 fn inlined(alloc: Global) -> Result<Vec<u8>, AllocError> {
     image(alloc, pdb_inlined_bytes::LENGTH, &pdb_inlined_bytes::PIECES)
-}
-
-/// The lines of a module by its index, as bytes.
-fn lines_of(alloc: Global, msf: &Msf<'_>, index: usize) -> Result<Vec<u8>, Fail> {
-    let bytes = all_of(alloc, msf, DBI_STREAM)?;
-    let dbi = Dbi::parse(&bytes)?;
-    let Some(module) = Modules::new(dbi.modules).nth(index) else {
-        return Err(Fail::new("no module"));
-    };
-    let header = module?.header;
-    let stream = all_of(alloc, msf, u32::from(header.stream))?;
-    let mut lines = Vec::new(alloc);
-    for byte in header.line_bytes(&stream)? {
-        lines.push(*byte)?;
-    }
-    Ok(lines)
 }
 
 /// The name of a source file, by its offset in the files of a module.
@@ -81,47 +65,19 @@ fn streams_are_found_by_their_names(rt: HostRuntime) -> Result<(), Fail> {
 }
 
 #[test]
-fn lines_reach_to_the_next_row(rt: HostRuntime) -> Result<(), Fail> {
+fn lines_need_their_room(rt: HostRuntime) -> Result<(), Fail> {
     let bytes = pdb(rt.alloc())?;
     let msf = Msf::parse(&bytes)?;
-    let other = scattered(rt.alloc(), &msf)?;
-    let moved = Msf::parse(&other)?;
-    for file in [&msf, &moved] {
-        let headers = all_of(rt.alloc(), file, 10)?;
-        let sections = SectionHeaders::parse(&headers)?;
-        let lines = lines_of(rt.alloc(), file, 1)?;
-        assert_eq!(rt; LineIndex::count(&lines, &sections)?, 6);
-        let mut few = [LineEntry::default(); 5];
-        // shows: pe_pdb/src/line_lookup.rt new Room
-        let small = PdbError::Room {
-            needed: 6,
-            length: 5,
-        };
-        assert!(rt; refused(LineIndex::new(&lines, &sections, &mut few), small));
-        let mut room = [LineEntry::default(); 7];
-        let index = LineIndex::new(&lines, &sections, &mut room)?;
-        for (rva, start, line, name) in [
-            (0x1050, 0x1050, 4, "b.c"),
-            (0x1057, 0x1050, 4, "b.c"),
-            (0x1058, 0x1058, 5, "b.c"),
-            (0x1065, 0x1065, 900, "generated\\else.inc"),
-            (0x1070, 0x1065, 900, "generated\\else.inc"),
-            (0x1071, 0x1071, 9, "b.c"),
-            (0x107C, 0x1071, 9, "b.c"),
-            (0x1080, 0x1080, 1, "b.c"),
-            (0x108B, 0x1085, 2, "b.c"),
-        ] {
-            let Some(found) = index.line_at(rva) else {
-                return Err(Fail::new("no line"));
-            };
-            assert_eq!(rt; (found.rva, found.line, found.column), (start, line, 0));
-            let own = file_name(rt.alloc(), file, &lines, found.file)?;
-            assert!(rt; own.as_slice() == name.as_bytes());
-        }
-        for rva in [0, 0x104F, 0x107D, 0x107F, 0x108C, 0xFFFF_FFFF] {
-            assert_eq!(rt; index.line_at(rva), None::<CodeLine>);
-        }
-    }
+    let headers = all_of(rt.alloc(), &msf, 10)?;
+    let sections = SectionHeaders::parse(&headers)?;
+    let lines = lines_of(rt.alloc(), &msf, 1)?;
+    let mut few = [LineEntry::default(); 5];
+    // shows: pe_pdb/src/line_lookup.rt new Room
+    let small = PdbError::Room {
+        needed: 6,
+        length: 5,
+    };
+    assert!(rt; refused(LineIndex::new(&lines, &sections, &mut few), small));
     Ok(())
 }
 
@@ -315,14 +271,10 @@ fn contributions_are_those_that_pdbutil_lists(rt: HostRuntime) -> Result<(), Fai
     let Ok(index) = ModuleIndex::new(&ranges[..2], &mut room) else {
         return Err(Fail::new("no room"));
     };
-    assert_eq!(rt;
-        (index.module_at(0x1010), index.module_at(0x1017)),
-        (Some(5), Some(5))
-    );
-    assert_eq!(rt;
-        (index.module_at(0x1018), index.module_at(0x101C)),
-        (Some(6), None)
-    );
+    let found = (index.module_at(0x1010), index.module_at(0x1017));
+    assert_eq!(rt; found, (Some(5), Some(5)));
+    let found = (index.module_at(0x1018), index.module_at(0x101C));
+    assert_eq!(rt; found, (Some(6), None));
     assert_eq!(rt; SectionContributions::parse(&[])?.len(), 0);
     // shows: pe_pdb/src/contribution.rt parse Short
     let short = PdbError::Short {
@@ -332,12 +284,8 @@ fn contributions_are_those_that_pdbutil_lists(rt: HostRuntime) -> Result<(), Fai
     assert!(rt; refused(SectionContributions::parse(&part[..3]), short));
     // shows: pe_pdb/src/contribution.rt parse ContributionsVersion
     let other = with_byte(wide, 0, 0xE5);
-    assert!(rt;
-        refused(
-            SectionContributions::parse(&other),
-            PdbError::ContributionsVersion(0xF131_51E5)
-        )
-    );
+    let wanted = PdbError::ContributionsVersion(0xF131_51E5);
+    assert!(rt; refused(SectionContributions::parse(&other), wanted));
     // shows: pe_pdb/src/contribution.rt of ContributionsSize
     assert!(rt;
         refused(
@@ -345,112 +293,6 @@ fn contributions_are_those_that_pdbutil_lists(rt: HostRuntime) -> Result<(), Fai
             PdbError::ContributionsSize(55)
         )
     );
-    Ok(())
-}
-
-#[test]
-fn inlined_functions_are_those_that_pdbutil_lists(rt: HostRuntime) -> Result<(), Fail> {
-    let bytes = inlined(rt.alloc())?;
-    let msf = Msf::parse(&bytes)?;
-    let symbols = all_of(rt.alloc(), &msf, 11)?;
-    let record = SymbolRecord::parse(&symbols, 192)?;
-    let site = InlineSite::parse(record.kind, record.content)?;
-    assert_eq!(rt;
-        (record.kind, site.parent, site.end),
-        (S_INLINESITE, 72, 336)
-    );
-    assert_eq!(rt; site.inlinee, 0x1000);
-    // The procedure, an offset in it, and of each function its record, its id, and its row: offset, length, line.
-    let entry: [(usize, u32, &[(usize, u32, u32, u32, u32)]); 9] = [
-        (72, 4, &[]),
-        (
-            72,
-            5,
-            &[(192, 0x1000, 5, 0x1B, 1), (252, 0x1001, 5, 0x1B, 1)],
-        ),
-        (
-            72,
-            0x1F,
-            &[(192, 0x1000, 5, 0x1B, 1), (252, 0x1001, 5, 0x1B, 1)],
-        ),
-        (72, 0x20, &[(340, 0x1001, 0x20, 0x12, 1)]),
-        (72, 0x32, &[]),
-        (432, 8, &[]),
-        (
-            432,
-            9,
-            &[(568, 0x1000, 9, 0x1B, 1), (648, 0x1001, 9, 0x1B, 1)],
-        ),
-        (432, 0x25, &[(568, 0x1000, 0x24, 2, 2)]),
-        (432, 0x26, &[]),
-    ];
-    for (procedure, offset, listed) in entry {
-        let mut count = 0;
-        for frame in InlineFrames::new(&symbols[..748], procedure, offset)? {
-            let frame = frame?;
-            let row = frame.row;
-            let own = (
-                frame.record_offset,
-                frame.inlinee,
-                row.offset,
-                row.length,
-                row.line,
-            );
-            assert!(rt; row.file.is_none() && listed.get(count) == Some(&own));
-            count += 1;
-        }
-        assert_eq!(rt; count, listed.len());
-        // The same from the innermost on.
-        let stack = InlineStack::new(&symbols[..748], procedure, offset)?;
-        assert_eq!(rt; stack.frames().len(), count);
-        for frame in stack.frames() {
-            count -= 1;
-            assert!(rt;
-                listed
-                    .get(count)
-                    .is_some_and(|it| it.0 == frame.record_offset)
-            );
-        }
-    }
-    Ok(())
-}
-
-/// The record of a procedure, and so many inlined functions in one another, whose code is its first 8 bytes.
-fn nested(alloc: Global, count: usize) -> Result<Vec<u8>, AllocError> {
-    let mut bytes = vec![in alloc; 0u8; 4 + 20 * count]?;
-    put(&mut bytes, &[(0, b"\x02\0\x10\x11")]);
-    for index in 0..count {
-        let at = 4 + 20 * index;
-        put(
-            &mut bytes,
-            &[
-                (at, b"\x12\0\x4D\x11"),
-                (at + 12, &[index as u8]),
-                (at + 16, b"\x0C\x08\0"),
-            ],
-        );
-    }
-    Ok(bytes)
-}
-
-#[test]
-fn inlined_functions_have_a_limit(rt: HostRuntime) -> Result<(), Fail> {
-    let deep = nested(rt.alloc(), MOST_INLINED)?;
-    let stack = InlineStack::new(&deep, 0, 7)?;
-    let mut left = MOST_INLINED as u32;
-    for frame in stack.frames() {
-        left -= 1;
-        assert_eq!(rt; frame.inlinee, left);
-    }
-    assert_eq!(rt; left, 0);
-    assert!(rt; InlineStack::new(&deep, 0, 8)?.frames().is_empty());
-    let deeper = nested(rt.alloc(), MOST_INLINED + 1)?;
-    let refused = |offset| match InlineStack::new(&deeper, 0, offset) {
-        Ok(_) => None,
-        Err(error) => Some(error),
-    };
-    assert_eq!(rt; refused(7), Some(PdbError::InlineDepth));
-    assert_eq!(rt; refused(8), None::<PdbError>);
     Ok(())
 }
 
@@ -565,14 +407,10 @@ fn annotations_are_those_of_cvinfo(rt: HostRuntime) -> Result<(), Fail> {
         Ok(row) => row.map(|row: InlineRow| row.offset),
         Err(_) => None,
     };
-    assert_eq!(rt;
-        (line(0xF), line(0x13), line(0x14)),
-        (None, Some(0x10), None)
-    );
-    assert_eq!(rt;
-        (line(0x1_001E), line(0x1_0020), line(0x1_0021)),
-        (Some(0x1_0010), Some(0x1_001F), None)
-    );
+    let found = (line(0xF), line(0x13), line(0x14));
+    assert_eq!(rt; found, (None, Some(0x10), None));
+    let found = (line(0x1_001E), line(0x1_0020), line(0x1_0021));
+    assert_eq!(rt; found, (Some(0x1_0010), Some(0x1_001F), None));
     // shows: pe_pdb/src/annotation.rt parse Annotation
     // shows: pe_pdb/src/annotation.rt number_at Annotation
     for (bytes, offset) in [
@@ -721,16 +559,12 @@ fn ids_are_those_that_pdbutil_lists(rt: HostRuntime) -> Result<(), Fail> {
         Err(_) => Some(usize::MAX),
     };
     for index in 0..10 {
-        assert_eq!(rt;
-            start(&room, 0x1000 + index),
-            Some(room[index as usize] as usize)
-        );
+        let found = start(&room, 0x1000 + index);
+        assert_eq!(rt; found, Some(room[index as usize] as usize));
     }
     assert_eq!(rt; (start(&room, 0xFFF), start(&room, 0x100A)), (None, None));
-    assert_eq!(rt;
-        (start(&room[..1], 0x1001), start(&[0, 1 << 40], 0x1001)),
-        (None, Some(usize::MAX))
-    );
+    let found = (start(&room[..1], 0x1001), start(&[0, 1 << 40], 0x1001));
+    assert_eq!(rt; found, (None, Some(usize::MAX)));
     let twice = SymbolRecord::parse(ids.records, 0)?.content;
     assert_eq!(rt; FunctionId::parse(twice)?.type_index, 0x1001);
     // shows: pe_pdb/src/ids.rt put_starts Room

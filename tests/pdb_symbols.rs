@@ -3,41 +3,14 @@
 //! scattered streams. Records that are damaged are made by hand from LLVM's pages.
 
 use crate::images::{put, with_byte};
-use crate::pdbs::{all_of, pdb, refused, scattered};
+use crate::pdbs::{all_of, pdb, refused};
 use pe_pdb::{
-    CountedEntries, DBI_STREAM, DEBUG_OMAP_FROM_SOURCE, DEBUG_S_FILECHKSMS, DEBUG_S_LINES,
-    DEBUG_SECTION_HEADERS, Dbi, FIRST_SYMBOL, INFO_STREAM, LineBlock, LineBlocks, LineHeader,
-    LineRow, Module, Modules, Msf, NO_STREAM, PdbError, PdbInfo, PdbKey, ProcedureSymbol,
-    PublicSymbol, S_GPROC32, S_LPROC32, S_PUB32, SectionHeaders, Subsection, Subsections,
-    SymbolAddress, SymbolClass, SymbolIndex, SymbolRecord, SymbolRecords, search_symbols,
+    CountedEntries, DBI_STREAM, Dbi, FIRST_SYMBOL, INFO_STREAM, LineBlock, LineHeader, Module, Modules, Msf,
+    PdbError, PdbInfo, ProcedureSymbol, PublicSymbol, SectionHeaders, Subsection, SymbolAddress,
+    SymbolClass, SymbolIndex, SymbolRecord, SymbolRecords, search_symbols,
 };
 use std::alloc::Global;
 use std::test::Fail;
-
-/// The GUID {94D954E4-794D-F223-4C4C-44205044422E}.
-const GUID: [u8; 16] = [
-    0xE4, 0x54, 0xD9, 0x94, 0x4D, 0x79, 0x23, 0xF2, 0x4C, 0x4C, 0x44, 0x20, 0x50, 0x44, 0x42, 0x2E,
-];
-
-/// The name of the public function at or before an RVA, with the function's RVA.
-fn public_at(alloc: Global, msf: &Msf<'_>, rva: u32) -> Result<Option<(String, u32)>, Fail> {
-    let bytes = all_of(alloc, msf, DBI_STREAM)?;
-    let dbi = Dbi::parse(&bytes)?;
-    let headers = dbi.debug_stream(DEBUG_SECTION_HEADERS).unwrap_or(NO_STREAM);
-    let headers = all_of(alloc, msf, u32::from(headers))?;
-    let sections = SectionHeaders::parse(&headers)?;
-    let symbols = all_of(alloc, msf, u32::from(dbi.header.symbol_stream))?;
-    let class = SymbolClass::PublicFunctions;
-    let count = SymbolIndex::count(class, &symbols, 0, &sections)?;
-    let mut room = vec![in alloc; 0u64; count]?;
-    let index = SymbolIndex::new(class, &symbols, 0, &sections, &mut room)?;
-    let Some(found) = index.nearest(rva) else {
-        return Ok(None);
-    };
-    let record = SymbolRecord::parse(&symbols, found.record_offset as usize)?;
-    let name = PublicSymbol::parse(record.content)?.name;
-    Ok(Some((String::from_str(alloc, name)?, found.rva)))
-}
 
 /// The symbols of all modules, one after the other.
 fn symbols_of_modules(alloc: Global, msf: &Msf<'_>) -> Result<Vec<u8>, Fail> {
@@ -55,53 +28,6 @@ fn symbols_of_modules(alloc: Global, msf: &Msf<'_>) -> Result<Vec<u8>, Fail> {
 }
 
 #[test]
-fn heads_are_those_that_pdbutil_prints(rt: HostRuntime) -> Result<(), Fail> {
-    let bytes = pdb(rt.alloc())?;
-    let msf = Msf::parse(&bytes)?;
-    let stream = all_of(rt.alloc(), &msf, INFO_STREAM)?;
-    let info = PdbInfo::parse(&stream)?;
-    assert_eq!(rt;
-        (info.version, info.time_stamp, info.age),
-        (20000404, 2497271012, 1)
-    );
-    assert_eq!(rt; info.guid, GUID);
-    let stream = all_of(rt.alloc(), &msf, DBI_STREAM)?;
-    let dbi = Dbi::parse(&stream)?;
-    let header = dbi.header;
-    assert_eq!(rt;
-        (header.version, header.age, header.machine, header.flags),
-        (19990903, 1, 0x8664, 0)
-    );
-    assert_eq!(rt;
-        (header.build, header.dll_version, header.dll_build),
-        (36363, 0, 0)
-    );
-    assert_eq!(rt;
-        (
-            header.global_stream,
-            header.public_stream,
-            header.symbol_stream
-        ),
-        (6, 7, 8)
-    );
-    assert_eq!(rt; dbi.debug_stream(DEBUG_SECTION_HEADERS), Some(10));
-    assert_eq!(rt; dbi.debug_stream(DEBUG_OMAP_FROM_SOURCE), None);
-    assert_eq!(rt; dbi.debug_stream(11), None);
-    let key = PdbKey::of(&info, &header);
-    assert!(rt; key.matches(&PdbKey { guid: GUID, age: 1 }));
-    assert!(rt; !key.matches(&PdbKey { guid: GUID, age: 2 }));
-    let mut other = GUID;
-    other[15] = 0x2F;
-    assert!(rt;
-        !key.matches(&PdbKey {
-            guid: other,
-            age: 1
-        })
-    );
-    Ok(())
-}
-
-#[test]
 fn sections_say_where_symbols_are(rt: HostRuntime) -> Result<(), Fail> {
     let bytes = pdb(rt.alloc())?;
     let msf = Msf::parse(&bytes)?;
@@ -115,102 +41,8 @@ fn sections_say_where_symbols_are(rt: HostRuntime) -> Result<(), Fail> {
     assert_eq!(rt; sections.rva_of(3, 0xFFFF_CFFF), Some(0xFFFF_FFFF));
     assert_eq!(rt; sections.rva_of(3, 0xFFFF_D000), None);
     // shows: pe_pdb/src/sections.rt parse SectionHeaders
-    assert!(rt;
-        refused(
-            SectionHeaders::parse(&stream[..119]),
-            PdbError::SectionHeaders(119)
-        )
-    );
-    Ok(())
-}
-
-#[test]
-fn publics_name_the_rvas_after_them(rt: HostRuntime) -> Result<(), Fail> {
-    let bytes = pdb(rt.alloc())?;
-    let msf = Msf::parse(&bytes)?;
-    let other = scattered(rt.alloc(), &msf)?;
-    let moved = Msf::parse(&other)?;
-    for file in [&msf, &moved] {
-        assert!(rt; public_at(rt.alloc(), file, 0xFFF)?.is_none());
-        for (rva, name, start) in [
-            (0x1000, "entry", 0x1000),
-            (0x104F, "entry", 0x1000),
-            (0x1050, "helper", 0x1050),
-            (0x108B, "helper", 0x1050),
-            (0xFFFF_FFFF, "helper", 0x1050),
-        ] {
-            let Some((found, at)) = public_at(rt.alloc(), file, rva)? else {
-                return Err(Fail::new("no name"));
-            };
-            assert_eq!(rt; (found.as_str(), at), (name, start));
-        }
-    }
-    Ok(())
-}
-
-#[test]
-fn records_are_those_that_pdbutil_lists(rt: HostRuntime) -> Result<(), Fail> {
-    let bytes = pdb(rt.alloc())?;
-    let msf = Msf::parse(&bytes)?;
-    let symbols = all_of(rt.alloc(), &msf, 8)?;
-    let publics = [(0, 0, "entry"), (20, 80, "helper")];
-    let mut count = 0;
-    for record in SymbolRecords::new(&symbols, 0) {
-        let record = record?;
-        if record.kind != S_PUB32 {
-            continue;
-        }
-        let (offset, place, name) = publics[count.min(1)];
-        count += 1;
-        let public = PublicSymbol::parse(record.content)?;
-        assert_eq!(rt;
-            (record.offset, public.offset, public.name),
-            (offset, place, name)
-        );
-        assert_eq!(rt; (public.flags, public.section), (2, 1));
-    }
-    assert_eq!(rt; count, 2);
-    let module = all_of(rt.alloc(), &msf, 12)?;
-    let record = SymbolRecord::parse(&module, 212)?;
-    assert_eq!(rt; (record.kind, record.content.len()), (S_LPROC32, 44));
-    let local = ProcedureSymbol::parse(record.content)?;
-    assert_eq!(rt;
-        (local.parent, local.end, local.size, local.type_index),
-        (0, 320, 12, 0x1003)
-    );
-    assert_eq!(rt;
-        (local.section, local.offset, local.name),
-        (1, 128, "local")
-    );
-    let record = SymbolRecord::parse(&module, 72)?;
-    assert_eq!(rt; record.kind, S_GPROC32);
-    assert_eq!(rt; ProcedureSymbol::parse(record.content)?.name, "helper");
-    Ok(())
-}
-
-#[test]
-fn modules_are_those_that_pdbutil_lists(rt: HostRuntime) -> Result<(), Fail> {
-    let bytes = pdb(rt.alloc())?;
-    let msf = Msf::parse(&bytes)?;
-    let stream = all_of(rt.alloc(), &msf, DBI_STREAM)?;
-    let dbi = Dbi::parse(&stream)?;
-    let listed: [(&[u8], &[u8], u16, u16); 3] = [
-        (b"a.obj", b"a.obj", 11, 1),
-        (b"b.obj", b"b.obj", 12, 2),
-        (b"* Linker *", b"", 13, 0),
-    ];
-    let mut count = 0;
-    for module in Modules::new(dbi.modules) {
-        let module = module?;
-        let (name, file, stream, files) = listed[count.min(2)];
-        assert!(rt; module.name == name && module.file == file);
-        assert_eq!(rt;
-            (module.header.stream, module.header.files),
-            (stream, files)
-        );
-        count += 1;
-    }
-    assert_eq!(rt; count, 3);
+    let wanted = PdbError::SectionHeaders(119);
+    assert!(rt; refused(SectionHeaders::parse(&stream[..119]), wanted));
     Ok(())
 }
 
@@ -400,7 +232,7 @@ fn damaged_modules_are_refused(rt: HostRuntime) -> Result<(), Fail> {
 }
 
 /// The lines of a module by its index in the DBI stream.
-fn lines_of(alloc: Global, msf: &Msf<'_>, index: usize) -> Result<Vec<u8>, Fail> {
+pub(crate) fn lines_of(alloc: Global, msf: &Msf<'_>, index: usize) -> Result<Vec<u8>, Fail> {
     let bytes = all_of(alloc, msf, DBI_STREAM)?;
     let dbi = Dbi::parse(&bytes)?;
     let Some(module) = Modules::new(dbi.modules).nth(index) else {
@@ -413,62 +245,6 @@ fn lines_of(alloc: Global, msf: &Msf<'_>, index: usize) -> Result<Vec<u8>, Fail>
         lines.push(*byte)?;
     }
     Ok(lines)
-}
-
-#[test]
-fn lines_are_those_that_pdbutil_lists(rt: HostRuntime) -> Result<(), Fail> {
-    let bytes = pdb(rt.alloc())?;
-    let msf = Msf::parse(&bytes)?;
-    // The section's offset, the file by its order in the module, the RVA in the section, the line.
-    let listed = [
-        (80, 0, 0x50, 4),
-        (80, 0, 0x58, 5),
-        (80, 24, 0x65, 900),
-        (80, 0, 0x71, 9),
-        (128, 0, 0x80, 1),
-        (128, 0, 0x85, 2),
-    ];
-    let lines = lines_of(rt.alloc(), &msf, 1)?;
-    let (mut rows, mut files) = (0, 0);
-    for subsection in Subsections::new(&lines) {
-        let subsection = subsection?;
-        files += usize::from(subsection.kind == DEBUG_S_FILECHKSMS);
-        if subsection.kind != DEBUG_S_LINES {
-            continue;
-        }
-        let header = LineHeader::parse(subsection.content)?;
-        assert_eq!(rt; (header.section, header.flags), (1, 0));
-        for block in LineBlocks::new(subsection.content) {
-            let block = block?;
-            for index in 0..block.rows.len() / 8 {
-                let (start, file, place, line) = listed[rows.min(5)];
-                let row = LineRow {
-                    offset: place - start,
-                    line,
-                };
-                assert_eq!(rt;
-                    (header.offset, block.file, block.row(index)),
-                    (start, file, Some(row))
-                );
-                rows += 1;
-            }
-            assert_eq!(rt; block.row(block.rows.len() / 8), None);
-            let lines = [
-                (80, 0, 7, Some(4)),
-                (80, 0, 8, Some(5)),
-                (80, 24, 20, None),
-                (128, 0, 5, Some(2)),
-            ];
-            for (start, file, offset, line) in lines {
-                let own = (header.offset, block.file, block.rows.len())
-                    == (start, file, if file == 0 { 16 } else { 8 });
-                let found = block.row_at(offset).map(|row| row.line);
-                assert!(rt; !own || found == line);
-            }
-        }
-    }
-    assert_eq!(rt; (rows, files), (6, 1));
-    Ok(())
 }
 
 #[test]

@@ -100,10 +100,8 @@ fn gives_the_whole_root(rt: HostRuntime) -> std::result::Result<(), Fail> {
     assert_eq!(rt; records.len(), 2);
     let root = &records[1];
     assert_eq!(rt; (root.version, root.size_of_prolog), (1, 7));
-    assert_eq!(rt;
-        (root.frame_register.0, root.frame_register_offset),
-        (5, 32)
-    );
+    let found = (root.frame_register.0, root.frame_register_offset);
+    assert_eq!(rt; found, (5, 32));
     assert!(rt;
         matches!(
             root.handler,

@@ -44,11 +44,7 @@ fn refuses_relocations(rt: HostRuntime) -> Result<(), Fail> {
         virtual_address: 0x1004,
         size: 9,
     };
-    assert!(rt;
-        matches!(
-            RelocationData::parse(&bytes, cut, &[SECTION], 0x200),
-            Err(Error::Short { at: 4, needed: 9 })
-        )
-    );
+    let found = RelocationData::parse(&bytes, cut, &[SECTION], 0x200);
+    assert!(rt; matches!(found, Err(Error::Short { at: 4, needed: 9 })));
     Ok(())
 }

@@ -217,10 +217,8 @@ fn positions_in_turn(rt: HostRuntime) -> std::result::Result<(), Fail> {
     let Some(Ok(leaf)) = position.next(&bytes) else {
         return Err("no second leaf".into());
     };
-    assert_eq!(rt;
-        (leaf.language.id(), leaf.data_entry.offset_to_data),
-        (Some(0x407), 0x2020)
-    );
+    let found = (leaf.language.id(), leaf.data_entry.offset_to_data);
+    assert_eq!(rt; found, (Some(0x407), 0x2020));
     let refused = position.next(&bytes);
     assert!(rt; matches!(refused, Some(Err(ResourceTreeError::NotDirectory(0x68)))));
     assert_eq!(rt; position.names, none);
@@ -334,8 +332,9 @@ fn contents_and_version_information(rt: HostRuntime) -> std::result::Result<(), 
         return Err("no version".into());
     };
     let range = version.content_range(&image)?;
+    let found = range;
     assert_eq!(rt;
-        range,
+        found,
         ByteRange {
             offset: 0xA0,
             length: 0x78
@@ -350,8 +349,9 @@ fn contents_and_version_information(rt: HostRuntime) -> std::result::Result<(), 
         return Err("no manifest".into());
     };
     let range = manifest.content_range(&image)?;
+    let found = range;
     assert_eq!(rt;
-        range,
+        found,
         ByteRange {
             offset: 0x118,
             length: 3

@@ -14,10 +14,8 @@ fn strings_alone(rt: HostRuntime) -> std::result::Result<(), Fail> {
     let mut offset = 0;
     let string = ResourceString::parse(&bytes, &mut offset)?.ok_or("no string")?;
     assert_eq!(rt; offset, 16);
-    assert_eq!(rt;
-        (string.len, string.value_len, string.text_type),
-        (16, 2, 1)
-    );
+    let found = (string.len, string.value_len, string.text_type);
+    assert_eq!(rt; found, (16, 2, 1));
     assert!(rt; string.is_text_data() && !string.is_binary_data());
     assert_eq!(rt; string.value, [0x42, 0, 0, 0].as_slice());
     assert!(rt;

@@ -198,10 +198,8 @@ fn bounds_by_mode(rt: HostRuntime) -> std::result::Result<(), Fail> {
         assert!(rt; data.version_info.is_none() && data.manifest_data.is_none());
     }
     let short = resources(rt, &bytes, 15, ParseMode::Permissive)?;
-    assert_eq!(rt;
-        short.image_resource_directory,
-        ImageResourceDirectory::default()
-    );
+    let found = short.image_resource_directory;
+    assert_eq!(rt; found, ImageResourceDirectory::default());
     Ok(())
 }
 

@@ -20,8 +20,6 @@ const CONTENT: [u8; 0x100] = [0x5A; 0x100];
 /// The length of the image, and that of its resources with one leaf of this content.
 const LENGTH: usize = 0x605;
 
-const RESOURCES: [u8; 4] = [0x58, 1, 0, 0];
-
 /// The checksum of the image that has them.
 const CHECKSUM: [u8; 4] = [0x19, 0x49, 0, 0];
 
@@ -86,29 +84,6 @@ fn refused(alloc: Global, bytes: &[u8], leaves: &[Resource<'_>]) -> Result<Strin
         return Err("the calls return two errors".into());
     }
     Ok(shown)
-}
-
-#[test]
-fn bytes_of_an_edit(rt: HostRuntime) -> Result<(), Fail> {
-    let bytes = old_image(rt.alloc())?;
-    let mut out = vec![in rt.alloc(); OLD; LENGTH + 3]?;
-    let leaves = [resource(1, &CONTENT)];
-    let header = header_of(&bytes)?;
-    assert_eq!(rt; edited_len(&bytes, &header, &list(&leaves))?, LENGTH);
-    assert_eq!(rt;
-        write_edited(&bytes, &header, &list(&leaves), &mut out)?,
-        LENGTH
-    );
-    assert_eq!(rt; &out[..0x114], &bytes[..0x114]);
-    assert_eq!(rt; &out[0x114..0x118], RESOURCES.as_slice());
-    assert_eq!(rt; &out[0x118..0x1B0], &bytes[0x118..0x1B0]);
-    assert_eq!(rt; &out[0x1B0..0x1B4], RESOURCES.as_slice());
-    assert_eq!(rt; &out[0x1B4..0x400], &bytes[0x1B4..0x400]);
-    assert_eq!(rt; &out[0x458..0x558], CONTENT.as_slice());
-    assert!(rt; out[0x558..0x600].iter().all(|byte| *byte == 0));
-    assert_eq!(rt; &out[0x600..LENGTH], b"after".as_slice());
-    assert_eq!(rt; &out[LENGTH..], [OLD; 3].as_slice());
-    Ok(())
 }
 
 /// Without leaves the section goes, with its header and its data, and what follows these moves back.

@@ -78,43 +78,6 @@ fn refused(alloc: Global, leaves: &[Resource<'_>]) -> Result<String, Fail> {
     Ok(shown)
 }
 
-#[test]
-fn bytes_of_a_section(rt: HostRuntime) -> Result<(), Fail> {
-    let expected = image(
-        rt.alloc(),
-        0xE8,
-        &[
-            // The directory of the types, those of the resources, those of the languages.
-            (0x0C, &[1, 0, 1, 0]),
-            (0x10, &[0xB8, 0, 0, 0x80, 0x20, 0, 0, 0x80]),
-            (0x18, &[3, 0, 0, 0, 0x38, 0, 0, 0x80]),
-            (0x2E, &[1, 0]),
-            (0x30, &[1, 0, 0, 0, 0x50, 0, 0, 0x80]),
-            (0x44, &[1, 0]),
-            (0x48, &[0xBE, 0, 0, 0x80, 0x70, 0, 0, 0x80]),
-            (0x5E, &[2, 0]),
-            (0x60, &[0x07, 0x04, 0, 0, 0x88, 0, 0, 0]),
-            (0x68, &[0x09, 0x04, 0, 0, 0x98, 0, 0, 0]),
-            (0x7E, &[1, 0]),
-            (0x80, &[0, 0, 0, 0, 0xA8, 0, 0, 0]),
-            // The data entries, the names, the contents.
-            (0x88, &[0xC8, 0x30, 0, 0, 5, 0, 0, 0, 0xE4, 0x04]),
-            (0x98, &[0xD0, 0x30]),
-            (0xA8, &[0xD8, 0x30, 0, 0, 10]),
-            (0xB8, b"\x02\0A\0B\0"),
-            (0xBE, b"\x01\0C\0"),
-            (0xC8, b"abcde"),
-            (0xD8, b"0123456789"),
-        ],
-    )?;
-    let mut out = vec![in rt.alloc(); OLD; 0xEA]?;
-    assert_eq!(rt; section_len(&list(&three_leaves()), RVA)?, 0xE8);
-    assert_eq!(rt; write_section(&list(&three_leaves()), RVA, &mut out)?, 0xE8);
-    assert_eq!(rt; &out[..0xE8], &expected[..]);
-    assert_eq!(rt; &out[0xE8..], [OLD; 2].as_slice());
-    Ok(())
-}
-
 /// A section without leaves is one directory without entries.
 #[test]
 fn no_leaves(rt: HostRuntime) -> Result<(), Fail> {

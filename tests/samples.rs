@@ -344,12 +344,8 @@ fn finds_the_first_tls_callback(rt: HostRuntime) -> Result<(), Fail> {
             (0x2A8, &[0x20, 0x10, 0, 0x40, 1]),
         ],
     );
-    assert!(rt;
-        matches!(
-            first_tls_callback(rt.alloc(), &bytes),
-            Ok(Some(0x1_4000_1020))
-        )
-    );
+    let found = first_tls_callback(rt.alloc(), &bytes);
+    assert!(rt; matches!(found, Ok(Some(0x1_4000_1020))));
     Ok(())
 }
 

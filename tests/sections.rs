@@ -2,7 +2,7 @@
 
 use crate::images::image;
 use linked_list_allocator::LocalHeap;
-use pe_core::{CoffHeader, Error, ParseOptions, SectionTable, find_offset};
+use pe_core::{CoffHeader, Error, SectionTable};
 use std::test::Fail;
 
 /// A section whose RVAs 0x1000 to 0x11FF are the bytes from 0 on.
@@ -35,41 +35,6 @@ pub(crate) fn section(
     }
 }
 
-#[test]
-fn maps_addresses(rt: HostRuntime) {
-    let sections = [
-        section(0x1000, 0x100, 0x210, 0x200),
-        section(0x1100, 0x100, 0x600, 0x200),
-    ];
-    let opts = ParseOptions::default();
-    for (rva, want) in [
-        (0x0FFF, None),
-        (0x1000, Some(0x200)),
-        (0x1150, Some(0x350)),
-        (0x13FF, Some(0x5FF)),
-        (0x1400, None),
-    ] {
-        assert_eq!(rt;
-            find_offset(rva, &sections, 0x200, &opts),
-            want,
-            "at {rva:#x}"
-        );
-    }
-    assert_eq!(rt; find_offset(0x1150, &sections, 0, &opts), None);
-    assert_eq!(rt; find_offset(0x1150, &sections, 3, &opts), None);
-    let flat = ParseOptions::te();
-    assert_eq!(rt; find_offset(0x1150, &[], 3, &flat), Some(0x1150));
-}
-
-/// Without a virtual size the raw size alone bounds a section: 0x600 bytes at 0x400 end at 0xA00.
-#[test]
-fn maps_a_section_without_a_virtual_size(rt: HostRuntime) {
-    let sections = [section(0x1000, 0, 0x400, 0x600)];
-    let opts = ParseOptions::default();
-    assert_eq!(rt; find_offset(0x15FF, &sections, 0x200, &opts), Some(0x9FF));
-    assert_eq!(rt; find_offset(0x1600, &sections, 0x200, &opts), None);
-}
-
 /// The example of a section header in the format's description of `.rdata`.
 const RDATA: [u8; 40] = [
     0x2E, 0x72, 0x64, 0x61, 0x74, 0x61, 0, 0, 0, 1, 0, 0, 0, 0x10, 0, 0, 0, 2, 0, 0, 0, 4, 0, 0, 5,
@@ -90,18 +55,6 @@ fn rdata() -> SectionTable {
         number_of_linenumbers: 8,
         characteristics: 0x4000_0040,
     }
-}
-
-#[test]
-fn reads_a_section_header(rt: HostRuntime) -> Result<(), Fail> {
-    assert_eq!(rt; SectionTable::parse(&RDATA, 0)?, rdata());
-    assert!(rt;
-        matches!(
-            SectionTable::parse(&RDATA, 1),
-            Err(Error::Short { at: 1, needed: 40 })
-        )
-    );
-    Ok(())
 }
 
 #[test]

@@ -29,32 +29,6 @@ fn sums_an_image(rt: HostRuntime) -> Result<(), Fail> {
     Ok(())
 }
 
-#[test]
-fn covers_a_signed_image(rt: HostRuntime) -> Result<(), Fail> {
-    let bytes = with_functions(rt.alloc())?;
-    let header = Header::parse_with_opts(&bytes, &ParseOptions::default())?;
-    let parts = left_out(&header)?;
-    assert_eq!(rt; (parts.checksum.offset, parts.checksum.length), (0x98, 4));
-    assert_eq!(rt;
-        (parts.directory_entry.offset, parts.directory_entry.length),
-        (0xE8, 8)
-    );
-    assert_eq!(rt;
-        (parts.certificates.offset, parts.certificates.length),
-        (0x400, 16)
-    );
-    let ranges = authenticode_ranges(&bytes, &header)?;
-    let [first, _, second, third] = ranges.before_certificates;
-    assert_eq!(rt; first, &bytes[..0x98]);
-    assert_eq!(rt; second, &bytes[0x9C..0xE8]);
-    assert_eq!(rt; third, &bytes[0xF0..0x400]);
-    for slice in ranges.after_certificates {
-        assert!(rt; slice.is_empty());
-    }
-    assert_eq!(rt; ranges.zeros, 0);
-    Ok(())
-}
-
 fn range(offset: usize, length: usize) -> ByteRange {
     ByteRange { offset, length }
 }

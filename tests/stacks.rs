@@ -52,10 +52,8 @@ fn first_piece_counts_and_gaps_are_none(rt: HostRuntime) -> Result<(), Fail> {
     let memory = IndexedMemory::new(rt.alloc(), &bytes, &pieces)?;
     assert_eq!(rt; memory.byte_at(0x100), Some(1));
     assert_eq!(rt; memory.byte_at(0x106), Some(9));
-    assert_eq!(rt;
-        (memory.byte_at(0x109), memory.byte_at(0x10A)),
-        (Some(12), None)
-    );
+    let found = (memory.byte_at(0x109), memory.byte_at(0x10A));
+    assert_eq!(rt; found, (Some(12), None));
     assert_eq!(rt; memory.u64_at(0x101), Some(0x0B0A_0906_0504_0302));
     assert_eq!(rt; (memory.u64_at(0x103), memory.u64_at(0x110)), (None, None));
     assert!(rt; IndexedMemory::new(rt.alloc(), &bytes, &[piece(0, 9, 4)]).is_err());
@@ -106,10 +104,8 @@ fn a_walk_goes_through_modules_in_any_order(rt: HostRuntime) -> Result<(), Fail>
         assert!(rt; frames.end().is_none());
         let found = frames.next().ok_or("a frame")?;
         let general = found.registers.general;
-        assert_eq!(rt;
-            (found.registers.rip, general[RSP], general[RBX], found.way),
-            (rip, rsp, rbx, way)
-        );
+        let own = (found.registers.rip, general[RSP], general[RBX], found.way);
+        assert_eq!(rt; own, (rip, rsp, rbx, way));
     }
     assert!(rt; frames.next().is_none());
     assert!(rt; matches!(frames.end(), Some(&WalkEnd::Bottom)));
@@ -242,10 +238,8 @@ fn images_are_those_of_modules(rt: HostRuntime) -> Result<(), Fail> {
     assert!(rt; !is_image_of(&header, &dump_module(stamp, size + 1)));
     let found = ModuleImage::parse(alloc, &bytes, &opts, &own)?.ok_or("an image")?;
     let loaded = found.loaded(&own);
-    assert_eq!(rt;
-        (loaded.base, loaded.size, loaded.sections.len()),
-        (APP, size, 1)
-    );
+    let found = (loaded.base, loaded.size, loaded.sections.len());
+    assert_eq!(rt; found, (APP, size, 1));
     assert!(rt; loaded.exceptions.is_some());
     assert!(rt; ModuleImage::parse(alloc, &bytes, &opts, &dump_module(stamp + 1, size))?.is_none());
     assert!(rt; ModuleImage::parse(alloc, &bytes[..60], &opts, &own).is_err());
@@ -300,24 +294,16 @@ fn pieces_are_runs(rt: HostRuntime) -> Result<(), Fail> {
 fn runs_are_written_to_a_room(rt: HostRuntime) -> Result<(), Fail> {
     let pieces = [piece(0x106, 8, 4), piece(0x100, 0, 8)];
     let (mut entries, mut runs) = ([RangeEntry::default(); 9], [piece(1, 2, 3); 5]);
-    assert_eq!(rt;
-        put_memory_runs(&pieces, &mut entries[..7], &mut runs),
-        None
-    );
-    assert_eq!(rt;
-        put_memory_runs(&pieces, &mut entries, &mut runs[..3]),
-        None
-    );
+    let found = put_memory_runs(&pieces, &mut entries[..7], &mut runs);
+    assert_eq!(rt; found, None);
+    let found = put_memory_runs(&pieces, &mut entries, &mut runs[..3]);
+    assert_eq!(rt; found, None);
     assert_eq!(rt; runs, [piece(1, 2, 3); 5]);
     assert_eq!(rt; put_memory_runs(&pieces, &mut entries, &mut runs), Some(2));
-    assert_eq!(rt;
-        (runs[0], runs[1]),
-        (piece(0x100, 0, 6), piece(0x106, 8, 4))
-    );
-    assert_eq!(rt;
-        (runs[4], entries[8]),
-        (piece(1, 2, 3), RangeEntry::default())
-    );
+    let found = (runs[0], runs[1]);
+    assert_eq!(rt; found, (piece(0x100, 0, 6), piece(0x106, 8, 4)));
+    let found = (runs[4], entries[8]);
+    assert_eq!(rt; found, (piece(1, 2, 3), RangeEntry::default()));
     Ok(())
 }
 

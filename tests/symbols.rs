@@ -7,62 +7,6 @@ use pe_core::{CoffHeader, Error, Reason, Strtab, Symbol, SymbolTable};
 use std::alloc::{AllocError, Global};
 use std::test::Fail;
 
-#[test]
-fn reads_the_symbols_of_an_object(rt: HostRuntime) -> Result<(), Fail> {
-    let bytes = object(rt.alloc())?;
-    let header = CoffHeader::parse(&bytes, 0)?;
-    assert_eq!(rt; header.pointer_to_symbol_table, 78);
-    let (Some(symbols), Some(strings)) = (header.symbols(&bytes)?, header.strings(&bytes)?) else {
-        return Err(Fail::new("no symbols or strings"));
-    };
-    assert_eq!(rt; symbols.bytes.len(), 126);
-    assert_eq!(rt; strings.bytes.len(), 16);
-    let wanted = [
-        (0, Some(".file"), ".file", 0, -2, 0x67),
-        (2, Some(".text"), ".text", 0, 1, 3),
-        (4, Some(".absolut"), ".absolut", 0, -1, 3),
-        (5, None, "ExitProcess", 0, 0, 2),
-        (6, Some("main"), "main", 0, 1, 2),
-    ];
-    let mut items = symbols.iter();
-    for (row, inline, name, value, section, class) in wanted {
-        let Some((at, found, symbol)) = items.next() else {
-            return Err(Fail::new("too few symbols"));
-        };
-        assert_eq!(rt; at, row);
-        assert_eq!(rt; found, inline, "in row {row}");
-        assert_eq!(rt; symbol.name(&strings)?, name, "in row {row}");
-        assert_eq!(rt; symbol.value, value, "in row {row}");
-        assert_eq!(rt; symbol.section_number, section, "in row {row}");
-        assert_eq!(rt; symbol.storage_class, class, "in row {row}");
-    }
-    assert!(rt; items.next().is_none());
-    assert!(rt; items.next().is_none());
-    let all = strings.to_vec(rt.alloc())?;
-    assert_eq!(rt; all.len(), 1);
-    assert_eq!(rt; *all.first().ok_or("no string")?, "ExitProcess");
-    Ok(())
-}
-
-#[test]
-fn reads_one_symbol(rt: HostRuntime) -> Result<(), Fail> {
-    let bytes = object(rt.alloc())?;
-    let symbol = Symbol::parse(&bytes, 114)?;
-    assert_eq!(rt; symbol.name, *b".text\0\0\0");
-    assert_eq!(rt; symbol.typ, 0);
-    assert_eq!(rt; symbol.number_of_aux_symbols, 1);
-    assert!(rt;
-        matches!(
-            Symbol::parse(&bytes, 203),
-            Err(Error::Short {
-                at: 203,
-                needed: 18
-            })
-        )
-    );
-    Ok(())
-}
-
 /// A symbol whose name stands at this offset of the string table.
 fn symbol_at(offset: u32) -> Symbol {
     let [a, b, c, d] = offset.to_le_bytes();

@@ -100,10 +100,8 @@ fn fixed_information_of_its_key(rt: HostRuntime) -> std::result::Result<(), Fail
 fn of_the_page(rt: HostRuntime) -> std::result::Result<(), Fail> {
     let bytes = page(rt.alloc(), &[])?;
     let root = root(&bytes)?;
-    assert_eq!(rt;
-        (root.length, root.value_length, root.value_type),
-        (296, 52, 0)
-    );
+    let found = (root.length, root.value_length, root.value_type);
+    assert_eq!(rt; found, (296, 52, 0));
     assert_eq!(rt; Some(root.value), bytes.get(40..92));
     assert_eq!(rt; Some(root.child_bytes), bytes.get(92..));
     let fixed = root.fixed_info().ok_or("no fixed file information")?;
@@ -128,10 +126,8 @@ fn of_the_page(rt: HostRuntime) -> std::result::Result<(), Fail> {
             code_page: 1200
         })
     );
-    assert_eq!(rt;
-        (english.length, english.value_length, english.value_type),
-        (56, 0, 1)
-    );
+    let found = (english.length, english.value_length, english.value_type);
+    assert_eq!(rt; found, (56, 0, 1));
     assert_eq!(rt; Some(english.key), bytes.get(134..150));
     let mut strings = english.children();
     let first = following(&mut strings)?;
@@ -342,10 +338,8 @@ fn values_of_other_lengths(rt: HostRuntime) -> std::result::Result<(), Fail> {
     let in_bytes = page(alloc, &[(154, &[4])])?;
     let mut tables = root(&in_bytes)?.string_tables()?;
     let string = following(&mut following(&mut tables)?.children())?;
-    assert_eq!(rt;
-        (string.value_length, string.value),
-        (4, [0x42, 0, 0, 0].as_slice())
-    );
+    let found = (string.value_length, string.value);
+    assert_eq!(rt; found, (4, [0x42, 0, 0, 0].as_slice()));
     assert!(rt; is(alloc, &string, "A", "B")? && string.child_bytes.is_empty());
     let most = page(alloc, &[(154, &[0xFF, 0xFF])])?;
     let mut tables = root(&most)?.string_tables()?;
@@ -354,10 +348,8 @@ fn values_of_other_lengths(rt: HostRuntime) -> std::result::Result<(), Fail> {
     let odd = page(alloc, &[(154, &[3, 0, 0])])?;
     let mut tables = root(&odd)?.string_tables()?;
     let string = following(&mut following(&mut tables)?.children())?;
-    assert_eq!(rt;
-        (string.value_type, string.value),
-        (0, [0x42, 0, 0].as_slice())
-    );
+    let found = (string.value_type, string.value);
+    assert_eq!(rt; found, (0, [0x42, 0, 0].as_slice()));
     assert!(rt; string.value_string(alloc)?.is_none() && string.child_bytes.is_empty());
     let cut = page(alloc, &[(258, &[6])])?;
     let mut languages = root(&cut)?.translations()?;

@@ -23,45 +23,6 @@ const STRING: NewBlock<'_> = NewBlock {
     children: &[],
 };
 
-/// Its bytes: the key's zero ends at 10, so the value is at 12; it has two code units.
-const BYTES: [u8; 16] = *b"\x10\0\x02\0\x01\0A\0\0\0\0\0x\0\0\0";
-
-#[test]
-fn bytes_of_a_string(rt: HostRuntime) -> Result<(), Fail> {
-    let mut out = [OLD; 17];
-    assert_eq!(rt; block_len(&STRING)?, 16);
-    assert_eq!(rt; write_block(&STRING, &mut out)?, 16);
-    assert_eq!(rt; &out[..16], BYTES.as_slice());
-    assert_eq!(rt; out[16], OLD);
-    Ok(())
-}
-
-/// Three bytes that are no text, zeros, and a block.
-#[test]
-fn bytes_of_a_parent(rt: HostRuntime) -> Result<(), Fail> {
-    let parent = NewBlock {
-        key: b"PQ\0\0\x01\x02",
-        is_text: false,
-        value: &[7, 8, 9],
-        children: &BYTES,
-    };
-    let Err(VersionError::Key) = block_len(&parent) else {
-        return Err("a key with a zero is accepted".into());
-    };
-    let parent = NewBlock {
-        key: b"P\0Q\0",
-        ..parent
-    };
-    let mut out = [OLD; 32];
-    assert_eq!(rt; write_block(&parent, &mut out)?, 32);
-    assert_eq!(rt;
-        &out[..16],
-        b"\x20\0\x03\0\0\0P\0Q\0\0\0\x07\x08\x09\0".as_slice()
-    );
-    assert_eq!(rt; &out[16..], BYTES.as_slice());
-    Ok(())
-}
-
 #[test]
 fn refusals(rt: HostRuntime) -> Result<(), Fail> {
     let long = [1u8; 65_524];

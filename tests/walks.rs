@@ -225,10 +225,8 @@ fn expect_walk<M: Memory>(
         assert_eq!(rt; walk.remaining(), most - index);
         let found = walk.next().ok_or("a frame")?;
         let general = found.registers.general;
-        assert_eq!(rt;
-            (found.registers.rip, general[RSP], general[RBX], found.way),
-            *frame
-        );
+        let own = (found.registers.rip, general[RSP], general[RBX], found.way);
+        assert_eq!(rt; own, *frame);
     }
     assert!(rt; walk.next().is_none());
     assert_eq!(rt; walk.remaining(), 0);
@@ -409,10 +407,8 @@ fn an_image_without_exception_data_has_calls(rt: HostRuntime) -> Result<(), Fail
         assert_eq!(rt; (top.way, top.is_guess), (Way::Top, false));
         for (rsp, way) in frames {
             let found = walk.next().ok_or("a caller")?;
-            assert_eq!(rt;
-                (found.registers.rip, found.way, found.is_guess),
-                (call, way, true)
-            );
+            let own = (found.registers.rip, found.way, found.is_guess);
+            assert_eq!(rt; own, (call, way, true));
             assert_eq!(rt; found.registers.general[RSP], rsp);
         }
         assert!(rt; walk.next().is_none());

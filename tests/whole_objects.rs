@@ -21,22 +21,6 @@ fn check_no_debug(rt: &impl Abort, debug: &DebugData<'_>) {
 }
 
 #[test]
-fn reduces_a_te_image(rt: HostRuntime) -> Result<(), Fail> {
-    let bytes = te(rt.alloc())?;
-    let te = TE::parse(rt.alloc(), &bytes)?;
-    assert_eq!(rt; te.rva_offset, 0x100);
-    assert_eq!(rt; te.header.stripped_size, 0x128);
-    assert_eq!(rt; te.header.entry_point, 0x1000);
-    assert_eq!(rt; te.header.base_of_code, 0x1000);
-    assert_eq!(rt; te.sections.len(), 1);
-    let section = te.sections.first().ok_or("no section")?;
-    assert_eq!(rt; section.virtual_address, 0x1000);
-    assert_eq!(rt; section.pointer_to_raw_data, 0x50);
-    check_no_debug(&rt, &te.debug_data);
-    Ok(())
-}
-
-#[test]
 fn te_image_without_sections(rt: HostRuntime) -> Result<(), Fail> {
     let bytes = image(
         rt.alloc(),
@@ -96,9 +80,10 @@ fn refuses_te_images(rt: HostRuntime) -> Result<(), Fail> {
     assert!(rt; matches!(refused, Error::Malformed(Reason::DebugBounds(0xC0))));
     let sections = with_byte(past_the_end, 4, 4);
     let refused = te_refusal(alloc, &sections)?;
+    let found = refused;
     assert!(rt;
         matches!(
-            refused,
+            found,
             Error::Short {
                 at: 40,
                 needed: 160
@@ -183,9 +168,10 @@ fn sections_after_an_optional_header(rt: HostRuntime) -> Result<(), Fail> {
     assert_eq!(rt; section.name(), Some(".text"));
     let front = bytes.get(..0x43B).ok_or("fewer bytes")?;
     let refused = Coff::parse(rt.alloc(), front).err().ok_or("given")?;
+    let found = refused;
     assert!(rt;
         matches!(
-            refused,
+            found,
             Error::Short {
                 at: 0x414,
                 needed: 40

@@ -95,16 +95,6 @@ def program_of(command, name, kept=None, *flags):
         yield program
 
 
-def built_lief(folder):
-    """The program of lief_rows.cpp, which is built in the folder, or None where Debian's g++ and liblief-dev are not there."""
-    program = f"{folder}/lief_rows"
-    try:
-        done = run(["g++", "-std=c++14", "-O1", "-o", program, f"{HERE}/lief_rows.cpp", "-lLIEF"])
-    except FileNotFoundError:
-        return None
-    return program if done and done[0] == 0 else None
-
-
 # The headers of an image.
 
 

@@ -1,9 +1,9 @@
-// What LIEF has of an image, for try_compared and compare_lief, which build this:
+// What LIEF has of an image, for try_compared, which builds this:
 //
 //     lief_rows FILE                     all that LIEF prints of it
 //     lief_rows FILE --json              its JSON
 //     lief_rows FILE --icons FOLDER      each of its icons as a file of the folder
-//     lief_rows FILE --values            what compare_lief compares, a value a line
+//     lief_rows FILE --rich              the entries of its Rich header, a line each
 //
 // The status is 1 where LIEF reads no image. A part that LIEF throws at is a line that says so.
 
@@ -52,30 +52,11 @@ void print_all(Binary &image) {
   std::cout << std::dec << "overlay: " << image.overlay().size() << " bytes\n";
 }
 
-void print_values(Binary &image) {
-  const OptionalHeader &header = image.optional_header();
-  std::cout << "checksum " << header.checksum() << "\nentry " << header.addressof_entrypoint() << "\noverlay "
-            << image.overlay().size() << "\n";
-  attempt("imphash", [&] { std::cout << "imphash " << get_imphash(image) << "\n"; });
+void print_rich(Binary &image) {
   if (image.has_rich_header()) {
-    std::cout << "rich_key " << image.rich_header().key() << "\n";
     for (const RichEntry &entry : image.rich_header().entries()) {
       std::cout << "rich " << entry.id() << " " << entry.build_id() << " " << entry.count() << "\n";
     }
-  }
-  for (const Section &section : image.sections()) {
-    std::cout << "section " << section.virtual_address() << " " << section.virtual_size() << " " << section.offset() << " "
-              << section.sizeof_raw_data() << " " << section.entropy() << "\n";
-  }
-  if (image.has_tls()) {
-    for (uint64_t callback : image.tls().callbacks()) {
-      std::cout << "callback " << callback << "\n";
-    }
-  }
-  if (image.has_configuration()) {
-    const LoadConfiguration &config = image.load_configuration();
-    std::cout << "config " << config.security_cookie() << " " << config.process_heap_flags() << " "
-              << config.critical_section_default_timeout() << "\n";
   }
 }
 
@@ -90,7 +71,7 @@ void save_icons(Binary &image, const std::string &folder) {
 int main(int count, char **words) {
   const std::string what = count > 2 ? words[2] : "";
   if (count < 2 || (what == "--icons") != (count > 3)) {
-    std::cerr << "usage: lief_rows FILE [--json | --icons FOLDER | --values]\n";
+    std::cerr << "usage: lief_rows FILE [--json | --icons FOLDER | --rich]\n";
     return 2;
   }
   LIEF::Logger::disable();
@@ -100,8 +81,8 @@ int main(int count, char **words) {
       std::cout << to_json_str(*image) << "\n";
     } else if (what == "--icons") {
       save_icons(*image, words[3]);
-    } else if (what == "--values") {
-      print_values(*image);
+    } else if (what == "--rich") {
+      print_rich(*image);
     } else {
       print_all(*image);
     }

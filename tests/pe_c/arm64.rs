@@ -1,9 +1,6 @@
 //! The functions of ARM64 images, their unwind records and epilog scopes.
 
-use super::made::{
-    ARM64, ARM64_VERSION, EXCEPTION_SIZE, FUNCTION_INDEX, NO_RANGE, OVER, SHORT, UNTOUCHED, X64,
-    directory, having, image, of_range, range, sections, untouched, view, words,
-};
+use super::made::*;
 use super::steps::pe_c_arm64_function_at;
 use crate::arm64::functions::{
     Arm64Packed, pe_c_arm64_packed_fields, pe_c_arm64_table, pe_c_find_arm64_function,
@@ -11,12 +8,7 @@ use crate::arm64::functions::{
 use crate::arm64::records::{
     Arm64Record, Arm64Scope, pe_c_arm64_unwind_record, pe_c_next_arm64_scope,
 };
-use crate::headers::image::Image;
-use crate::base::ranges::Range;
-use crate::base::results::{DONE, NOTHING};
 use pe_unwind::Arm64RuntimeFunction;
-use std::alloc::Global;
-use std::test::Fail;
 
 /// An image for ARM64 with its exception directory there.
 pub(crate) fn with_table(virtual_address: u32, size: u32) -> Image {

@@ -1,10 +1,8 @@
 //! The unwind codes of ARM64 records, one a step.
 
-use super::made::{ARM64_CUT, ARM64_STREAM, SHORT, range};
+use super::made::*;
 use super::steps::pe_c_next_arm64_code;
 use crate::arm64::codes::{Arm64Code, Arm64CodeWalk, pe_c_arm64_codes};
-use crate::base::ranges::Range;
-use crate::base::results::{DONE, NOTHING};
 
 /// Range and offset of a walk.
 fn of_walk(walk: Arm64CodeWalk) -> [u64; 3] {

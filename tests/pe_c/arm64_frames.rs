@@ -1,16 +1,11 @@
 //! Steps of a stack walk on ARM64. The unwind data are those of the tests of pe_frame: records that clang makes, and packed
 //! data whose prolog llvm-readobj prints. Stacks are by hand: what is expected is the state at the function's entry.
 
-use super::made::{
-    ARM64, ARM64_CUT, ARM64_VERSION, SHORT, UNMAPPED, bytes_of_words, image, sections, view,
-};
+use super::made::*;
 use crate::arm64::frames::{Arm64FrameRegisters, Arm64StackFrame, pe_c_step_arm64};
-use crate::base::results::{BAD_ADDRESS, BAD_OPERATION, DONE, MISSING, NOT_RISING};
-use pe_frame::MemoryPiece;
+use crate::base::results::{BAD_ADDRESS, BAD_OPERATION, MISSING, NOT_RISING};
 use pe_images::image as bytes_of;
 use pe_unwind::Arm64RuntimeFunction;
-use std::alloc::{AllocError, Global};
-use std::test::Fail;
 
 /// The stack pointer where each of these functions is entered.
 const ENTRY: u64 = 0x10_0000;

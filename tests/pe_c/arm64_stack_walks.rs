@@ -1,17 +1,12 @@
 //! Walks of a stack on ARM64, a frame a call. The image and the stacks are by hand: what is expected is what each function was
 //! entered with.
 
-use super::made::{ARM64, ARM64_VERSION, bytes_of_words, image, piece, range, sections, view};
+use super::made::*;
 use crate::arm64::frames::Arm64FrameRegisters;
 use crate::arm64::stack_walk::{Arm64StackWalk, pe_c_next_arm64_frame, pe_c_next_arm64_frames};
-use crate::headers::image::Image;
-use crate::base::ranges::Range;
-use crate::base::results::{DONE, MISSING, NOTHING};
+use crate::base::results::MISSING;
 use crate::stack::walk::ModuleView;
-use pe_core::SectionTable;
 use pe_images::image as bytes_of;
-use std::alloc::{AllocError, Global};
-use std::test::Fail;
 
 /// Where the image is loaded.
 const BASE: u64 = 0x1_8000_0000;
@@ -205,10 +200,8 @@ fn walks_by_an_index(rt: HostRuntime) -> Result<(), Fail> {
     let mut walk = walk_from(leaf, STACK, STACK + 8, AFTER_CALL, 9);
     let missing = end_after(&modules, &stack, 2, &mut walk)?;
     assert_eq!(rt; missing, ([0, STACK + 16], [STEP, MISSING]));
-    assert_eq!(rt;
-        frame_of(&walk),
-        ([AFTER_CALL, STACK, STACK + 8], [LEAF, 1])
-    );
+    let found = frame_of(&walk);
+    assert_eq!(rt; found, ([AFTER_CALL, STACK, STACK + 8], [LEAF, 1]));
     let mut walk = walk_from(leaf, STACK, STACK + 8, AFTER_CALL, 1);
     let bounded = end_after(&modules, &stack, 1, &mut walk)?;
     assert_eq!(rt; bounded, ([0, 0], [BOUND, 0]));

@@ -1,14 +1,8 @@
 //! Blocks of base relocations, one a step, and the relocations of a block.
 
-use super::made::{
-    DIRECTORY_BLOCK_SIZE, DIRECTORY_BLOCK_TRUNCATED, DIRECTORY_NO_ARGUMENT, OVER, SHORT, UNTOUCHED,
-    X64, directory, having, image, of_range, range, sections, untouched, view, words,
-};
+use super::made::*;
 use super::steps::{pe_c_next_relocation, pe_c_next_relocation_block};
 use crate::directories::base_relocations::{Relocation, RelocationBlock, pe_c_relocation_blocks};
-use crate::base::results::{DONE, NOTHING};
-use std::alloc::{AllocError, Global};
-use std::test::Fail;
 
 /// At offset 4: a block with two entries, and one with a HIGHADJ, its argument, and a HIGHADJ that has none.
 pub(crate) fn two_blocks(alloc: Global) -> Result<Vec<u8>, AllocError> {

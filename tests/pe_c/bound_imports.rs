@@ -1,15 +1,8 @@
 //! Bound imports: the directory, its DLLs and their forwarders, one a step.
 
-use super::made::{
-    DIRECTORY_BOUND_IMPORT_NAME, OVER, SHORT, UNTOUCHED, X64, directory, having, image, of_range,
-    range, untouched, view,
-};
+use super::made::*;
 use super::steps::{pe_c_next_bound_forwarder, pe_c_next_bound_import};
 use crate::directories::bound_imports::{BoundForwarder, BoundImport, pe_c_bound_imports};
-use crate::headers::image::Image;
-use crate::base::ranges::{NO_BYTES, Range};
-use crate::base::results::{DONE, NOTHING};
-use std::test::Fail;
 
 /// The directory at offset 4, 63 bytes: two DLLs, of which the first forwards to one, and an entry without a name. The last
 /// name is not NUL-terminated. By hand from the layout of winnt.h.

@@ -1,15 +1,8 @@
 //! The certificates of a table, one a step.
 
-use super::made::{
-    CERTIFICATE_REVISION, CERTIFICATE_SIZE, CERTIFICATE_TABLE, CERTIFICATE_TYPE, OVER, SHORT,
-    UNTOUCHED, of_range, range, untouched,
-};
+use super::made::*;
 use crate::directories::certificates::{Certificate, pe_c_next_certificate};
-use crate::base::ranges::Range;
-use crate::base::results::{DONE, NOTHING};
-use pe_images::{image as bytes_of, put};
-use std::alloc::Global;
-use std::test::Fail;
+use pe_images::image as bytes_of;
 
 /// Body, length, revision and type of a certificate.
 type Fields = ([u64; 2], u32, u16, u16);

@@ -12,19 +12,14 @@
 //!
 //! and what is wanted of it is what `llvm-readobj --file-headers --sections --symbols` (14.0.6) prints.
 
-use super::made::{SHORT, STRING_TABLE, UNTOUCHED, of_range, range, sections, untouched};
+use super::made::*;
 use super::steps::pe_c_symbol;
 use crate::headers::coff::{
     Symbol, SymbolWalk, pe_c_coff, pe_c_coff_sections, pe_c_coff_strings, pe_c_coff_symbols,
     pe_c_next_symbol, pe_c_symbol_name,
 };
 use crate::headers::CoffFields;
-use crate::base::ranges::Range;
-use crate::base::results::{DONE, NOTHING, ROOM};
-use pe_core::SectionTable;
-use pe_images::{image as bytes_of, put};
-use std::alloc::{AllocError, Global};
-use std::test::Fail;
+use pe_images::image as bytes_of;
 
 /// Offset and entries of the symbols, offset and size of the string table after them.
 pub(crate) const SYMBOLS: u64 = 0xA6;
@@ -123,14 +118,10 @@ fn sections_of_an_object(rt: HostRuntime) -> Result<(), Fail> {
     };
     let [first, second, third, last] = room;
     assert_eq!(rt; first, text);
-    assert_eq!(rt;
-        (second.name, second.characteristics),
-        (*b".data\0\0\0", 0xC050_0040)
-    );
-    assert_eq!(rt;
-        (third.name, third.characteristics),
-        (*b".bss\0\0\0\0", 0xC050_0080)
-    );
+    let found = (second.name, second.characteristics);
+    assert_eq!(rt; found, (*b".data\0\0\0", 0xC050_0040));
+    let found = (third.name, third.characteristics);
+    assert_eq!(rt; found, (*b".bss\0\0\0\0", 0xC050_0080));
     assert_eq!(rt; last, other);
     // An optional header moves them.
     put(&mut bytes, &[(0x10, &[40])]);

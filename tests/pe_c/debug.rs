@@ -1,9 +1,6 @@
 //! The debug directory's table, and the records that its entries lead to.
 
-use super::made::{
-    BAD_MAGIC, DEBUG_BOUNDS, DEBUG_DATA, DEBUG_SIZE, MAPPED, PERMISSIVE, SHORT, STRICT, UNTOUCHED,
-    X64, directory, having, image, in_mode, of_range, range, sections, untouched, view,
-};
+use super::made::*;
 use super::steps::pe_c_symbol_key;
 use crate::debug::{DebugRecords, pe_c_debug_data, pe_c_debug_entries, pe_c_first_debug_entry};
 use crate::debug::records::{
@@ -11,14 +8,8 @@ use crate::debug::records::{
     pe_c_codeview, pe_c_embedded_pdb_of, pe_c_pdb_checksum_of, pe_c_pdb20_of, pe_c_pogo_of,
     pe_c_repro_of, pe_c_symbol_key_of, pe_c_vc_features_of,
 };
-use crate::headers::image::Image;
-use crate::base::ranges::Range;
-use crate::base::results::{DONE, NOTHING};
-use pe_core::SectionTable;
-use pe_images::{image as bytes_of, put};
+use pe_images::image as bytes_of;
 use pe_records::{ImageDebugDirectory, VCFeatureInfo};
-use std::alloc::Global;
-use std::test::Fail;
 
 /// An image with its debug directory there.
 fn with_table(virtual_address: u32, size: u32) -> Image {
@@ -304,21 +295,10 @@ fn older_records_in_strict_mode(rt: HostRuntime) -> Result<(), Fail> {
 
 // ---- entries
 
-const NO_ENTRY: ImageDebugDirectory = ImageDebugDirectory {
-    characteristics: 9,
-    time_date_stamp: 9,
-    major_version: 9,
-    minor_version: 9,
-    data_type: 9,
-    size_of_data: 9,
-    address_of_raw_data: 9,
-    pointer_to_raw_data: 9,
-};
-
 fn first_entry(bytes: &[u8], image: &Image, data_type: u32) -> (u32, ImageDebugDirectory) {
     let sections: &[SectionTable] = &sections();
     let view = view(bytes, image, sections);
-    let mut out = NO_ENTRY;
+    let mut out = NO_DEBUG_ENTRY;
     (pe_c_first_debug_entry(&view, data_type, &mut out), out)
 }
 
@@ -340,7 +320,7 @@ fn first_entries_of_types(rt: HostRuntime) -> Result<(), Fail> {
         };
         assert_eq!(rt; first_entry(&bytes, &image, data_type), (DONE, want));
     }
-    assert_eq!(rt; first_entry(&bytes, &image, 17), (NOTHING, NO_ENTRY));
+    assert_eq!(rt; first_entry(&bytes, &image, 17), (NOTHING, NO_DEBUG_ENTRY));
     // the last entry is of CodeView too, and leads nowhere
     put(&mut bytes, &[(0x8C, &[2]), (0x98, &[0xFF; 4])]);
     let want = Reported {
@@ -356,7 +336,7 @@ fn first_entries_of_types(rt: HostRuntime) -> Result<(), Fail> {
 fn records_of_entries(rt: HostRuntime) -> Result<(), Fail> {
     let mut bytes = with_records(rt.alloc())?;
     let image = with_table(0x1010, TABLE_SIZE);
-    let mut entries = [NO_ENTRY; 5];
+    let mut entries = [NO_DEBUG_ENTRY; 5];
     for (entry, data_type) in entries.iter_mut().zip([2, 12, 13, 16, 20]) {
         *entry = first_entry(&bytes, &image, data_type).1;
         entry.data_type = 99;
@@ -370,10 +350,8 @@ fn records_of_entries(rt: HostRuntime) -> Result<(), Fail> {
         name: untouched(),
     };
     let number = pe_c_symbol_key_of(&bytes, STRICT, &entries[0], &mut key);
-    assert_eq!(rt;
-        (number, key.guid, [key.age, key.spare], of_range(key.name)),
-        whole.key
-    );
+    let found = (number, key.guid, [key.age, key.spare], of_range(key.name));
+    assert_eq!(rt; found, whole.key);
     let mut features = NO_FEATURES;
     let number = pe_c_vc_features_of(&bytes, STRICT, &entries[1], &mut features);
     assert_eq!(rt; (number, features), whole.features);
@@ -383,20 +361,16 @@ fn records_of_entries(rt: HostRuntime) -> Result<(), Fail> {
         spare: 6,
     };
     let number = pe_c_pogo_of(&bytes, STRICT, &entries[2], &mut pogo);
-    assert_eq!(rt;
-        (number, of_range(pogo.entries), [pogo.signature, pogo.spare]),
-        whole.pogo
-    );
+    let found = (number, of_range(pogo.entries), [pogo.signature, pogo.spare]);
+    assert_eq!(rt; found, whole.pogo);
     let mut repro = Repro {
         hash: untouched(),
         has_hash: 5,
         spare: 6,
     };
     let number = pe_c_repro_of(&bytes, STRICT, &entries[3], &mut repro);
-    assert_eq!(rt;
-        (number, of_range(repro.hash), [repro.has_hash, repro.spare]),
-        whole.repro
-    );
+    let found = (number, of_range(repro.hash), [repro.has_hash, repro.spare]);
+    assert_eq!(rt; found, whole.repro);
     let mut flags = 9;
     let number = pe_c_characteristics_of(&bytes, STRICT, &entries[4], &mut flags);
     assert_eq!(rt; (number, flags), whole.characteristics);
@@ -413,10 +387,8 @@ fn records_of_entries(rt: HostRuntime) -> Result<(), Fail> {
         spare: 8,
     };
     let number = pe_c_pdb20_of(&bytes, STRICT, &entries[0], &mut old);
-    assert_eq!(rt;
-        (number, old.offset, of_range(old.name)),
-        (NOTHING, 5, UNTOUCHED)
-    );
+    let found = (number, old.offset, of_range(old.name));
+    assert_eq!(rt; found, (NOTHING, 5, UNTOUCHED));
     put(&mut bytes, &[(0xA0, b"NB10")]);
     let number = pe_c_pdb20_of(&bytes, STRICT, &entries[0], &mut old);
     let want = (DONE, 0x1312_1110, [0xB0, 14]);
@@ -429,7 +401,7 @@ fn entry(offset: u32, size: u32) -> ImageDebugDirectory {
     ImageDebugDirectory {
         size_of_data: size,
         pointer_to_raw_data: offset,
-        ..NO_ENTRY
+        ..NO_DEBUG_ENTRY
     }
 }
 

@@ -1,15 +1,10 @@
 //! Why debug records are refused: the result of the call that reads each, and the numbers of its error. Every number is worked out by
 //! hand.
 
-use super::made::{
-    BAD_MAGIC, DEBUG_DATA, DEBUG_SIZE, NO_FAILURE, PERMISSIVE, POGO_SIZE, SHORT, STRICT,
-};
+use super::made::*;
 use crate::failures::debug::pe_c_debug_failure;
-use crate::failures::headers::Failure;
-use crate::base::results::{DONE, NOTHING};
 use pe_images::image as bytes_of;
 use pe_records::ImageDebugDirectory;
-use std::test::Fail;
 
 /// The answer; the error, its offset, needed bytes and value; and the last field.
 type Said = (u32, (u32, [u64; 3]), u32);

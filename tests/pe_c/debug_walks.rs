@@ -1,25 +1,12 @@
 //! The entries of the debug directory and of POGO, one a step.
 
-use super::made::{OVER, POGO_NAME, SHORT, UNTOUCHED, of_range, range, untouched};
+use super::made::*;
 use super::steps::pe_c_next_pogo_entry;
 use crate::debug::walks::{PogoEntry, pe_c_next_debug_entry};
-use crate::base::ranges::Range;
-use crate::base::results::{DONE, NOTHING};
 use pe_records::ImageDebugDirectory;
 
-const NO_ENTRY: ImageDebugDirectory = ImageDebugDirectory {
-    characteristics: 9,
-    time_date_stamp: 9,
-    major_version: 9,
-    minor_version: 9,
-    data_type: 9,
-    size_of_data: 9,
-    address_of_raw_data: 9,
-    pointer_to_raw_data: 9,
-};
-
 fn step(bytes: &[u8], walk: &mut Range) -> (u32, ImageDebugDirectory, [u64; 2]) {
-    let mut out = NO_ENTRY;
+    let mut out = NO_DEBUG_ENTRY;
     let answer = pe_c_next_debug_entry(bytes, walk, &mut out);
     (answer, out, of_range(*walk))
 }
@@ -50,11 +37,11 @@ fn debug_entries_in_turn(rt: HostRuntime) {
     let mut walk = range(3, 56);
     assert_eq!(rt; step(&bytes, &mut walk), (DONE, first, [31, 28]));
     assert_eq!(rt; step(&bytes, &mut walk), (DONE, second, [59, 0]));
-    assert_eq!(rt; step(&bytes, &mut walk), (NOTHING, NO_ENTRY, [59, 0]));
+    assert_eq!(rt; step(&bytes, &mut walk), (NOTHING, NO_DEBUG_ENTRY, [59, 0]));
     // shows: pe_c/src/base/walks.rt next_entry Short
     let mut cut = range(3, 55);
     assert_eq!(rt; step(&bytes, &mut cut), (DONE, first, [31, 27]));
-    assert_eq!(rt; step(&bytes, &mut cut), (SHORT, NO_ENTRY, OVER));
+    assert_eq!(rt; step(&bytes, &mut cut), (SHORT, NO_DEBUG_ENTRY, OVER));
 }
 
 // ---- POGO

@@ -1,22 +1,12 @@
 //! The DLLs of the delay import directory, one a step, and what is imported of each.
 
-use super::made::{
-    DIRECTORY_DELAY_IMPORT_NAME, DIRECTORY_VA_BELOW_BASE, NO_RANGE, OVER, SHORT, UNMAPPED,
-    UNTOUCHED, X64, directory, having, image, in_mode, of_range, range, sections, untouched, view,
-    words,
-};
+use super::made::*;
 use super::steps::{pe_c_next_delay_import, pe_c_next_delayed_function};
 use crate::directories::delay_imports::{
     DelayLibrary, DelayWalk, DelayedFunction, DelayedFunctionWalk, DelayedFunctions,
     pe_c_delay_imports,
 };
-use crate::headers::image::Image;
-use crate::base::kept_sections::NO_SECTIONS;
-use crate::base::ranges::Range;
-use crate::base::results::{DONE, NOTHING};
 use pe_directories::DelayImport;
-use std::alloc::{AllocError, Global};
-use std::test::Fail;
 
 /// 128 bytes: at 4 an entry with RVAs and at 36 an entry of zeros; at 68 the name `a.dll`, at 76 a hint 0x201 and the name
 /// `fn`, at 84 a table with the number of that hint, an ordinal 9 and zero, of 8 bytes each, at 108 one of PE32, and at 120 a
@@ -141,10 +131,8 @@ fn entries_in_turn(rt: HostRuntime) -> Result<(), Fail> {
     assert_eq!(rt; next(&bytes, &image, end), nothing(NOTHING, end));
     assert_eq!(rt; next(&bytes, &image, [4, 31]), nothing(SHORT, OVER));
     // The image as loaded: its addresses are offsets.
-    assert_eq!(rt;
-        next(&bytes, &in_mode(&image, 2), [4, 64]),
-        nothing(DIRECTORY_DELAY_IMPORT_NAME, OVER)
-    );
+    let said = next(&bytes, &in_mode(&image, 2), [4, 64]);
+    assert_eq!(rt; said, nothing(DIRECTORY_DELAY_IMPORT_NAME, OVER));
     Ok(())
 }
 
@@ -177,10 +165,8 @@ fn names_and_tables(rt: HostRuntime) -> Result<(), Fail> {
     }
     let bytes = entry_of(rt.alloc(), 2, 0x40_1044, 0x40_1054)?;
     let (answer, ranges, attributes, _, left) = next(&bytes, &low, [4, 64]);
-    assert_eq!(rt;
-        (answer, ranges, attributes, left),
-        (DONE, [[68, 5], [84, 44]], 2, [36, 32])
-    );
+    let found = (answer, ranges, attributes, left);
+    assert_eq!(rt; found, (DONE, [[68, 5], [84, 44]], 2, [36, 32]));
     Ok(())
 }
 

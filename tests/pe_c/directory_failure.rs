@@ -1,18 +1,9 @@
 //! Why the directories of an image are refused: the result of the call that reads each, and the numbers of its error. Of 160 bytes
 //! the RVAs from 0x1000 on are the offsets from 0 on; every number is worked out by hand.
 
-use super::made::{
-    ARM64, CERTIFICATE_REVISION, CERTIFICATE_SIZE, CERTIFICATE_TABLE, CERTIFICATE_TYPE,
-    DEBUG_BOUNDS, DIRECTORY_CLR_HEADER_SIZE, EXCEPTION_BOUNDS, EXCEPTION_OFFSET, EXCEPTION_SIZE,
-    NO_FAILURE, PERMISSIVE, RESOURCE_BOUNDS, SHORT, UNMAPPED, X64, directory, having, image,
-    in_mode, sections, view,
-};
+use super::made::*;
 use crate::failures::directories::pe_c_directory_failure;
-use crate::failures::headers::Failure;
-use crate::headers::image::Image;
-use crate::base::results::{DONE, NOTHING};
-use pe_images::{image as bytes_of, put};
-use std::test::Fail;
+use pe_images::image as bytes_of;
 
 /// The answer; the error, its offset, needed bytes and value; and the last field.
 type Said = (u32, (u32, [u64; 3]), u32);

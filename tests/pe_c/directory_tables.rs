@@ -1,21 +1,13 @@
 //! The fields of the export directory, and the directories of a resource tree with their entries.
 
 use super::exports::with_exports;
-use super::made::{
-    RESOURCE_BOUNDS, SHORT, X64, directory, having, image, of_range, range, sections, view,
-};
+use super::made::*;
 use super::resource_leaves::{of_size, with_tree};
 use crate::directories::tables::{
     ExportFields, ResourceDirectory, ResourceItem, pe_c_export_directory, pe_c_next_resource_item,
     pe_c_resource_directory_at, pe_c_resource_root,
 };
-use crate::headers::image::Image;
-use crate::base::ranges::Range;
 use crate::resources::leaves::ResourceName;
-use crate::base::results::{DONE, NOTHING};
-use pe_images::put;
-use std::alloc::Global;
-use std::test::Fail;
 
 /// The fields in the order of winnt.h.
 type Fields = ([u32; 2], [u16; 2], [u32; 7]);

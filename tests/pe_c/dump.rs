@@ -1,10 +1,6 @@
 //! Minidumps: every call on a dump that is made by hand from minidumpapiset.h and winnt.h, with a stream of each kind.
 
-use super::made::{
-    DUMP_CONTEXT_FLAGS, DUMP_CONTEXT_SIZE, DUMP_DIRECTORY, DUMP_ENTRY_SIZE, DUMP_LIST_SIZE,
-    DUMP_LOCATION, DUMP_MACHINE, DUMP_SIGNATURE, DUMP_TEXT, DUMP_VERSION, SHORT, UNTOUCHED, image,
-    of_range, range,
-};
+use super::made::*;
 use crate::arm64::frames::Arm64FrameRegisters;
 use crate::debug::records::{SymbolKey, pe_c_codeview};
 use crate::dump::contexts::{
@@ -27,18 +23,12 @@ use crate::dump::records::{
 use crate::dump::{
     DumpInfo, pe_c_dump, pe_c_dump_entry_at, pe_c_dump_range, pe_c_dump_stream, pe_c_dump_text,
 };
-use crate::headers::image::Image;
-use crate::base::ranges::Range;
-use crate::base::results::{DONE, NOTHING};
 use crate::stack::frames::FrameRegisters;
-use pe_frame::MemoryPiece;
-use pe_images::{image as bytes_of, put};
+use pe_images::image as bytes_of;
 use pe_minidump::{
     DirectoryEntry, FixedFileInfo, Handle, Location, MemoryDescriptor, ProcessTimes,
     ProcessorPower, Thread, ThreadInfo, UnloadedModule,
 };
-use std::alloc::{AllocError, Global};
-use std::test::Fail;
 
 /// Where the parts stand.
 const SIZE: usize = 0xCB8;
@@ -96,7 +86,11 @@ fn dump(alloc: Global) -> Result<Vec<u8>, AllocError> {
                 0x118,
                 b"\x01\0\0\0\0\0\0\x80\x01\0\0\0\0\x10\x02\0\x06\0\0\0\x07\0\0\0\0\x04\0\0",
             ),
-            (0x134, b"\xBD\x04\xEF\xFE\0\0\x01\0\x02\0\x01\0\x04\0\x03"),
+            (0x134, b"\xBD\x04\xEF\xFE\0\0\x01\0\x02\0\x01\0\x04\0\x03\0"),
+            (
+                0x144,
+                b"\x05\0\0\0\x06\0\0\0\x07\0\0\0\x08\0\0\0\x09\0\0\0\x0A\0\0\0\x0B\0\0\0\x0C\0\0\0\x0D",
+            ),
             (0x168, b"\x1E\0\0\0\x10\x04\0\0\x03\0\0\0\x04"),
             // Pieces of memory: one that is there, one that passes the end of the file, one that lies past it.
             (0x188, b"\x03\0\0\0\x10\x20\0\0\0\0\0\0\x10\0\0\0\x30\x04"),
@@ -201,10 +195,8 @@ fn header_of_a_dump(rt: HostRuntime) -> Result<(), Fail> {
     let (answer, info) = info_of(&bytes);
     assert_eq!(rt; (answer, of_range(info.directory)), (DONE, [32, 144]));
     assert_eq!(rt; (info.flags, info.version), (0x1807, 0x0706_A793));
-    assert_eq!(rt;
-        (info.number_of_streams, info.check_sum, info.time_date_stamp),
-        (12, 5, 6)
-    );
+    let found = (info.number_of_streams, info.check_sum, info.time_date_stamp);
+    assert_eq!(rt; found, (12, 5, 6));
     assert_eq!(rt; info_of(&bytes[..31]).0, SHORT);
     assert_eq!(rt; info_of(&bytes[..175]).0, DUMP_DIRECTORY);
     put(&mut bytes, &[(4, b"\x94")]);
@@ -346,15 +338,15 @@ const VERSION: FixedFileInfo = FixedFileInfo {
     struc_version: 0x1_0000,
     file_version_ms: 0x1_0002,
     file_version_ls: 0x3_0004,
-    product_version_ms: 0,
-    product_version_ls: 0,
-    file_flags_mask: 0,
-    file_flags: 0,
-    file_os: 0,
-    file_type: 0,
-    file_subtype: 0,
-    file_date_ms: 0,
-    file_date_ls: 0,
+    product_version_ms: 5,
+    product_version_ls: 6,
+    file_flags_mask: 7,
+    file_flags: 8,
+    file_os: 9,
+    file_type: 10,
+    file_subtype: 11,
+    file_date_ms: 12,
+    file_date_ls: 13,
 };
 
 const NO_MODULE: DumpModule = DumpModule {
@@ -377,10 +369,8 @@ fn modules_by_their_index(rt: HostRuntime) -> Result<(), Fail> {
     let bytes = dump(rt.alloc())?;
     let mut out = NO_MODULE;
     assert_eq!(rt; pe_c_dump_module_at(&bytes, &stream(1), 0, &mut out), DONE);
-    assert_eq!(rt;
-        (out.base_of_image, out.size_of_image),
-        (0x1_8000_0000, 0x2_1000)
-    );
+    let found = (out.base_of_image, out.size_of_image);
+    assert_eq!(rt; found, (0x1_8000_0000, 0x2_1000));
     assert_eq!(rt;
         (
             out.check_sum,
@@ -407,10 +397,8 @@ fn names_of_threads_by_their_index(rt: HostRuntime) -> Result<(), Fail> {
     };
     let found = pe_c_dump_thread_name_at(&bytes, &stream(7), 0, &mut out);
     assert_eq!(rt; found, DONE);
-    assert_eq!(rt;
-        (out.rva_of_thread_name, out.thread_id, out.spare),
-        (0x1_0000_0400, 0x24, 0)
-    );
+    let found = (out.rva_of_thread_name, out.thread_id, out.spare);
+    assert_eq!(rt; found, (0x1_0000_0400, 0x24, 0));
     Ok(())
 }
 
@@ -513,10 +501,8 @@ fn regions_by_their_index(rt: HostRuntime) -> Result<(), Fail> {
         memory_type: 9,
     };
     assert_eq!(rt; pe_c_dump_region_at(&bytes, &stream(9), 0, &mut out), DONE);
-    assert_eq!(rt;
-        (out.base_address, out.allocation_base, out.region_size),
-        (0x1000, 0x800, 0x3000)
-    );
+    let found = (out.base_address, out.allocation_base, out.region_size);
+    assert_eq!(rt; found, (0x1000, 0x800, 0x3000));
     assert_eq!(rt;
         (
             out.allocation_protect,
@@ -594,10 +580,8 @@ fn system_of_a_dump(rt: HostRuntime) -> Result<(), Fail> {
         (9, 6, 0x0F01)
     );
     assert_eq!(rt; (out.number_of_processors, out.product_type), (4, 1));
-    assert_eq!(rt;
-        (out.major_version, out.minor_version, out.build_number),
-        (10, 2, 19041)
-    );
+    let found = (out.major_version, out.minor_version, out.build_number);
+    assert_eq!(rt; found, (10, 2, 19041));
     assert_eq!(rt; (out.platform_id, out.csd_version_rva), (3, 0x400));
     assert_eq!(rt; (out.suite_mask, out.spare), (0x0110, 0));
     Ok(())
@@ -835,10 +819,8 @@ fn context_of_the_crash_counts(rt: HostRuntime) -> Result<(), Fail> {
         (ARM64, raised(9, NO_BYTES), DUMP_CONTEXT_SIZE, 77),
     ] {
         out = NO_X64;
-        assert_eq!(rt;
-            pe_c_dump_thread_context(&bytes, &thread(own), &named, &mut out),
-            found
-        );
+        let said = pe_c_dump_thread_context(&bytes, &thread(own), &named, &mut out);
+        assert_eq!(rt; said, found);
         assert_eq!(rt; out.registers.rip, counter);
     }
     assert_eq!(rt; (out.context_flags, out.eflags), (77, 77));
@@ -863,10 +845,8 @@ fn context_of_the_crash_counts_on_arm64(rt: HostRuntime) -> Result<(), Fail> {
         (NO_BYTES, 8, DUMP_CONTEXT_SIZE, 77),
     ] {
         let mut out = NO_ARM64;
-        assert_eq!(rt;
-            pe_c_dump_thread_context_arm64(&bytes, &thread(own), &raised(id), &mut out),
-            found
-        );
+        let said = pe_c_dump_thread_context_arm64(&bytes, &thread(own), &raised(id), &mut out);
+        assert_eq!(rt; said, found);
         assert_eq!(rt; out.registers.pc, counter);
     }
     Ok(())

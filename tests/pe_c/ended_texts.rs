@@ -1,9 +1,7 @@
 //! Texts for programs in C: GUIDs, texts in UTF-16, texts that end with a zero where they stand.
 
-use super::made::{SHORT, of_range, range};
+use super::made::*;
 use crate::base::ended_texts::{TextInBytes, pe_c_guid_text, pe_c_text_in, pe_c_utf16_text};
-use crate::base::results::{DONE, ROOM};
-use std::test::Fail;
 
 /// The GUID of the README, as the bytes of a file have it.
 const GUID: [u8; 16] = *b"\xF6\x72\x7B\x49\x0A\x39\xFC\x44\x87\x8E\x5A\x2D\x63\xB6\xCC\x4B";
@@ -22,10 +20,8 @@ fn guids_with_hyphens_and_without(rt: HostRuntime) -> Result<(), Fail> {
         bytes[..16].copy_from_slice(&GUID);
         assert_eq!(rt; pe_c_guid_text(&bytes, form, &mut room, &mut written), DONE);
         assert_eq!(rt; &room[..length], want.as_bytes());
-        assert_eq!(rt;
-            (written, room[length], room[length + 1]),
-            (length as u64, 0, 0x55)
-        );
+        let found = (written, room[length], room[length + 1]);
+        assert_eq!(rt; found, (length as u64, 0, 0x55));
         // the zero needs room too
         let mut room = [0x55; 40];
         let found = pe_c_guid_text(&GUID, form, &mut room[..length], &mut written);
@@ -84,10 +80,8 @@ fn surrogates_without_a_partner(rt: HostRuntime) -> Result<(), Fail> {
         assert_eq!(rt; &room[..4], b"\xEF\xBF\xBD\0".as_slice());
     }
     assert_eq!(rt; utf8_of(b"\x3D\xD8\x3D\xD8\x00\xDE", &mut room), (DONE, 7));
-    assert_eq!(rt;
-        (&room[..3], &room[3..7]),
-        (&other[..], &b"\xF0\x9F\x98\x80"[..])
-    );
+    let found = (&room[..3], &room[3..7]);
+    assert_eq!(rt; found, (&other[..], &b"\xF0\x9F\x98\x80"[..]));
     // the last and the first of each kind
     assert_eq!(rt; utf8_of(b"\xFF\xD7\x00\xE0\xFF\xFF", &mut room), (DONE, 9));
     assert_eq!(rt;
@@ -133,10 +127,8 @@ fn texts_where_they_stand(rt: HostRuntime) -> Result<(), Fail> {
             spare: 7,
         };
         assert_eq!(rt; pe_c_text_in(bytes, &whole, &mut out), DONE);
-        assert_eq!(rt;
-            (of_range(out.text), out.is_terminated, out.spare),
-            (want, is_terminated, 0)
-        );
+        let found = (of_range(out.text), out.is_terminated, out.spare);
+        assert_eq!(rt; found, (want, is_terminated, 0));
     }
     let mut out = TextInBytes {
         text: range(7, 7),

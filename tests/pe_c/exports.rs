@@ -1,20 +1,11 @@
 //! The tables of exports, the exports that have a name, one a step, and all exports by their index.
 
-use super::made::{
-    OVER, SHORT, UNMAPPED, X64, directory, having, image, of_range, range, sections, view,
-};
+use super::made::*;
 use super::steps::{pe_c_export_at, pe_c_next_export};
 use crate::names::export_addresses::{AddressTable, Exported, pe_c_export_addresses};
 use crate::names::exports::{Export, ExportWalk, Exports, pe_c_export_tables};
-use crate::headers::image::Image;
-use crate::base::kept_sections::NO_SECTIONS;
 use crate::lists::exports::pe_c_list_exports;
-use crate::base::ranges::Range;
-use crate::base::results::{DONE, NOTHING};
-use pe_core::DataDirectory;
-use pe_images::{image as bytes_of, put};
-use std::alloc::Global;
-use std::test::Fail;
+use pe_images::image as bytes_of;
 
 /// An export directory of 40 bytes at 0x10: in it at 0x24 the count of addresses, at 0x28 that of names, and after these
 /// the addresses of the three tables: addresses at 0x50, names at 0x60, ordinals at 0x80. The first name is that of the
@@ -285,14 +276,10 @@ fn exports_by_their_index(rt: HostRuntime) -> Result<(), Fail> {
     );
     let image = with_directory(0x1010);
     let (answer, table) = table_at(&bytes, &image);
-    assert_eq!(rt;
-        (answer, of_range(table.name), table.has_name),
-        (DONE, [0xA0, 5], 1)
-    );
-    assert_eq!(rt;
-        (of_range(table.addresses), table.ordinal_base),
-        ([0x50, 12], 1)
-    );
+    let found = (answer, of_range(table.name), table.has_name);
+    assert_eq!(rt; found, (DONE, [0xA0, 5], 1));
+    let found = (of_range(table.addresses), table.ordinal_base);
+    assert_eq!(rt; found, ([0x50, 12], 1));
     assert_eq!(rt; exported(&bytes, &table, 0), (DONE, OVER, [1, 0x1008, 0]));
     assert_eq!(rt; exported(&bytes, &table, 1), (DONE, OVER, [2, 0x9000, 0]));
     let found = exported(&bytes, &table, 2);
@@ -320,10 +307,8 @@ fn address_tables_that_are_refused(rt: HostRuntime) -> Result<(), Fail> {
     let absent = having(image, 0, directory(0, 0));
     assert_eq!(rt; table_at(&bytes, &absent).0, NOTHING);
     let (number, kept) = table_at(&bytes, &with_directory(0x10A0));
-    assert_eq!(rt;
-        (number, of_range(kept.name), kept.has_name),
-        (SHORT, [1, 2], 8)
-    );
+    let found = (number, of_range(kept.name), kept.has_name);
+    assert_eq!(rt; found, (SHORT, [1, 2], 8));
     let lie = AddressTable {
         addresses: range(0x50, 0x61),
         ..table

@@ -1,18 +1,15 @@
 //! Why headers are refused: where, and by which number. Offsets are those of winnt.h, and every number is worked out by hand.
 
 use super::coff::{header_of, object};
-use super::made::{BAD_MAGIC, HEADER_POINTER, PERMISSIVE, SHORT, STRICT, TE_SIZE, X64, image};
+use super::made::*;
 use super::te::image_of;
 use crate::failures::headers::{
-    Failure, pe_c_coff_sections_failure, pe_c_image_failure, pe_c_sections_failure,
-    pe_c_te_failure, pe_c_te_sections_failure,
+    pe_c_coff_sections_failure, pe_c_image_failure, pe_c_sections_failure, pe_c_te_failure,
+    pe_c_te_sections_failure,
 };
 use crate::headers::CoffFields;
-use crate::headers::image::Image;
-use crate::base::results::{DONE, NOTHING};
 use crate::headers::te::TeImage;
-use pe_images::{headers_alone, image as bytes_of, pointer_below_64, put, te};
-use std::test::Fail;
+use pe_images::{headers_alone, image as bytes_of, pointer_below_64, te};
 
 const NO_FAILURE: Failure = Failure {
     offset: 9,

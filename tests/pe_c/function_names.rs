@@ -1,17 +1,12 @@
 //! Names of functions without a PDB, of tables that are made by hand. What is wanted is worked out by hand, by what the comment above
 //! `pe_c_function_names` says.
 
-use super::made::{
-    ARM64, BAD_MAGIC, X64, directory, having, image, of_range, range, sections, view,
-};
+use super::made::*;
 use crate::names::exports::Exports;
 use crate::stack::function_names::{
     CodeAddress, FunctionName, NameSources, pe_c_function_names, pe_c_name_tables,
 };
-use crate::base::results::{DONE, NOTHING};
 use pe_images::image as bytes_of;
-use std::alloc::{AllocError, Global};
-use std::test::Fail;
 
 /// Three x64 functions at 0: [0x2000, 0x2040), [0x2040, 0x2060), [0x2080, 0x2090); one of ARM64 at 0x28, packed, of 0x40 bytes. Names,
 /// ordinals and addresses of exports at 0x40, 0x54, 0x60, texts after these. Nine entries of symbols at 0xB0, and their strings.

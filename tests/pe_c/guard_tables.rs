@@ -1,16 +1,8 @@
 //! The tables of a load configuration: which is which, where each starts, its entries one a step.
 
-use super::made::{
-    DIRECTORY_VA_BELOW_BASE, SHORT, UNMAPPED, X64, directory, having, image, of_range, range,
-    sections, view, words,
-};
+use super::made::*;
 use super::steps::pe_c_next_guard_entry;
 use crate::directories::guard_tables::{GuardEntries, GuardEntry, pe_c_guard_table};
-use crate::headers::image::Image;
-use crate::base::ranges::Range;
-use crate::base::results::{DONE, NOTHING};
-use std::alloc::{AllocError, Global};
-use std::test::Fail;
 
 /// What `out` is before each call.
 const NO_WALK: GuardEntries = GuardEntries {

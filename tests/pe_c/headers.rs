@@ -1,13 +1,9 @@
 //! All numbers of headers. The images have bytes that count up with their offset, so that a field at offset 0x48 of 4 bytes is
 //! 0x4B4A4948; the offsets of fields are those of winnt.h.
 
-use super::made::{HEADER_POINTER, PERMISSIVE, SHORT, STRICT};
+use super::made::*;
 use crate::headers::{CoffFields, DosFields, Headers, OptionalFields, pe_c_headers};
-use crate::base::ranges::Range;
-use crate::base::results::DONE;
-use pe_core::DataDirectory;
-use pe_images::{pointer_below_64, put, with_every_directory, with_every_directory_of_x86};
-use std::test::Fail;
+use pe_images::{pointer_below_64, with_every_directory, with_every_directory_of_x86};
 
 const NOWHERE: DataDirectory = DataDirectory {
     virtual_address: 9,
@@ -220,10 +216,8 @@ fn every_number_of_64_bits(rt: HostRuntime) -> Result<(), Fail> {
     let mut out = untouched();
     assert_eq!(rt; pe_c_headers(&bytes, STRICT, &mut out), DONE);
     let words = dos_words(&out.dos);
-    assert_eq!(rt;
-        (words[0], out.dos.pe_pointer, out.signature),
-        (0x5A4D, 0x40, 0x4550)
-    );
+    let found = (words[0], out.dos.pe_pointer, out.signature);
+    assert_eq!(rt; found, (0x5A4D, 0x40, 0x4550));
     for i in 1..30 {
         assert_eq!(rt; u64::from(words[i]), counted(2 * i as u64, 2), "{i}");
     }
@@ -248,12 +242,12 @@ fn every_number_of_64_bits(rt: HostRuntime) -> Result<(), Fail> {
     Ok(())
 }
 
-/// PE32 has a base of data before its image base, and 4 bytes where PE32+ has 8.
+/// PE32 has a base of data before its image base, and 4 bytes where PE32+ has 8. The size field of the optional header is not asked.
 #[test]
 fn every_number_of_32_bits(rt: HostRuntime) -> Result<(), Fail> {
     let mut bytes = with_every_directory_of_x86(rt.alloc())?;
     count_up(&mut bytes, 0xB4);
-    put(&mut bytes, &[(0xB4, &[5, 0, 0, 0x80])]);
+    put(&mut bytes, &[(0x54, &[0x60]), (0xB4, &[5, 0, 0, 0x80])]);
     let mut out = untouched();
     assert_eq!(rt; pe_c_headers(&bytes, STRICT, &mut out), DONE);
     assert_eq!(rt; out.optional.magic, 0x10B);
@@ -279,10 +273,8 @@ fn headers_without_an_optional_header(rt: HostRuntime) -> Result<(), Fail> {
     assert_eq!(rt; pe_c_headers(&bytes, PERMISSIVE, &mut out), DONE);
     assert_eq!(rt; (out.dos.pe_pointer, out.dos_stub.length), (0x30, 0));
     assert_eq!(rt; optional_numbers(&out.optional), [0; 29]);
-    assert_eq!(rt;
-        (out.optional.magic, out.optional.number_of_directories),
-        (0, 0)
-    );
+    let found = (out.optional.magic, out.optional.number_of_directories);
+    assert_eq!(rt; found, (0, 0));
     assert_eq!(rt; (out.optional_offset, out.directories_offset), (0, 0));
     let row = out.directories[15];
     assert_eq!(rt; (row.virtual_address, row.size), (0, 0));

@@ -1,18 +1,11 @@
 //! Headers, sections, and the file offsets of RVAs.
 
-use super::made::{
-    BAD_MAGIC, HEADER_POINTER, MAPPED, PERMISSIVE, SHORT, STRICT, directory, image, in_mode,
-    section, sections, view,
-};
-use crate::headers::image::{Image, pe_c_image, pe_c_offset, pe_c_sections};
-use crate::base::results::{DONE, NOTHING, ROOM};
-use pe_core::SectionTable;
+use super::made::*;
+use crate::headers::image::{pe_c_image, pe_c_offset, pe_c_sections};
 use pe_images::{
-    headers_alone, image as bytes_of, pointer_below_64, put, with_every_directory,
+    headers_alone, image as bytes_of, pointer_below_64, with_every_directory,
     with_every_directory_of_x86,
 };
-use std::alloc::Global;
-use std::test::Fail;
 
 /// What an image is before a call that hands out another.
 fn untouched() -> Image {

@@ -1,17 +1,10 @@
 //! Images written. The image is one of 1,040 bytes: a section header at 0x148, the section at 0x200, a certificate of 9 bytes at
 //! 0x400. Written unchanged it is itself, and where something was changed the bytes follow from the format.
 
-use super::made::{
-    CERTIFICATE_TABLE, NO_OPTIONAL_HEADER, PERMISSIVE, STRICT, WRITE_ALIGNMENT, WRITE_FIT,
-    WRITE_OVERLAP, WRITE_SECTION, WRITE_SYMBOLS, X64, asked, image, in_mode, view,
-};
+use super::made::*;
 use crate::headers::image::{pe_c_image, pe_c_sections};
 use crate::write::image::{pe_c_write_certificates, pe_c_write_image, pe_c_write_whole};
-use crate::base::results::{DONE, ROOM};
-use pe_core::SectionTable;
-use pe_images::{pointer_below_64, put, with_every_directory, with_functions};
-use std::alloc::{AllocError, Global};
-use std::test::Fail;
+use pe_images::{pointer_below_64, with_every_directory, with_functions};
 
 /// What a byte of the room, and the number, is before a call.
 const OLD: u8 = 0xEE;

@@ -1,20 +1,11 @@
 //! The libraries of an import directory, and the imports of each, one a step.
 
-use super::made::{
-    IMPORT_NAME, OVER, SHORT, UNMAPPED, X64, directory, having, image, of_range, range, sections,
-    view,
-};
+use super::made::*;
 use super::steps::{pe_c_next_import, pe_c_next_library};
-use crate::headers::image::Image;
 use crate::names::imports::{
     Import, ImportWalk, Imports, Libraries, Library, LibraryWalk, pe_c_import_libraries,
 };
-use crate::base::kept_sections::NO_SECTIONS;
-use crate::base::ranges::Range;
-use crate::base::results::{DONE, NOTHING};
-use pe_images::{image as bytes_of, put};
-use std::alloc::Global;
-use std::test::Fail;
+use pe_images::image as bytes_of;
 
 /// How many bytes the file has.
 const LENGTH: u64 = 0xC0;

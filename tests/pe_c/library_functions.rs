@@ -1,15 +1,10 @@
 //! The list of the functions of all delay-loaded DLLs, whose names are read together in a room of the caller.
 
-use super::made::{OVER, RUN, SHORT, X64, image, of_range, range, sections, view};
+use super::made::*;
 use crate::directories::delay_imports::{DelayedFunction, DelayedFunctions};
-use crate::headers::image::Image;
 use crate::directories::all_delay_imports::{LibraryFunction, LibraryFunctions};
 use crate::lists::library_functions::pe_c_list_all_delayed_functions;
-use crate::base::ranges::Range;
-use crate::base::results::DONE;
 use pe_images::image as bytes_of;
-use std::alloc::Global;
-use std::test::Fail;
 
 /// What is in the array before a call.
 const NO_FUNCTION: LibraryFunction = LibraryFunction {
@@ -141,10 +136,8 @@ fn all_delayed_functions_in_their_order(rt: HostRuntime) -> Result<(), Fail> {
         (third, ([0x50, 0x20], [0xD8, 0x28], 1, [0xA2, 2], 2)),
     ] {
         let (answer, written, [entry, ..]) = list(&bytes, &image, &mut walk, 0, 1);
-        assert_eq!(rt;
-            (answer, written, entry, of_walk(walk)),
-            (DONE, 1, function, after)
-        );
+        let found = (answer, written, entry, of_walk(walk));
+        assert_eq!(rt; found, (DONE, 1, function, after));
     }
     // The second entry is truncated: what comes before it is listed, and the walk is over after the error.
     let mut walk = walk_over([0x10, 63]);

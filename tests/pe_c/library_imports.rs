@@ -1,17 +1,10 @@
 //! The list of the imports of all libraries, whose names are read together in a room of the caller.
 
 use super::imports::{NO_IMPORT as ONLY_ONES, with_imports};
-use super::made::{
-    OVER, RUN, UNMAPPED, X64, directory, having, image, of_range, range, sections, view,
-};
-use crate::headers::image::Image;
+use super::made::*;
 use crate::names::imports::{Import, Imports, Libraries};
 use crate::names::all_imports::{LibraryImport, LibraryImports};
 use crate::lists::library_imports::pe_c_list_all_imports;
-use crate::base::ranges::Range;
-use crate::base::results::DONE;
-use pe_images::put;
-use std::test::Fail;
 
 /// What is in the array before a call.
 const NO_IMPORT: LibraryImport = LibraryImport {
@@ -131,10 +124,8 @@ fn all_imports_in_their_order(rt: HostRuntime) -> Result<(), Fail> {
         (third, (0x38, 0, [0x90, 0], 0x1090, [0xA2, 2], 2)),
     ] {
         let (answer, written, [entry, ..]) = list(&bytes, &image, &mut walk, 0, 1);
-        assert_eq!(rt;
-            (answer, written, entry, of_walk(walk)),
-            (DONE, 1, import, after)
-        );
+        let found = (answer, written, entry, of_walk(walk));
+        assert_eq!(rt; found, (DONE, 1, import, after));
     }
     Ok(())
 }

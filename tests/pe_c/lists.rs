@@ -2,22 +2,12 @@
 //! is left as it was. The entries are those that the tests of the steps expect.
 
 use super::imports::{NO_IMPORT, from_import, with_imports};
-use super::made::{
-    IMPORT_NAME, NO_RANGE, OVER, SHORT, TREE_NOT_DIRECTORY, UNMAPPED, UNWIND_CODE, X64, directory,
-    having, image, of_range, range, sections, view,
-};
-use super::resource_leaves::{NO_LEAF, of_size, walk as walk_over_leaves, with_tree};
+use super::made::*;
 use crate::names::imports::Imports;
 use crate::lists::imports::pe_c_list_imports;
-use crate::lists::resources::pe_c_list_resource_leaves;
 use crate::lists::x64::{CodeForm, pe_c_all_codes, pe_c_list_codes, pe_c_list_functions};
-use crate::base::ranges::Range;
-use crate::resources::leaves::pe_c_resource_leaves;
-use crate::base::results::{DONE, ROOM};
 use crate::unwinding::{Code, CodeWalk};
-use pe_images::put;
 use pe_unwind::RuntimeFunction;
-use std::test::Fail;
 
 /// What `written` is before a call.
 const UNWRITTEN: u64 = 77;
@@ -94,10 +84,8 @@ fn codes_in_lists(rt: HostRuntime) {
         let mut entries = [NO_CODE; 3];
         let mut written = UNWRITTEN;
         let number = pe_c_list_codes(&bytes, &mut walk, &mut entries[..room], &mut written);
-        assert_eq!(rt;
-            (number, written, of_range(walk.left)),
-            (answer, count, left)
-        );
+        let found = (number, written, of_range(walk.left));
+        assert_eq!(rt; found, (answer, count, left));
         let code = entries[0];
         let fields = [
             u32::from(code.code_offset),
@@ -177,26 +165,5 @@ fn imports_in_lists(rt: HostRuntime) -> Result<(), Fail> {
     let number = pe_c_list_imports(&view, &mut walk, &mut [], &mut entries, &mut written);
     // shows: pe_c/src/names/near_imports.rt require_near Unmapped
     assert_eq!(rt; (number, of_range(walk.imports.left)), (UNMAPPED, OVER));
-    Ok(())
-}
-
-#[test]
-fn leaves_in_lists(rt: HostRuntime) -> Result<(), Fail> {
-    let bytes = with_tree(rt.alloc())?;
-    let (image, sections) = (of_size(0x8E), sections());
-    let view = view(&bytes, &image, &sections);
-    let mut walk = walk_over_leaves(NO_RANGE, NO_RANGE, NO_RANGE, NO_RANGE);
-    assert_eq!(rt; pe_c_resource_leaves(&view, &mut walk.leaves), DONE);
-    for (answer, count, languages) in [
-        (DONE, 2, [0x409, 0x407, 3]),
-        (TREE_NOT_DIRECTORY, UNWRITTEN, [3; 3]),
-        (DONE, 0, [3; 3]),
-    ] {
-        let mut entries = [NO_LEAF; 3];
-        let mut written = UNWRITTEN;
-        let number = pe_c_list_resource_leaves(&view, &mut walk, &mut entries, &mut written);
-        assert_eq!(rt; (number, written), (answer, count));
-        assert_eq!(rt; entries.map(|entry| entry.language.id), languages);
-    }
     Ok(())
 }

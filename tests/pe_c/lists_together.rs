@@ -1,33 +1,16 @@
-//! Lists whose names are read together in a room of the caller: a sample of each, and when the room is filled, which the cost hangs
-//! on and no contract says.
+//! Lists whose names are read together in a room of the caller: when the room is filled, which the cost hangs on and no contract
+//! says. That they have what steps return is a law.
 
-use super::delay_imports::{
-    NO_FUNCTION, NO_LIBRARY as NO_DLL, from as from_dlls, from_function, functions as functions_in,
-};
 use super::exports::from as from_exports;
-use super::imports::{from_import, from_library};
-use super::made::{
-    DIRECTORY_BOUND_IMPORT_NAME, DIRECTORY_DELAY_IMPORT_NAME, IMPORT_NAME, NO_RANGE, OVER, RUN,
-    STRING_TABLE, UNTOUCHED, X64, directory, image, of_range, range, sections, untouched, view,
-};
-use crate::directories::bound_imports::{BoundForwarder, BoundImport};
+use super::made::*;
 use crate::headers::coff::{Symbol, SymbolWalk};
 use crate::names::export_addresses::{AddressTable, Exported};
 use crate::names::exports::{Export, Exports};
-use crate::names::imports::{Import, Imports, Libraries, Library};
-use crate::lists::bound_imports::{pe_c_list_bound_forwarders, pe_c_list_bound_imports};
-use crate::lists::delay_imports::{pe_c_list_delay_imports, pe_c_list_delayed_functions};
 use crate::lists::exports::pe_c_list_exports;
 use crate::lists::forwarders::pe_c_list_export_addresses;
-use crate::lists::imports::{pe_c_list_imports, pe_c_list_libraries};
 use crate::lists::section_names::pe_c_list_long_section_names;
 use crate::lists::symbols::{NamedSymbol, NamedSymbolWalk, pe_c_list_symbols};
-use crate::base::ranges::Range;
-use crate::base::results::DONE;
-use pe_core::SectionTable;
 use pe_images::image as bytes_of;
-use std::alloc::Global;
-use std::test::Fail;
 
 /// Three long texts: at 100h 82 bytes of UTF-8, with a character of two bytes at 146h; at 160h 20 bytes before one that is none of
 /// UTF-8, and 60 after it; at 1B8h 72 bytes up to the end, without a zero.
@@ -158,123 +141,12 @@ fn forwarders_together(rt: HostRuntime) -> Result<(), Fail> {
         for i in 0..18 {
             assert_eq!(rt; of_range(entries[i].forwarder), want[i % 9], "{room} {i}");
             assert_eq!(rt; of_range(entries[i].name), [0x152, 0]);
-            assert_eq!(rt;
-                (entries[i].index, entries[i].is_forwarder),
-                (i as u32 % 9, 1)
-            );
+            let found = (entries[i].index, entries[i].is_forwarder);
+            assert_eq!(rt; found, (i as u32 % 9, 1));
         }
         let first = if room < 17 { 0x7777 } else { 0x100 };
         assert_eq!(rt; runs[0].start, first, "{room}");
     }
-    Ok(())
-}
-
-const NO_LIBRARY: Library = Library {
-    name: NO_RANGE,
-    imports: Imports {
-        left: NO_RANGE,
-        rva: 1,
-    },
-    lookup_table_rva: 1,
-    time_date_stamp: 1,
-    forwarder_chain: 1,
-    name_rva: 1,
-    address_table_rva: 1,
-    spare: 1,
-};
-
-/// Three records from 10h on, with names at 100h, 148h and 101h. Their lists share the zero entry at D8h, but for the last: it is
-/// four bytes off the others, and its zero entry is at D4h.
-const LIBRARIES: [(usize, &[u8]); 7] = [
-    (0x10, &[0xC0, 0x10]),
-    (0x1C, &[0, 0x11, 0, 0, 0, 0x20]),
-    (0x24, &[0xC8, 0x10]),
-    (0x30, &[0x48, 0x11, 0, 0, 0, 0x21]),
-    (0x38, &[0xC4, 0x10]),
-    (0x44, &[0x01, 0x11, 0, 0, 0, 0x22]),
-    (
-        0xC0,
-        &[
-            1, 0, 0, 0, 0, 0, 0, 0, 2, 0, 0, 0, 0, 0, 0, 0, 3, 0, 0, 0, 0, 0, 0, 0, 0, 0, 0, 0, 0,
-            0, 0, 0,
-        ],
-    ),
-];
-
-#[test]
-fn libraries_together(rt: HostRuntime) -> Result<(), Fail> {
-    let bytes = with_texts(rt.alloc(), &LIBRARIES)?;
-    let (image, sections) = (image(X64), sections());
-    let view = view(&bytes, &image, &sections);
-    let start = Libraries {
-        next: 0x10,
-        is_over: 0,
-        spare: 0,
-    };
-    let (mut runs, mut entries) = ([RUN; 4], [NO_LIBRARY; 4]);
-    let (mut walk, mut written) = (from_library(start), 77);
-    let answer = pe_c_list_libraries(&view, &mut walk, &mut runs, &mut entries, &mut written);
-    assert_eq!(rt; (answer, written, walk.libraries.is_over), (DONE, 3, 1));
-    assert_eq!(rt;
-        entries.map(|it| (of_range(it.name), of_range(it.imports.left), it.imports.rva)),
-        [
-            ([0x100, 82], [0xC0, 24], 0x2000),
-            ([0x148, 10], [0xC8, 16], 0x2100),
-            ([0x101, 81], [0xC4, 16], 0x2200),
-            ([0, 0], [0, 0], 1)
-        ]
-    );
-    Ok(())
-}
-
-const NO_IMPORT: Import = Import {
-    name: NO_RANGE,
-    rva: 1,
-    ordinal: 1,
-    has_name: 1,
-};
-
-/// Imports by the names at 100h and 148h, by the ordinal 5, by the name at 176h, and by one that is none: its hint is at 15Eh.
-const IMPORTS: [(usize, &[u8]); 6] = [
-    (0x20, &[0xFE, 0x10]),
-    (0x28, &[0x46, 0x11]),
-    (0x30, &[5, 0, 0, 0, 0, 0, 0, 0x80]),
-    (0x38, &[0x74, 0x11]),
-    (0x40, &[0x5E, 0x11]),
-    (0xFE, &[9, 0]),
-];
-
-#[test]
-fn imports_together(rt: HostRuntime) -> Result<(), Fail> {
-    let bytes = with_texts(rt.alloc(), &IMPORTS)?;
-    let (image, sections) = (image(X64), sections());
-    let view = view(&bytes, &image, &sections);
-    let start = Imports {
-        left: range(0x20, 40),
-        rva: 0x3000,
-    };
-    let (mut runs, mut entries) = ([RUN; 5], [NO_IMPORT; 5]);
-    let (mut walk, mut written) = (from_import(start), 77);
-    let answer = pe_c_list_imports(&view, &mut walk, &mut runs, &mut entries, &mut written);
-    assert_eq!(rt;
-        (answer, written, of_range(walk.imports.left)),
-        (DONE, 4, [0x40, 8])
-    );
-    assert_eq!(rt;
-        entries.map(|it| (of_range(it.name), it.rva, it.ordinal, it.has_name)),
-        [
-            ([0x100, 82], 0x3000, 9, 1),
-            ([0x148, 10], 0x3008, 0xA9C3, 1),
-            ([0, 0], 0x3010, 5, 0),
-            ([0x176, 59], 0x3018, 0x64FF, 1),
-            ([0, 0], 1, 1, 1)
-        ]
-    );
-    let answer = pe_c_list_imports(&view, &mut walk, &mut runs, &mut entries, &mut written);
-    assert_eq!(rt;
-        (answer, written, of_range(walk.imports.left)),
-        (IMPORT_NAME, 4, OVER)
-    );
     Ok(())
 }
 
@@ -417,78 +289,6 @@ fn forwarders_by_their_index(rt: HostRuntime) -> Result<(), Fail> {
     Ok(())
 }
 
-/// Three entries with RVAs, of which the last has a name that is not UTF-8: their names are at 148h, 100h and 160h. The table of each
-/// is at A0h: hints before the names at 148h and 100h, an ordinal 9, and a hint before the name at 176h.
-const DELAYED: [(usize, &[u8]); 7] = [
-    (0x10, &[1, 0, 0, 0, 0x48, 0x11]),
-    (0x20, &[0xA0, 0x10]),
-    (0x30, &[1, 0, 0, 0, 0x00, 0x11]),
-    (0x40, &[0xA0, 0x10]),
-    (0x50, &[1, 0, 0, 0, 0x60, 0x11]),
-    (
-        0xA0,
-        &[0x46, 0x11, 0, 0, 0, 0, 0, 0, 0xFE, 0x10, 0, 0, 0, 0, 0, 0],
-    ),
-    (
-        0xB0,
-        &[9, 0, 0, 0, 0, 0, 0, 0x80, 0x74, 0x11, 0, 0, 0, 0, 0, 0],
-    ),
-];
-
-#[test]
-fn delay_imports_together(rt: HostRuntime) -> Result<(), Fail> {
-    let bytes = with_texts(rt.alloc(), &DELAYED)?;
-    let (image, sections) = (image(X64), sections());
-    let view = view(&bytes, &image, &sections);
-    let (mut runs, mut entries) = ([RUN; 4], [NO_DLL; 4]);
-    let (mut walk, mut written) = (from_dlls(range(0x10, 0x60)), 77);
-    let answer = pe_c_list_delay_imports(&view, &mut walk, &mut runs, &mut entries, &mut written);
-    assert_eq!(rt; (answer, written), (DONE, 2));
-    for (entry, name) in entries.iter().zip(&[[0x148, 10], [0x100, 82]]) {
-        assert_eq!(rt; of_range(entry.name), *name);
-        assert_eq!(rt; of_range(entry.functions.left), [0xA0, 0x160]);
-    }
-    let answer = pe_c_list_delay_imports(&view, &mut walk, &mut runs, &mut entries, &mut written);
-    assert_eq!(rt;
-        (answer, of_range(walk.entries)),
-        (DIRECTORY_DELAY_IMPORT_NAME, OVER)
-    );
-    Ok(())
-}
-
-#[test]
-fn delayed_functions_together(rt: HostRuntime) -> Result<(), Fail> {
-    let bytes = with_texts(rt.alloc(), &DELAYED)?;
-    let (image, sections) = (image(X64), sections());
-    let view = view(&bytes, &image, &sections);
-    let mut walk = from_function(functions_in([0xA0, 0x160], 1));
-    let (mut runs, mut entries, mut written) = ([RUN; 4], [NO_FUNCTION; 4], 77);
-    let answer = pe_c_list_delayed_functions(
-        &view,
-        &mut walk,
-        &mut runs,
-        &mut entries,
-        &mut written,
-    );
-    assert_eq!(rt; (answer, written), (DONE, 4));
-    let functions = walk.functions;
-    assert_eq!(rt;
-        (of_range(functions.left), functions.attributes),
-        ([0xC0, 0x140], 1)
-    );
-    // Names, hints or ordinals, and which they are. A hint is the two bytes before a name.
-    assert_eq!(rt;
-        entries.map(|it| (of_range(it.name), it.ordinal, it.has_name)),
-        [
-            ([0x148, 10], 0xA9C3, 1),
-            ([0x100, 82], 0, 1),
-            ([0, 0], 9, 0),
-            ([0x176, 59], 0x64FF, 1),
-        ]
-    );
-    Ok(())
-}
-
 /// The string table from FCh on: offset 4 leads to 100h, and 76, 75 and 121 to 148h, 147h and 175h.
 #[test]
 fn long_section_names_together(rt: HostRuntime) -> Result<(), Fail> {
@@ -518,83 +318,6 @@ fn long_section_names_together(rt: HostRuntime) -> Result<(), Fail> {
     assert_eq!(rt;
         names.map(of_range),
         [[0, 0], [0x148, 10], [0, 0], [0x175, 60], UNTOUCHED]
-    );
-    Ok(())
-}
-
-/// A directory from 10h to the end: DLLs whose names are at 148h and 100h, of which the first forwards to those at 146h and 152h; and
-/// one whose name is at 160h, which is not UTF-8. Offsets count from 10h.
-const BOUND: [(usize, &[u8]); 1] = [(
-    0x10,
-    &[
-        1, 0, 0, 0, 0x38, 1, 2, 0, 2, 0, 0, 0, 0x36, 1, 0, 0, 3, 0, 0, 0, 0x42, 1, 9, 0, 4, 0, 0,
-        0, 0xF0, 0, 0, 0, 5, 0, 0, 0, 0x50, 1,
-    ],
-)];
-
-#[test]
-fn bound_imports_together(rt: HostRuntime) -> Result<(), Fail> {
-    let bytes = with_texts(rt.alloc(), &BOUND)?;
-    let table = range(0x10, 0x1F0);
-    let none = BoundImport {
-        name: NO_RANGE,
-        forwarders: NO_RANGE,
-        time_date_stamp: 77,
-        spare: 7,
-    };
-    let (mut runs, mut entries) = ([RUN; 3], [none; 3]);
-    let (mut walk, mut written) = (table, 77);
-    let answer = pe_c_list_bound_imports(
-        &bytes,
-        &table,
-        &mut walk,
-        &mut runs,
-        &mut entries,
-        &mut written,
-    );
-    assert_eq!(rt; (answer, written), (DONE, 2));
-    assert_eq!(rt;
-        entries.map(|it| (
-            of_range(it.name),
-            of_range(it.forwarders),
-            it.time_date_stamp
-        )),
-        [
-            ([0x148, 10], [0x18, 16], 1),
-            ([0x100, 82], [0x30, 0], 4),
-            ([0, 0], [0, 0], 77)
-        ]
-    );
-    let answer = pe_c_list_bound_imports(
-        &bytes,
-        &table,
-        &mut walk,
-        &mut runs,
-        &mut entries,
-        &mut written,
-    );
-    assert_eq!(rt;
-        (answer, of_range(walk)),
-        (DIRECTORY_BOUND_IMPORT_NAME, OVER)
-    );
-    let none = BoundForwarder {
-        name: NO_RANGE,
-        time_date_stamp: 77,
-        spare: 7,
-    };
-    let (mut walk, mut forwarders) = (range(0x18, 16), [none; 3]);
-    let answer = pe_c_list_bound_forwarders(
-        &bytes,
-        &table,
-        &mut walk,
-        &mut runs,
-        &mut forwarders,
-        &mut written,
-    );
-    assert_eq!(rt; (answer, written), (DONE, 2));
-    assert_eq!(rt;
-        forwarders.map(|it| (of_range(it.name), it.time_date_stamp)),
-        [([0x146, 12], 2), ([0x152, 0], 3), ([0, 0], 77)]
     );
     Ok(())
 }

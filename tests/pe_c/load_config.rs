@@ -1,11 +1,7 @@
 //! The load configuration of an image: each field, and which are there.
 
-use super::made::{SHORT, X64, directory, having, image, sections, view, words};
-use crate::headers::image::Image;
+use super::made::*;
 use crate::directories::load_config::{LoadConfig, pe_c_load_config, pe_c_load_config_field};
-use crate::base::results::{DONE, NOTHING};
-use std::alloc::{AllocError, Global};
-use std::test::Fail;
 
 /// What `out` is before each call.
 pub(crate) const UNTOUCHED: LoadConfig = LoadConfig {
@@ -164,7 +160,8 @@ fn fields_of_pe32_plus(rt: HostRuntime) -> Result<(), Fail> {
 }
 
 /// The fields with a number, in order: the offset and the size of each in `IMAGE_LOAD_CONFIG_DIRECTORY32`, then those in
-/// `IMAGE_LOAD_CONFIG_DIRECTORY64`.
+/// `IMAGE_LOAD_CONFIG_DIRECTORY64`. The offsets are those that `offsetof` has of LLVM 14's `llvm/Object/COFF.h`, but for the affinity and
+/// the flags of the heap, which are those of winnt.h in mingw-w64 and in Wine, and for the guarded `memcpy`, which follows the cast guard.
 const NUMBERED: [(usize, usize, usize, usize); 37] = [
     (12, 4, 12, 4), // GlobalFlagsClear
     (16, 4, 16, 4), // GlobalFlagsSet

@@ -1,15 +1,7 @@
 //! The image as a loader lays it out, and base relocations applied to it.
 
-use super::made::{
-    DIRECTORY_BLOCK_SIZE, DIRECTORY_NO_ARGUMENT, DIRECTORY_RELOCATION_KIND,
-    DIRECTORY_RELOCATION_OUTSIDE, MAPPED, STRICT, UNMAPPED, X64, directory, having, image, in_mode,
-    section, view, words,
-};
-use crate::headers::image::Image;
+use super::made::*;
 use crate::headers::loaded::{pe_c_map, pe_c_relocate};
-use crate::base::results::{DONE, NOTHING, ROOM};
-use pe_core::SectionTable;
-use std::test::Fail;
 
 /// An image of 0x28 bytes with headers of 5, which is mapped byte by byte.
 fn small(mode: u32) -> Image {
@@ -53,16 +45,12 @@ fn images_as_loaded(rt: HostRuntime) {
     let (bytes, image, sections) = (numbered(), small(STRICT), three_sections());
     let view = view(&bytes, &image, &sections);
     let (mut room, mut written) = ([7; 0x2A], 0);
-    assert_eq!(rt;
-        (pe_c_map(&view, &mut room, &mut written), written),
-        (DONE, 0x28)
-    );
+    let found = (pe_c_map(&view, &mut room, &mut written), written);
+    assert_eq!(rt; found, (DONE, 0x28));
     assert_eq!(rt; (&room[..0x28], &room[0x28..]), (&LOADED[..], &[7, 7][..]));
     let (mut small, mut needed) = ([7; 0x27], 0);
-    assert_eq!(rt;
-        (pe_c_map(&view, &mut small, &mut needed), needed),
-        (ROOM, 0x28)
-    );
+    let found = (pe_c_map(&view, &mut small, &mut needed), needed);
+    assert_eq!(rt; found, (ROOM, 0x28));
     assert_eq!(rt; small, [7; 0x27]);
 }
 
@@ -73,10 +61,8 @@ fn images_that_are_loaded(rt: HostRuntime) {
     let bytes = [9; 0x20];
     let found = pe_c_map(&view(&bytes, &image, &[]), &mut room, &mut written);
     assert_eq!(rt; found, DONE);
-    assert_eq!(rt;
-        (&room[..0x20], &room[0x20..]),
-        (&[9; 0x20][..], &[0; 8][..])
-    );
+    let found = (&room[..0x20], &room[0x20..]);
+    assert_eq!(rt; found, (&[9; 0x20][..], &[0; 8][..]));
 }
 
 /// An image as loaded with a table at its start, of so many bytes; the field of its base is at 0x30.
@@ -107,17 +93,13 @@ fn numbers_of_each_type(rt: HostRuntime) -> Result<(), Fail> {
     let mut room = [0xFF; 0x48];
     let difference: u64 = 0x1_2345_8001;
     assert_eq!(rt; pe_c_relocate(&view, difference, &mut room), DONE);
-    assert_eq!(rt;
-        (&room[..0x30], &room[0x30..]),
-        (&[0xFF; 0x30][..], &MOVED[..])
-    );
+    let found = (&room[..0x30], &room[0x30..]);
+    assert_eq!(rt; found, (&[0xFF; 0x30][..], &MOVED[..]));
     let found = pe_c_relocate(&view, 0u64.wrapping_sub(difference), &mut room);
     assert_eq!(rt; found, DONE);
     // what a HIGH gets of the low 16 bits is no carry, so that it comes back only by differences that have none
-    assert_eq!(rt;
-        (&room[..0x46], room[0x46], room[0x47]),
-        (&[0xFF; 0x46][..], 0xFE, 0xFF)
-    );
+    let found = (&room[..0x46], room[0x46], room[0x47]);
+    assert_eq!(rt; found, (&[0xFF; 0x46][..], 0xFE, 0xFF));
     Ok(())
 }
 

@@ -1,15 +1,19 @@
 //! What calls are handed, and what they hand out, as plain numbers.
 
-use crate::failures::headers::Failure;
-use crate::headers::image::Image;
-use crate::base::ranges::Range;
-use crate::base::results::{DONE, ROOM};
-use crate::base::text_runs::Run;
-use crate::base::view::View;
-use pe_core::{DataDirectory, SectionTable};
-use pe_frame::{IndexEntry, MemoryPiece};
+pub(crate) use crate::failures::headers::Failure;
+pub(crate) use crate::headers::image::Image;
+pub(crate) use crate::base::kept_sections::{KeptSections, NO_SECTIONS};
+pub(crate) use crate::base::ranges::{NO_BYTES, Range};
+pub(crate) use crate::base::results::{DONE, NOTHING, ROOM};
+pub(crate) use crate::base::text_runs::Run;
+pub(crate) use crate::base::view::View;
+pub(crate) use pe_core::{DataDirectory, SectionTable};
+pub(crate) use pe_frame::{IndexEntry, MemoryPiece};
 use pe_images::image as bytes_of;
-use std::alloc::{AllocError, Global};
+pub(crate) use pe_images::put;
+use pe_records::ImageDebugDirectory;
+pub(crate) use std::alloc::{AllocError, Global};
+pub(crate) use std::test::Fail;
 
 pub(crate) const STRICT: u32 = 0;
 
@@ -213,6 +217,18 @@ pub(crate) const OVER: [u64; 2] = [0, 0];
 pub(crate) const NO_RANGE: Range = Range {
     offset: 0,
     length: 0,
+};
+
+/// What an entry of the debug directory is before a call that hands out another.
+pub(crate) const NO_DEBUG_ENTRY: ImageDebugDirectory = ImageDebugDirectory {
+    characteristics: 9,
+    time_date_stamp: 9,
+    major_version: 9,
+    minor_version: 9,
+    data_type: 9,
+    size_of_data: 9,
+    address_of_raw_data: 9,
+    pointer_to_raw_data: 9,
 };
 
 /// What a room for texts has before a call.

@@ -1,13 +1,8 @@
 //! Which section maps an RVA, and the bytes to which a section maps its RVAs.
 
-use super::made::{
-    MAPPED, STRICT, UNTOUCHED, X64, image, in_mode, of_range, section, untouched, view,
-};
-use crate::headers::image::Image;
+use super::made::*;
 use crate::headers::map_ranges::{pe_c_range_at, pe_c_rva};
 use crate::headers::maps::{pe_c_section_at, pe_c_section_range};
-use crate::base::results::{DONE, NOTHING};
-use pe_core::SectionTable;
 
 fn aligned(file_alignment: u32, mode: u32) -> Image {
     Image {

@@ -1,13 +1,9 @@
 //! The memory of a dump in order, and where in the dump the bytes at addresses are. What is expected is worked out by hand: an
 //! address is that of the first piece of the list that has it.
 
-use super::made::{SHORT, of_range, range};
+use super::made::*;
 use crate::dump::memory_runs::{pe_c_memory_ranges, pe_c_memory_runs};
-use crate::base::ranges::Range;
-use crate::base::results::{DONE, ROOM};
-use pe_frame::MemoryPiece;
 use pe_stacks::RangeEntry;
-use std::test::Fail;
 
 fn piece(start: u64, offset: u64, length: u64) -> MemoryPiece {
     MemoryPiece {
@@ -104,10 +100,8 @@ fn ranges_of_addresses_are_found(rt: HostRuntime) -> Result<(), Fail> {
         range(0x1000, 3),
     ];
     let mut found = [range(7, 8); 5];
-    assert_eq!(rt;
-        pe_c_memory_ranges(&memory, &runs[..5], &asked, &mut found, &mut written),
-        DONE
-    );
+    let said = pe_c_memory_ranges(&memory, &runs[..5], &asked, &mut found, &mut written);
+    assert_eq!(rt; said, DONE);
     assert_eq!(rt; written, 4);
     let places: [[u64; 2]; 5] = [
         of_range(found[0]),

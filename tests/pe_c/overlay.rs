@@ -1,12 +1,8 @@
 //! The bytes after the headers and the raw data of all sections.
 
-use super::made::{
-    self, MAPPED, UNTOUCHED, X64, image, in_mode, of_range, sections, untouched, view,
-};
-use crate::headers::image::Image;
+use super::made;
+use super::made::*;
 use crate::headers::overlay::pe_c_overlay;
-use crate::base::results::{DONE, NOTHING};
-use pe_core::SectionTable;
 
 fn overlay_of(length: usize, image: &Image, sections: &[SectionTable]) -> (u32, [u64; 2]) {
     let bytes = [0; 0x1800];

@@ -155,10 +155,8 @@ fn a_pdb_says_which_one_it_is(rt: HostRuntime) -> Result<(), Fail> {
         assert_eq!(rt; (pdb.machine, pdb.flags, pdb.build), (0x8664, 0, 36363));
         assert_eq!(rt; (pdb.symbol_stream, pdb.section_headers), (8, 10));
         assert_eq!(rt; pdb.original_section_headers, 0xFFFF);
-        assert_eq!(rt;
-            (pdb.omap_to_source, pdb.omap_from_source),
-            (0xFFFF, 0xFFFF)
-        );
+        let found = (pdb.omap_to_source, pdb.omap_from_source);
+        assert_eq!(rt; found, (0xFFFF, 0xFFFF));
         assert_eq!(rt; of_range(pdb.modules), [64, 228]);
         assert_eq!(rt; of_range(pdb.contributions), [292, 228]);
     }
@@ -214,10 +212,8 @@ fn a_dbi_stream_costs_itself_alone(rt: HostRuntime) -> Result<(), Fail> {
         assert_eq!(rt; (pdb.machine, pdb.flags, pdb.build), (0, 0, 0));
         assert_eq!(rt; (pdb.symbol_stream, pdb.section_headers), (0xFFFF, 0xFFFF));
         assert_eq!(rt; pdb.original_section_headers, 0xFFFF);
-        assert_eq!(rt;
-            (pdb.omap_to_source, pdb.omap_from_source),
-            (0xFFFF, 0xFFFF)
-        );
+        let found = (pdb.omap_to_source, pdb.omap_from_source);
+        assert_eq!(rt; found, (0xFFFF, 0xFFFF));
         assert_eq!(rt; of_range(pdb.modules), [0, 0]);
         assert_eq!(rt; of_range(pdb.contributions), [0, 0]);
     }
@@ -230,10 +226,8 @@ fn streams_are_copied_block_by_block(rt: HostRuntime) -> Result<(), Fail> {
     let moved = scattered(rt.alloc(), &bytes)?;
     let mut starts = [7u64; 17];
     let mut written = 9;
-    assert_eq!(rt;
-        pe_c_pdb_starts(&moved, &mut starts[..15], &mut written),
-        ROOM
-    );
+    let found = pe_c_pdb_starts(&moved, &mut starts[..15], &mut written);
+    assert_eq!(rt; found, ROOM);
     assert_eq!(rt; (written, starts), (16, [7; 17]));
     assert_eq!(rt; pe_c_pdb_starts(&moved, &mut starts, &mut written), DONE);
     // The number of streams and their sizes are 17 numbers; a list has a number for each block of 512 bytes.
@@ -245,49 +239,37 @@ fn streams_are_copied_block_by_block(rt: HostRuntime) -> Result<(), Fail> {
         ]
     );
     written = 9;
-    assert_eq!(rt;
-        pe_c_pdb_starts(&moved[..55], &mut starts, &mut written),
-        SHORT
-    );
+    let found = pe_c_pdb_starts(&moved[..55], &mut starts, &mut written);
+    assert_eq!(rt; found, SHORT);
     assert_eq!(rt; (written, starts[0]), (9, 17));
     for index in 0..16 {
         let own = stream(rt.alloc(), &bytes, index)?;
         assert_eq!(rt; own.len() as u64, SIZES[index as usize]);
         let mut room = vec![in rt.alloc(); 0x77u8; own.len() + 1]?;
         for starts in [&starts[..16], &[]] {
-            assert_eq!(rt;
-                pe_c_pdb_stream(&moved, starts, index, &mut room, &mut written),
-                DONE
-            );
+            let found = pe_c_pdb_stream(&moved, starts, index, &mut room, &mut written);
+            assert_eq!(rt; found, DONE);
             assert_eq!(rt; written, SIZES[index as usize]);
             assert_eq!(rt; &room[..own.len()], &own[..]);
             assert_eq!(rt; room[own.len()], 0x77);
         }
     }
     let mut room = [7u8; 1159];
-    assert_eq!(rt;
-        pe_c_pdb_stream(&moved, &[], 4, &mut room, &mut written),
-        ROOM
-    );
+    let found = pe_c_pdb_stream(&moved, &[], 4, &mut room, &mut written);
+    assert_eq!(rt; found, ROOM);
     assert_eq!(rt; (written, room), (1160, [7; 1159]));
     written = 9;
     for (index, error) in [(16, PDB_NO_STREAM), (0xFFFF_FFFF, PDB_NO_STREAM)] {
-        assert_eq!(rt;
-            pe_c_pdb_stream(&moved, &starts, index, &mut room, &mut written),
-            error
-        );
+        let found = pe_c_pdb_stream(&moved, &starts, index, &mut room, &mut written);
+        assert_eq!(rt; found, error);
     }
     // Starts that are none: past the directory, and at a number that is no block.
     starts[4] = u64::MAX;
-    assert_eq!(rt;
-        pe_c_pdb_stream(&moved, &starts, 4, &mut room, &mut written),
-        PDB_DIRECTORY
-    );
+    let found = pe_c_pdb_stream(&moved, &starts, 4, &mut room, &mut written);
+    assert_eq!(rt; found, PDB_DIRECTORY);
     starts[4] = 4;
-    assert_eq!(rt;
-        pe_c_pdb_stream(&moved, &starts, 4, &mut room, &mut written),
-        PDB_BLOCK
-    );
+    let found = pe_c_pdb_stream(&moved, &starts, 4, &mut room, &mut written);
+    assert_eq!(rt; found, PDB_BLOCK);
     assert_eq!(rt; (written, room), (9, [7; 1159]));
     Ok(())
 }
@@ -299,31 +281,19 @@ fn modules_are_listed(rt: HostRuntime) -> Result<(), Fail> {
     let mut walk = range(64, 228);
     let mut entries = [NO_MODULE; 4];
     let mut written = 9;
-    assert_eq!(rt;
-        pe_c_list_pdb_modules(&dbi, &mut walk, &mut entries[..0], &mut written),
-        ROOM
-    );
-    assert_eq!(rt;
-        pe_c_list_pdb_modules(&dbi, &mut walk, &mut entries[..1], &mut written),
-        DONE
-    );
-    assert_eq!(rt;
-        (written, of_range(walk), entries[1].stream),
-        (1, [140, 152], 9)
-    );
-    assert_eq!(rt;
-        pe_c_list_pdb_modules(&dbi, &mut walk, &mut entries[1..], &mut written),
-        DONE
-    );
+    let found = pe_c_list_pdb_modules(&dbi, &mut walk, &mut entries[..0], &mut written);
+    assert_eq!(rt; found, ROOM);
+    let found = pe_c_list_pdb_modules(&dbi, &mut walk, &mut entries[..1], &mut written);
+    assert_eq!(rt; found, DONE);
+    let found = (written, of_range(walk), entries[1].stream);
+    assert_eq!(rt; found, (1, [140, 152], 9));
+    let found = pe_c_list_pdb_modules(&dbi, &mut walk, &mut entries[1..], &mut written);
+    assert_eq!(rt; found, DONE);
     assert_eq!(rt; (written, of_range(walk)), (2, [292, 0]));
-    assert_eq!(rt;
-        pe_c_list_pdb_modules(&dbi, &mut walk, &mut entries[3..], &mut written),
-        DONE
-    );
-    assert_eq!(rt;
-        (written, of_range(walk), entries[3].stream),
-        (0, [292, 0], 9)
-    );
+    let found = pe_c_list_pdb_modules(&dbi, &mut walk, &mut entries[3..], &mut written);
+    assert_eq!(rt; found, DONE);
+    let found = (written, of_range(walk), entries[3].stream);
+    assert_eq!(rt; found, (0, [292, 0], 9));
     let listed = [
         (
             [128, 5],
@@ -351,19 +321,13 @@ fn modules_are_listed(rt: HostRuntime) -> Result<(), Fail> {
         ),
     ];
     for (module, (name, file, symbols, lines, code, numbers)) in entries.iter().zip(listed) {
-        assert_eq!(rt;
-            (of_range(module.name), of_range(module.file)),
-            (name, file)
-        );
-        assert_eq!(rt;
-            (of_range(module.symbols), of_range(module.lines)),
-            (symbols, lines)
-        );
+        let found = (of_range(module.name), of_range(module.file));
+        assert_eq!(rt; found, (name, file));
+        let found = (of_range(module.symbols), of_range(module.lines));
+        assert_eq!(rt; found, (symbols, lines));
         assert_eq!(rt; [module.code_offset, module.code_size], code);
-        assert_eq!(rt;
-            [module.section, module.stream, module.number_of_files],
-            numbers
-        );
+        let found = [module.section, module.stream, module.number_of_files];
+        assert_eq!(rt; found, numbers);
     }
     assert_eq!(rt; &dbi[280..290], b"* Linker *".as_slice());
     written = 9;
@@ -373,10 +337,8 @@ fn modules_are_listed(rt: HostRuntime) -> Result<(), Fail> {
         (range(717, 1), SHORT),
     ] {
         walk = start;
-        assert_eq!(rt;
-            pe_c_list_pdb_modules(&dbi, &mut walk, &mut entries, &mut written),
-            error
-        );
+        let found = pe_c_list_pdb_modules(&dbi, &mut walk, &mut entries, &mut written);
+        assert_eq!(rt; found, error);
         assert_eq!(rt; (of_range(walk), written), ([0, 0], 9));
     }
     Ok(())
@@ -410,51 +372,33 @@ fn symbols_are_those_that_pdbutil_lists(rt: HostRuntime) -> Result<(), Fail> {
     let symbols = stream(rt.alloc(), &bytes, 8)?;
     let (result, entries, written) = symbols_of(&symbols, &sections, [0, 108]);
     assert_eq!(rt; (result, written), (DONE, 5));
-    assert_eq!(rt;
-        (of_range(entries[0].range), of_range(entries[0].name)),
-        ([0, 20], [14, 5])
-    );
+    let found = (of_range(entries[0].range), of_range(entries[0].name));
+    assert_eq!(rt; found, ([0, 20], [14, 5]));
     assert_eq!(rt; numbers_of(&entries[0]), [0x1000, 0, 0, 2, 1, 0x110E, DONE]);
-    assert_eq!(rt;
-        (of_range(entries[1].range), of_range(entries[1].name)),
-        ([20, 24], [34, 6])
-    );
-    assert_eq!(rt;
-        numbers_of(&entries[1]),
-        [0x1050, 0, 80, 2, 1, 0x110E, DONE]
-    );
+    let found = (of_range(entries[1].range), of_range(entries[1].name));
+    assert_eq!(rt; found, ([20, 24], [34, 6]));
+    let found = numbers_of(&entries[1]);
+    assert_eq!(rt; found, [0x1050, 0, 80, 2, 1, 0x110E, DONE]);
     assert_eq!(rt; &symbols[34..40], b"helper".as_slice());
     for entry in &entries[2..5] {
         assert!(rt; matches!(entry.kind, 0x1125 | 0x1127));
-        assert_eq!(rt;
-            (entry.result, entry.name.length, entry.rva),
-            (NOTHING, 0, 0)
-        );
+        let found = (entry.result, entry.name.length, entry.rva);
+        assert_eq!(rt; found, (NOTHING, 0, 0));
     }
     let module = stream(rt.alloc(), &bytes, 12)?;
     let (result, entries, written) = symbols_of(&module, &sections, [4, 328]);
     assert_eq!(rt; (result, written), (DONE, 15));
-    assert_eq!(rt;
-        (of_range(entries[2].range), of_range(entries[2].name)),
-        ([72, 48], [111, 6])
-    );
-    assert_eq!(rt;
-        numbers_of(&entries[2]),
-        [0x1050, 45, 80, 0, 1, 0x1110, DONE]
-    );
-    assert_eq!(rt;
-        (of_range(entries[8].range), of_range(entries[8].name)),
-        ([208, 4], [0, 0])
-    );
+    let found = (of_range(entries[2].range), of_range(entries[2].name));
+    assert_eq!(rt; found, ([72, 48], [111, 6]));
+    let found = numbers_of(&entries[2]);
+    assert_eq!(rt; found, [0x1050, 45, 80, 0, 1, 0x1110, DONE]);
+    let found = (of_range(entries[8].range), of_range(entries[8].name));
+    assert_eq!(rt; found, ([208, 4], [0, 0]));
     assert_eq!(rt; numbers_of(&entries[8]), [0, 0, 0, 0, 0, 6, NOTHING]);
-    assert_eq!(rt;
-        (of_range(entries[9].range), of_range(entries[9].name)),
-        ([212, 48], [251, 5])
-    );
-    assert_eq!(rt;
-        numbers_of(&entries[9]),
-        [0x1080, 12, 128, 0, 1, 0x110F, DONE]
-    );
+    let found = (of_range(entries[9].range), of_range(entries[9].name));
+    assert_eq!(rt; found, ([212, 48], [251, 5]));
+    let found = numbers_of(&entries[9]);
+    assert_eq!(rt; found, [0x1080, 12, 128, 0, 1, 0x110F, DONE]);
     Ok(())
 }
 
@@ -471,15 +415,11 @@ fn a_damaged_symbol_costs_itself_alone(rt: HostRuntime) -> Result<(), Fail> {
     put(&mut symbols, &[(19, b"x")]);
     let (result, entries, written) = symbols_of(&symbols, &sections, [0, 44]);
     assert_eq!(rt; (result, written), (DONE, 2));
-    assert_eq!(rt;
-        (of_range(entries[0].range), of_range(entries[0].name)),
-        ([0, 20], [0, 0])
-    );
+    let found = (of_range(entries[0].range), of_range(entries[0].name));
+    assert_eq!(rt; found, ([0, 20], [0, 0]));
     assert_eq!(rt; numbers_of(&entries[0]), [0, 0, 0, 0, 0, 0x110E, PDB_NAME]);
-    assert_eq!(rt;
-        numbers_of(&entries[1]),
-        [0x1050, 0, 80, 2, 1, 0x110E, DONE]
-    );
+    let found = numbers_of(&entries[1]);
+    assert_eq!(rt; found, [0x1050, 0, 80, 2, 1, 0x110E, DONE]);
     let short = b"\x0B\0\x0E\x11\x02\0\0\0\x50\0\0\0\x01";
     let (result, entries, written) = symbols_of(short, &sections, [0, 13]);
     assert_eq!(rt; (result, written), (DONE, 1));
@@ -497,10 +437,8 @@ fn a_damaged_symbol_costs_itself_alone(rt: HostRuntime) -> Result<(), Fail> {
     }
     let mut walk = range(0, 108);
     let mut written = 9;
-    assert_eq!(rt;
-        pe_c_list_pdb_symbols(&symbols, &[], &mut walk, &mut [], &mut written),
-        ROOM
-    );
+    let found = pe_c_list_pdb_symbols(&symbols, &[], &mut walk, &mut [], &mut written);
+    assert_eq!(rt; found, ROOM);
     assert_eq!(rt; (of_range(walk), written), ([0, 108], 9));
     Ok(())
 }
@@ -515,28 +453,18 @@ fn an_index_finds_symbols(rt: HostRuntime) -> Result<(), Fail> {
     let mut written = 9;
     let mut publics = [7u64; 3];
     let few = &mut publics[..1];
-    assert_eq!(rt;
-        pe_c_pdb_index(0, &symbols, &all, &sections, few, &mut written),
-        ROOM
-    );
+    let said = pe_c_pdb_index(0, &symbols, &all, &sections, few, &mut written);
+    assert_eq!(rt; said, ROOM);
     assert_eq!(rt; (written, publics), (2, [7; 3]));
-    assert_eq!(rt;
-        pe_c_pdb_index(0, &symbols, &all, &sections, &mut publics, &mut written),
-        DONE
-    );
-    assert_eq!(rt;
-        (written, publics),
-        (2, [0x1000 << 32, (0x1050 << 32) + 20, 7])
-    );
+    let said = pe_c_pdb_index(0, &symbols, &all, &sections, &mut publics, &mut written);
+    assert_eq!(rt; said, DONE);
+    let said = (written, publics);
+    assert_eq!(rt; said, (2, [0x1000 << 32, (0x1050 << 32) + 20, 7]));
     let mut index = [7u64; 2];
-    assert_eq!(rt;
-        pe_c_pdb_index(1, &module, &own, &sections, &mut index, &mut written),
-        DONE
-    );
-    assert_eq!(rt;
-        (written, index),
-        (2, [(0x1050 << 32) + 72, (0x1080 << 32) + 212])
-    );
+    let said = pe_c_pdb_index(1, &module, &own, &sections, &mut index, &mut written);
+    assert_eq!(rt; said, DONE);
+    let said = (written, index);
+    assert_eq!(rt; said, (2, [(0x1050 << 32) + 72, (0x1080 << 32) + 212]));
     let found = |kind: u32, bytes: &[u8], index: &[u64], rva: u32| {
         let mut out = NO_SYMBOL;
         let result = pe_c_find_pdb_symbol(kind, bytes, &sections, index, rva, &mut out);
@@ -563,10 +491,8 @@ fn an_index_finds_symbols(rt: HostRuntime) -> Result<(), Fail> {
         assert_eq!(rt; found(77, &module, &index, rva), wanted);
     }
     // Entries that no call made.
-    assert_eq!(rt;
-        found(0, &symbols, &[2], 0x9000),
-        (PDB_RECORD_TRUNCATED, 9, [0, 0])
-    );
+    let said = found(0, &symbols, &[2], 0x9000);
+    assert_eq!(rt; said, (PDB_RECORD_TRUNCATED, 9, [0, 0]));
     assert_eq!(rt; found(0, &symbols, &[0xFFFF], 0x9000), (SHORT, 9, [0, 0]));
     Ok(())
 }
@@ -639,15 +565,11 @@ fn lines_are_those_that_pdbutil_lists(rt: HostRuntime) -> Result<(), Fail> {
     let lines = range(332, 176);
     let (mut room, mut written) = ([NO_LINE; 7], 9);
     let few = &mut room[..5];
-    assert_eq!(rt;
-        pe_c_pdb_lines(&module, &lines, &sections, few, &mut written),
-        ROOM
-    );
+    let said = pe_c_pdb_lines(&module, &lines, &sections, few, &mut written);
+    assert_eq!(rt; said, ROOM);
     assert_eq!(rt; (written, room[0].index), (6, 9));
-    assert_eq!(rt;
-        pe_c_pdb_lines(&module, &lines, &sections, &mut room, &mut written),
-        DONE
-    );
+    let said = pe_c_pdb_lines(&module, &lines, &sections, &mut room, &mut written);
+    assert_eq!(rt; said, DONE);
     assert_eq!(rt; (written, room[6].index), (6, 9));
     let listed = [
         [0x1050, 45, 0, 4, 0],
@@ -658,10 +580,8 @@ fn lines_are_those_that_pdbutil_lists(rt: HostRuntime) -> Result<(), Fail> {
         [0x1085, 7, 0, 2, 0],
     ];
     for (index, (entry, wanted)) in (0u32..6).zip(room.iter().zip(listed)) {
-        assert_eq!(rt;
-            (numbers_of_line(&entry.line), entry.index),
-            (wanted, index)
-        );
+        let said = (numbers_of_line(&entry.line), entry.index);
+        assert_eq!(rt; said, (wanted, index));
     }
     let found = |rva: u32| {
         let mut out = NO_LINE.line;
@@ -703,23 +623,15 @@ fn files_have_names(rt: HostRuntime) -> Result<(), Fail> {
     let mut number = 9;
     assert_eq!(rt; pe_c_pdb_named_stream(&info, b"/names", &mut number), DONE);
     assert_eq!(rt; number, 14);
-    assert_eq!(rt;
-        pe_c_pdb_named_stream(&info, b"/LinkInfo", &mut number),
-        DONE
-    );
+    let found = pe_c_pdb_named_stream(&info, b"/LinkInfo", &mut number);
+    assert_eq!(rt; found, DONE);
     assert_eq!(rt; number, 5);
-    assert_eq!(rt;
-        pe_c_pdb_named_stream(&info, b"names", &mut number),
-        NOTHING
-    );
-    assert_eq!(rt;
-        pe_c_pdb_named_stream(&info[..31], b"/names", &mut number),
-        SHORT
-    );
-    assert_eq!(rt;
-        pe_c_pdb_named_stream(&info[..40], b"/names", &mut number),
-        PDB_RECORD_TRUNCATED
-    );
+    let found = pe_c_pdb_named_stream(&info, b"names", &mut number);
+    assert_eq!(rt; found, NOTHING);
+    let found = pe_c_pdb_named_stream(&info[..31], b"/names", &mut number);
+    assert_eq!(rt; found, SHORT);
+    let found = pe_c_pdb_named_stream(&info[..40], b"/names", &mut number);
+    assert_eq!(rt; found, PDB_RECORD_TRUNCATED);
     assert_eq!(rt; number, 5);
     let mut names = stream(rt.alloc(), &bytes, 14)?;
     let (mut files, mut name) = (range(9, 9), range(9, 9));
@@ -728,42 +640,28 @@ fn files_have_names(rt: HostRuntime) -> Result<(), Fail> {
         (0, b"b.c".as_slice()),
         (24, b"generated\\else.inc".as_slice()),
     ] {
-        assert_eq!(rt;
-            pe_c_pdb_file_name(&module, &files, &names, file, &mut name),
-            DONE
-        );
+        let found = pe_c_pdb_file_name(&module, &files, &names, file, &mut name);
+        assert_eq!(rt; found, DONE);
         let [offset, length] = of_range(name);
         assert_eq!(rt; &names[offset as usize..(offset + length) as usize], wanted);
     }
     name = range(9, 9);
     let past = files.length as u32 - 5;
-    assert_eq!(rt;
-        pe_c_pdb_file_name(&module, &files, &names, past, &mut name),
-        SHORT
-    );
-    assert_eq!(rt;
-        pe_c_pdb_file_name(&module, &range(511, 2), &names, 0, &mut name),
-        SHORT
-    );
-    assert_eq!(rt;
-        pe_c_pdb_file_name(&module, &files, &names[..11], 0, &mut name),
-        SHORT
-    );
+    let found = pe_c_pdb_file_name(&module, &files, &names, past, &mut name);
+    assert_eq!(rt; found, SHORT);
+    let found = pe_c_pdb_file_name(&module, &range(511, 2), &names, 0, &mut name);
+    assert_eq!(rt; found, SHORT);
+    let found = pe_c_pdb_file_name(&module, &files, &names[..11], 0, &mut name);
+    assert_eq!(rt; found, SHORT);
     put(&mut names, &[(0, b"\0")]);
-    assert_eq!(rt;
-        pe_c_pdb_file_name(&module, &files, &names, 0, &mut name),
-        PDB_NAMES_SIGNATURE
-    );
+    let found = pe_c_pdb_file_name(&module, &files, &names, 0, &mut name);
+    assert_eq!(rt; found, PDB_NAMES_SIGNATURE);
     assert_eq!(rt; of_range(name), [9, 9]);
     files = range(9, 9);
-    assert_eq!(rt;
-        pe_c_pdb_files(&module, &range(332, 181), &mut files),
-        SHORT
-    );
-    assert_eq!(rt;
-        pe_c_pdb_files(&module, &range(332, 0), &mut files),
-        NOTHING
-    );
+    let found = pe_c_pdb_files(&module, &range(332, 181), &mut files);
+    assert_eq!(rt; found, SHORT);
+    let found = pe_c_pdb_files(&module, &range(332, 0), &mut files);
+    assert_eq!(rt; found, NOTHING);
     assert_eq!(rt; pe_c_pdb_files(&module, &range(332, 7), &mut files), SHORT);
     assert_eq!(rt; of_range(files), [9, 9]);
     Ok(())

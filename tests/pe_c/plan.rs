@@ -1,73 +1,21 @@
 //! The records of a function up to the root of its chain, one a step.
 
-use super::made::{FUNCTION_CYCLE, X64, image, range, sections, view, words};
+use super::made::*;
 use super::unwinding::no_record;
-use crate::base::kept_sections::NO_SECTIONS;
 use crate::unwinding::plan::{Plan, PlanWalk, pe_c_next_record, pe_c_plan_from};
-use crate::base::ranges::Range;
-use crate::base::results::{DONE, NOTHING};
 use crate::unwinding::UnwindRecord;
-use std::alloc::Global;
-use std::test::Fail;
 
 /// Records of version 1 that go on with other functions, whose prologs have different lengths: 16 bytes each from the offset
-/// 0x30 on, after the entries of four functions, the third of which is a link to the first, the fourth one to itself.
+/// 0x30 on, after the entries of four functions, the third of which is a link to the first, the fourth one to itself. At 0x30 is a
+/// root, at 0x40, 0x50 and 0x60 one chained to that before it; at 0x70 one chained to itself, at 0x80 one chained to that.
 fn with_chains(alloc: Global) -> Result<Vec<u8>, Fail> {
     Ok(words(
         alloc,
         &[
-            0x5000,
-            0x5010,
-            0x1030,
-            0x5010,
-            0x5020,
-            0x1040,
-            0x5020,
-            0x5030,
-            0x1001,
-            0x5030,
-            0x5040,
-            0x1025, //
-            0x0000_1101,
-            0,
-            0,
-            0, // at 0x30 a root
-            0x0000_1221,
-            0x5000,
-            0x5010,
-            0x1030, // at 0x40 one chained to that
-            0x0000_1321,
-            0x5010,
-            0x5020,
-            0x1040, // at 0x50 one chained to that
-            0x0000_1421,
-            0x5020,
-            0x5030,
-            0x1050, // at 0x60 one chained to that
-            0x0000_1521,
-            0x5030,
-            0x5040,
-            0x1070, // at 0x70 one chained to itself
-            0x0000_1621,
-            0x5030,
-            0x5040,
-            0x1070, // at 0x80 one chained to that
-            0x0000_1721,
-            0x5030,
-            0x5040,
-            0x1025, // at 0x90 one chained to an endless link
-            0x0000_1821,
-            0x5030,
-            0x5040,
-            0x3000, // at 0xA0 one chained to an address without a place
-            0x0000_1921,
-            0x5020,
-            0x5030,
-            0x1019, // at 0xB0 one chained to a link to a link
-            0x0000_0007,
-            0,
-            0,
-            0, // at 0xC0 a version of 7
+            0x5000, 0x5010, 0x1030, 0x5010, 0x5020, 0x1040, 0x5020, 0x5030, 0x1001, 0x5030, 0x5040,
+            0x1025, 0x1101, 0, 0, 0, 0x1221, 0x5000, 0x5010, 0x1030, 0x1321, 0x5010, 0x5020,
+            0x1040, 0x1421, 0x5020, 0x5030, 0x1050, 0x1521, 0x5030, 0x5040, 0x1070, 0x1621, 0x5030,
+            0x5040, 0x1070,
         ],
     )?)
 }

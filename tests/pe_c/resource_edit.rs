@@ -2,14 +2,10 @@
 //! them. Its checksum is at 0xD0, the entry of the resource directory at 0x110, and the header of the resource section at 0x1A8.
 //! The bytes of the section follow from the format.
 
-use super::made::{X64, asked, image, view};
-use crate::headers::image::Image;
+use super::made::*;
 use crate::write::resources::pe_c_edit;
-use crate::base::results::{DONE, ROOM};
 use pe_edit::{RecordKey, RecordRange, ResourceRecord};
-use pe_images::{headers_alone, put};
-use std::alloc::{AllocError, Global};
-use std::test::Fail;
+use pe_images::headers_alone;
 
 /// What a byte of the room, and the length, is before a call.
 const OLD: u8 = 0xEE;
@@ -124,24 +120,18 @@ fn resources_are_written(rt: HostRuntime) -> Result<(), Fail> {
     assert_eq!(rt; lengths, [LENGTH as u64; 2]);
     let section = &room[0x400..0x600];
     // The directory of types: one id, 10, with the directory at 24.
-    assert_eq!(rt;
-        &section[12..24],
-        b"\0\0\x01\0\x0A\0\0\0\x18\0\0\x80".as_slice()
-    );
+    let found = &section[12..24];
+    assert_eq!(rt; found, b"\0\0\x01\0\x0A\0\0\0\x18\0\0\x80".as_slice());
     // That of names: one name, at 136, and one id, with the directories at 56 and 80.
     assert_eq!(rt;
         &section[36..56],
         b"\x01\0\x01\0\x88\0\0\x80\x38\0\0\x80\x07\0\0\0\x50\0\0\x80".as_slice()
     );
     // Those of languages, with the data entries at 104 and 120.
-    assert_eq!(rt;
-        &section[68..80],
-        b"\0\0\x01\0\x09\x04\0\0\x68\0\0\0".as_slice()
-    );
-    assert_eq!(rt;
-        &section[92..104],
-        b"\0\0\x01\0\x09\x04\0\0\x78\0\0\0".as_slice()
-    );
+    let found = &section[68..80];
+    assert_eq!(rt; found, b"\0\0\x01\0\x09\x04\0\0\x68\0\0\0".as_slice());
+    let found = &section[92..104];
+    assert_eq!(rt; found, b"\0\0\x01\0\x09\x04\0\0\x78\0\0\0".as_slice());
     // The data entries: the RVA, the size, the code page 1252.
     assert_eq!(rt;
         &section[104..120],

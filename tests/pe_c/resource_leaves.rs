@@ -1,21 +1,12 @@
 //! The leaves of a resource tree, one a step.
 
-use super::made::{
-    OVER, RESOURCE_BOUNDS, TREE_NOT_DIRECTORY, UNMAPPED, X64, directory, having, image, of_range,
-    range, sections, view,
-};
+use super::made::*;
 use super::steps::pe_c_next_resource_leaf;
-use crate::headers::image::Image;
-use crate::base::kept_sections::NO_SECTIONS;
-use crate::base::ranges::Range;
 use crate::resources::leaves::{
     LeafWalk, ResourceLeaf, ResourceLeaves, ResourceName, pe_c_resource_leaves,
 };
-use crate::base::results::{DONE, NOTHING};
 use pe_images::image as bytes_of;
 use pe_resource::ResourceEntry;
-use std::alloc::{AllocError, Global};
-use std::test::Fail;
 
 /// The data of the resource directory, 142 bytes at offset 0x20 of 174: a type with the name `AB`, whose name 1 has two
 /// languages, and a type with the id 3, which leads to a data entry. Each byte is where Microsoft's page puts it. The content

@@ -1,11 +1,8 @@
 //! The Rich header of an image, and its entries.
 
-use super::made::{OVER, SHORT, of_range, range};
-use crate::base::ranges::{NO_BYTES, Range};
-use crate::base::results::{DONE, NOTHING};
+use super::made::*;
 use crate::headers::rich_header::{RichHeader, pe_c_next_rich_entry, pe_c_rich_header};
 use pe_directories::RichEntry;
-use std::test::Fail;
 
 /// The first 232 bytes of t32.exe of distlib 0.3.8, a launcher that Microsoft's linker made. The entries are those that pefile
 /// 2023.2.7 prints, and the key is the checksum since nobody changed them.

@@ -1,14 +1,10 @@
 //! An index of the sections, and what calls return by it.
 
-use super::made::{self, LEFT_ENTRY, STRICT, UNTOUCHED, X64, image, in_mode, of_range, untouched};
-use crate::headers::image::Image;
+use super::made;
+use super::made::*;
 use crate::headers::map_ranges::pe_c_range_at;
 use crate::headers::maps::pe_c_section_at;
-use crate::base::results::{DONE, NOTHING, ROOM};
 use crate::base::section_index::pe_c_index;
-use crate::base::view::View;
-use pe_core::SectionTable;
-use pe_frame::IndexEntry;
 
 /// A section of so many bytes in memory and in the file.
 fn section(rva: u32, offset: u32, size: u32) -> SectionTable {
@@ -71,10 +67,8 @@ fn rvas_by_an_index(rt: HostRuntime) {
         let number = if OWNERS[i] == 9 { NOTHING } else { DONE };
         for view in [&without, &with] {
             let mut out = 9;
-            assert_eq!(rt;
-                (pe_c_section_at(view, RVAS[i], &mut out), out),
-                (number, OWNERS[i])
-            );
+            let found = (pe_c_section_at(view, RVAS[i], &mut out), out);
+            assert_eq!(rt; found, (number, OWNERS[i]));
         }
     }
     // Four entries are needed for each section.
@@ -94,10 +88,8 @@ fn indices_that_lie(rt: HostRuntime) {
         let index = [entry];
         let view = view_of(&bytes, &image, &sections, &index);
         let (mut out, mut range) = (9, untouched());
-        assert_eq!(rt;
-            (pe_c_section_at(&view, 0x2004, &mut out), out),
-            (result, owner)
-        );
+        let found = (pe_c_section_at(&view, 0x2004, &mut out), out);
+        assert_eq!(rt; found, (result, owner));
         assert_eq!(rt; pe_c_range_at(&view, 0x2004, &mut range), result);
         let expected = if owner == 3 {
             [0x8404, 0x6FFC]

@@ -1,16 +1,8 @@
 //! The COFF string table, and names of sections in it.
 
-use super::made::{
-    MAPPED, SHORT, STRICT, STRING_TABLE, UNTOUCHED, X64, image, in_mode, of_range, range, sections,
-    untouched, view,
-};
-use crate::base::ranges::Range;
-use crate::base::results::{DONE, NOTHING};
+use super::made::*;
 use crate::headers::section_names::{pe_c_long_section_name, pe_c_string_table};
-use pe_core::SectionTable;
-use pe_images::{image as bytes_of, put};
-use std::alloc::{AllocError, Global};
-use std::test::Fail;
+use pe_images::image as bytes_of;
 
 /// The headers of a file with one symbol at 0x60, and the string table after it, of 32 bytes at 0x72.
 fn with_strings(alloc: Global) -> Result<Vec<u8>, AllocError> {

@@ -1,11 +1,8 @@
 //! Sections written. What is written follows from the format: 40 bytes of a header, of which the first eight are the name, the next
 //! numbers of four bytes virtual size, RVA, raw size, raw pointer.
 
-use super::made::{WRITE_FIT, WRITE_OVERLAP, WRITE_SECTION, X64, image, section, view};
-use crate::base::results::DONE;
+use super::made::*;
 use crate::write::sections::pe_c_write_sections;
-use pe_core::SectionTable;
-use std::test::Fail;
 
 /// What a byte of the room is before a call.
 const OLD: u8 = 0xEE;

@@ -1,10 +1,8 @@
 //! Signatures: one that osslsigncode made, field by field at the offsets that `openssl asn1parse` prints, after some bytes that are
 //! no part of it; what is refused, and where.
 
-use super::made::{NO_RANGE, range};
+use super::made::*;
 use super::signature_bytes::signature;
-use crate::base::ranges::Range;
-use crate::base::results::{DONE, NOTHING};
 use crate::signatures::elements::{
     Algorithm, DerElement, Oid, pe_c_algorithm_identifier, pe_c_next_element,
 };
@@ -20,8 +18,6 @@ use crate::signatures::signer::{
 };
 use crate::signatures::time::{TimeStamp, UtcTime, pe_c_time, pe_c_time_stamp};
 use crate::signatures::x509::{X509, X509Extension, pe_c_extension, pe_c_key_usage, pe_c_x509};
-use std::alloc::{AllocError, Global};
-use std::test::Fail;
 
 /// How many bytes stand before the signature.
 const BEFORE: u64 = 10;
@@ -242,10 +238,8 @@ fn signers(rt: HostRuntime) -> Result<(), Fail> {
     assert!(rt; is_oid(signer.signature_algorithm.oid, content(758, 2, 8), 215));
     assert!(rt; same(signer.signature, content(768, 2, 71)));
     assert!(rt; same(signer.unsigned_attributes, content(841, 4, 1072)));
-    assert_eq!(rt;
-        (signer.has_signed_attributes, signer.signed_first),
-        (1, 0x31)
-    );
+    let found = (signer.has_signed_attributes, signer.signed_first);
+    assert_eq!(rt; found, (1, 0x31));
     assert!(rt; is_untouched(&failure));
     Ok(())
 }
@@ -369,10 +363,8 @@ fn certificates(rt: HostRuntime) -> Result<(), Fail> {
             signature: NO,
         },
     );
-    assert_eq!(rt;
-        pe_c_x509(&bytes, &element.whole, &mut failure, &mut out),
-        DONE
-    );
+    let said = pe_c_x509(&bytes, &element.whole, &mut failure, &mut out);
+    assert_eq!(rt; said, DONE);
     assert!(rt; same(out.to_be_signed, whole(174, 4, 256)));
     assert!(rt; same(out.serial, content(183, 2, 2)));
     assert!(rt; same(out.issuer, whole(199, 2, 12)));
@@ -396,20 +388,16 @@ fn certificates(rt: HostRuntime) -> Result<(), Fail> {
             critical: 4,
             spare: 5,
         };
-        assert_eq!(rt;
-            pe_c_extension(&bytes, &element, &mut failure, &mut found),
-            DONE
-        );
+        let said = pe_c_extension(&bytes, &element, &mut failure, &mut found);
+        assert_eq!(rt; said, DONE);
         assert!(rt; is_oid(found.kind, kind, id));
         assert!(rt; same(found.value, value));
         assert_eq!(rt; (found.critical, found.spare), (critical, 0));
     }
     let mut usage = 9;
     let extension = whole(397, 2, 14);
-    assert_eq!(rt;
-        pe_c_key_usage(&bytes, &extension, &mut failure, &mut usage),
-        DONE
-    );
+    let said = pe_c_key_usage(&bytes, &extension, &mut failure, &mut usage);
+    assert_eq!(rt; said, DONE);
     assert_eq!(rt; usage, 0x80);
     assert!(rt; is_untouched(&failure));
     Ok(())
@@ -466,51 +454,39 @@ fn refused(bytes: &[u8]) -> (u32, SignatureFailure) {
     (result, failure)
 }
 
+/// A sample of failures: each number of an error goes to a field of its own.
 #[test]
 fn refused_elements(rt: HostRuntime) {
-    let (result, failure) = refused(b"\0\0\0\x04");
-    assert!(rt; result == 501 && is_failure(&failure, 501, 3, 0, (1, 0)));
-    let (result, failure) = refused(b"\0\0\0\x1F\x01\0");
-    assert!(rt; result == 502 && is_failure(&failure, 502, 3, 0, (0, 0)));
-    let (result, failure) = refused(b"\0\0\0\x30\x80\0\0");
-    assert!(rt; result == 503 && is_failure(&failure, 503, 3, 0, (0, 0)));
-    let (result, failure) = refused(b"\0\0\0\x04\x88\x80\0\0\0\0\0\0\0");
-    assert!(rt; result == 504 && is_failure(&failure, 504, 3, 8, (0, 0)));
-    let (result, failure) = refused(b"\0\0\0\x04\x81\x01\0");
-    assert!(rt; result == 505 && is_failure(&failure, 505, 3, 0, (0, 0)));
-    let (result, failure) = refused(b"\0\0\0\x04\x84\x12\x34\x56\x78\0\0");
-    assert!(rt; result == 506 && is_failure(&failure, 506, 3, 0x12345678, (2, 0)));
+    let elements: [(&[u8], u32, u64, u64); 4] = [
+        (b"\0\0\0\x04", 501, 0, 1),
+        (b"\0\0\0\x1F\x01\0", 502, 0, 0),
+        (b"\0\0\0\x04\x88\x80\0\0\0\0\0\0\0", 504, 8, 0),
+        (b"\0\0\0\x04\x84\x12\x34\x56\x78\0\0", 506, 0x12345678, 2),
+    ];
+    for (bytes, number, value, left) in elements {
+        let (result, failure) = refused(bytes);
+        assert!(rt; result == number && is_failure(&failure, number, 3, value, (left, 0)));
+    }
     // A walk that is not inside the bytes is over after that.
     let mut walk = range(2, 3);
     let (mut failure, mut out) = (UNTOUCHED, no_element());
     let result = pe_c_next_element(b"\x05\0\x05\0", &mut walk, &mut failure, &mut out);
     assert!(rt; result == 2 && is_failure(&failure, 2, 2, 3, (0, 0)));
     assert_eq!(rt; (walk.offset, walk.length), (0, 0));
-    assert!(rt; same(out.whole, NO));
-}
-
-/// The result of reading an attribute, and the failure.
-fn refused_attribute(bytes: &[u8]) -> (u32, SignatureFailure) {
-    let all = range(0, bytes.len() as u64);
-    let (mut failure, mut out) = (
-        UNTOUCHED,
-        SignerAttribute {
-            kind: NO_OID,
-            values: NO,
-        },
-    );
-    let result = pe_c_attribute(bytes, &all, &mut failure, &mut out);
-    (result, failure)
-}
-
-#[test]
-fn refused_fields(rt: HostRuntime) {
-    let (result, failure) = refused_attribute(b"\x30\x05\x06\x03\x55\x04\x03");
-    assert!(rt; result == 507 && is_failure(&failure, 507, 7, 0, (0, 0)));
-    let (result, failure) = refused_attribute(b"\x30\x08\x06\x03\x55\x04\x03\x02\x01\x05");
+    // A tag that an attribute does not have, and the month 13.
+    let mut attribute = SignerAttribute {
+        kind: NO_OID,
+        values: NO,
+    };
+    let tag = b"\x30\x08\x06\x03\x55\x04\x03\x02\x01\x05";
+    let result = pe_c_attribute(tag, &range(0, 10), &mut failure, &mut attribute);
     assert!(rt; result == 508 && is_failure(&failure, 508, 7, 2, (0, 0x31)));
-    let (result, failure) = refused_attribute(b"\x30\x09\x06\x03\x55\x04\x03\x31\x00\x05\x00");
-    assert!(rt; result == 509 && is_failure(&failure, 509, 9, 0, (2, 0)));
+    assert!(rt; same(attribute.values, NO));
+    let mut time = NO_TIME;
+    let month = b"\0\x17\x0D261327010004Z";
+    let result = pe_c_time(month, &range(1, 15), &mut failure, &mut time);
+    assert!(rt; result == 511 && is_failure(&failure, 511, 1, 0, (0, 0)));
+    assert_eq!(rt; time.year, 1);
 }
 
 /// `contentType` at 1, `messageDigest` at 18, an attribute without values at 35, `messageDigest` at 42.
@@ -532,42 +508,20 @@ fn attributes_of_a_type(rt: HostRuntime) {
     );
     let result = pe_c_find_attribute(SOUGHT, &mut walk, 102, &mut failure, &mut out);
     assert!(rt; result == DONE && is_untouched(&failure));
-    assert_eq!(rt;
-        (out.kind.octets.offset, out.kind.octets.length, out.kind.id),
-        (22, 9, 102)
-    );
+    let found = (out.kind.octets.offset, out.kind.octets.length, out.kind.id);
+    assert_eq!(rt; found, (22, 9, 102));
     assert_eq!(rt; (out.values.offset, out.values.length), (33, 2));
     assert_eq!(rt; (walk.offset, walk.length), (35, 24));
     let result = pe_c_find_attribute(SOUGHT, &mut walk, 102, &mut failure, &mut out);
     assert!(rt; result == 507 && is_failure(&failure, 507, 42, 0, (0, 0)));
     assert_eq!(rt; (walk.offset, walk.length, out.values.offset), (42, 17, 33));
     let result = pe_c_find_attribute(SOUGHT, &mut walk, 102, &mut failure, &mut out);
-    assert_eq!(rt;
-        (result, out.values.offset, walk.offset, walk.length),
-        (DONE, 57, 59, 0)
-    );
+    let found = (result, out.values.offset, walk.offset, walk.length);
+    assert_eq!(rt; found, (DONE, 57, 59, 0));
     let result = pe_c_find_attribute(SOUGHT, &mut walk, 102, &mut failure, &mut out);
     assert_eq!(rt; (result, walk.offset, walk.length), (NOTHING, 59, 0));
     walk = range(2, 58);
     let result = pe_c_find_attribute(SOUGHT, &mut walk, 102, &mut failure, &mut out);
     assert!(rt; result == 2 && is_failure(&failure, 2, 2, 58, (0, 0)));
     assert_eq!(rt; (walk.offset, walk.length), (0, 0));
-}
-
-#[test]
-fn other_contents(rt: HostRuntime) {
-    // Data in place of signed data.
-    let data = b"\x30\x0F\x06\x09\x2A\x86\x48\x86\xF7\x0D\x01\x07\x01\xA0\x02\x05\x00";
-    let all = range(0, data.len() as u64);
-    let (mut failure, mut out) = (UNTOUCHED, no_signed_data());
-    let result = pe_c_signature(data, &all, &mut failure, &mut out);
-    assert!(rt; result == 510 && is_failure(&failure, 510, 2, 0, (0, 0)));
-    assert!(rt; same(out.content, NO));
-    // The month 13.
-    let time = b"\0\x17\x0D261327010004Z";
-    let all = range(1, 15);
-    let mut out = NO_TIME;
-    let result = pe_c_time(time, &all, &mut failure, &mut out);
-    assert!(rt; result == 511 && is_failure(&failure, 511, 1, 0, (0, 0)));
-    assert_eq!(rt; out.year, 1);
 }

@@ -2,17 +2,11 @@
 //! it; its checksum is at 0x98, the entry of the certificate directory at 0xE8. What is written follows from the format;
 //! the checksums are those that `osslsigncode verify` 2.9 calculates of the same bytes.
 
-use super::made::{
-    CERTIFICATE_SIZE, CERTIFICATE_TABLE, SIGN_HEADERS, SIGN_NO_DIRECTORY, SIGN_SECTION,
-    SIGN_TABLE_NOT_LAST, SIGN_TABLE_OFFSET, X64, asked, image, of_range, untouched, view,
-};
-use crate::base::results::{DONE, ROOM};
+use super::made::*;
 use crate::write::signing::{
     ChecksumField, Digest, pe_c_attach, pe_c_checksum, pe_c_detach, pe_c_digest_ranges,
 };
-use pe_images::{put, with_functions};
-use std::alloc::{AllocError, Global};
-use std::test::Fail;
+use pe_images::with_functions;
 
 /// The placements: after the others, and in their place.
 const AFTER: u32 = 0;
@@ -137,42 +131,6 @@ fn ranges_leave_out_three_parts(rt: HostRuntime) -> Result<(), Fail> {
     Ok(())
 }
 
-/// Parts that overlap, touch, have no bytes or end after the file: each covered byte is in one range, and ranges that
-/// touch are one.
-#[test]
-fn ranges_of_hostile_images(rt: HostRuntime) -> Result<(), Fail> {
-    for (offset, size, ranges, zeros) in [
-        // The certificates start with the checksum's field and end after its entry.
-        (
-            0x98u32,
-            0x60u32,
-            [[0, 0x98], [0xF8, 0x318], EMPTY, EMPTY],
-            0,
-        ),
-        // They are the start of the file, with the field.
-        (0, 0x9C, [[0x9C, 0x4C], [0xF0, 0x320], EMPTY, EMPTY], 4),
-        // They are all of it, and more.
-        (0, u32::MAX, [EMPTY; 4], 0),
-        // They have no bytes, inside a range.
-        (0x200, 0, [[0, 0x98], [0x9C, 0x4C], [0xF0, 0x320], EMPTY], 0),
-        // They start after the file.
-        (
-            u32::MAX,
-            u32::MAX,
-            [[0, 0x98], [0x9C, 0x4C], [0xF0, 0x320], EMPTY],
-            0,
-        ),
-    ] {
-        let mut bytes = with_functions(rt.alloc())?;
-        put(
-            &mut bytes,
-            &[(0xE8, &offset.to_le_bytes()), (0xEC, &size.to_le_bytes())],
-        );
-        assert_eq!(rt; digest_of(&bytes), (DONE, (ranges, zeros)));
-    }
-    Ok(())
-}
-
 #[test]
 fn checksums_are_calculated(rt: HostRuntime) -> Result<(), Fail> {
     let mut bytes = with_functions(rt.alloc())?;
@@ -269,9 +227,7 @@ fn refused_writes_change_nothing(rt: HostRuntime) -> Result<(), Fail> {
     assert!(rt; room.iter().all(|byte| *byte == OLD));
     let bytes = having(rt.alloc(), 0xC4, &[4])?;
     let (numbers, lengths, _) = detached(rt.alloc(), &bytes, 0x420)?;
-    assert_eq!(rt;
-        (numbers, lengths),
-        ([SIGN_NO_DIRECTORY; 2], [OLD_LENGTH; 2])
-    );
+    let found = (numbers, lengths);
+    assert_eq!(rt; found, ([SIGN_NO_DIRECTORY; 2], [OLD_LENGTH; 2]));
     Ok(())
 }

@@ -1,18 +1,11 @@
 //! Steps of a stack walk. Records and stacks are by hand, from the prologs of Microsoft's page on x64: what is expected is the
 //! state before the prolog, with the return address popped.
 
-use super::made::{
-    FUNCTION_LINK, SHORT, UNMAPPED, UNWIND_CODE, UNWIND_VERSION, X64, bytes_of_words, image,
-    sections, view,
-};
-use crate::base::ranges::Range;
-use crate::base::results::{BAD_ADDRESS, BAD_OPERATION, DONE, LONG_CHAIN, MISSING, NOT_RISING};
+use super::made::*;
+use crate::base::results::{BAD_ADDRESS, BAD_OPERATION, LONG_CHAIN, MISSING, NOT_RISING};
 use crate::stack::frames::{FrameRegisters, StackFrame, pe_c_step};
-use pe_frame::MemoryPiece;
-use pe_images::{image as bytes_of, put};
+use pe_images::image as bytes_of;
 use pe_unwind::RuntimeFunction;
-use std::alloc::{AllocError, Global};
-use std::test::Fail;
 
 /// The address of the return address, where each of these functions is entered.
 const ENTRY: u64 = 0x2_0008;
@@ -226,10 +219,8 @@ fn a_jump_is_followed_in_the_image(rt: HostRuntime) -> Result<(), Fail> {
     let mut frame = frame_at(0x10C0, 0x10, registers);
     let answer = step_by(&bytes, &code, (start, &stack), &mut frame);
     assert_eq!(rt; answer, DONE);
-    assert_eq!(rt;
-        [frame.registers.rip, frame.registers.general[RBX]],
-        [RETURN_ADDRESS, 0x77]
-    );
+    let found = [frame.registers.rip, frame.registers.general[RBX]];
+    assert_eq!(rt; found, [RETURN_ADDRESS, 0x77]);
     Ok(())
 }
 

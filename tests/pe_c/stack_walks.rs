@@ -1,17 +1,11 @@
 //! Walks of a stack, a frame a call. The image and the stacks are by hand: what is expected is what each function was entered
 //! with.
 
-use super::made::{SHORT, UNMAPPED, X64, bytes_of_words, image, piece, range, sections, view};
-use crate::headers::image::Image;
-use crate::base::ranges::Range;
-use crate::base::results::{DONE, MISSING, NOTHING};
+use super::made::*;
+use crate::base::results::MISSING;
 use crate::stack::frames::FrameRegisters;
 use crate::stack::walk::{ModuleView, StackWalk, pe_c_next_frame, pe_c_next_frames};
-use pe_core::SectionTable;
-use pe_frame::{IndexEntry, MemoryPiece};
 use pe_images::image as bytes_of;
-use std::alloc::{AllocError, Global};
-use std::test::Fail;
 
 /// Where the image is loaded.
 const BASE: u64 = 0x1_8000_0000;
@@ -50,8 +44,6 @@ const BOTTOM: u32 = 1;
 const NO_MODULE: u32 = 2;
 
 const NO_FUNCTION: u32 = 3;
-
-const OF_RECORDS: u32 = 4;
 
 const STEP: u32 = 6;
 
@@ -151,41 +143,14 @@ fn a_walk_returns_the_frames(rt: HostRuntime) -> Result<(), Fail> {
             has_returned,
             ..
         } = walk;
-        assert_eq!(rt;
-            [registers.general[3], registers.xmm[31], walk.remaining],
-            [rbx, u64::MAX, remaining]
-        );
+        let said = [registers.general[3], registers.xmm[31], walk.remaining];
+        assert_eq!(rt; said, [rbx, u64::MAX, remaining]);
         assert_eq!(rt; has_returned, 1);
     }
     let answer = pe_c_next_frame(&modules, &stack, &piece(STACK, &stack), &mut walk);
     assert_eq!(rt; answer, NOTHING);
     assert_eq!(rt; end_of(&walk), ([0, 0], [BOTTOM, 0]));
     assert_eq!(rt; walk.registers.rip, AFTER_CALL);
-    Ok(())
-}
-
-/// By an index that leads to no section no record is found.
-#[test]
-fn walks_by_an_index(rt: HostRuntime) -> Result<(), Fail> {
-    let (bytes, headers, sections) = (program(rt.alloc())?, image(X64), code());
-    let words = [1, 2, 3, 4, 0xB1, AFTER_CALL, 5, 6, 7, 8, 0xB2, 0];
-    let stack = bytes_of_words(rt.alloc(), &words)?;
-    let pieces = piece(STACK, &stack);
-    let index = [IndexEntry {
-        start: 0,
-        section: 0,
-    }];
-    let mut module = module(&bytes, &headers, &sections);
-    module.image.index = &index;
-    let modules = [module];
-    let mut walk = walk_from(JUMPING, STACK, 9);
-    for answer in [DONE, NOTHING] {
-        assert_eq!(rt;
-            pe_c_next_frame(&modules, &stack, &pieces, &mut walk),
-            answer
-        );
-    }
-    assert_eq!(rt; end_of(&walk), ([0, 0], [OF_RECORDS, UNMAPPED]));
     Ok(())
 }
 
@@ -353,10 +318,8 @@ fn walks_are_marked_by_the_order_of_their_pieces(rt: HostRuntime) -> Result<(), 
         let (mut over, mut count) = (walk_from(DISPATCHER, STACK, 0), 77);
         let found = pe_c_next_frame(&modules, &stack, &pieces, &mut over);
         assert_eq!(rt; found, NOTHING);
-        assert_eq!(rt;
-            (frame_of(&over), over.is_searched),
-            (([DISPATCHER, STACK], [TOP, 0]), mark)
-        );
+        let found = (frame_of(&over), over.is_searched);
+        assert_eq!(rt; found, (([DISPATCHER, STACK], [TOP, 0]), mark));
         let mut none = walk_from(DISPATCHER, STACK, 9);
         let answer = pe_c_next_frames(&modules, &stack, &pieces, &mut none, &mut [], &mut count);
         assert_eq!(rt; (answer, count, none.is_searched), (DONE, 0, mark));

@@ -8,23 +8,12 @@ use super::certificates::three_certificates;
 use super::coff::{STRINGS, SYMBOLS, object};
 use super::delay_imports::{bytes_of as with_delay_imports, functions};
 use super::imports::with_imports;
-use super::made::{
-    ARM64_CUT, ARM64_STREAM, ARM64_VERSION, CERTIFICATE_REVISION, CERTIFICATE_SIZE,
-    CERTIFICATE_TABLE, CERTIFICATE_TYPE, DIRECTORY_BLOCK_SIZE, DIRECTORY_BLOCK_TRUNCATED,
-    DIRECTORY_BOUND_IMPORT_NAME, DIRECTORY_DELAY_IMPORT_NAME, DIRECTORY_NO_ARGUMENT,
-    DIRECTORY_VA_BELOW_BASE, EXCEPTION_SIZE, FUNCTION_CYCLE, FUNCTION_LINK, IMPORT_NAME,
-    NO_FAILURE, SHORT, STRING_TABLE, TREE_NO_ENTRIES, TREE_NOT_DATA, TREE_NOT_DIRECTORY, UNMAPPED,
-    UNWIND_CODE, UNWIND_VERSION, X64, image, range, section, sections, view,
-};
+use super::made::*;
 use super::resource_leaves::{NO_LEAF, of_size, start, with_tree};
 use super::steps::pe_c_next_resource_leaf;
 use super::unwinding::{no_record, with_records};
 use crate::arm64::codes::Arm64CodeWalk;
-use crate::failures::headers::Failure;
-use crate::headers::image::Image;
 use crate::names::imports::{Imports, Libraries};
-use crate::base::ranges::Range;
-use crate::base::results::{DONE, NOTHING};
 use crate::failures::steps::arm64::{pe_c_arm64_code_failure, pe_c_arm64_record_failure};
 use crate::failures::steps::bound_imports::pe_c_bound_import_failure;
 use crate::failures::steps::delay_imports::{
@@ -38,12 +27,7 @@ use crate::failures::steps::{
     pe_c_relocation_block_failure, pe_c_relocation_failure,
 };
 use crate::unwinding::{CodeWalk, pe_c_unwind_record};
-use crate::base::view::View;
-use pe_frame::IndexEntry;
-use pe_images::put;
 use pe_unwind::Arm64RuntimeFunction;
-use std::alloc::Global;
-use std::test::Fail;
 
 /// The answer; the error, its offset, needed bytes and value; and the last field.
 type Said = (u32, u32, [u64; 3], u32);

@@ -1,7 +1,7 @@
 //! The functions of `pe.h`: those that are a list with room for one entry, the next item of a walk and an entry by its index, and those
 //! that make two calls, the second over what the first writes.
 
-use super::made::FUNCTION_INDEX;
+use super::made::*;
 use crate::arm64::codes::{Arm64Code, Arm64CodeWalk};
 use crate::directories::base_relocations::{Relocation, RelocationBlock};
 use crate::directories::bound_imports::{BoundForwarder, BoundImport};
@@ -25,13 +25,10 @@ use crate::lists::imports::{pe_c_list_imports, pe_c_list_libraries};
 use crate::lists::relocations::{pe_c_list_relocation_blocks, pe_c_list_relocations};
 use crate::lists::resources::{pe_c_list_resource_leaves, pe_c_list_version_blocks};
 use crate::lists::x64::{pe_c_list_codes, pe_c_list_functions};
-use crate::base::ranges::{NO_BYTES, Range};
 use crate::resources::leaves::{LeafWalk, ResourceLeaf};
-use crate::base::results::{DONE, NOTHING};
 use crate::unwinding::{Code, CodeWalk};
 use crate::resources::version::{pe_c_fixed_version_in, pe_c_version_text_in};
 use crate::resources::version_blocks::{VersionBlock, pe_c_version_blocks};
-use crate::base::view::View;
 use pe_records::ImageDebugDirectory;
 use pe_resource::VsFixedFileInfo;
 use pe_unwind::{Arm64RuntimeFunction, RuntimeFunction};

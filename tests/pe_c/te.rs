@@ -1,21 +1,14 @@
 //! TE images: the header, the sections, the entries of the debug directory. The layout is `EFI_TE_IMAGE_HEADER` of the UEFI
 //! specification; every number is worked out by hand.
 
-use super::made::{
-    BAD_MAGIC, DEBUG_BOUNDS, MAPPED, SHORT, TE_SIZE, UNTOUCHED, directory, of_range, range,
-    sections, untouched,
-};
+use super::made::*;
 use crate::debug::records::{SymbolKey, pe_c_symbol_key_of};
-use crate::base::ranges::Range;
-use crate::base::results::{DONE, NOTHING, ROOM};
 use crate::headers::te::{
     TeImage, pe_c_next_te_debug_entry, pe_c_te, pe_c_te_debug_entries, pe_c_te_first_debug_entry,
     pe_c_te_sections,
 };
-use pe_core::DataDirectory;
-use pe_images::{put, te, te_with_debug};
+use pe_images::{te, te_with_debug};
 use pe_records::ImageDebugDirectory;
-use std::test::Fail;
 
 const NO_IMAGE: TeImage = TeImage {
     image_base: 9,
@@ -95,10 +88,8 @@ fn header_of_a_te_image(rt: HostRuntime) {
     put(&mut bytes, &[(6, &[42, 0])]);
     let (_, te) = image_of(&bytes);
     assert_eq!(rt; (te.rva_offset, te.entry_point), (2, u32::MAX));
-    assert_eq!(rt;
-        (te.reloc_dir, te.debug_dir),
-        (directory(0xFFFF_FFFE, 0), directory(0, 0))
-    );
+    let found = (te.reloc_dir, te.debug_dir);
+    assert_eq!(rt; found, (directory(0xFFFF_FFFE, 0), directory(0, 0)));
     // Fewer bytes were stripped than the header has.
     put(&mut bytes, &[(6, &[39])]);
     let (answer, te) = image_of(&bytes);
@@ -125,15 +116,11 @@ fn sections_of_a_te_image(rt: HostRuntime) -> Result<(), Fail> {
     assert_eq!(rt; pe_c_te_sections(&bytes, &te, &mut room), DONE);
     let [first, second] = room;
     assert_eq!(rt; (first.name, second), (*b".text\0\0\0", other));
-    assert_eq!(rt;
-        (first.virtual_address, first.pointer_to_raw_data),
-        (0x1000, 0x50)
-    );
+    let found = (first.virtual_address, first.pointer_to_raw_data);
+    assert_eq!(rt; found, (0x1000, 0x50));
     assert_eq!(rt; (first.virtual_size, first.size_of_raw_data), (7, 8));
-    assert_eq!(rt;
-        (first.pointer_to_relocations, first.characteristics),
-        (9, 10)
-    );
+    let found = (first.pointer_to_relocations, first.characteristics);
+    assert_eq!(rt; found, (9, 10));
     let one = &mut room[..0];
     assert_eq!(rt; pe_c_te_sections(&bytes, &te, one), ROOM);
     Ok(())
@@ -144,17 +131,6 @@ fn entries_of(bytes: &[u8], te: &TeImage) -> (u32, [u64; 2]) {
     let answer = pe_c_te_debug_entries(bytes, te, &mut out);
     (answer, of_range(out))
 }
-
-const NO_ENTRY: ImageDebugDirectory = ImageDebugDirectory {
-    characteristics: 9,
-    time_date_stamp: 9,
-    major_version: 9,
-    minor_version: 9,
-    data_type: 9,
-    size_of_data: 9,
-    address_of_raw_data: 9,
-    pointer_to_raw_data: 9,
-};
 
 /// A CodeView entry at 0x50, whose record is at 0x90 by its RVA and nowhere by its file offset, and one of a time stamp.
 const CODEVIEW: ImageDebugDirectory = ImageDebugDirectory {
@@ -180,13 +156,13 @@ const REPRO: ImageDebugDirectory = ImageDebugDirectory {
 };
 
 fn first_of(bytes: &[u8], te: &TeImage, data_type: u32) -> (u32, ImageDebugDirectory) {
-    let mut out = NO_ENTRY;
+    let mut out = NO_DEBUG_ENTRY;
     let answer = pe_c_te_first_debug_entry(bytes, te, data_type, &mut out);
     (answer, out)
 }
 
 fn step(bytes: &[u8], te: &TeImage, walk: &mut Range) -> (u32, ImageDebugDirectory, [u64; 2]) {
-    let mut out = NO_ENTRY;
+    let mut out = NO_DEBUG_ENTRY;
     let answer = pe_c_next_te_debug_entry(bytes, te, walk, &mut out);
     (answer, out, of_range(*walk))
 }
@@ -202,10 +178,10 @@ fn debug_entries_of_a_te_image(rt: HostRuntime) -> Result<(), Fail> {
     assert_eq!(rt; found, (DONE, CODEVIEW, [0x6C, 0x1C]));
     assert_eq!(rt; step(&bytes, &te, &mut walk), (DONE, REPRO, [0x88, 0]));
     let found = step(&bytes, &te, &mut walk);
-    assert_eq!(rt; found, (NOTHING, NO_ENTRY, [0x88, 0]));
+    assert_eq!(rt; found, (NOTHING, NO_DEBUG_ENTRY, [0x88, 0]));
     assert_eq!(rt; first_of(&bytes, &te, 2), (DONE, CODEVIEW));
     assert_eq!(rt; first_of(&bytes, &te, 16), (DONE, REPRO));
-    assert_eq!(rt; first_of(&bytes, &te, 13), (NOTHING, NO_ENTRY));
+    assert_eq!(rt; first_of(&bytes, &te, 13), (NOTHING, NO_DEBUG_ENTRY));
     let mut key = SymbolKey {
         guid: [9; 16],
         age: 9,
@@ -221,13 +197,16 @@ fn debug_entries_of_a_te_image(rt: HostRuntime) -> Result<(), Fail> {
     );
     // A truncated entry.
     let mut walk = range(0x6C, 27);
-    assert_eq!(rt; step(&bytes, &te, &mut walk), (SHORT, NO_ENTRY, [0, 0]));
+    assert_eq!(rt;
+        step(&bytes, &te, &mut walk),
+        (SHORT, NO_DEBUG_ENTRY, [0, 0])
+    );
     // A directory that passes the end.
     let long = TeImage {
         debug_dir: directory(0x50, 0x5F),
         ..te
     };
     assert_eq!(rt; entries_of(&bytes, &long), (DEBUG_BOUNDS, UNTOUCHED));
-    assert_eq!(rt; first_of(&bytes, &long, 16), (DEBUG_BOUNDS, NO_ENTRY));
+    assert_eq!(rt; first_of(&bytes, &long, 16), (DEBUG_BOUNDS, NO_DEBUG_ENTRY));
     Ok(())
 }

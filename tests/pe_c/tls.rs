@@ -1,15 +1,8 @@
 //! The TLS directory of an image, and its callbacks, one a step.
 
-use super::made::{
-    DIRECTORY_VA_BELOW_BASE, OVER, SHORT, UNMAPPED, UNTOUCHED, X64, directory, having, image,
-    of_range, range, sections, untouched, view, words,
-};
-use crate::headers::image::Image;
-use crate::base::results::{DONE, NOTHING};
+use super::made::*;
 use crate::directories::tls::{pe_c_next_tls_callback, pe_c_tls, pe_c_tls_callbacks};
 use pe_directories::TlsDirectory;
-use std::alloc::{AllocError, Global};
-use std::test::Fail;
 
 /// What `out` is before each call.
 pub(crate) const NONE: TlsDirectory = TlsDirectory {

@@ -1,21 +1,12 @@
 //! The functions of x64 images, their unwind records and scope tables.
 
-use super::made::{
-    ARM64, EXCEPTION_SIZE, FUNCTION_INDEX, OVER, SHORT, UNTOUCHED, X64, directory, having, image,
-    of_range, range, sections, untouched, view, words,
-};
+use super::made::*;
 use super::steps::pe_c_function_at;
-use crate::headers::image::Image;
-use crate::base::ranges::Range;
-use crate::base::results::{DONE, NOTHING};
 use crate::unwinding::{
     CodeWalk, UnwindRecord, pe_c_find_function, pe_c_function_table, pe_c_next_scope,
     pe_c_scope_table, pe_c_unwind_record,
 };
-use pe_images::put;
 use pe_unwind::{RuntimeFunction, ScopeTableEntry};
-use std::alloc::Global;
-use std::test::Fail;
 
 const NO_FUNCTION: RuntimeFunction = RuntimeFunction {
     begin_address: 0,
@@ -193,8 +184,6 @@ pub(crate) fn no_record() -> UnwindRecord {
         spare: [1; 6],
     }
 }
-
-const UNTOUCHED_FIELDS: Fields = ([1, 2, 3, 4], [7, 10, 11, 12, 13, 12], [5, 6], OTHER);
 
 fn record_of(bytes: &[u8], table: &Range, unwind: u32) -> (u32, Fields) {
     let mut out = no_record();

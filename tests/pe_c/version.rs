@@ -1,18 +1,10 @@
 //! The version information of an image, and its manifest.
 
-use super::made::{
-    RESOURCE_STRING, SHORT, UNMAPPED, UNTOUCHED, X64, directory, having, image, of_range, range,
-    sections, untouched, view,
-};
+use super::made::*;
 use super::steps::{pe_c_fixed_version, pe_c_version_text};
-use crate::headers::image::Image;
-use crate::base::ranges::Range;
-use crate::base::results::{DONE, NOTHING};
 use crate::resources::version::{pe_c_fixed_version_in, pe_c_manifest, pe_c_version_text_in};
-use pe_images::{image as bytes_of, put};
+use pe_images::image as bytes_of;
 use pe_resource::VsFixedFileInfo;
-use std::alloc::{AllocError, Global};
-use std::test::Fail;
 
 /// The first directory has two entries, with the ids 16 and 24, whose data entries stand at 0x20 and 0x30. These lead to
 /// the address 0x1044, of bytes that come after, and to the four bytes before that. Read as a directory, a data

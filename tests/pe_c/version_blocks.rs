@@ -1,15 +1,9 @@
 //! Version information by its blocks: where they are, one a step, and walks that end or go on after an error.
 
-use super::made::{
-    RESOURCE_BOUNDS, RESOURCE_STRING, SHORT, UNTOUCHED, X64, directory, having, image, of_range,
-    range, sections, untouched, view,
-};
+use super::made::*;
 use super::steps::pe_c_next_version_block;
-use crate::base::results::{DONE, NOTHING};
 use crate::resources::version_blocks::{VersionBlock, pe_c_version_blocks};
-use pe_images::{image as bytes_of, put};
-use std::alloc::Global;
-use std::test::Fail;
+use pe_images::image as bytes_of;
 
 /// At offset 4: a string table, whose string has the key `A` and the value `B`; a block of 8 bytes whose key has no end; one
 /// of 10 bytes, at whose end its value of 3 bytes would start; one of 40 bytes, of which 6 are there.

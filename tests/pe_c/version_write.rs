@@ -1,12 +1,10 @@
 //! Blocks of version information that are written: the bytes, by Microsoft's page on the members of String, and refusals.
 
-use super::made::asked;
-use crate::base::results::{DONE, ROOM};
+use super::made::*;
 use crate::write::version::{pe_c_write_block, pe_c_write_version};
 use pe_edit::RecordRange;
 use pe_resource::VsFixedFileInfo;
 use pe_version::{LanguageRecord, StringRecord, TableRecord};
-use std::test::Fail;
 
 /// What a byte of the room, and the length, is before a call.
 const OLD: u8 = 0xEE;

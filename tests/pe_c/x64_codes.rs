@@ -1,9 +1,7 @@
 //! The unwind codes of x64 records, one a step.
 
-use super::made::{OVER, SHORT, UNWIND_CODE, of_range, range};
+use super::made::*;
 use super::steps::pe_c_next_code;
-use crate::base::ranges::Range;
-use crate::base::results::{DONE, NOTHING};
 use crate::unwinding::{Code, CodeWalk};
 
 /// A walk whose spare bytes are not zero: nothing reads them, and no step changes them.
