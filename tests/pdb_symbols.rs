@@ -5,9 +5,9 @@
 use crate::images::{put, with_byte};
 use crate::pdbs::{all_of, pdb, refused};
 use pe_pdb::{
-    CountedEntries, DBI_STREAM, Dbi, FIRST_SYMBOL, INFO_STREAM, LineBlock, LineHeader, Module, Modules, Msf,
-    PdbError, PdbInfo, ProcedureSymbol, PublicSymbol, SectionHeaders, Subsection, SymbolAddress,
-    SymbolClass, SymbolIndex, SymbolRecord, SymbolRecords, search_symbols,
+    CountedEntries, DBI_STREAM, Dbi, FIRST_SYMBOL, INFO_STREAM, LineBlock, LineHeader, Module,
+    Modules, Msf, PdbError, PdbInfo, ProcedureSymbol, PublicSymbol, SectionHeaders, Subsection,
+    SymbolAddress, SymbolClass, SymbolIndex, SymbolRecord, SymbolRecords, search_symbols,
 };
 use std::alloc::Global;
 use std::test::Fail;

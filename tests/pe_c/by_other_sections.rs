@@ -17,14 +17,14 @@ use super::steps::{
 use super::unwinding::no_record;
 use crate::arm64::frames::{Arm64FrameRegisters, Arm64StackFrame, pe_c_step_arm64};
 use crate::directories::delay_imports::pe_c_delay_imports;
-use crate::names::exports::Exports;
-use crate::names::imports::{Imports, Libraries};
+use crate::headers::loaded::pe_c_relocate;
 use crate::lists::exports::pe_c_list_exports;
 use crate::lists::imports::pe_c_list_imports;
-use crate::headers::loaded::pe_c_relocate;
-use crate::unwinding::plan::pe_c_next_record;
+use crate::names::exports::Exports;
+use crate::names::imports::{Imports, Libraries};
 use crate::stack::frames::{FrameRegisters, StackFrame, pe_c_step};
 use crate::unwinding::pe_c_function_table;
+use crate::unwinding::plan::pe_c_next_record;
 use pe_images::image as bytes_of;
 use pe_unwind::{Arm64RuntimeFunction, RuntimeFunction};
 

@@ -14,11 +14,11 @@
 
 use super::made::*;
 use super::steps::pe_c_symbol;
+use crate::headers::CoffFields;
 use crate::headers::coff::{
     Symbol, SymbolWalk, pe_c_coff, pe_c_coff_sections, pe_c_coff_strings, pe_c_coff_symbols,
     pe_c_next_symbol, pe_c_symbol_name,
 };
-use crate::headers::CoffFields;
 use pe_images::image as bytes_of;
 
 /// Offset and entries of the symbols, offset and size of the string table after them.

@@ -2,12 +2,12 @@
 
 use super::made::*;
 use super::steps::pe_c_symbol_key;
-use crate::debug::{DebugRecords, pe_c_debug_data, pe_c_debug_entries, pe_c_first_debug_entry};
 use crate::debug::records::{
     EmbeddedPdb, Pdb20, PdbChecksum, Pogo, Repro, SymbolKey, pe_c_characteristics_of,
     pe_c_codeview, pe_c_embedded_pdb_of, pe_c_pdb_checksum_of, pe_c_pdb20_of, pe_c_pogo_of,
     pe_c_repro_of, pe_c_symbol_key_of, pe_c_vc_features_of,
 };
+use crate::debug::{DebugRecords, pe_c_debug_data, pe_c_debug_entries, pe_c_first_debug_entry};
 use pe_images::image as bytes_of;
 use pe_records::{ImageDebugDirectory, VCFeatureInfo};
 

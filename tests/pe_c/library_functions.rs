@@ -1,8 +1,8 @@
 //! The list of the functions of all delay-loaded DLLs, whose names are read together in a room of the caller.
 
 use super::made::*;
-use crate::directories::delay_imports::{DelayedFunction, DelayedFunctions};
 use crate::directories::all_delay_imports::{LibraryFunction, LibraryFunctions};
+use crate::directories::delay_imports::{DelayedFunction, DelayedFunctions};
 use crate::lists::library_functions::pe_c_list_all_delayed_functions;
 use pe_images::image as bytes_of;
 

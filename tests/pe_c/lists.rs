@@ -3,9 +3,9 @@
 
 use super::imports::{NO_IMPORT, from_import, with_imports};
 use super::made::*;
-use crate::names::imports::Imports;
 use crate::lists::imports::pe_c_list_imports;
 use crate::lists::x64::{CodeForm, pe_c_all_codes, pe_c_list_codes, pe_c_list_functions};
+use crate::names::imports::Imports;
 use crate::unwinding::{Code, CodeWalk};
 use pe_unwind::RuntimeFunction;
 

@@ -4,12 +4,12 @@
 use super::exports::from as from_exports;
 use super::made::*;
 use crate::headers::coff::{Symbol, SymbolWalk};
-use crate::names::export_addresses::{AddressTable, Exported};
-use crate::names::exports::{Export, Exports};
 use crate::lists::exports::pe_c_list_exports;
 use crate::lists::forwarders::pe_c_list_export_addresses;
 use crate::lists::section_names::pe_c_list_long_section_names;
 use crate::lists::symbols::{NamedSymbol, NamedSymbolWalk, pe_c_list_symbols};
+use crate::names::export_addresses::{AddressTable, Exported};
+use crate::names::exports::{Export, Exports};
 use pe_images::image as bytes_of;
 
 /// Three long texts: at 100h 82 bytes of UTF-8, with a character of two bytes at 146h; at 160h 20 bytes before one that is none of

@@ -1,12 +1,12 @@
 //! What calls are handed, and what they hand out, as plain numbers.
 
-pub(crate) use crate::failures::headers::Failure;
-pub(crate) use crate::headers::image::Image;
 pub(crate) use crate::base::kept_sections::{KeptSections, NO_SECTIONS};
 pub(crate) use crate::base::ranges::{NO_BYTES, Range};
 pub(crate) use crate::base::results::{DONE, NOTHING, ROOM};
 pub(crate) use crate::base::text_runs::Run;
 pub(crate) use crate::base::view::View;
+pub(crate) use crate::failures::headers::Failure;
+pub(crate) use crate::headers::image::Image;
 pub(crate) use pe_core::{DataDirectory, SectionTable};
 pub(crate) use pe_frame::{IndexEntry, MemoryPiece};
 use pe_images::image as bytes_of;

@@ -8,6 +8,8 @@ use super::made::{
     PDB_STREAM_SIZE, PDB20, SHORT, of_range, range,
 };
 use super::pdb_bytes::{LENGTH, PIECES};
+use crate::base::ranges::NO_BYTES;
+use crate::base::results::{DONE, NOTHING, ROOM};
 use crate::debug::records::SymbolKey;
 use crate::pdb::index::{pe_c_find_pdb_symbol, pe_c_pdb_index};
 use crate::pdb::lines::{
@@ -16,8 +18,6 @@ use crate::pdb::lines::{
 use crate::pdb::modules::{PdbModule, pe_c_list_pdb_modules};
 use crate::pdb::symbols::{PdbSymbol, pe_c_list_pdb_symbols};
 use crate::pdb::{Pdb, pe_c_is_pdb_of, pe_c_pdb, pe_c_pdb_starts, pe_c_pdb_stream};
-use crate::base::ranges::NO_BYTES;
-use crate::base::results::{DONE, NOTHING, ROOM};
 use pe_images::{image, put};
 use pe_pdb::{CodeLine, LineEntry};
 use std::alloc::{AllocError, Global};

@@ -7,14 +7,14 @@ use super::made::{
 };
 use super::pdb::{NO_MODULE, NO_SYMBOL, pdb, stream};
 use super::pdb_inlined_bytes::{LENGTH, PIECES};
+use crate::base::ranges::{NO_BYTES, Range};
+use crate::base::results::{DONE, NOTHING, ROOM};
 use crate::pdb::contributions::pe_c_pdb_module_ranges;
 use crate::pdb::index::{pe_c_find_pdb_symbol, pe_c_pdb_index};
 use crate::pdb::inlined::{PdbInlined, pe_c_find_pdb_inlined, pe_c_pdb_ids};
 use crate::pdb::lines::{pe_c_pdb_file_name, pe_c_pdb_files};
 use crate::pdb::modules::{PdbModule, pe_c_list_pdb_modules};
 use crate::pdb::symbols::PdbSymbol;
-use crate::base::ranges::{NO_BYTES, Range};
-use crate::base::results::{DONE, NOTHING, ROOM};
 use pe_images::{image, put};
 use pe_pdb::ModuleRange;
 use std::alloc::{AllocError, Global};

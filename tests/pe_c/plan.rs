@@ -2,8 +2,8 @@
 
 use super::made::*;
 use super::unwinding::no_record;
-use crate::unwinding::plan::{Plan, PlanWalk, pe_c_next_record, pe_c_plan_from};
 use crate::unwinding::UnwindRecord;
+use crate::unwinding::plan::{Plan, PlanWalk, pe_c_next_record, pe_c_plan_from};
 
 /// Records of version 1 that go on with other functions, whose prologs have different lengths: 16 bytes each from the offset
 /// 0x30 on, after the entries of four functions, the third of which is a link to the first, the fourth one to itself. At 0x30 is a

@@ -2,9 +2,9 @@
 
 use super::made;
 use super::made::*;
+use crate::base::section_index::pe_c_index;
 use crate::headers::map_ranges::pe_c_range_at;
 use crate::headers::maps::pe_c_section_at;
-use crate::base::section_index::pe_c_index;
 
 /// A section of so many bytes in memory and in the file.
 fn section(rva: u32, offset: u32, size: u32) -> SectionTable {

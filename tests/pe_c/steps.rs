@@ -3,17 +3,16 @@
 
 use super::made::*;
 use crate::arm64::codes::{Arm64Code, Arm64CodeWalk};
-use crate::directories::base_relocations::{Relocation, RelocationBlock};
-use crate::directories::bound_imports::{BoundForwarder, BoundImport};
-use crate::headers::coff::{Symbol, SymbolWalk, pe_c_next_symbol};
 use crate::debug::pe_c_first_debug_entry;
 use crate::debug::records::{SymbolKey, pe_c_symbol_key_of};
 use crate::debug::walks::PogoEntry;
-use crate::directories::delay_imports::{DelayLibrary, DelayWalk, DelayedFunction, DelayedFunctionWalk};
-use crate::names::export_addresses::{AddressTable, Exported};
-use crate::names::exports::{Export, ExportWalk};
+use crate::directories::base_relocations::{Relocation, RelocationBlock};
+use crate::directories::bound_imports::{BoundForwarder, BoundImport};
+use crate::directories::delay_imports::{
+    DelayLibrary, DelayWalk, DelayedFunction, DelayedFunctionWalk,
+};
 use crate::directories::guard_tables::{GuardEntries, GuardEntry};
-use crate::names::imports::{Import, ImportWalk, Library, LibraryWalk};
+use crate::headers::coff::{Symbol, SymbolWalk, pe_c_next_symbol};
 use crate::lists::arm64::{pe_c_list_arm64_codes, pe_c_list_arm64_functions};
 use crate::lists::bound_imports::{pe_c_list_bound_forwarders, pe_c_list_bound_imports};
 use crate::lists::debug::pe_c_list_pogo_entries;
@@ -25,10 +24,13 @@ use crate::lists::imports::{pe_c_list_imports, pe_c_list_libraries};
 use crate::lists::relocations::{pe_c_list_relocation_blocks, pe_c_list_relocations};
 use crate::lists::resources::{pe_c_list_resource_leaves, pe_c_list_version_blocks};
 use crate::lists::x64::{pe_c_list_codes, pe_c_list_functions};
+use crate::names::export_addresses::{AddressTable, Exported};
+use crate::names::exports::{Export, ExportWalk};
+use crate::names::imports::{Import, ImportWalk, Library, LibraryWalk};
 use crate::resources::leaves::{LeafWalk, ResourceLeaf};
-use crate::unwinding::{Code, CodeWalk};
 use crate::resources::version::{pe_c_fixed_version_in, pe_c_version_text_in};
 use crate::resources::version_blocks::{VersionBlock, pe_c_version_blocks};
+use crate::unwinding::{Code, CodeWalk};
 use pe_records::ImageDebugDirectory;
 use pe_resource::VsFixedFileInfo;
 use pe_unwind::{Arm64RuntimeFunction, RuntimeFunction};
