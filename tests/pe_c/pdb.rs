@@ -133,11 +133,15 @@ fn read(bytes: &[u8]) -> (u32, Pdb) {
     (result, out)
 }
 
-/// The result of a file that differs at an offset.
-fn differing(alloc: Global, offset: usize, part: &[u8]) -> Result<(u32, Pdb), AllocError> {
-    let mut bytes = pdb(alloc)?;
-    put(&mut bytes, &[(offset, part)]);
-    Ok(read(&bytes))
+/// The result of a file that differs at an offset. It is as before afterwards: to make one takes a second under the tests' checks.
+fn differing(bytes: &mut [u8], offset: usize, part: &[u8]) -> (u32, Pdb) {
+    let mut kept = [0; 42];
+    let (kept, end) = (&mut kept[..part.len()], offset + part.len());
+    kept.copy_from_slice(&bytes[offset..end]);
+    put(bytes, &[(offset, part)]);
+    let found = read(bytes);
+    put(bytes, &[(offset, kept)]);
+    found
 }
 
 #[test]
@@ -165,7 +169,7 @@ fn a_pdb_says_which_one_it_is(rt: HostRuntime) -> Result<(), Fail> {
 
 #[test]
 fn what_is_no_pdb_is_refused(rt: HostRuntime) -> Result<(), Fail> {
-    let bytes = pdb(rt.alloc())?;
+    let mut bytes = pdb(rt.alloc())?;
     let (result, out) = read(&bytes[..55]);
     assert_eq!(rt; (result, out.guid, out.dbi_result), (SHORT, [9; 16], 9));
     let old: &[u8] = b"Microsoft C/C++ program database 2.00\r\n\x1AJG";
@@ -187,7 +191,7 @@ fn what_is_no_pdb_is_refused(rt: HostRuntime) -> Result<(), Fail> {
         (69632, b"\0", PDB_INFO_VERSION),
     ];
     for (offset, part, error) in cases {
-        let (result, out) = differing(rt.alloc(), offset, part)?;
+        let (result, out) = differing(&mut bytes, offset, part);
         assert_eq!(rt; (result, out.guid, out.age), (error, [9; 16], 9));
     }
     Ok(())
@@ -205,8 +209,9 @@ fn a_dbi_stream_costs_itself_alone(rt: HostRuntime) -> Result<(), Fail> {
         // The block of the stream, which is listed after those of two others.
         (73804, b"\x13", PDB_BLOCK),
     ];
+    let mut bytes = pdb(rt.alloc())?;
     for (offset, part, error) in cases {
-        let (result, pdb) = differing(rt.alloc(), offset, part)?;
+        let (result, pdb) = differing(&mut bytes, offset, part);
         assert_eq!(rt; (result, pdb.dbi_result), (DONE, error));
         assert_eq!(rt; (pdb.guid, pdb.age, pdb.dbi_age), (GUID, 1, 0));
         assert_eq!(rt; (pdb.machine, pdb.flags, pdb.build), (0, 0, 0));
