@@ -603,7 +603,8 @@ fn indexes_of_addresses(rt: HostRuntime) -> Result<(), Fail> {
 #[test]
 fn ranges_of_minidumps(rt: HostRuntime) -> Result<(), Fail> {
     let alloc = rt.alloc();
-    for count in COUNTS {
+    // A module has 108 bytes: to make 201,000 takes minutes under the tests' checks.
+    for count in [1u32, 3, 1000, 20_100] {
         let things = count as usize;
         let room = Room::NONE.growing(things, size_of::<AddressRange>());
         let mut stream = vec![in alloc; 0; 4 + 108 * things]?;
