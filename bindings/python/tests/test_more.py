@@ -687,9 +687,9 @@ class Names(unittest.TestCase):
         registers = Stacks().registers(BASE + 0x5008, 0x20000, rbp=0x20040)
         stack = pe_c.walk(registers, [(self.image(), BASE)], memory, [(0x20000, 0, len(memory))], 10)
         self.assertEqual([it.function and (it.function.name, it.function.offset) for it in stack.frames], [("inner", 2), ("_Z5otherv", 4)])
-        # Without an image, and in no module, nothing has a name.
+        # Without an image nothing has a name: the frame pointer leads on, as a guess.
         stack = pe_c.walk(registers, [(0x6000, BASE)], memory, [(0x20000, 0, len(memory))], 10)
-        self.assertEqual([it.function for it in stack.frames], [None])
+        self.assertEqual([(it.function, it.is_guess) for it in stack.frames], [(None, False), (None, True)])
 
     def test_a_return_address_after_a_module(self):
         """It may be the first address of the next module: the byte before it is that of the call."""
