@@ -1,24 +1,18 @@
-#!/usr/bin/env python3
-"""Makes PE32+ images to measure on, and the text that `peinfo list` has to print of them.
+"""PE32+ images to measure on, and the text that `peinfo list` has to print of them.
 
-    bench/make_image.py ENTRIES BYTES FILE [FUNCTIONS [FUNCTIONS64]]
-
-The image is one for x64 and has one section, .rdata, with a debug table of ENTRIES entries and after it a function
-table of FUNCTIONS entries; with FUNCTIONS64 it is one for ARM64, and its function table has that many entries of ARM64
-in their place. It is filled up to BYTES bytes if that is more. Without entries a table has no directory. Every field of
-an entry is other than zero and varies from entry to entry. The types are of those that have no record of their own to
-be read (as CodeView's have), and pointers and addresses lie in the section, so that other readers take the image too.
+The image is one for x64 and has one section, .rdata, with a debug table and after it a function table. It is filled up to a number of
+bytes if that is more. Without entries a table has no directory. Every field of an entry is other than zero and varies from entry to
+entry. The types are of those that have no record of their own to be read (as CodeView's have), and pointers and addresses lie in the
+section, so that other readers take the image too.
 """
 
 import struct
-import sys
 
 HEADERS = 0x200
 ADDRESS = 0x1000
 BASE = 0x140000000
 ROW = 28
 FUNCTION = 12
-FUNCTION64 = 8
 # COFF, FPO, misc, exception, fixup, omap (two), Borland, class id, ILTCG, MPX, portable PDB, PDB checksum, perfmap.
 TYPES = [1, 3, 4, 5, 6, 7, 8, 9, 11, 14, 15, 17, 19, 21]
 
@@ -40,34 +34,21 @@ def function(i):
     return (ADDRESS + 16 * i, ADDRESS + 16 * i + 16, ADDRESS + i % 0x4000 * 4)
 
 
-def function64(i):
-    """The two fields of ARM64 function i: every second has a record, and the others are packed in all ways."""
-    packed = (1 + i % 2046) << 2 | i * 40503 % 0x7FFFF << 13
-    return (ADDRESS + 16 * i, ADDRESS + i % 0x4000 * 4 if i % 2 else packed | 1 + i // 2 % 2)
-
-
-def functions_size(functions, functions64):
-    return functions64 * FUNCTION64 or functions * FUNCTION
-
-
-def raw_size(entries, total, functions=0, functions64=0):
-    tables = entries * ROW + functions_size(functions, functions64)
+def raw_size(entries, total, functions=0):
+    tables = entries * ROW + functions * FUNCTION
     return rounded_up(max(tables, total - HEADERS, 0x200), 0x200)
 
 
-def image(entries, total, functions=0, functions64=0):
+def image(entries, total, functions=0):
     """The bytes of an image."""
-    raw = raw_size(entries, total, functions, functions64)
+    raw = raw_size(entries, total, functions)
     table = b"".join(struct.pack("<IIHHIIII", *entry(i, raw)) for i in range(entries))
-    if functions64:
-        table += b"".join(struct.pack("<II", *function64(i)) for i in range(functions64))
-    else:
-        table += b"".join(struct.pack("<III", *function(i)) for i in range(functions))
+    table += b"".join(struct.pack("<III", *function(i)) for i in range(functions))
     # What follows the table is no zeros, so that no file system keeps holes in its place.
     piece = bytes((i * 167 + 13) % 251 + 1 for i in range(65536))
     body = (table + piece * ((raw - len(table)) // len(piece) + 1))[:raw]
     dos = b"MZ" + bytes(58) + struct.pack("<I", 0x40)
-    coff = struct.pack("<HHIIIHH", 0xAA64 if functions64 else 0x8664, 1, 0x5F3759DF, 0, 0, 240, 0x22)
+    coff = struct.pack("<HHIIIHH", 0x8664, 1, 0x5F3759DF, 0, 0, 240, 0x22)
     standard = struct.pack("<HBBIIIII", 0x20B, 14, 0, 0, raw, 0, ADDRESS, ADDRESS)
     windows = struct.pack("<QIIHHHHHHIIIIHHQQQQII", BASE, 0x1000, 0x200, 6, 0, 0, 0, 6, 0, 0,
                           rounded_up(ADDRESS + raw, 0x1000), HEADERS, 0, 3, 0x8160,
@@ -75,35 +56,20 @@ def image(entries, total, functions=0, functions64=0):
     directories = [(0, 0)] * 16
     if entries:
         directories[6] = (ADDRESS, entries * ROW)
-    if functions or functions64:
-        directories[3] = (ADDRESS + entries * ROW, functions_size(functions, functions64))
+    if functions:
+        directories[3] = (ADDRESS + entries * ROW, functions * FUNCTION)
     section = struct.pack("<8sIIIIIIHHI", b".rdata", raw, ADDRESS, raw, HEADERS, 0, 0, 0, 0, 0x40000040)
     head = dos + b"PE\0\0" + coff + standard + windows + b"".join(struct.pack("<II", *d) for d in directories) + section
     return head.ljust(HEADERS, b"\0") + body
 
 
-def listing(entries, total, functions=0, functions64=0):
+def listing(entries, total, functions=0):
     """What `peinfo list` prints of it."""
-    raw = raw_size(entries, total, functions, functions64)
+    raw = raw_size(entries, total, functions)
     lines = [f"image 64 entry {ADDRESS:08x} base {BASE:016x}\n"]
     for i in range(entries):
         *_, kind, size, address, pointer = entry(i, raw)
         lines.append(f"debug {kind} {size} {address:08x} {pointer:08x}\n")
-    for i in range(functions64):
-        lines.append("function64 {:08x} {:08x}\n".format(*function64(i)))
-    for i in range(0 if functions64 else functions):
+    for i in range(functions):
         lines.append("function {:08x} {:08x} {:08x}\n".format(*function(i)))
     return "".join(lines)
-
-
-def main(words):
-    if len(words) not in (3, 4, 5) or not all(word.isdecimal() for word in words[:2] + words[3:]):
-        print("usage: bench/make_image.py ENTRIES BYTES FILE [FUNCTIONS [FUNCTIONS64]]", file=sys.stderr)
-        return 2
-    with open(words[2], "wb") as file:
-        file.write(image(int(words[0]), int(words[1]), *map(int, words[3:])))
-    return 0
-
-
-if __name__ == "__main__":
-    sys.exit(main(sys.argv[1:]))

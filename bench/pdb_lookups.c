@@ -77,6 +77,11 @@ static uint64_t look_up(const pdb *it, const char *call, uint32_t rva)
     pe_c_pdb_line line = PE_C_EMPTY;
     pe_c_pdb_inlined frames[64];
     uint64_t written = 0;
+    if (call[0] == 'r' && strcmp(call, "read-line") == 0)
+        return pe_c_read_pdb_line(module_bytes, it->module_length, &it->module.lines, sections, it->sections_length, rva, &line) == PE_C_DONE;
+    if (call[0] == 'r')
+        return pe_c_read_pdb_symbol(PE_C_PDB_PROCEDURES, module_bytes, it->module_length, &it->module.symbols, sections,
+                                    it->sections_length, rva, &found) == PE_C_DONE;
     if (strcmp(call, "line") == 0)
         return pe_c_find_pdb_line(lines, it->line_entries, rva, &line) == PE_C_DONE;
     if (pe_c_find_pdb_symbol(PE_C_PDB_PROCEDURES, module_bytes, it->module_length, sections, it->sections_length, index_room,
@@ -116,12 +121,13 @@ int main(int argc, char **argv)
     it.bytes = read_all(argv[1], &it.length);
     if (it.bytes == NULL || !read_pdb(&it))
         return 1;
-    const int is_lookup = strcmp(call, "symbol") == 0 || strcmp(call, "line") == 0 || strcmp(call, "inlined") == 0;
+    const int makes = strcmp(call, "parse") == 0 || strcmp(call, "starts") == 0 || strcmp(call, "index") == 0
+                      || strcmp(call, "lines") == 0 || strcmp(call, "ids") == 0;
     uint64_t count = 0;
     for (uint64_t turn = 0; turn < most; turn++) {
         /* Eight bytes after the start of one procedure after the other. */
         const uint32_t rva = (uint32_t)(index_room[turn * 7919 % it.entries] >> 32) + 8;
-        count += is_lookup ? look_up(&it, call, rva) : make(&it, call);
+        count += makes ? make(&it, call) : look_up(&it, call, rva);
     }
     printf("%llu\n", (unsigned long long)count);
     return 0;

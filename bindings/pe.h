@@ -313,10 +313,13 @@
  *   pe_c_list_pdb_symbols           Lists the records of symbols, and moves the walk past them
  *   pe_c_pdb_index                  Makes an index of the symbols of a kind, PE_C_PDB_PUBLICS or PE_C_PDB_PROCEDURES, by ..
  *   pe_c_find_pdb_symbol            Finds the symbol of an RVA by an index that pe_c_pdb_index made of these bytes and ..
+ *   pe_c_read_pdb_symbol            Finds the symbol of an RVA without an index
  *   pe_c_pdb_lines                  Makes an index of the lines of a module by their RVAs at the start of `room`, in ..
  *   pe_c_find_pdb_line              Finds the line of an RVA by an index that pe_c_pdb_lines made
+ *   pe_c_read_pdb_line              Finds the line of an RVA without an index
  *   pe_c_pdb_files                  Returns the range of the source files of a module in its stream
  *   pe_c_pdb_file_name              Returns the range of the name of a source file in `names`, the bytes of the stream ..
+ *   pe_c_pdb_moved_rva              Returns where the code at an RVA is by an OMAP table, whose bytes are those of its stream
  *   pe_c_pdb_module_ranges          Writes to the start of `room` which RVAs are of which module
  *   pe_c_pdb_ids                    Writes to the start of `room` where each record of the stream of ids starts, for ..
  *   pe_c_find_pdb_inlined           Writes the inlined functions whose code is at an RVA to the start of `room`, the ..
@@ -4325,8 +4328,8 @@ typedef struct {
     uint16_t symbol_stream;         /* the stream of symbols: those that are public, and global ones */
     uint16_t section_headers;       /* the stream with the section headers of the image */
     uint16_t original_section_headers; /* those before a tool moved the code of the image, by which symbols count then */
-    uint16_t omap_to_source;        /* where an RVA was before that; no call reads it */
-    uint16_t omap_from_source;      /* where an RVA of that is now; no call reads it */
+    uint16_t omap_to_source;        /* where an RVA was before that, for pe_c_pdb_moved_rva */
+    uint16_t omap_from_source;      /* where an RVA of that is now */
 } pe_c_pdb_info;
 
 /* A module, an object that was linked. */
@@ -4469,6 +4472,13 @@ uint32_t pe_c_find_pdb_symbol(uint32_t kind, const uint8_t *bytes, size_t length
                               size_t sections_length, const uint64_t *index, size_t entries, uint32_t rva, pe_c_pdb_symbol *out)
     PE_C_RESULT(9);
 
+/* Finds the symbol of an RVA without an index: what pe_c_find_pdb_symbol finds by one that pe_c_pdb_index makes of these arguments. It
+ * reads all records once, which for a few RVAs takes less than to make an index. PE_C_NOTHING without one.
+ * Errors: those of pe_c_pdb_index but PE_C_ROOM, then those of the record that is found. */
+uint32_t pe_c_read_pdb_symbol(uint32_t kind, const uint8_t *bytes, size_t length, const pe_c_range *symbols,
+                              const uint8_t *sections, size_t sections_length, uint32_t rva, pe_c_pdb_symbol *out)
+    PE_C_RESULT(4, 8);
+
 /* Makes an index of the lines of a module by their RVAs at the start of `room`, in ascending order. `bytes` are those of the
  * stream of the module, and `lines` is its range of them. Rows outside of the code of their subsection, and those in no section,
  * are left out. n rows take n log n steps.
@@ -4483,6 +4493,12 @@ uint32_t pe_c_pdb_lines(const uint8_t *bytes, size_t length, const pe_c_range *l
  * that do not ascend it finds some line, or none. */
 uint32_t pe_c_find_pdb_line(const pe_c_pdb_line_entry *index, size_t entries, uint32_t rva, pe_c_pdb_line *out) PE_C_RESULT(4);
 
+/* Finds the line of an RVA without an index: what pe_c_find_pdb_line finds by one that pe_c_pdb_lines makes of these arguments. It reads
+ * all rows once. PE_C_NOTHING without one.
+ * Errors: those of pe_c_pdb_lines but PE_C_ROOM. */
+uint32_t pe_c_read_pdb_line(const uint8_t *bytes, size_t length, const pe_c_range *lines, const uint8_t *sections,
+                            size_t sections_length, uint32_t rva, pe_c_pdb_line *out) PE_C_RESULT(3, 7);
+
 /* Returns the range of the source files of a module in its stream. `lines` is its range of lines. PE_C_NOTHING without files.
  * Errors: PE_C_SHORT where the range is not inside the bytes; PE_C_SHORT, PE_C_PDB_RECORD_TRUNCATED of a subsection before. */
 uint32_t pe_c_pdb_files(const uint8_t *bytes, size_t length, const pe_c_range *lines, pe_c_range *out) PE_C_RESULT(3, 4);
@@ -4495,6 +4511,12 @@ uint32_t pe_c_pdb_files(const uint8_t *bytes, size_t length, const pe_c_range *l
  * PE_C_PDB_NAME. */
 uint32_t pe_c_pdb_file_name(const uint8_t *bytes, size_t length, const pe_c_range *files, const uint8_t *names,
                             size_t names_length, uint32_t file, pe_c_range *out) PE_C_RESULT(3, 7);
+
+/* Returns where the code at an RVA is by an OMAP table, whose bytes are those of its stream: by `omap_to_source` of pe_c_pdb_info where
+ * an RVA of the image was when it was linked, by `omap_from_source` where one of then is now. PE_C_NOTHING where it is nowhere. Other
+ * calls then take the stream `original_section_headers`, and RVAs of then. It is looked up by halves: where rows do not ascend, some
+ * row or none is taken. It never returns an error. */
+uint32_t pe_c_pdb_moved_rva(const uint8_t *bytes, size_t length, uint32_t rva, uint32_t *out) PE_C_RESULT(4);
 
 /* Writes to the start of `room` which RVAs are of which module: a range for each section contribution, in their order.
  * `contributions` are those of pe_c_pdb in `bytes`, the DBI stream, stream 3. In what linkers write ranges ascend and do not

@@ -2,6 +2,7 @@
 //! `.seh` directives, and the stacks are by hand: what is expected is the state at the function's entry.
 
 use crate::frames::bytes_of;
+use crate::images::{arm64_function, stack_at};
 use pe_core::{Error, Reason};
 use pe_frame::{
     Arm64Registers, FrameError, Stack, leaf_arm64, step_arm64, step_arm64_packed, step_out_arm64,
@@ -116,10 +117,7 @@ fn undoes_each_part_of_a_prolog(rt: HostRuntime) -> Result<(), Fail> {
     let caller = of_caller();
     let bytes = bytes_of(rt.alloc(), &chained_words(&caller))?;
     let base = ENTRY - 256;
-    let stack = Stack {
-        start: base,
-        bytes: &bytes,
-    };
+    let stack = stack_at(base, &bytes);
     // The offset of the instruction that is about to run, the stack pointer there, and x29.
     let x29 = caller.general[29];
     for (offset, sp, frame) in [
@@ -182,10 +180,7 @@ fn undoes_pairs_in_a_row(rt: HostRuntime) -> Result<(), Fail> {
     ];
     let bytes = bytes_of(rt.alloc(), &words)?;
     let (first, second) = (ENTRY - 48, ENTRY - 112);
-    let stack = Stack {
-        start: second,
-        bytes: &bytes,
-    };
+    let stack = stack_at(second, &bytes);
     for (place, sp) in [
         (0, ENTRY),
         (1, first),
@@ -241,10 +236,7 @@ fn undoes_single_registers(rt: HostRuntime) -> Result<(), Fail> {
     ];
     let bytes = bytes_of(rt.alloc(), &words)?;
     let base = ENTRY - 112;
-    let stack = Stack {
-        start: base,
-        bytes: &bytes,
-    };
+    let stack = stack_at(base, &bytes);
     for (place, sp, frame) in [
         (0, ENTRY, x[29]),
         (1, ENTRY - 32, x[29]),
@@ -295,10 +287,7 @@ fn takes_signatures_off(rt: HostRuntime) -> Result<(), Fail> {
         expected.general[LR] = address;
         expected.pc = address;
         let bytes = bytes_of(rt.alloc(), &[expected.general[29], signed])?;
-        let stack = Stack {
-            start: ENTRY - 16,
-            bytes: &bytes,
-        };
+        let stack = stack_at(ENTRY - 16, &bytes);
         // After the signature, after the store, and in the body.
         let registers = changed(ENTRY, &[(LR, signed)]);
         assert_eq!(rt; step_at(&record, 4, registers, &stack)?, expected);
@@ -316,10 +305,7 @@ fn undoes_the_prolog_of_another_part(rt: HostRuntime) -> Result<(), Fail> {
     let record = record_of(rt.alloc(), &[0xE5, 0x81, 0xE4, 0xE3])?;
     let caller = of_caller();
     let bytes = bytes_of(rt.alloc(), &[caller.general[29], RETURN_ADDRESS])?;
-    let stack = Stack {
-        start: ENTRY - 16,
-        bytes: &bytes,
-    };
+    let stack = stack_at(ENTRY - 16, &bytes);
     for offset in [0, 4, 0x40] {
         let registers = changed(ENTRY - 16, &[(29, 0), (LR, 1)]);
         assert_eq!(rt; step_at(&record, offset, registers, &stack)?, caller);
@@ -329,10 +315,7 @@ fn undoes_the_prolog_of_another_part(rt: HostRuntime) -> Result<(), Fail> {
 
 #[test]
 fn refuses_what_it_cannot_undo(rt: HostRuntime) -> Result<(), Fail> {
-    let stack = Stack {
-        start: ENTRY - 16,
-        bytes: &[0; 16],
-    };
+    let stack = stack_at(ENTRY - 16, &[0; 16]);
     let rows: [(&[u8], &str); 15] = [
         // E8h and EBh: a trap frame, and a context of ARM64EC
         (
@@ -424,10 +407,7 @@ fn undoes_stores_of_any_register(rt: HostRuntime) -> Result<(), Fail> {
         *word = 0xCC00 + 8 * i as u64;
     }
     let bytes = bytes_of(rt.alloc(), &words)?;
-    let stack = Stack {
-        start: ENTRY,
-        bytes: &bytes,
-    };
+    let stack = stack_at(ENTRY, &bytes);
     for (codes, slots) in rows {
         let record = record_of(rt.alloc(), codes)?;
         let mut expected = of_caller();
@@ -480,10 +460,7 @@ fn context_of(alloc: Global, registers: &Arm64Registers) -> Result<Vec<u8>, Allo
 #[test]
 fn undoes_machine_frames(rt: HostRuntime) -> Result<(), Fail> {
     let bytes = bytes_of(rt.alloc(), &[1, 2, 0x1230, 0x4567])?;
-    let stack = Stack {
-        start: ENTRY,
-        bytes: &bytes,
-    };
+    let stack = stack_at(ENTRY, &bytes);
     // one that is the whole prolog, and one above 16 bytes of stack
     for (codes, sp) in [
         ([0xE9, 0xE4, 0xE3, 0xE3], ENTRY + 16),
@@ -510,10 +487,7 @@ fn undoes_contexts(rt: HostRuntime) -> Result<(), Fail> {
     let mut expected = of_caller();
     (expected.sp, expected.pc) = (0x9870, 0x7FF6_0000_1234);
     let bytes = context_of(rt.alloc(), &expected)?;
-    let stack = Stack {
-        start: ENTRY - 0x390,
-        bytes: &bytes,
-    };
+    let stack = stack_at(ENTRY - 0x390, &bytes);
     let record = record_of(rt.alloc(), &[0xEA, 0xE4, 0xE3, 0xE3])?;
     let registers = after_body(ENTRY - 0x390, 3);
     assert_eq!(rt;
@@ -521,18 +495,12 @@ fn undoes_contexts(rt: HostRuntime) -> Result<(), Fail> {
         (expected, true)
     );
     // Nothing but the pointers is read above d15, which is read first.
-    let short = Stack {
-        start: ENTRY - 0x390,
-        bytes: &bytes[..0x208],
-    };
+    let short = stack_at(ENTRY - 0x390, &bytes[..0x208]);
     assert_eq!(rt;
         step_out_at(&record, 0x40, registers, &short)?,
         (expected, true)
     );
-    let shorter = Stack {
-        start: ENTRY - 0x390,
-        bytes: &bytes[..0x207],
-    };
+    let shorter = stack_at(ENTRY - 0x390, &bytes[..0x207]);
     let missing = step_out_at(&record, 0x40, registers, &shorter);
     assert!(rt; matches!(missing, Err(FrameError::Memory(address)) if address == ENTRY - 0x190));
     Ok(())
@@ -546,10 +514,7 @@ const POPS_COOKIE: [u8; 16] = [
 
 #[test]
 fn says_that_no_call_left_the_caller(rt: HostRuntime) -> Result<(), Fail> {
-    let stack = Stack {
-        start: ENTRY,
-        bytes: &[],
-    };
+    let stack = stack_at(ENTRY, &[]);
     // before its epilog, at `add sp,sp,#16`, at `ret`
     for (offset, sp, is_interrupt) in [
         (0x00, ENTRY, false),
@@ -566,10 +531,7 @@ fn says_that_no_call_left_the_caller(rt: HostRuntime) -> Result<(), Fail> {
 
 #[test]
 fn names_the_first_error(rt: HostRuntime) -> Result<(), Fail> {
-    let stack = Stack {
-        start: ENTRY - 16,
-        bytes: &[0; 16],
-    };
+    let stack = stack_at(ENTRY - 16, &[0; 16]);
     let rows: [(&[u8], Arm64Registers, &str); 6] = [
         // save_regp x19 at 8: the second word is past the known memory
         (
@@ -652,10 +614,7 @@ fn finishes_epilogs_by_their_scopes(rt: HostRuntime) -> Result<(), Fail> {
         &[x[29], RETURN_ADDRESS, x[19], x[20], x[21], 0xDD],
     )?;
     let base = ENTRY - 48;
-    let stack = Stack {
-        start: base,
-        bytes: &bytes,
-    };
+    let stack = stack_at(base, &bytes);
     // The instruction that is about to run, the stack pointer there, and which registers are restored: x21, x19 and x20, x29
     // and the link register.
     for (place, sp, restored) in [
@@ -708,10 +667,7 @@ fn finishes_the_epilog_at_the_end(rt: HostRuntime) -> Result<(), Fail> {
         &[caller.general[19], 0xDD, RETURN_ADDRESS, 0xDD],
     )?;
     let base = ENTRY - 32;
-    let stack = Stack {
-        start: base,
-        bytes: &bytes,
-    };
+    let stack = stack_at(base, &bytes);
     let changes = [(19, 1), (LR, 2)];
     for (place, sp, changed_registers) in [
         (3, base - 1024, 2),
@@ -732,10 +688,7 @@ fn finishes_the_epilog_at_the_end(rt: HostRuntime) -> Result<(), Fail> {
 /// so that it is a return alone.
 #[test]
 fn refuses_truncated_codes_of_an_epilog(rt: HostRuntime) -> Result<(), Fail> {
-    let stack = Stack {
-        start: ENTRY,
-        bytes: &[],
-    };
+    let stack = stack_at(ENTRY, &[]);
     let truncated = [0x40, 0x00, 0xE0, 0x08, 0x01, 0xE4, 0xE3, 0xE0];
     let registers = changed(ENTRY - 16, &[]);
     assert_eq!(rt;
@@ -764,13 +717,7 @@ fn refuses_truncated_codes_of_an_epilog(rt: HostRuntime) -> Result<(), Fail> {
 /// registers are stored how far below it (x19 to x30, and d8 to d15 as 108 to 115), and whether x29 is set; and for each
 /// instruction of the epilog how far below the entry the stack pointer is after it, and how many of the registers, from the first
 /// on, are not restored. The functions have 64 instructions.
-struct Canonical {
-    data: u32,
-    depths: &'static [u64],
-    stored: &'static [(u64, usize)],
-    is_chained: bool,
-    epilog: &'static [(u64, usize)],
-}
+type Canonical = (u32, &'static [u64], &'static [u64], bool, &'static [u64]);
 
 /// The instructions are those that llvm-readobj 14 prints of an object with this entry; the two with a signature, which it does
 /// not know, are by hand from Microsoft's page, and those of x19 alone with the link register, which it calls invalid, are the
@@ -778,169 +725,120 @@ struct Canonical {
 /// same backwards, as the page says, without the instructions that set x29 and store x0 to x7.
 const CANONICAL: [Canonical; 13] = [
     // sub sp,sp,#16; stp x19,lr,[sp]
-    Canonical {
-        data: 0x00a10101,
-        depths: &[16, 16],
-        stored: &[(16, 19), (8, 30)],
-        is_chained: false,
-        epilog: &[(16, 0), (0, 0)],
-    },
+    (
+        0x00a10101,
+        &[16, 16],
+        &[16, 19, 8, 30],
+        false,
+        &[16, 0, 0, 0],
+    ),
     // str x19,[sp,#-16]!
-    Canonical {
-        data: 0x00810101,
-        depths: &[16],
-        stored: &[(16, 19)],
-        is_chained: false,
-        epilog: &[(0, 0)],
-    },
+    (0x00810101, &[16], &[16, 19], false, &[0, 0]),
     // str lr,[sp,#-16]!; sub sp,sp,#4080; sub sp,sp,#32
-    Canonical {
-        data: 0x81200101,
-        depths: &[16, 4096, 4128],
-        stored: &[(16, 30)],
-        is_chained: false,
-        epilog: &[(4096, 1), (16, 1), (0, 0)],
-    },
+    (
+        0x81200101,
+        &[16, 4096, 4128],
+        &[16, 30],
+        false,
+        &[4096, 1, 16, 1, 0, 0],
+    ),
     // stp x19,x20,[sp,#-32]!; stp x21,lr,[sp,#16]; sub sp,sp,#512
-    Canonical {
-        data: 0x11230101,
-        depths: &[32, 32, 544],
-        stored: &[(32, 19), (24, 20), (16, 21), (8, 30)],
-        is_chained: false,
-        epilog: &[(32, 4), (32, 2), (0, 0)],
-    },
+    (
+        0x11230101,
+        &[32, 32, 544],
+        &[32, 19, 24, 20, 16, 21, 8, 30],
+        false,
+        &[32, 4, 32, 2, 0, 0],
+    ),
     // stp x19,x20,[sp,#-48]!; str lr,[sp,#16]; stp d8,d9,[sp,#24]; str d10,[sp,#40]; sub sp,sp,#16
-    Canonical {
-        data: 0x02224101,
-        depths: &[48, 48, 48, 48, 64],
-        stored: &[(48, 19), (40, 20), (32, 30), (24, 108), (16, 109), (8, 110)],
-        is_chained: false,
-        epilog: &[(48, 6), (48, 5), (48, 3), (48, 2), (0, 0)],
-    },
+    (
+        0x02224101,
+        &[48, 48, 48, 48, 64],
+        &[48, 19, 40, 20, 32, 30, 24, 108, 16, 109, 8, 110],
+        false,
+        &[48, 6, 48, 5, 48, 3, 48, 2, 0, 0],
+    ),
     // stp d8,d9,[sp,#-64]!; stp d10,d11,[sp,#16]; stp d12,d13,[sp,#32]; stp d14,d15,[sp,#48]; sub sp,sp,#496
-    Canonical {
-        data: 0x1180e101,
-        depths: &[64, 64, 64, 64, 560],
-        stored: &[
-            (64, 108),
-            (56, 109),
-            (48, 110),
-            (40, 111),
-            (32, 112),
-            (24, 113),
-            (16, 114),
-            (8, 115),
+    (
+        0x1180e101,
+        &[64, 64, 64, 64, 560],
+        &[
+            64, 108, 56, 109, 48, 110, 40, 111, 32, 112, 24, 113, 16, 114, 8, 115,
         ],
-        is_chained: false,
-        epilog: &[(64, 8), (64, 6), (64, 4), (64, 2), (0, 0)],
-    },
+        false,
+        &[64, 8, 64, 6, 64, 4, 64, 2, 0, 0],
+    ),
     // stp d8,d9,[sp,#-96]!; str d10,[sp,#16]; stp x0,x1,[sp,#24]; stp x2,x3,[sp,#40]; stp x4,x5,[sp,#56];
     // stp x6,x7,[sp,#72]
-    Canonical {
-        data: 0x03104101,
-        depths: &[96, 96, 96, 96, 96, 96],
-        stored: &[(96, 108), (88, 109), (80, 110)],
-        is_chained: false,
-        epilog: &[(96, 2), (0, 0)],
-    },
+    (
+        0x03104101,
+        &[96, 96, 96, 96, 96, 96],
+        &[96, 108, 88, 109, 80, 110],
+        false,
+        &[96, 2, 0, 0],
+    ),
     // stp x0,x1,[sp,#-64]!; stp x2,x3,[sp,#16]; stp x4,x5,[sp,#32]; stp x6,x7,[sp,#48]; sub sp,sp,#4080
-    Canonical {
-        data: 0x81900101,
-        depths: &[64, 64, 64, 64, 4144],
-        stored: &[],
-        is_chained: false,
-        epilog: &[(64, 0), (0, 0)],
-    },
+    (
+        0x81900101,
+        &[64, 64, 64, 64, 4144],
+        &[],
+        false,
+        &[64, 0, 0, 0],
+    ),
     // stp x19,x20,[sp,#-144]!; stp x21,x22,[sp,#16]; stp x23,x24,[sp,#32]; stp x25,x26,[sp,#48];
     // stp x27,x28,[sp,#64]; stp x0,x1,[sp,#80]; stp x2,x3,[sp,#96]; stp x4,x5,[sp,#112]; stp x6,x7,[sp,#128];
     // stp x29,lr,[sp,#-16]!; mov x29,sp
-    Canonical {
-        data: 0x057a0101,
-        depths: &[144, 144, 144, 144, 144, 144, 144, 144, 144, 160, 160],
-        stored: &[
-            (144, 19),
-            (136, 20),
-            (128, 21),
-            (120, 22),
-            (112, 23),
-            (104, 24),
-            (96, 25),
-            (88, 26),
-            (80, 27),
-            (72, 28),
-            (160, 29),
-            (152, 30),
+    (
+        0x057a0101,
+        &[144, 144, 144, 144, 144, 144, 144, 144, 144, 160, 160],
+        &[
+            144, 19, 136, 20, 128, 21, 120, 22, 112, 23, 104, 24, 96, 25, 88, 26, 80, 27, 72, 28,
+            160, 29, 152, 30,
         ],
-        is_chained: true,
-        epilog: &[(144, 10), (144, 8), (144, 6), (144, 4), (144, 2), (0, 0)],
-    },
+        true,
+        &[144, 10, 144, 8, 144, 6, 144, 4, 144, 2, 0, 0],
+    ),
     // stp x19,x20,[sp,#-144]!; stp x21,x22,[sp,#16]; stp x23,x24,[sp,#32]; stp x25,x26,[sp,#48];
     // str x27,[sp,#64]; stp d8,d9,[sp,#72]; stp d10,d11,[sp,#88]; stp d12,d13,[sp,#104]; stp d14,d15,[sp,#120];
     // sub sp,sp,#528; stp x29,lr,[sp,#0]; mov x29,sp
-    Canonical {
-        data: 0x1569e101,
-        depths: &[144, 144, 144, 144, 144, 144, 144, 144, 144, 672, 672, 672],
-        stored: &[
-            (144, 19),
-            (136, 20),
-            (128, 21),
-            (120, 22),
-            (112, 23),
-            (104, 24),
-            (96, 25),
-            (88, 26),
-            (80, 27),
-            (72, 108),
-            (64, 109),
-            (56, 110),
-            (48, 111),
-            (40, 112),
-            (32, 113),
-            (24, 114),
-            (16, 115),
-            (672, 29),
-            (664, 30),
+    (
+        0x1569e101,
+        &[144, 144, 144, 144, 144, 144, 144, 144, 144, 672, 672, 672],
+        &[
+            144, 19, 136, 20, 128, 21, 120, 22, 112, 23, 104, 24, 96, 25, 88, 26, 80, 27, 72, 108,
+            64, 109, 56, 110, 48, 111, 40, 112, 32, 113, 24, 114, 16, 115, 672, 29, 664, 30,
         ],
-        is_chained: true,
-        epilog: &[
-            (672, 17),
-            (144, 17),
-            (144, 15),
-            (144, 13),
-            (144, 11),
-            (144, 9),
-            (144, 8),
-            (144, 6),
-            (144, 4),
-            (144, 2),
-            (0, 0),
+        true,
+        &[
+            672, 17, 144, 17, 144, 15, 144, 13, 144, 11, 144, 9, 144, 8, 144, 6, 144, 4, 144, 2, 0,
+            0,
         ],
-    },
+    ),
     // sub sp,sp,#4080; sub sp,sp,#4096; stp x29,lr,[sp,#0]; mov x29,sp
-    Canonical {
-        data: 0xffe00101,
-        depths: &[4080, 8176, 8176, 8176],
-        stored: &[(8176, 29), (8168, 30)],
-        is_chained: true,
-        epilog: &[(8176, 0), (4080, 0), (0, 0)],
-    },
+    (
+        0xffe00101,
+        &[4080, 8176, 8176, 8176],
+        &[8176, 29, 8168, 30],
+        true,
+        &[8176, 0, 4080, 0, 0, 0],
+    ),
     // pacibsp; stp x19,x20,[sp,#-32]!; stp x21,x22,[sp,#16]; stp x29,lr,[sp,#-512]!; mov x29,sp
-    Canonical {
-        data: 0x11440101,
-        depths: &[0, 32, 32, 544, 544],
-        stored: &[(32, 19), (24, 20), (16, 21), (8, 22), (544, 29), (536, 30)],
-        is_chained: true,
-        epilog: &[(32, 4), (32, 2), (0, 0), (0, 0)],
-    },
+    (
+        0x11440101,
+        &[0, 32, 32, 544, 544],
+        &[32, 19, 24, 20, 16, 21, 8, 22, 544, 29, 536, 30],
+        true,
+        &[32, 4, 32, 2, 0, 0, 0, 0],
+    ),
     // pacibsp; str x19,[sp,#-32]!; stp d8,d9,[sp,#8]; sub sp,sp,#4080; sub sp,sp,#16; stp x29,lr,[sp,#0];
     // mov x29,sp
-    Canonical {
-        data: 0x81412101,
-        depths: &[0, 32, 32, 4112, 4128, 4128, 4128],
-        stored: &[(32, 19), (24, 108), (16, 109), (4128, 29), (4120, 30)],
-        is_chained: true,
-        epilog: &[(4128, 3), (4112, 3), (32, 3), (32, 1), (0, 0), (0, 0)],
-    },
+    (
+        0x81412101,
+        &[0, 32, 32, 4112, 4128, 4128, 4128],
+        &[32, 19, 24, 108, 16, 109, 4128, 29, 4120, 30],
+        true,
+        &[4128, 3, 4112, 3, 32, 3, 32, 1, 0, 0, 0, 0],
+    ),
 ];
 
 /// A step in a function with packed unwind data, before the instruction of this index.
@@ -950,10 +848,7 @@ fn packed_step(
     registers: Arm64Registers,
     stack: &Stack<'_>,
 ) -> Result<Arm64Registers, FrameError> {
-    let function = Arm64RuntimeFunction {
-        begin_address: 0x1000,
-        unwind_data: data,
-    };
+    let function = arm64_function(0x1000, data);
     step_arm64_packed(&function, 0x1000 + 4 * place, registers, stack)
 }
 
@@ -967,12 +862,13 @@ fn stored_words(
     let mut bytes = Vec::new(alloc);
     for i in 0..depth / 8 {
         let mut word = 0xDD;
-        for (at, register) in row.stored {
-            if *at == depth - 8 * i {
-                word = if *register < 31 {
-                    caller.general[*register]
+        for pair in row.2.chunks(2) {
+            if pair[0] == depth - 8 * i {
+                let register = pair[1] as usize;
+                word = if register < 31 {
+                    caller.general[register]
                 } else {
-                    caller.float[(*register - 108) % 8]
+                    caller.float[(register - 108) % 8]
                 };
             }
         }
@@ -984,11 +880,12 @@ fn stored_words(
 /// The registers in a body that changes what was stored, of which so many are not restored.
 fn in_body(row: &Canonical, depth: u64, left: usize) -> Arm64Registers {
     let mut registers = changed(ENTRY - depth, &[]);
-    for (_, register) in &row.stored[..left.min(row.stored.len())] {
-        if *register < 31 {
-            registers.general[*register] = 5;
+    for pair in row.2.chunks(2).take(left) {
+        let register = pair[1] as usize;
+        if register < 31 {
+            registers.general[register] = 5;
         } else {
-            registers.float[(*register - 108) % 8] = 5;
+            registers.float[(register - 108) % 8] = 5;
         }
     }
     registers
@@ -996,8 +893,8 @@ fn in_body(row: &Canonical, depth: u64, left: usize) -> Arm64Registers {
 
 /// A body in which the stack pointer is lower, if x29 has the frame.
 fn lowered(row: &Canonical, depth: u64) -> Arm64Registers {
-    let mut registers = in_body(row, depth, row.stored.len());
-    if row.is_chained {
+    let mut registers = in_body(row, depth, row.2.len());
+    if row.3 {
         registers.general[29] = ENTRY - depth;
         registers.sp -= 64;
     }
@@ -1008,43 +905,34 @@ fn lowered(row: &Canonical, depth: u64) -> Arm64Registers {
 fn undoes_canonical_prologs(rt: HostRuntime) -> Result<(), Fail> {
     let caller = of_caller();
     for row in &CANONICAL {
-        let count = row.depths.len();
-        let depth = row.depths[count.max(1) - 1];
+        let count = row.1.len();
+        let depth = row.1[count.max(1) - 1];
         let bytes = stored_words(rt.alloc(), row, depth, &caller)?;
-        let stack = Stack {
-            start: ENTRY - depth,
-            bytes: &bytes,
-        };
-        assert_eq!(rt;
-            packed_step(row.data, 0, changed(ENTRY, &[]), &stack)?,
-            caller
-        );
-        for (i, below) in row.depths.iter().enumerate() {
+        let stack = stack_at(ENTRY - depth, &bytes);
+        assert_eq!(rt; packed_step(row.0, 0, changed(ENTRY, &[]), &stack)?, caller);
+        for (i, below) in row.1.iter().enumerate() {
             let mut registers = changed(ENTRY - *below, &[]);
-            if row.is_chained && i + 1 == count {
+            if row.3 && i + 1 == count {
                 registers.general[29] = registers.sp;
             }
             let place = i as u32 + 1;
-            assert_eq!(rt; packed_step(row.data, place, registers, &stack)?, caller);
+            assert_eq!(rt; packed_step(row.0, place, registers, &stack)?, caller);
         }
         let registers = lowered(row, depth);
         assert_eq!(rt;
-            packed_step(row.data, count as u32, registers, &stack)?,
+            packed_step(row.0, count as u32, registers, &stack)?,
             caller
         );
-        assert_eq!(rt; packed_step(row.data, 40, registers, &stack)?, caller);
+        assert_eq!(rt; packed_step(row.0, 40, registers, &stack)?, caller);
         // A fragment has no prolog of its own.
-        assert_eq!(rt; packed_step(row.data + 1, 0, registers, &stack)?, caller);
-        assert_eq!(rt; packed_step(row.data + 1, 63, registers, &stack)?, caller);
-        let start = 63 - row.epilog.len() as u32;
-        assert_eq!(rt;
-            packed_step(row.data, start - 1, registers, &stack)?,
-            caller
-        );
-        for (i, (below, left)) in row.epilog.iter().enumerate() {
-            let registers = in_body(row, *below, *left);
+        assert_eq!(rt; packed_step(row.0 + 1, 0, registers, &stack)?, caller);
+        assert_eq!(rt; packed_step(row.0 + 1, 63, registers, &stack)?, caller);
+        let start = 63 - row.4.len() as u32 / 2;
+        assert_eq!(rt; packed_step(row.0, start - 1, registers, &stack)?, caller);
+        for (i, pair) in row.4.chunks(2).enumerate() {
+            let registers = in_body(row, pair[0], pair[1] as usize);
             let place = start + i as u32 + 1;
-            assert_eq!(rt; packed_step(row.data, place, registers, &stack)?, caller);
+            assert_eq!(rt; packed_step(row.0, place, registers, &stack)?, caller);
         }
     }
     Ok(())
@@ -1053,10 +941,7 @@ fn undoes_canonical_prologs(rt: HostRuntime) -> Result<(), Fail> {
 /// Flags 0 and 3; eleven integer registers; frames smaller than what is saved in them, x29 and the link register too.
 #[test]
 fn refuses_packed_data_without_a_canonical_prolog(rt: HostRuntime) -> Result<(), Fail> {
-    let stack = Stack {
-        start: ENTRY,
-        bytes: &[],
-    };
+    let stack = stack_at(ENTRY, &[]);
     for data in [
         0x0080_0040,
         0x0080_0043,

@@ -1,15 +1,13 @@
 //! The ARM64 function table: its entries, what is packed in them, and lookup.
 
-use pe_core::{CountedTable, DataDirectory, Error, ParseOptions, Reason, SectionMap};
+use crate::images::{arm64_function, directory_at, reason_in, short, short_in};
+use pe_core::{CountedTable, Error, ParseOptions, Reason, SectionMap};
 use pe_unwind::{Arm64RuntimeFunction, Arm64RuntimeFunctionIterator, ExceptionData, search_arm64};
 use std::alloc::{AllocError, Global};
 use std::test::Fail;
 
 fn entry(begin_address: u32, unwind_data: u32) -> Arm64RuntimeFunction {
-    Arm64RuntimeFunction {
-        begin_address,
-        unwind_data,
-    }
+    arm64_function(begin_address, unwind_data)
 }
 
 /// Three entries of eight bytes.
@@ -28,10 +26,7 @@ fn flat() -> ParseOptions {
 
 /// The exception data of an ARM64 table at an offset, with RVAs that are file offsets.
 fn table_at(bytes: &[u8], virtual_address: u32, size: u32) -> Result<ExceptionData<'_>, Error> {
-    let directory = DataDirectory {
-        virtual_address,
-        size,
-    };
+    let directory = directory_at(virtual_address, size);
     ExceptionData::parse_arm64_with_opts(bytes, directory, &[], 0x200, &flat())
 }
 
@@ -48,11 +43,9 @@ fn reads_tables_of_eight_bytes(rt: HostRuntime) -> Result<(), Fail> {
     assert_eq!(rt; (data.len_arm64(), data.len()), (3, 2));
     assert_eq!(rt; data.functions_arm64().len(), 3);
     // shows: pe_unwind/src/arm64/function.rt of_table FunctionIndex
-    assert!(rt;
-        matches!(
-            data.get_function_arm64(3),
-            Err(Error::Malformed(Reason::FunctionIndex(3)))
-        )
+    assert_eq!(rt;
+        reason_in(data.get_function_arm64(3)),
+        Some(Reason::FunctionIndex(3))
     );
     // One entry, which is less than one for x64: not empty.
     let one = table_at(&TABLE, 8, 8)?;
@@ -68,17 +61,12 @@ fn refuses_tables(rt: HostRuntime) -> Result<(), Fail> {
     // shows: pe_unwind/src/exception.rt parse_table ExceptionBounds
     assert_eq!(rt; refusal(&TABLE, 20, 8), Some(Reason::ExceptionBounds(28)));
     assert!(rt; table_at(&TABLE, 24, 0)?.is_empty());
-    let directory = DataDirectory {
-        virtual_address: 0x1000,
-        size: 8,
-    };
+    let directory = directory_at(0x1000, 8);
     let opts = ParseOptions::default();
     // shows: pe_core/src/section_index.rt mapped_offset Unmapped
-    assert!(rt;
-        matches!(
-            ExceptionData::parse_arm64_with_opts(&TABLE, directory, &[], 0x200, &opts),
-            Err(Error::Malformed(Reason::Unmapped(0x1000)))
-        )
+    assert_eq!(rt;
+        reason_in(ExceptionData::parse_arm64_with_opts(&TABLE, directory, &[], 0x200, &opts)),
+        Some(Reason::Unmapped(0x1000))
     );
     Ok(())
 }
@@ -88,12 +76,7 @@ fn names_a_cut_entry_once(rt: HostRuntime) -> Result<(), Fail> {
     let mut functions = Arm64RuntimeFunctionIterator::new(&TABLE[..13]);
     assert_eq!(rt; functions.size_hint(), (2, Some(2)));
     assert!(rt; matches!(functions.next(), Some(Ok(_))));
-    assert!(rt;
-        matches!(
-            functions.next(),
-            Some(Err(Error::Short { at: 0, needed: 8 }))
-        )
-    );
+    assert_eq!(rt; short_in(functions.next()), short(0, 8));
     assert_eq!(rt; functions.len(), 0);
     assert!(rt; functions.next().is_none() && functions.next().is_none());
     Ok(())
@@ -176,11 +159,9 @@ fn reads_the_length_of_one_function(rt: HostRuntime) -> Result<(), Fail> {
     for rva in [0x1020, 0x103F] {
         let found = data.find_function_arm64(rva, &[], &flat());
         assert!(rt; matches!(found, Err(Error::Short { at: 32, needed: 4 })));
-        assert!(rt;
-            matches!(
-                data.find_function_arm64(rva, &[], &ParseOptions::default()),
-                Err(Error::Malformed(Reason::Unmapped(32)))
-            )
+        assert_eq!(rt;
+            reason_in(data.find_function_arm64(rva, &[], &ParseOptions::default())),
+            Some(Reason::Unmapped(32))
         );
     }
     for (rva, want) in [

@@ -1,9 +1,10 @@
 //! ARM64 unwind records: their words, scopes, codes and handler, and the functions that they belong to.
 
-use pe_core::{DataDirectory, Error, ParseOptions, Reason, SectionTable};
+use crate::images::{arm64_function, directory_at, reason_in, short, short_in};
+use pe_core::{Error, ParseOptions, Reason, SectionTable};
 use pe_unwind::{
-    Arm64EpilogScope, Arm64EpilogScopeIterator, Arm64ExceptionHandler, Arm64RuntimeFunction,
-    Arm64UnwindExtension, Arm64UnwindInfo, ExceptionData,
+    Arm64EpilogScope, Arm64EpilogScopeIterator, Arm64ExceptionHandler, Arm64UnwindExtension,
+    Arm64UnwindInfo, ExceptionData,
 };
 use std::test::Fail;
 
@@ -46,35 +47,8 @@ fn two_entries<'a>(
     sections: &[SectionTable],
     opts: &ParseOptions,
 ) -> Result<ExceptionData<'a>, Error> {
-    let directory = DataDirectory {
-        virtual_address,
-        size: 16,
-    };
+    let directory = directory_at(virtual_address, 16);
     ExceptionData::parse_arm64_with_opts(bytes, directory, sections, 0x200, opts)
-}
-
-/// What was taken from a record stays when the record is gone.
-#[test]
-fn keeps_the_handler(rt: HostRuntime) -> Result<(), Fail> {
-    let (handler, mut codes, mut scopes) = {
-        let info = Arm64UnwindInfo::parse(&HANDLED, 0)?;
-        let codes = info.unwind_codes(3)?;
-        let scopes = info
-            .epilog_scopes()
-            .unwrap_or(Arm64EpilogScopeIterator::new(&[]));
-        (info.exception_handler, codes, scopes)
-    };
-    assert!(rt; matches!(scopes.next(), Some(Ok(scope)) if fields(scope) == (12, 14, 0)));
-    assert_eq!(rt;
-        handler,
-        Some(Arm64ExceptionHandler {
-            rva: 0x2000,
-            bytes: &[0xAA],
-        })
-    );
-    assert!(rt; matches!(codes.next(), Some(Ok(item)) if item.offset == 3));
-    assert!(rt; codes.next().is_none());
-    Ok(())
 }
 
 #[test]
@@ -163,11 +137,9 @@ fn finds_records_of_functions(rt: HostRuntime) -> Result<(), Fail> {
     assert_eq!(rt; found, (16, 1));
     let data = two_entries(&bytes, 0, &[], &flat())?;
     let full = data.get_function_arm64(0)?;
-    assert!(rt;
-        matches!(
-            data.get_unwind_info_arm64(full, &[]),
-            Some(Err(Error::Malformed(Reason::Unmapped(16))))
-        )
+    assert_eq!(rt;
+        reason_in(data.get_unwind_info_arm64(full, &[])),
+        Some(Reason::Unmapped(16))
     );
 
     let packed = data.get_function_arm64(1)?;
@@ -189,23 +161,16 @@ fn refuses_records_of_functions(rt: HostRuntime) -> Result<(), Fail> {
     ];
     let data = two_entries(&bytes, 0, &[], &flat())?;
     let other_version = data.get_function_arm64(0)?;
-    assert!(rt;
-        matches!(
-            data.get_unwind_info_arm64_with_opts(other_version, &[], &flat()),
-            Some(Err(Error::Malformed(Reason::Arm64Version(1))))
-        )
+    assert_eq!(rt;
+        reason_in(data.get_unwind_info_arm64_with_opts(other_version, &[], &flat())),
+        Some(Reason::Arm64Version(1))
     );
     let cut = data.get_function_arm64(1)?;
-    let after = Arm64RuntimeFunction {
-        begin_address: 0,
-        unwind_data: 0x18,
-    };
+    let after = arm64_function(0, 0x18);
     for function in [cut, after] {
-        assert!(rt;
-            matches!(
-                data.get_unwind_info_arm64_with_opts(function, &[], &flat()),
-                Some(Err(Error::Short { at: 24, needed: 4 }))
-            )
+        assert_eq!(rt;
+            short_in(data.get_unwind_info_arm64_with_opts(function, &[], &flat())),
+            short(24, 4)
         );
     }
     Ok(())

@@ -2,11 +2,10 @@
 //! is expected is what each of them was entered with.
 
 use crate::frames::bytes_of;
+use crate::images::{directory_at, stack_at};
 use crate::sections;
-use pe_core::{DataDirectory, ParseOptions, SectionTable};
-use pe_frame::{
-    Arm64Registers, Arm64StackFrames, Memory, Module, Modules, Stack, StackPieces, Way,
-};
+use pe_core::{ParseOptions, SectionTable};
+use pe_frame::{Arm64Registers, Arm64StackFrames, Memory, Module, Modules, StackPieces, Way};
 use pe_images::image;
 use pe_unwind::ExceptionData;
 use std::alloc::{AllocError, Global};
@@ -97,10 +96,7 @@ fn flat() -> ParseOptions {
 
 /// The exception data of an image with so many functions.
 fn exceptions(bytes: &[u8], functions: u32) -> Result<ExceptionData<'_>, pe_core::Error> {
-    let table = DataDirectory {
-        virtual_address: 0,
-        size: 8 * functions,
-    };
+    let table = directory_at(0, 8 * functions);
     ExceptionData::parse_arm64_with_opts(bytes, table, &[], 0x200, &flat())
 }
 
@@ -227,16 +223,7 @@ fn a_walk_goes_through_all_modules(rt: HostRuntime) -> Result<(), Fail> {
     ];
     let inner = bytes_of(rt.alloc(), &words)?;
     let outer = bytes_of(rt.alloc(), &[0x1111, 0, 7, 7])?;
-    let pieces = [
-        Stack {
-            start: 0x2000,
-            bytes: &inner,
-        },
-        Stack {
-            start: 0x3000,
-            bytes: &outer,
-        },
-    ];
+    let pieces = [stack_at(0x2000, &inner), stack_at(0x3000, &outer)];
     let mut top = registers(APP + 0x1F0, 0x2000, APP + 0x120);
     top.general[FP] = 0x2000;
     let frames = [
@@ -274,10 +261,7 @@ fn stack_of(alloc: Global, words: &[(u64, u64)]) -> Result<Vec<u8>, AllocError> 
 #[test]
 fn interrupted_frames_are_looked_up_by_their_address(rt: HostRuntime) -> Result<(), Fail> {
     let machine_frame = stack_of(rt.alloc(), &[(0x2010, 0x2200), (0x2018, APP + 0x120)])?;
-    let memory = Stack {
-        start: 0x2000,
-        bytes: &machine_frame,
-    };
+    let memory = stack_at(0x2000, &machine_frame);
     let mut top = registers(APP + 0x128, 0x2000, NT + 0x110);
     top.general[FP] = 0x2300;
     // Nothing of its prolog has run, so it returns to the link register, to a chained function whose frame is at x29.
@@ -299,10 +283,7 @@ fn interrupted_frames_are_looked_up_by_their_address(rt: HostRuntime) -> Result<
             (0x2050, 0x1111),
         ],
     )?;
-    let memory = Stack {
-        start: 0x2000,
-        bytes: &context,
-    };
+    let memory = stack_at(0x2000, &context);
     let top = registers(APP + 0x150, 0x2100, 0);
     let frames = [
         (APP + 0x150, 0x2100, 0, Way::Top, false),
@@ -316,10 +297,7 @@ fn interrupted_frames_are_looked_up_by_their_address(rt: HostRuntime) -> Result<
 /// byte, and returns to the link register. That is the same address, which is one after a call, and so in another function.
 #[test]
 fn cleared_marks_are_no_calls(rt: HostRuntime) -> Result<(), Fail> {
-    let memory = Stack {
-        start: 0x2000,
-        bytes: &[],
-    };
+    let memory = stack_at(0x2000, &[]);
     let frames = [
         (APP + 0x1CC, 0x2000, 0, Way::Top, false),
         (APP + 0x120, 0x2000, 0, Way::Interrupt, false),
@@ -339,10 +317,7 @@ fn cleared_marks_are_no_calls(rt: HostRuntime) -> Result<(), Fail> {
 #[test]
 fn wild_calls_return_to_the_link_register(rt: HostRuntime) -> Result<(), Fail> {
     let stack = stack_of(rt.alloc(), &[])?;
-    let memory = Stack {
-        start: 0x2000,
-        bytes: &stack,
-    };
+    let memory = stack_at(0x2000, &stack);
     for lr in [NT + 0x110, NT + 0x114, NT + 0x118] {
         for pc in [0, 0x1234, NT - 4, NT + 0x200] {
             let frames = [
@@ -383,10 +358,7 @@ fn stacks_are_scanned(rt: HostRuntime) -> Result<(), Fail> {
             (0x2020, 0x3000),
         ],
     )?;
-    let memory = Stack {
-        start: 0x2000,
-        bytes: &stack,
-    };
+    let memory = stack_at(0x2000, &stack);
     for pc in [APP + 0x1F0, 0x1234] {
         let mut top = registers(pc, 0x2004, 7);
         top.general[FP] = 0x2020;
@@ -424,10 +396,7 @@ fn frame_pointers_lead_on(rt: HostRuntime) -> Result<(), Fail> {
             (0x2030, 0x3000),
         ],
     )?;
-    let memory = Stack {
-        start: 0x2000,
-        bytes: &stack,
-    };
+    let memory = stack_at(0x2000, &stack);
     let pc = APP + 0x1F0;
     for sp in [0x2000, 0x2010, 0x2018] {
         let mut top = registers(pc, sp, 7);
@@ -452,93 +421,10 @@ fn frame_pointers_lead_on(rt: HostRuntime) -> Result<(), Fail> {
     )
 }
 
-/// A module whose image is not at hand: no bytes say whether a call ends at the link register there, which comes before a scan.
-#[test]
-fn a_leaf_function_returns_into_a_module_without_an_image(rt: HostRuntime) -> Result<(), Fail> {
-    let alloc = rt.alloc();
-    let caller = APP + 0x190;
-    let stack = stack_of(
-        alloc,
-        &[(0x2008, caller), (0x2010, 0x2030), (0x2018, caller)],
-    )?;
-    let memory = Stack {
-        start: 0x2000,
-        bytes: &stack,
-    };
-    let app = app(alloc)?;
-    let (data, sections) = (exceptions(&app, 7)?, [CODE]);
-    let known = module(APP, &app, &data, &sections);
-    let modules = [
-        known,
-        Module {
-            base: NT,
-            bytes: &[],
-            sections: &[],
-            exceptions: None,
-            ..known
-        },
-    ];
-    for (pc, lr, way) in [
-        (APP + 0x1F0, NT + 4, Way::Leaf),
-        (0x1234, NT + 4, Way::Leaf),
-        (APP + 0x1F0, NT, Way::Scanned),
-    ] {
-        let modules = Modules::new(&modules).map_err(|_| "the modules ascend")?;
-        let mut walk = Arm64StackFrames::new(modules, &memory, registers(pc, 0x2000, lr), 100);
-        let top = walk.next().ok_or("the top frame")?;
-        assert_eq!(rt; (top.registers.pc, top.is_guess), (pc, false));
-        let caller = walk.next().ok_or("a caller")?;
-        let (there, sp) = match way {
-            Way::Leaf => (lr, 0x2000),
-            _ => (APP + 0x190, 0x2010),
-        };
-        assert_eq!(rt; (caller.registers.pc, caller.registers.sp), (there, sp));
-        let found = (caller.way, caller.has_called, caller.is_guess);
-        assert_eq!(rt; found, (way, true, true));
-    }
-    // Nor do any say that code there keeps a frame pointer, but Windows does.
-    let mut top = registers(NT + 4, 0x2000, 7);
-    top.general[FP] = 0x2010;
-    let modules = Modules::new(&modules).map_err(|_| "the modules ascend")?;
-    let mut walk = Arm64StackFrames::new(modules, &memory, top, 100);
-    walk.next().ok_or("the top frame")?;
-    let found = walk.next().ok_or("a caller")?;
-    assert_eq!(rt;
-        (found.registers.pc, found.registers.sp, found.way),
-        (caller, 0x2020, Way::FramePointer)
-    );
-    // Without one, and without a return address into code, it is the first address of such a module, without its signature.
-    let signed = 0x0040_0000_0000_0000 | (NT + 8);
-    let stack = stack_of(alloc, &[(0x2008, signed), (0x2010, NT + 0x10)])?;
-    let memory = Stack {
-        start: 0x2000,
-        bytes: &stack,
-    };
-    for (pc, found) in [(NT + 4, 2), (0x1234, 0)] {
-        let mut walk = Arm64StackFrames::new(modules, &memory, registers(pc, 0x2000, 7), 100);
-        walk.next().ok_or("the top frame")?;
-        for (pc, sp) in [(NT + 8, 0x2010), (NT + 0x10, 0x2018)]
-            .into_iter()
-            .take(found)
-        {
-            let caller = walk.next().ok_or("a caller")?;
-            assert_eq!(rt; (caller.registers.pc, caller.registers.sp), (pc, sp));
-            assert_eq!(rt; (caller.way, caller.is_guess), (Way::Scanned, true));
-        }
-        assert!(rt; walk.next().is_none());
-        let why = format!(in alloc; "{}", walk.end().ok_or("an end")?)?;
-        assert_eq!(rt; why.as_str(), NO_MODULE);
-    }
-    Ok(())
-}
-
 /// Once the stack pointer may stay: in the top frame. A frame that has called has stored the link register.
 #[test]
 fn a_second_frame_that_stands_ends_the_walk(rt: HostRuntime) -> Result<(), Fail> {
-    let memory = Stack {
-        start: 0x2000,
-        bytes: &[],
-    };
+    let memory = stack_at(0x2000, &[]);
     let frames = [
         (APP + 0x164, 0x2000, 0, Way::Top, false),
         (APP + 0x170, 0x2000, 0, Way::Records, true),
@@ -564,10 +450,7 @@ fn a_caller_at_0_may_have_a_caller(rt: HostRuntime) -> Result<(), Fail> {
         (APP + 0x190, 3, "no memory at address 0x0"),
     ] {
         let stack = bytes_of(rt.alloc(), &[7, word])?;
-        let memory = Stack {
-            start: 0x2000,
-            bytes: &stack,
-        };
+        let memory = stack_at(0x2000, &stack);
         let found = [
             one,
             (0, 0x2000, 0, Way::Records, false),

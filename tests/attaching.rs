@@ -3,11 +3,9 @@
 //! written follows from the format; the checksums are those that `osslsigncode verify` 2.9 calculates of the same bytes.
 
 use crate::images::{with_byte, with_part};
-use pe_core::{DataDirectory, Error, Header, ParseOptions, Reason};
-use pe_image::PE;
+use pe_core::{Error, Header, ParseOptions, Reason};
 use pe_images::with_functions;
-use pe_records::enumerate_certificates;
-use pe_sign::{Placement, SignError, attach, attached_len, checksum, detach, detached_len};
+use pe_sign::{Placement, SignError, attach, attached_len, detach, detached_len};
 use std::alloc::{AllocError, Global};
 use std::fmt::Debug;
 use std::test::Fail;
@@ -47,6 +45,10 @@ fn attached(
     Ok((result, out))
 }
 
+fn shown<T: Debug>(alloc: Global, value: &T) -> Result<String, AllocError> {
+    format!(in alloc; "{value:?}")
+}
+
 #[test]
 fn attaches_the_first_certificate(rt: HostRuntime) -> Result<(), Fail> {
     let bytes = unsigned(rt.alloc(), &[0x55, 0x55, 0x55])?;
@@ -67,50 +69,6 @@ fn attaches_the_first_certificate(rt: HostRuntime) -> Result<(), Fail> {
         assert!(rt; matches!(length, Ok(0x418)));
     }
     Ok(())
-}
-
-#[test]
-fn attaches_after_others_and_in_their_place(rt: HostRuntime) -> Result<(), Fail> {
-    let bytes = with_functions(rt.alloc())?;
-    let (written, out) = attached(rt.alloc(), &bytes, Placement::After, 0x420)?;
-    assert!(rt; matches!(written, Ok(0x420)));
-    assert!(rt; has(&out, 0x98, &[0xB4, 0x7E, 0, 0]));
-    assert!(rt; has(&out, 0xE8, &[0, 4, 0, 0, 0x20, 0, 0, 0]));
-    assert_eq!(rt; &out[0x400..0x410], &bytes[0x400..]);
-    assert!(rt; has(&out, 0x410, &CERTIFICATE));
-    let image = PE::parse(rt.alloc(), &out)?;
-    assert_eq!(rt; image.certificates.len(), 2);
-    assert!(rt; has(image.certificates[0].certificate, 0, &[0xAA]));
-    assert!(rt; has(image.certificates[1].certificate, 0, &[0x77]));
-    assert_eq!(rt; checksum(&out, &image.header)?, 0x7EB4);
-
-    let (written, out) = attached(rt.alloc(), &bytes, Placement::InPlace, 0x410)?;
-    assert!(rt; matches!(written, Ok(0x410)));
-    assert!(rt; has(&out, 0x98, &[0xDF, 0x7B, 0, 0]));
-    assert!(rt; has(&out, 0xE8, &[0, 4, 0, 0, 0x10, 0, 0, 0]));
-    assert!(rt; has(&out, 0x400, &CERTIFICATE));
-    Ok(())
-}
-
-#[test]
-fn detaches_all_certificates(rt: HostRuntime) -> Result<(), Fail> {
-    let bytes = with_functions(rt.alloc())?;
-    let (_, two) = attached(rt.alloc(), &bytes, Placement::After, 0x420)?;
-    for signed in [&bytes[..], &two[..]] {
-        let header = header_of(signed)?;
-        assert!(rt; matches!(detached_len(signed, &header), Ok(0x400)));
-        let mut out = vec![in rt.alloc(); OLD; 0x404]?;
-        assert!(rt; matches!(detach(signed, &header, &mut out), Ok(0x400)));
-        assert!(rt; has(&out, 0x98, &[0x3D, 0x75, 0, 0]));
-        assert!(rt; has(&out, 0xE8, &[0; 8]));
-        assert_eq!(rt; &out[0xF0..0x400], &bytes[0xF0..0x400]);
-        assert!(rt; has(&out, 0x400, &[OLD; 4]));
-    }
-    Ok(())
-}
-
-fn shown<T: Debug>(alloc: Global, value: &T) -> Result<String, AllocError> {
-    format!(in alloc; "{value:?}")
 }
 
 #[test]
@@ -334,93 +292,5 @@ fn texts_of_sign_errors(rt: HostRuntime) -> Result<(), Fail> {
     for (error, text) in &texts {
         assert_eq!(rt; format!(in alloc; "{error}")?.as_str(), *text);
     }
-    Ok(())
-}
-
-#[test]
-fn parses_lists_and_detaches_what_was_attached(rt: HostRuntime) -> Result<(), Fail> {
-    let bytes = with_functions(rt.alloc())?;
-    let old = header_of(&bytes)?;
-    let (_, signed) = attached(rt.alloc(), &bytes, Placement::After, 0x420)?;
-    let new = header_of(&signed)?;
-    let (Some(before), Some(after)) = (old.optional_header, new.optional_header) else {
-        return Err(Fail::new("no optional header"));
-    };
-    // The entry and the checksum are new, and nothing else in the headers.
-    let mut want = before;
-    want.windows_fields.check_sum = 0x7EB4;
-    let entry = DataDirectory {
-        virtual_address: 0x400,
-        size: 0x20,
-    };
-    want.data_directories.set(4, entry);
-    assert_eq!(rt; after, want);
-    assert_eq!(rt; new.dos_header, old.dos_header);
-    assert_eq!(rt; new.dos_stub, old.dos_stub);
-    assert_eq!(rt; new.coff_header, old.coff_header);
-
-    let listed = enumerate_certificates(rt.alloc(), &signed, 0x400, 0x20)?;
-    assert_eq!(rt; listed.len(), 2);
-    assert_eq!(rt; (listed[0].length, listed[0].certificate), (9, &[0xAA][..]));
-    assert_eq!(rt; (listed[1].length, listed[1].certificate), (9, &[0x77][..]));
-
-    let mut out = vec![in rt.alloc(); OLD; 0x400]?;
-    assert!(rt; matches!(detach(&signed, &new, &mut out), Ok(0x400)));
-    assert_eq!(rt; &out[..0x98], &bytes[..0x98]);
-    assert!(rt; has(&out, 0x98, &[0x3D, 0x75, 0, 0]));
-    assert_eq!(rt; &out[0x9C..0xE8], &bytes[0x9C..0xE8]);
-    assert!(rt; has(&out, 0xE8, &[0; 8]));
-    assert_eq!(rt; &out[0xF0..], &bytes[0xF0..0x400]);
-    assert!(rt; header_of(&out)?.optional_header.is_some());
-    Ok(())
-}
-
-#[test]
-fn unsigned_images_come_back(rt: HostRuntime) -> Result<(), Fail> {
-    // With the checksum that osslsigncode calculates, and without one.
-    let unsigned = unsigned(rt.alloc(), &[])?;
-    let summed = with_part(unsigned.clone()?, 0x98, &[0x3D, 0x75, 0, 0]);
-    for bytes in [&summed, &unsigned] {
-        for placement in [Placement::After, Placement::InPlace] {
-            let (_, signed) = attached(rt.alloc(), bytes, placement, 0x410)?;
-            let mut out = vec![in rt.alloc(); OLD; 0x400]?;
-            assert!(rt; matches!(detach(&signed, &header_of(&signed)?, &mut out), Ok(0x400)));
-            assert_eq!(rt; &out[..], &summed[..]);
-        }
-    }
-    Ok(())
-}
-
-/// An image without sections whose headers end with its fifth directory, at 0xF0, where its certificate table starts. It
-/// counts sixteen directories, which end at 0x148: the sixth is the start of the certificates.
-fn directories_in_certificates(alloc: Global) -> Result<Vec<u8>, Fail> {
-    let entries = [0xF0, 0, 0, 0, 0x20, 3, 0, 0, 9, 0, 0, 0, 0, 2, 2, 0];
-    let bytes = with_part(with_functions(alloc)?, 0xE8, &entries);
-    Ok(with_part(with_byte(bytes, 0x46, 0), 0x54, &[0x98, 0]))
-}
-
-#[test]
-fn directories_stay_where_all_is_kept(rt: HostRuntime) -> Result<(), Fail> {
-    let bytes = directories_in_certificates(rt.alloc())?;
-    let old = header_of(&bytes)?;
-    let (written, out) = attached(rt.alloc(), &bytes, Placement::After, 0x420)?;
-    assert!(rt; matches!(written, Ok(0x420)));
-    let Some(after) = header_of(&out)?.optional_header else {
-        return Err(Fail::new("no optional header"));
-    };
-    assert_eq!(rt; after.data_directories.rows().len(), 16);
-    let sixth = DataDirectory {
-        virtual_address: 9,
-        size: 0x2_0200,
-    };
-    assert_eq!(rt; after.data_directories.rows()[5], sixth);
-
-    // Without the certificates, and with another one of 16 bytes, the directories are truncated.
-    let mut out = vec![in rt.alloc(); OLD; 0xF0]?;
-    assert!(rt; matches!(detach(&bytes, &old, &mut out), Ok(0xF0)));
-    assert!(rt; matches!(header_of(&out), Err(Error::Short { .. })));
-    let (written, out) = attached(rt.alloc(), &bytes, Placement::InPlace, 0x100)?;
-    assert!(rt; matches!(written, Ok(0x100)));
-    assert!(rt; matches!(header_of(&out), Err(Error::Short { .. })));
     Ok(())
 }

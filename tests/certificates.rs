@@ -1,11 +1,11 @@
 //! Attribute certificates: read, listed and written.
 
-use crate::images::image;
+use crate::images::{image, reason_in, short, short_in};
 use linked_list_allocator::LocalHeap;
 use pe_core::{Error, Reason};
 use pe_records::{
     AttributeCertificate, AttributeCertificateRevision, AttributeCertificateType,
-    CertificateDirectoryTable, enumerate_certificates,
+    enumerate_certificates,
 };
 use std::alloc::Global;
 use std::test::Fail;
@@ -87,29 +87,6 @@ fn signed(length: u32, certificate: &[u8]) -> AttributeCertificate<'_> {
 }
 
 #[test]
-fn lists_what_was_written(rt: HostRuntime) -> Result<(), Fail> {
-    let mut out = [0x55; 56];
-    let offset = signed(9, &[1]).write_into(&mut out, 8)?;
-    assert_eq!(rt; offset, 24);
-    let offset = signed(17, &[1, 2, 3, 4, 5, 6, 7, 8, 9]).write_into(&mut out, offset)?;
-    assert_eq!(rt; offset, 48);
-    let want = [
-        0x55, 0x55, 0x55, 0x55, 0x55, 0x55, 0x55, 0x55, // before
-        9, 0, 0, 0, 0, 2, 2, 0, 1, 0, 0, 0, 0, 0, 0, 0, // 16 bytes
-        17, 0, 0, 0, 0, 2, 2, 0, 1, 2, 3, 4, 5, 6, 7, 8, 9, 0, 0, 0, 0, 0, 0, 0, // 24 bytes
-        0x55, 0x55, 0x55, 0x55, 0x55, 0x55, 0x55, 0x55, // after
-    ];
-    assert_eq!(rt; out, want);
-    let listed = enumerate_certificates(rt.alloc(), &out, 8, 40)?;
-    assert_eq!(rt; listed.len(), 2);
-    for (certificate, want) in listed.iter().zip([9, 17]) {
-        assert_eq!(rt; certificate.length, want);
-        assert_eq!(rt; certificate.certificate.len() + 8, want as usize);
-    }
-    Ok(())
-}
-
-#[test]
 fn writes_where_it_fits(rt: HostRuntime) -> Result<(), Fail> {
     let certificate = signed(17, &[1, 2, 3, 4, 5, 6, 7, 8, 9]);
     for length in 0..40 {
@@ -127,14 +104,12 @@ fn writes_where_it_fits(rt: HostRuntime) -> Result<(), Fail> {
     let mut out = image(rt.alloc(), 40, &[])?;
     assert_eq!(rt; certificate.write_into(&mut out, 16)?, 40);
     let far = certificate.write_into(&mut out, usize::MAX).err();
-    assert!(rt;
-        matches!(
-            far,
-            Some(Error::Malformed(Reason::WriteFit {
-                end: u64::MAX,
-                length: 40
-            }))
-        )
+    assert_eq!(rt;
+        reason_in(far),
+        Some(Reason::WriteFit {
+            end: u64::MAX,
+            length: 40
+        })
     );
     Ok(())
 }
@@ -179,38 +154,9 @@ fn refuses_tables(rt: HostRuntime) -> Result<(), Fail> {
     }
     // Zeros are no certificate, and the last seven bytes are too few for one.
     let refused = enumerate_certificates(rt.alloc(), &bytes, 0x3F8, 8).err();
-    assert!(rt;
-        matches!(
-            refused,
-            Some(Error::Malformed(Reason::CertificateRevision(0)))
-        )
-    );
+    assert_eq!(rt; reason_in(refused), Some(Reason::CertificateRevision(0)));
     let refused = enumerate_certificates(rt.alloc(), &bytes, 0x409, 7).err();
-    assert!(rt;
-        matches!(
-            refused,
-            Some(Error::Short {
-                at: 0x409,
-                needed: 8
-            })
-        )
-    );
-    Ok(())
-}
-
-fn body_of<'a>(alloc: Global, bytes: &'a [u8]) -> Result<&'a [u8], Fail> {
-    let listed: CertificateDirectoryTable<'a> = enumerate_certificates(alloc, bytes, 0x400, 0x10)?;
-    match listed.first() {
-        Some(certificate) => Ok(certificate.certificate),
-        None => Err("no certificate")?,
-    }
-}
-
-/// A body belongs to the file, and outlives the vector of certificates.
-#[test]
-fn keeps_a_body(rt: HostRuntime) -> Result<(), Fail> {
-    let bytes = signed_image(rt.alloc())?;
-    assert_eq!(rt; body_of(rt.alloc(), &bytes)?, [0xAA].as_slice());
+    assert_eq!(rt; short_in(refused), short(0x409, 8));
     Ok(())
 }
 

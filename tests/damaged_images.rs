@@ -1,116 +1,15 @@
 //! Damaged images, in both modes: one that has every directory, each of which is damaged alone and beside another, and
 //! images that are truncated.
 
-use crate::images::{with_every_directory, with_functions, with_part, with_resources};
+use crate::images::{with_every_directory, with_functions, with_part};
 use crate::whole_images::in_mode;
-use pe_image::{
-    AttributeCertificateRevision, AttributeCertificateType, DebugData, Error, ExceptionData, PE,
-    ParseMode, Reason, UnwindOperation,
-};
+use pe_image::{DebugData, Error, ExceptionData, PE, ParseMode, Reason};
 use std::alloc::{AllocError, Global};
 use std::fmt::Debug;
 use std::process::Abort;
 use std::test::Fail;
 
 const MODES: [ParseMode; 2] = [ParseMode::Strict, ParseMode::Permissive];
-
-#[test]
-fn every_directory(rt: HostRuntime) -> Result<(), Fail> {
-    let alloc = rt.alloc();
-    let bytes = with_every_directory(alloc)?;
-    for mode in MODES {
-        let pe = PE::parse_with_opts(alloc, &bytes, &in_mode(mode))?;
-        assert!(rt; pe.is_lib && pe.is_64);
-        assert_eq!(rt; pe.entry, 0x1034);
-        assert_eq!(rt; pe.image_base, 0x1_8000_0000);
-        assert_eq!(rt;
-            pe.sections.first().ok_or("no section")?.name(),
-            Some(".all")
-        );
-        assert_eq!(rt; pe.name, Some("all.dll"));
-        assert!(rt; pe.export_data.is_some());
-        assert_eq!(rt; pe.exports.len(), 2);
-        for (export, (name, rva, offset)) in pe
-            .exports
-            .iter()
-            .zip([("f", 0x3000, None), ("g", 0x1020, Some(0x220))])
-        {
-            assert_eq!(rt; export.name, name);
-            assert_eq!(rt; export.rva, rva);
-            assert_eq!(rt; export.offset, offset);
-        }
-        let records = pe.import_data.as_ref().ok_or("no import directory")?;
-        assert_eq!(rt; records.import_data.len(), 2);
-        assert_eq!(rt; pe.imports.len(), 3);
-        for (import, (name, dll, ordinal, rva)) in pe.imports.iter().zip([
-            (None, "b.dll", 5, 0x1270),
-            (Some("h"), "b.dll", 7, 0x1278),
-            (Some("ij"), "a.dll", 9, 0x1280),
-        ]) {
-            assert_eq!(rt; import.name, name);
-            assert_eq!(rt; import.dll, dll);
-            assert_eq!(rt; import.ordinal, ordinal);
-            assert_eq!(rt; import.rva, rva);
-        }
-        assert_eq!(rt; pe.libraries.len(), 2);
-        for (library, name) in pe.libraries.iter().zip(["a.dll", "b.dll"]) {
-            assert_eq!(rt; *library, name);
-        }
-        let relocations = pe.relocation_data.ok_or("no relocations")?;
-        let block = [
-            0, 0x10, 0, 0, 0x10, 0, 0, 0, 8, 0xA0, 0x10, 0xA0, 0, 0, 0, 0,
-        ];
-        assert!(rt; relocations.bytes == block.as_slice());
-        check_all_debug(&rt, pe.debug_data.as_ref().ok_or("no debug data")?)?;
-        let exceptions = pe.exception_data.as_ref().ok_or("no exception data")?;
-        assert_eq!(rt; exceptions.len(), 2);
-        let info = exceptions.unwind_at(0x1025, &pe.sections, &in_mode(mode))?;
-        let code = info
-            .ok_or("no record")?
-            .unwind_codes()
-            .next()
-            .ok_or("no code")??;
-        assert!(rt; code.operation == UnwindOperation::Alloc(40));
-        check_all_certificates(&rt, &pe)?;
-        let resources = pe.resource_data.ok_or("no resources")?;
-        let version = resources.version_info.ok_or("no version information")?;
-        let fixed = version.fixed_info.ok_or("no fixed file information")?;
-        assert_eq!(rt;
-            fixed.file_version().to_string(alloc)?.as_str(),
-            "3.11.3150.0"
-        );
-        let manifest = resources.manifest_data.ok_or("no manifest")?;
-        assert!(rt; manifest.bytes == b"<a>".as_slice());
-    }
-    Ok(())
-}
-
-fn check_all_debug(rt: &impl Abort, debug: &DebugData<'_>) -> Result<(), Fail> {
-    assert_eq!(rt; debug.entries().len(), 3);
-    assert!(rt; debug.repro_info.is_some());
-    let record = debug
-        .codeview_pdb70_debug_info
-        .ok_or("no record of PDB 7.0")?;
-    assert!(rt; record.filename == b"a.pdb\0".as_slice());
-    let pogo = debug.pogo_info.ok_or("no parts")?;
-    let part = pogo.entries().next().ok_or("no part")??;
-    assert_eq!(rt; part.rva, 0x1000);
-    assert_eq!(rt; part.size, 3);
-    assert!(rt; part.name == b".mn\0".as_slice());
-    Ok(())
-}
-
-fn check_all_certificates(rt: &impl Abort, pe: &PE<'_>) -> Result<(), Fail> {
-    assert_eq!(rt; pe.certificates.len(), 2);
-    let first = pe.certificates.first().ok_or("no certificate")?;
-    assert!(rt; first.certificate == [0xAA].as_slice());
-    let last = pe.certificates.last().ok_or("no certificate")?;
-    assert_eq!(rt; last.length, 10);
-    assert_eq!(rt; last.revision, AttributeCertificateRevision::Revision1_0);
-    assert_eq!(rt; last.certificate_type, AttributeCertificateType::X509);
-    assert!(rt; last.certificate == [0xBB, 0xCC].as_slice());
-    Ok(())
-}
 
 /// The directories of an image, in the order in which they refuse it. Exports never do.
 #[derive(Clone, Copy, PartialEq)]
@@ -490,30 +389,6 @@ fn two_damages(rt: HostRuntime) -> Result<(), Fail> {
     Ok(())
 }
 
-/// All directories damaged at once, the first damage of each, with ever more of them from the front left whole.
-#[test]
-fn all_damages(rt: HostRuntime) -> Result<(), Fail> {
-    let bytes = with_every_directory(rt.alloc())?;
-    let whole = PE::parse(rt.alloc(), &bytes)?;
-    for from in 0..DIRECTORIES.len() {
-        let mut damages = Vec::new(rt.alloc());
-        let mut damaged = Vec::new(rt.alloc());
-        for directory in DIRECTORIES.into_iter().skip(from) {
-            let damage = DAMAGES.into_iter().find(|damage| damage.0 == directory);
-            damages.push(damage.ok_or("no damage")?)?;
-            damaged.push(directory)?;
-        }
-        let image = Damaged::new(rt.alloc(), &whole, &bytes, &damages)?;
-        let mut refusing = damages.iter();
-        let mut first = refusing.next().ok_or("no damage")?;
-        if from == 0 {
-            first = refusing.next().ok_or("one damage")?;
-        }
-        image.check(&rt, first, &damaged)?;
-    }
-    Ok(())
-}
-
 /// What strict mode results of an image that is truncated.
 #[derive(Clone, Copy, Debug, PartialEq)]
 enum Kind {
@@ -586,49 +461,6 @@ fn cut_to_every_length(rt: HostRuntime) -> Result<(), Fail> {
         }
     }
     assert_eq!(rt; lengths, 0x411);
-    Ok(())
-}
-
-/// What refuses the image with functions, or that with resources, cut to a length.
-fn kind_at(length: usize) -> Kind {
-    let mut kind = Kind::Short;
-    for (from, to, refused, ..) in CUTS {
-        if from <= length && length <= to {
-            kind = refused;
-        }
-    }
-    kind
-}
-
-/// Cut anywhere, an image with resources is refused in strict mode, for what stands before the resources, or the same
-/// in both modes.
-#[test]
-fn resources_cut_to_every_length(rt: HostRuntime) -> Result<(), Fail> {
-    let alloc = rt.alloc();
-    let bytes = with_resources(alloc)?;
-    for length in 0..=bytes.len() {
-        let part = bytes.get(..length).ok_or("past the end")?;
-        let strict = PE::parse(alloc, part);
-        let permissive = PE::parse_with_opts(alloc, part, &in_mode(ParseMode::Permissive));
-        assert_eq!(rt; kind_of(&strict), kind_at(length), "at {length}");
-        let kind = if length < 0x170 {
-            Kind::Short
-        } else {
-            Kind::Given
-        };
-        assert_eq!(rt; kind_of(&permissive), kind, "at {length}");
-        if let Ok(pe) = &permissive {
-            assert_eq!(rt; pe.resource_data.is_some(), length >= 0x34B, "at {length}");
-        }
-        if let (Ok(one), Ok(other)) = (&strict, &permissive) {
-            assert!(rt; is_same_core(one, other));
-            for directory in DIRECTORIES {
-                let found = shown_directory(alloc, other, directory)?;
-                let want = shown_directory(alloc, one, directory)?;
-                assert_eq!(rt; found.as_str(), want.as_str());
-            }
-        }
-    }
     Ok(())
 }
 

@@ -1,12 +1,12 @@
 //! Debug data: entries, the six records and POGO entries.
 
-use crate::images::{image, with_byte, with_debug};
+use crate::images::{directory_at, image, reason_in, with_byte, with_debug};
 use pe_core::{ByteRange, DataDirectory, Error, Header, ParseMode, ParseOptions, Reason, Result};
 use pe_records::{
     CodeviewPDB20DebugInfo, CodeviewPDB70DebugInfo, DebugData, EmbeddedPdb,
-    ExDllCharacteristicsInfo, FirstDebugEntries, IMAGE_DEBUG_TYPE_CODEVIEW, IMAGE_DEBUG_TYPE_REPRO,
-    ImageDebugDirectory, ImageDebugDirectoryIterator, POGOEntryIterator, POGOInfo, POGOInfoEntry,
-    PdbChecksum, ReproInfo, VCFeatureInfo,
+    ExDllCharacteristicsInfo, IMAGE_DEBUG_TYPE_CODEVIEW, IMAGE_DEBUG_TYPE_REPRO,
+    ImageDebugDirectory, POGOEntryIterator, POGOInfo, POGOInfoEntry, PdbChecksum, ReproInfo,
+    VCFeatureInfo,
 };
 use std::alloc::{AllocError, Global};
 use std::test::Fail;
@@ -166,10 +166,7 @@ fn bounds_of_the_table(rt: HostRuntime) -> std::result::Result<(), Fail> {
         (0xE1, 0, 0, 0xE1),
         (0xA9, 0x38, 2, 0xE1),
     ] {
-        let directory = DataDirectory {
-            virtual_address,
-            size,
-        };
+        let directory = directory_at(virtual_address, size);
         let refusal = DebugData::parse_with_opts(
             &bytes,
             directory,
@@ -198,10 +195,7 @@ fn bounds_of_the_table(rt: HostRuntime) -> std::result::Result<(), Fail> {
 #[test]
 fn counts_a_cut_entry(rt: HostRuntime) -> std::result::Result<(), Fail> {
     let bytes = five_entries(rt.alloc(), PDB70, 30)?;
-    let cut = DataDirectory {
-        virtual_address: 0,
-        size: 141,
-    };
+    let cut = directory_at(0, 141);
     let debug = DebugData::parse_with_opts(&bytes, cut, &[], 0, &flat(ParseMode::Strict))?;
     let mut entries = debug.entries();
     for left in [6, 5, 4, 3, 2] {
@@ -211,41 +205,6 @@ fn counts_a_cut_entry(rt: HostRuntime) -> std::result::Result<(), Fail> {
     assert_eq!(rt; entries.len(), 1);
     assert!(rt; matches!(entries.next(), Some(Err(Error::Short { .. }))));
     assert!(rt; entries.next().is_none() && entries.next().is_none());
-    Ok(())
-}
-
-/// One pass finds what a search for each type finds: whole entries alone, and of two of a type the first.
-#[test]
-fn first_entries_in_one_pass(rt: HostRuntime) -> std::result::Result<(), Fail> {
-    let bytes = five_entries(rt.alloc(), PDB70, 30)?;
-    let twice = with_byte(five_entries(rt.alloc(), PDB70, 30)?, 0x7C, 2);
-    for (table, fixup, found, address) in [
-        (&bytes[..140], 0, 5, 0x90),
-        (&bytes[..140], 0x91, 5, u32::MAX),
-        (&bytes[..139], 0, 4, 0x90),
-        (&twice[..140], 0, 4, 0x90),
-    ] {
-        let first = FirstDebugEntries::of_table(table, fixup);
-        let entries = ImageDebugDirectoryIterator::new(table, fixup);
-        let mut count = 0;
-        for (kept, data_type) in [
-            (first.codeview, 2),
-            (first.features, 12),
-            (first.characteristics, 20),
-            (first.repro, 16),
-            (first.pogo, 13),
-        ] {
-            assert_eq!(rt; kept, entries.find_type(data_type));
-            count += u32::from(kept.is_some());
-        }
-        assert_eq!(rt; count, found);
-        let codeview = first.codeview.ok_or("no entry")?;
-        let said = (codeview.size_of_data, codeview.address_of_raw_data);
-        assert_eq!(rt; said, (30, address));
-    }
-    let none = FirstDebugEntries::of_table(&[], 0);
-    assert!(rt; none.codeview.is_none() && none.features.is_none() && none.repro.is_none());
-    assert!(rt; none.characteristics.is_none() && none.pogo.is_none());
     Ok(())
 }
 
@@ -295,12 +254,7 @@ fn records_at_their_pointers(rt: HostRuntime) -> std::result::Result<(), Fail> {
     assert!(rt; matches!(repro, ReproInfo::Buffer { length: 3, .. }));
     let refusal = ReproInfo::parse(&bytes, &at(0xDC, 1)).err();
     // shows: pe_records/src/debug/records.rt at DebugData
-    assert!(rt;
-        matches!(
-            refusal,
-            Some(Error::Malformed(Reason::DebugData(0x0000_612E)))
-        )
-    );
+    assert_eq!(rt; reason_in(refusal), Some(Reason::DebugData(0x0000_612E)));
     let refusal = POGOInfo::parse(&bytes, &at(0xD0, 4)).err();
     // shows: pe_records/src/debug/pogo.rt at PogoSize
     assert!(rt; matches!(refusal, Some(Error::Malformed(Reason::PogoSize(4)))));
@@ -333,51 +287,27 @@ fn entries_of_a_stream(rt: HostRuntime) {
     }
     // shows: pe_records/src/debug/pogo.rt entry_at PogoName
     let refusal = entries.next();
-    assert!(rt;
-        matches!(
-            refusal,
-            Some(Err(Error::Malformed(Reason::PogoName {
-                needed: 0x18,
-                length: 0x17
-            })))
-        )
+    assert_eq!(rt;
+        reason_in(refusal),
+        Some(Reason::PogoName {
+            needed: 0x18,
+            length: 0x17
+        })
     );
     assert!(rt; entries.next().is_none() && entries.next().is_none());
     let mut cut = POGOEntryIterator::new(b"\x00\x10\x00\x00\x03\x00\x00");
     assert!(rt; matches!(cut.next(), Some(Err(Error::Short { .. }))));
     assert!(rt; cut.next().is_none());
     let mut unterminated = POGOEntryIterator::new(b"\x00\x10\x00\x00\x03\x00\x00\x00ab");
-    assert!(rt;
-        matches!(
-            unterminated.next(),
-            Some(Err(Error::Malformed(Reason::PogoName {
-                needed: 12,
-                length: 10
-            })))
-        )
+    assert_eq!(rt;
+        reason_in(unterminated.next()),
+        Some(Reason::PogoName {
+            needed: 12,
+            length: 10
+        })
     );
     assert!(rt; unterminated.next().is_none());
     assert!(rt; POGOEntryIterator::new(b"").next().is_none());
-}
-
-/// The first name of a record, which outlives the record and its iterator.
-fn first_name<'a>(bytes: &'a [u8], entry: &ImageDebugDirectory) -> Option<&'a [u8]> {
-    let info = POGOInfo::parse(bytes, entry).ok()??;
-    let mut entries = info.entries();
-    let first = entries.next()?.ok()?;
-    Some(first.name)
-}
-
-#[test]
-fn names_outlive_their_record(rt: HostRuntime) -> std::result::Result<(), Fail> {
-    let bytes = five_entries(rt.alloc(), PDB70, 30)?;
-    let entry = ImageDebugDirectory {
-        size_of_data: 16,
-        pointer_to_raw_data: 0xD0,
-        ..ImageDebugDirectory::default()
-    };
-    assert_eq!(rt; first_name(&bytes, &entry), Some(b".a\0".as_slice()));
-    Ok(())
 }
 
 /// An entry whose record has `size` bytes at the offset, or at the RVA.
@@ -411,11 +341,9 @@ fn embedded_pdbs(rt: HostRuntime) -> std::result::Result<(), Fail> {
         let empty = EmbeddedPdb::parse_with_opts(bytes, &entry, &flat(mode))?;
         assert_eq!(rt; (empty.uncompressed_size, empty.compressed.len()), (300, 0));
         // shows: pe_records/src/debug/managed.rt at DebugSize
-        assert!(rt;
-            matches!(
-                EmbeddedPdb::parse_with_opts(bytes, &entry_at(90, 0, 7), &opts),
-                Err(Error::Malformed(Reason::DebugSize(7)))
-            )
+        assert_eq!(rt;
+            reason_in(EmbeddedPdb::parse_with_opts(bytes, &entry_at(90, 0, 7), &opts)),
+            Some(Reason::DebugSize(7))
         );
         let found = EmbeddedPdb::parse_with_opts(bytes, &entry_at(12, 0, 90), &opts);
         assert!(rt; matches!(found, Err(Error::Short { at: 12, needed: 8 })));
@@ -423,11 +351,9 @@ fn embedded_pdbs(rt: HostRuntime) -> std::result::Result<(), Fail> {
         let found = EmbeddedPdb::parse_with_opts(bytes, &entry_at(5, 0, 90), &opts);
         assert!(rt; matches!(found, Err(Error::BadMagic(0x2C42_4450))));
         // shows: pe_records/src/debug/managed.rt at DebugData
-        assert!(rt;
-            matches!(
-                EmbeddedPdb::parse_with_opts(bytes, &entry_at(4, 0, 16), &opts),
-                Err(Error::Malformed(Reason::DebugData(16)))
-            )
+        assert_eq!(rt;
+            reason_in(EmbeddedPdb::parse_with_opts(bytes, &entry_at(4, 0, 16), &opts)),
+            Some(Reason::DebugData(16))
         );
     }
     Ok(())
@@ -451,17 +377,13 @@ fn checksums_of_pdbs(rt: HostRuntime) -> std::result::Result<(), Fail> {
         let empty = PdbChecksum::parse_with_opts(bytes, &entry_at(90, 10, 1), &flat(mode))?;
         assert!(rt; empty.algorithm.is_empty() && empty.checksum.is_empty());
         // shows: pe_records/src/debug/managed.rt of_data DebugSize
-        assert!(rt;
-            matches!(
-                PdbChecksum::parse_with_opts(bytes, &entry_at(4, 0, 6), &opts),
-                Err(Error::Malformed(Reason::DebugSize(6)))
-            )
+        assert_eq!(rt;
+            reason_in(PdbChecksum::parse_with_opts(bytes, &entry_at(4, 0, 6), &opts)),
+            Some(Reason::DebugSize(6))
         );
-        assert!(rt;
-            matches!(
-                PdbChecksum::parse_with_opts(bytes, &entry_at(4, 0, 15), &opts),
-                Err(Error::Malformed(Reason::DebugData(15)))
-            )
+        assert_eq!(rt;
+            reason_in(PdbChecksum::parse_with_opts(bytes, &entry_at(4, 0, 15), &opts)),
+            Some(Reason::DebugData(15))
         );
     }
     Ok(())

@@ -1,7 +1,7 @@
 //! The directories of pe_directories. Vectors named after a file are bytes of that file, and what llvm-readobj 14.0.6 prints of
 //! them; all others are made by hand from the layouts.
 
-use crate::images::image;
+use crate::images::{directory_at, image};
 use crate::sections::SECTION;
 use pe_core::{DataDirectory, Error, Header, OptionalHeader, ParseOptions, Reason};
 use pe_directories::{
@@ -25,10 +25,7 @@ pub(crate) fn image_of(bytes: &[u8], is_64: bool) -> ImageBytes<'_> {
 }
 
 pub(crate) fn at(virtual_address: u32, size: u32) -> DataDirectory {
-    DataDirectory {
-        virtual_address,
-        size,
-    }
+    directory_at(virtual_address, size)
 }
 
 fn relocation(kind: u8, rva: usize) -> BaseRelocation {

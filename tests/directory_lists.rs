@@ -48,68 +48,6 @@ fn functions_of<'a, A: Allocator + Copy + Drop>(
     dlls[0].entry.functions(alloc, &indexed)
 }
 
-#[test]
-fn lists_delay_imports(rt: HostRuntime) -> Result<(), Fail> {
-    let alloc = rt.alloc();
-    let bytes = two_dlls(alloc)?;
-    let image = image_of(&bytes, false);
-    let indexed = IndexedImage::new(alloc, &image)?;
-    let mut entries = entries_of(&image)?;
-    let dlls = entries.dlls(alloc, &indexed)?;
-    assert_eq!(rt; dlls.len(), 2);
-    for (dll, name) in dlls.iter().zip(["a.dll", "b.dll"]) {
-        assert_eq!(rt; dll.name, name);
-        let Some(Ok(entry)) = entries.next() else {
-            return Err(Fail::new("an entry is missing"));
-        };
-        assert_eq!(rt; dll.entry, entry);
-        let functions = dll.entry.functions(alloc, &indexed)?;
-        assert_eq!(rt;
-            functions.as_slice(),
-            [
-                DelayedFunction::Name { hint: 5, name: "f" },
-                DelayedFunction::Ordinal(7),
-                DelayedFunction::Name {
-                    hint: 6,
-                    name: "long",
-                },
-            ]
-            .as_slice()
-        );
-    }
-    // What is left of a walk: nothing.
-    assert!(rt; entries.dlls(alloc, &indexed)?.is_empty());
-    Ok(())
-}
-
-/// The same names by virtual addresses, of PE32+: the attributes are 0, and each address has the image base 0x40_0000 before it.
-#[test]
-fn lists_by_virtual_addresses(rt: HostRuntime) -> Result<(), Fail> {
-    let alloc = rt.alloc();
-    let bytes = image(
-        alloc,
-        0x80,
-        &[
-            (0x04, &[0x40, 0x10, 0x40]),
-            (0x10, &[0x50, 0x10, 0x40]),
-            (0x40, b"d.dll\0\0\0\x05\0f\0"),
-            (0x50, &[0x48, 0x10, 0x40]),
-            (0x58, &[7]),
-            (0x5F, &[0x80]),
-        ],
-    )?;
-    let functions = functions_of(alloc, &image_of(&bytes, true))?;
-    assert_eq!(rt;
-        functions.as_slice(),
-        [
-            DelayedFunction::Name { hint: 5, name: "f" },
-            DelayedFunction::Ordinal(7),
-        ]
-        .as_slice()
-    );
-    Ok(())
-}
-
 /// The refusal of the list of functions, after these bytes are put into `two_dlls`.
 fn refusal_with(alloc: Global, pieces: &[(usize, &[u8])]) -> Result<DirectoryError, Fail> {
     let mut bytes = two_dlls(alloc)?;

@@ -1,6 +1,7 @@
 //! Steps of a stack walk. Records and stacks are by hand, from the prologs of Microsoft's pages on x64: what is expected is
 //! the state before the prolog, with the return address popped.
 
+use crate::images::stack_at;
 use pe_frame::{
     FrameError, FunctionPlan, Memory, Registers, Stack, Stopped, leaf, step, step_with_code,
 };
@@ -103,10 +104,7 @@ fn undoes_each_part_of_a_prolog(rt: HostRuntime) -> Result<(), Fail> {
         RETURN_ADDRESS,
     ];
     let bytes = bytes_of(rt.alloc(), &words)?;
-    let stack = Stack {
-        start: ENTRY - 24,
-        bytes: &bytes,
-    };
+    let stack = stack_at(ENTRY - 24, &bytes);
     for (offset, rsp) in [
         (0, ENTRY),
         (5, ENTRY),
@@ -140,10 +138,7 @@ fn reads_saves_of_the_home_space(rt: HostRuntime) -> Result<(), Fail> {
     let caller = of_caller();
     let words = [caller.general[RDI], RETURN_ADDRESS, caller.general[RBX]];
     let bytes = bytes_of(rt.alloc(), &words)?;
-    let stack = Stack {
-        start: ENTRY - 8,
-        bytes: &bytes,
-    };
+    let stack = stack_at(ENTRY - 8, &bytes);
     let registers = changed(&[(RSP, ENTRY - 40), (RBX, 1), (RDI, 2)]);
     assert_eq!(rt; step_at(&record, 10, registers, &stack)?, caller);
     // After the push, at 6, rbx has its value still, though it is stored already.
@@ -174,10 +169,7 @@ fn reads_xmm_registers_by_the_frame_register(rt: HostRuntime) -> Result<(), Fail
         RETURN_ADDRESS,
     ];
     bytes.extend_from_slice(&bytes_of(rt.alloc(), &words)?)?;
-    let stack = Stack {
-        start: ENTRY - 72,
-        bytes: &bytes,
-    };
+    let stack = stack_at(ENTRY - 72, &bytes);
     let mut registers = changed(&[(RSP, 0x1000), (RBP, ENTRY - 56), (RBX, 0)]);
     registers.xmm[6] = 1;
     assert_eq!(rt; step_at(&record, 22, registers, &stack)?, caller);
@@ -194,10 +186,7 @@ fn counts_from_rsp_until_the_frame_register_is_set(rt: HostRuntime) -> Result<()
     let caller = of_caller();
     let words = [caller.general[RBX], caller.general[RBP], RETURN_ADDRESS];
     let bytes = bytes_of(rt.alloc(), &words)?;
-    let stack = Stack {
-        start: ENTRY - 16,
-        bytes: &bytes,
-    };
+    let stack = stack_at(ENTRY - 16, &bytes);
     for (offset, rsp, rbp) in [
         (10, ENTRY - 80, caller.general[RBP]),
         (15, ENTRY - 0x1000, ENTRY - 48),
@@ -213,10 +202,7 @@ fn counts_from_rsp_until_the_frame_register_is_set(rt: HostRuntime) -> Result<()
 fn takes_rip_and_rsp_of_machine_frames(rt: HostRuntime) -> Result<(), Fail> {
     let words = [0xE, RETURN_ADDRESS, 0x33, 0x246, 0x5000, 0x2B];
     let bytes = bytes_of(rt.alloc(), &words)?;
-    let stack = Stack {
-        start: 0x9000,
-        bytes: &bytes,
-    };
+    let stack = stack_at(0x9000, &bytes);
     for (info, rsp) in [(0x1A, 0x9000), (0x0A, 0x9008)] {
         let mut expected = changed(&[(RSP, 0x5000)]);
         expected.rip = RETURN_ADDRESS;
@@ -243,10 +229,7 @@ fn undoes_chained_records_whole(rt: HostRuntime) -> Result<(), Fail> {
         RETURN_ADDRESS,
     ];
     let bytes = bytes_of(rt.alloc(), &words)?;
-    let stack = Stack {
-        start: ENTRY - 40,
-        bytes: &bytes,
-    };
+    let stack = stack_at(ENTRY - 40, &bytes);
     // At its start the part has saved nothing, and all of the function's own prolog has run.
     for (offset, rbx) in [(0, caller.general[RBX]), (5, 1)] {
         let records = [UnwindInfo::parse(&part, 0)?, UnwindInfo::parse(&root, 0)?];
@@ -264,10 +247,7 @@ fn undoes_chained_records_whole(rt: HostRuntime) -> Result<(), Fail> {
 #[test]
 fn pops_the_return_address_of_leaves(rt: HostRuntime) -> Result<(), Fail> {
     let bytes = bytes_of(rt.alloc(), &[RETURN_ADDRESS])?;
-    let stack = Stack {
-        start: ENTRY,
-        bytes: &bytes,
-    };
+    let stack = stack_at(ENTRY, &bytes);
     let registers = changed(&[(RSP, ENTRY)]);
     assert_eq!(rt; leaf(registers, &stack)?, of_caller());
     let cut = leaf(changed(&[(RSP, ENTRY + 1)]), &stack);
@@ -281,10 +261,7 @@ fn pops_the_return_address_of_leaves(rt: HostRuntime) -> Result<(), Fail> {
 fn reports_why_a_step_is_refused(rt: HostRuntime) -> Result<(), Fail> {
     let alloc = rt.alloc();
     let bytes = bytes_of(alloc, &[1, 2, 3, 4])?;
-    let stack = Stack {
-        start: 0x1000,
-        bytes: &bytes,
-    };
+    let stack = stack_at(0x1000, &bytes);
     let rows: [(&[u8], &[(usize, u64)], &str, &str); 10] = [
         // A code of an opcode that there is not, though it is after the offset.
         (
@@ -371,10 +348,7 @@ fn reports_why_a_step_is_refused(rt: HostRuntime) -> Result<(), Fail> {
 #[test]
 fn counts_from_a_frame_register_that_is_set(rt: HostRuntime) -> Result<(), Fail> {
     let bytes = bytes_of(rt.alloc(), &[9, 5, RETURN_ADDRESS])?;
-    let stack = Stack {
-        start: 0x1000,
-        bytes: &bytes,
-    };
+    let stack = stack_at(0x1000, &bytes);
     let registers = changed(&[(RBP, 0x1020), (RSP, 0x1010)]);
     let found = step_at(&[1, 0, 2, 0x25, 0, 0x34, 1, 0], 0, registers, &stack)?;
     assert_eq!(rt; (found.general[RBX], found.general[RSP]), (5, 0x1018));
@@ -385,10 +359,7 @@ fn counts_from_a_frame_register_that_is_set(rt: HostRuntime) -> Result<(), Fail>
 #[test]
 fn has_no_word_past_the_last_address(rt: HostRuntime) -> Result<(), Fail> {
     let bytes = bytes_of(rt.alloc(), &[0x1111, 0x2222])?;
-    let stack = Stack {
-        start: u64::MAX - 11,
-        bytes: &bytes,
-    };
+    let stack = stack_at(u64::MAX - 11, &bytes);
     assert_eq!(rt; stack.u64_at(u64::MAX - 11), Some(0x1111));
     assert_eq!(rt; stack.u64_at(u64::MAX - 7), Some(0x2222_0000_0000));
     for address in [0, 4, u64::MAX - 12, u64::MAX - 6, u64::MAX] {
@@ -448,10 +419,7 @@ fn runs_the_rest_of_epilogs(rt: HostRuntime) -> Result<(), Fail> {
         caller.general[R14],
     );
     let bytes = bytes_of(rt.alloc(), &[r14, rsi, rbx, RETURN_ADDRESS])?;
-    let stack = Stack {
-        start: ENTRY - 24,
-        bytes: &bytes,
-    };
+    let stack = stack_at(ENTRY - 24, &bytes);
     let rows: [(usize, [(usize, u64); 4]); 5] = [
         (0, [(RSP, ENTRY - 56), (RBX, 1), (RSI, 2), (R14, 3)]),
         (4, [(RSP, ENTRY - 24), (RBX, 1), (RSI, 2), (R14, 3)]),
@@ -511,10 +479,7 @@ fn frees_the_stack_by_the_frame_register(rt: HostRuntime) -> Result<(), Fail> {
     for (register, code, value) in rows {
         let r = usize::from(register);
         let bytes = bytes_of(rt.alloc(), &[caller.general[r], RETURN_ADDRESS])?;
-        let stack = Stack {
-            start: ENTRY - 8,
-            bytes: &bytes,
-        };
+        let stack = stack_at(ENTRY - 8, &bytes);
         let record = [
             1,
             10,
@@ -537,10 +502,7 @@ fn frees_the_stack_by_the_frame_register(rt: HostRuntime) -> Result<(), Fail> {
 /// codes rbx is the first, and the return address the second.
 fn is_epilog(alloc: Global, offset: u32, code: &[u8]) -> Result<bool, Fail> {
     let bytes = bytes_of(alloc, &[RETURN_ADDRESS, 0x77])?;
-    let stack = Stack {
-        start: ENTRY,
-        bytes: &bytes,
-    };
+    let stack = stack_at(ENTRY, &bytes);
     let found = step_in(&ONE_PUSH, offset, code, changed(&[(RSP, ENTRY)]), &stack)?;
     Ok(found.rip == RETURN_ADDRESS)
 }
@@ -613,10 +575,7 @@ fn knows_the_forms_of_epilogs(rt: HostRuntime) -> Result<(), Fail> {
     }
     // pop rsi; jmp rax, which pops rsi and not rbx
     let bytes = bytes_of(rt.alloc(), &[0x77, RETURN_ADDRESS])?;
-    let stack = Stack {
-        start: ENTRY,
-        bytes: &bytes,
-    };
+    let stack = stack_at(ENTRY, &bytes);
     let code = [0x5E, 0xFF, 0xE0];
     let found = step_in(
         &ONE_PUSH,
@@ -656,10 +615,7 @@ fn jumps_leave_the_function_or_stay(rt: HostRuntime) -> Result<(), Fail> {
         0x21, 0, 0, 0, 0, 0x10, 0, 0, 0x20, 0x10, 0, 0, 0, 0x30, 0, 0,
     ];
     let bytes = bytes_of(rt.alloc(), &[RETURN_ADDRESS, 0x77])?;
-    let stack = Stack {
-        start: ENTRY,
-        bytes: &bytes,
-    };
+    let stack = stack_at(ENTRY, &bytes);
     for (rva, code, rip) in [
         (0x1105, [0xE9, 0x06, 0xFF, 0xFF, 0xFF], 0x77),
         (0x110A, [0xE9, 0x11, 0xFF, 0xFF, 0xFF], RETURN_ADDRESS),
@@ -687,10 +643,7 @@ fn jumps_leave_the_function_or_stay(rt: HostRuntime) -> Result<(), Fail> {
 fn ends_epilogs_with_the_caller_or_an_error(rt: HostRuntime) -> Result<(), Fail> {
     let alloc = rt.alloc();
     let bytes = bytes_of(alloc, &[2; 17])?;
-    let stack = Stack {
-        start: 0x1000,
-        bytes: &bytes,
-    };
+    let stack = stack_at(0x1000, &bytes);
     // ret 16
     let registers = changed(&[(RSP, 0x1000)]);
     let found = step_in(&ONE_PUSH, 0x40, &[0xC2, 0x10, 0x00], registers, &stack)?;

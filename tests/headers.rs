@@ -1,6 +1,8 @@
 //! Headers, in both widths and both modes.
 
-use crate::images::{headers_alone, image, pointer_below_64, put, with_byte};
+use crate::images::{
+    directory_at, headers_alone, image, pointer_below_64, put, short, short_in, with_byte,
+};
 use pe_core::{
     CoffHeader, DataDirectory, DosHeader, Error, Header, OptionalHeader, ParseMode, ParseOptions,
     Reason,
@@ -59,7 +61,7 @@ fn cut_to_every_length(rt: HostRuntime) -> Result<(), Fail> {
             let part = bytes.get(..length).ok_or("past the end")?;
             match Header::parse_with_opts(part, &in_mode(mode)) {
                 Ok(_) => assert!(rt; length >= 0x180, "given at {length}"),
-                Err(Error::Short { .. }) => assert!(rt; length < 0x180, "short at {length}"),
+                Err(Error::Short { .. }) => assert!(rt; length < 0x180, "truncated at {length}"),
                 Err(_) => assert!(rt; false, "another refusal at {length}"),
             }
         }
@@ -144,10 +146,7 @@ fn each_getter_gives_its_directory(rt: HostRuntime) -> Result<(), Fail> {
         directories.get_clr_runtime_header(),
     ];
     for (row, (virtual_address, size)) in given.iter().zip(DIRECTORIES) {
-        let want = DataDirectory {
-            virtual_address,
-            size,
-        };
+        let want = directory_at(virtual_address, size);
         assert_eq!(rt; *row, Some(want));
     }
     assert_eq!(rt; directories.get(16), None);
@@ -168,12 +167,10 @@ fn absent_directories(rt: HostRuntime) -> Result<(), Fail> {
     assert_eq!(rt; directories.get_import_table(), None);
     assert!(rt; directories.get_resource_table().is_some());
     assert_eq!(rt; directories.get_exception_table(), None);
-    let short = bytes.get(..0x77).ok_or("past the end")?;
-    assert!(rt;
-        matches!(
-            OptionalHeader::parse(short, 0),
-            Err(Error::Short { at: 96, needed: 24 })
-        )
+    let truncated = bytes.get(..0x77).ok_or("past the end")?;
+    assert_eq!(rt;
+        short_in(OptionalHeader::parse(truncated, 0)),
+        short(96, 24)
     );
     Ok(())
 }
@@ -187,14 +184,9 @@ fn records_alone(rt: HostRuntime) -> Result<(), Fail> {
     let found = Some((row.virtual_address, row.size));
     assert_eq!(rt; found, DIRECTORIES.first().copied());
     assert!(rt; DataDirectory::parse(&bytes[..0x78 + 104], 0x78 + 96)? == row);
-    assert!(rt;
-        matches!(
-            CoffHeader::parse(&bytes, 0x1ED),
-            Err(Error::Short {
-                at: 0x1ED,
-                needed: 20
-            })
-        )
+    assert_eq!(rt;
+        short_in(CoffHeader::parse(&bytes, 0x1ED)),
+        Some((0x1ED, 20))
     );
     Ok(())
 }

@@ -1,8 +1,11 @@
 //! What `{:?}` shows of an image with every directory, of a TE image and of an object. The texts are those of a derived
 //! `Debug`, field by field from the bytes; the image's own leaves out the bytes that it was read from.
 
-use crate::images::{image, put, te_with_debug, with_every_directory};
+use crate::images::{headers_alone, image, put, te_with_debug, with_every_directory};
+use pe_core::{Header, ParseOptions};
 use pe_image::{Coff, PE, TE};
+use pe_resource::{ImageResourceDirectory, ResourceString};
+use pe_unwind::RuntimeFunctionIterator;
 use std::alloc::{AllocError, Global};
 use std::fmt::Debug;
 use std::test::Fail;
@@ -155,5 +158,36 @@ number_of_relocations: 15, number_of_linenumbers: 16, characteristics: 17 }], \
 symbols: Some(SymbolTable { bytes: [109, 97, 105, 110, 0, 0, 0, 0, 1, 0, 0, 0, 2, 0, 3, 0, 4, 0] }), \
 strings: Some(Strtab { bytes: [7, 0, 0, 0, 97, 98, 0] }) }"
     );
+    Ok(())
+}
+
+/// The directories that the header counts are shown, and of entries that are left, and of strings, the bytes.
+#[test]
+fn directories_and_bytes(rt: HostRuntime) -> Result<(), Fail> {
+    let alloc = rt.alloc();
+    let mut bytes = headers_alone(alloc)?;
+    put(
+        &mut bytes,
+        &[(0xFC, &[1]), (0x100, &[8, 0, 0, 0, 9, 0, 0, 0])],
+    );
+    let header = Header::parse_with_opts(&bytes, &ParseOptions::default())?;
+    let optional = header.optional_header.ok_or("no optional header")?;
+    let text = shown(alloc, &optional.data_directories)?;
+    let want = "[DataDirectory { virtual_address: 8, size: 9 }]";
+    assert_eq!(rt; text.as_str(), want);
+    let text = shown(alloc, &RuntimeFunctionIterator::new(&[1, 2]))?;
+    assert_eq!(rt; text.as_str(), "RuntimeFunctionIterator { bytes: [1, 2] }");
+    let one = ImageResourceDirectory {
+        number_of_id_entries: 1,
+        ..ImageResourceDirectory::default()
+    };
+    let text = shown(alloc, &one.next_iter(1, &[9, 1, 2, 3, 4, 5, 6, 7, 8])?)?;
+    let want = "ResourceEntryIterator { bytes: [1, 2, 3, 4, 5, 6, 7, 8] }";
+    assert_eq!(rt; text.as_str(), want);
+    let string = [0x10, 0, 2, 0, 1, 0, 0x41, 0, 0, 0, 0, 0, 0x42, 0, 0, 0];
+    let text = shown(alloc, &ResourceString::parse(&string, &mut 0)?)?;
+    let want =
+        "Some(ResourceString { len: 16, value_len: 2, text_type: 1, key: [65, 0], value: [66, 0, 0, 0] })";
+    assert_eq!(rt; text.as_str(), want);
     Ok(())
 }

@@ -1,9 +1,13 @@
-//! Images made by hand.
+//! Images made by hand, and what calls are handed.
 
+use pe_core::{ByteRange, DataDirectory, Error, Reason};
+use pe_edit::RecordRange;
+use pe_frame::{MemoryPiece, Stack};
 pub(crate) use pe_images::{
     headers_alone, image, object, pointer_below_64, put, resources, te, te_with_debug, with_debug,
     with_every_directory, with_exports, with_functions, with_imports, with_resources,
 };
+use pe_unwind::{Arm64RuntimeFunction, RuntimeFunction};
 
 /// The buffer with this byte at this offset.
 pub(crate) fn with_byte(mut bytes: Vec<u8>, offset: usize, byte: u8) -> Vec<u8> {
@@ -15,4 +19,100 @@ pub(crate) fn with_byte(mut bytes: Vec<u8>, offset: usize, byte: u8) -> Vec<u8> 
 pub(crate) fn with_part(mut bytes: Vec<u8>, offset: usize, part: &[u8]) -> Vec<u8> {
     put(&mut bytes, &[(offset, part)]);
     bytes
+}
+
+pub(crate) fn directory_at(virtual_address: u32, size: u32) -> DataDirectory {
+    DataDirectory {
+        virtual_address,
+        size,
+    }
+}
+
+pub(crate) fn stack_at(start: u64, bytes: &[u8]) -> Stack<'_> {
+    Stack { start, bytes }
+}
+
+pub(crate) fn piece_at(start: u64, offset: u64, length: u64) -> MemoryPiece {
+    MemoryPiece {
+        start,
+        offset,
+        length,
+    }
+}
+
+pub(crate) fn range_at(offset: usize, length: usize) -> ByteRange {
+    ByteRange { offset, length }
+}
+
+pub(crate) fn record_range(offset: u64, length: u64) -> RecordRange {
+    RecordRange { offset, length }
+}
+
+pub(crate) fn function_at(
+    begin_address: u32,
+    end_address: u32,
+    unwind_info_address: u32,
+) -> RuntimeFunction {
+    RuntimeFunction {
+        begin_address,
+        end_address,
+        unwind_info_address,
+    }
+}
+
+pub(crate) fn arm64_function(begin_address: u32, unwind_data: u32) -> Arm64RuntimeFunction {
+    Arm64RuntimeFunction {
+        begin_address,
+        unwind_data,
+    }
+}
+
+/// What may have failed.
+pub(crate) trait Fails: Drop {
+    fn error(self) -> Option<Error>;
+}
+
+impl Fails for Error {
+    fn error(self) -> Option<Error> {
+        Some(self)
+    }
+}
+
+impl Fails for Option<Error> {
+    fn error(self) -> Option<Error> {
+        self
+    }
+}
+
+impl<T: Drop> Fails for Result<T, Error> {
+    fn error(self) -> Option<Error> {
+        self.err()
+    }
+}
+
+impl<T: Drop> Fails for Option<Result<T, Error>> {
+    fn error(self) -> Option<Error> {
+        self?.err()
+    }
+}
+
+/// Bytes that end too soon: where, and how many are needed.
+pub(crate) fn short(at: usize, needed: usize) -> Option<(usize, usize)> {
+    Some((at, needed))
+}
+
+/// The same of what failed.
+pub(crate) fn short_in<T: Fails>(found: T) -> Option<(usize, usize)> {
+    match found.error() {
+        Some(Error::Short { at, needed }) => Some((at, needed)),
+        _ => None,
+    }
+}
+
+/// What is malformed.
+pub(crate) fn reason_in<T: Fails>(found: T) -> Option<Reason> {
+    match found.error() {
+        Some(Error::Malformed(reason)) => Some(reason),
+        _ => None,
+    }
 }

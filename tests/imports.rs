@@ -1,7 +1,7 @@
 //! Imports: the directory, its records and libraries, and the list of what is imported.
 
 use crate::exports::one_section;
-use crate::images::{image, with_byte};
+use crate::images::{directory_at, image, reason_in, short, short_in, with_byte};
 use crate::refusing::Refusing;
 use linked_list_allocator::LocalHeap;
 use pe_core::{
@@ -131,14 +131,9 @@ fn reads_one_record(rt: HostRuntime) -> std::result::Result<(), Fail> {
     assert_eq!(rt; entry.lookups_rva(), 0x10A0);
     assert!(rt; !entry.is_last());
     assert!(rt; ImportDirectoryEntry::parse(&bytes, 0x274)?.is_last());
-    assert!(rt;
-        matches!(
-            ImportDirectoryEntry::parse(&bytes, 0x3FD),
-            Err(Error::Short {
-                at: 0x3FD,
-                needed: 20
-            })
-        )
+    assert_eq!(rt;
+        short_in(ImportDirectoryEntry::parse(&bytes, 0x3FD)),
+        short(0x3FD, 20)
     );
     let list = lookups_at(&bytes, 0x2A0, true)?;
     let found = (list.len(), lookup_size(true), lookup_size(false));
@@ -181,10 +176,7 @@ fn naming(alloc: Global, names: &[&str]) -> std::result::Result<Vec<u8>, AllocEr
 fn lists_libraries(rt: HostRuntime) -> std::result::Result<(), Fail> {
     let alloc = rt.alloc();
     let bytes = naming(alloc, &["b.dll", "a.dll", "b.dll", "B.dll", "a", "a.dll"])?;
-    let directory = DataDirectory {
-        virtual_address: 0,
-        size: 0,
-    };
+    let directory = directory_at(0, 0);
     let data = ImportData::parse_with_opts(alloc, &bytes, directory, &[], 0, &flat(), true)?;
     assert_eq!(rt; data.import_data.len(), 6);
     let libraries = data.libraries(alloc)?;
@@ -201,10 +193,7 @@ fn lists_libraries(rt: HostRuntime) -> std::result::Result<(), Fail> {
 fn lists_libraries_by_offset(rt: HostRuntime) -> std::result::Result<(), Fail> {
     let alloc = rt.alloc();
     let bytes = naming(alloc, &["b.dll", "a.dll", "b.dll", "B.dll", "a", "a.dll"])?;
-    let directory = DataDirectory {
-        virtual_address: 0,
-        size: 0,
-    };
+    let directory = directory_at(0, 0);
     let opts = flat();
     let data = ImportData::parse_with_opts(alloc, &bytes, directory, &[], 0, &opts, true)?;
     let index = SectionIndex::new(alloc, &[], 0, &opts)?;
@@ -249,10 +238,7 @@ pub(crate) fn sharing(
 
 /// The data of such a directory, where an RVA is a file offset.
 fn shared_data(alloc: Global, bytes: &[u8]) -> Result<ImportData<'_>> {
-    let directory = DataDirectory {
-        virtual_address: 0,
-        size: 0,
-    };
+    let directory = directory_at(0, 0);
     ImportData::parse_with_opts(alloc, bytes, directory, &[], 0, &flat(), true)
 }
 
@@ -368,11 +354,9 @@ fn lists_at_most(rt: HostRuntime) -> std::result::Result<(), Fail> {
     let data = directory_of(alloc, &bytes)?;
     let imports = Import::parse_at_most(alloc, &image_by(&bytes, &index), &data, true, 1)?;
     check_imports(&rt, &imports, want.get(..1).ok_or("fewer")?);
-    assert!(rt;
-        matches!(
-            Import::parse_at_most(alloc, &image_by(&bytes, &index), &data, true, 2),
-            Err(Error::Malformed(Reason::ImportName(0x10D0)))
-        )
+    assert_eq!(rt;
+        reason_in(Import::parse_at_most(alloc, &image_by(&bytes, &index), &data, true, 2)),
+        Some(Reason::ImportName(0x10D0))
     );
     Ok(())
 }
@@ -391,10 +375,7 @@ fn refuses_records(rt: HostRuntime) -> std::result::Result<(), Fail> {
     let alloc = rt.alloc();
     let opts = ParseOptions::default();
     let sections = one_section();
-    let outside = DataDirectory {
-        virtual_address: 0x3000,
-        size: 0x28,
-    };
+    let outside = directory_at(0x3000, 0x28);
     let unmapped = ImportData::parse_with_opts(
         alloc,
         &[],
@@ -404,43 +385,21 @@ fn refuses_records(rt: HostRuntime) -> std::result::Result<(), Fail> {
         &opts,
         true,
     );
-    assert!(rt;
-        matches!(
-            unmapped.err().ok_or("given")?,
-            Error::Malformed(Reason::Unmapped(0x3000))
-        )
+    assert_eq!(rt;
+        reason_in(unmapped.err().ok_or("given")?),
+        Some(Reason::Unmapped(0x3000))
     );
-    assert!(rt;
-        matches!(
-            refusal(alloc, 0x270, &[])?,
-            Error::Short {
-                at: 0x260,
-                needed: 20
-            }
-        )
-    );
-    assert!(rt;
-        matches!(
-            refusal(alloc, 0x410, &[(0x26C, 0), (0x26D, 0x30)])?,
-            Error::Malformed(Reason::Unmapped(0x3000))
-        )
+    assert_eq!(rt; short_in(refusal(alloc, 0x270, &[])?), short(0x260, 20));
+    assert_eq!(rt;
+        reason_in(refusal(alloc, 0x410, &[(0x26C, 0), (0x26D, 0x30)])?),
+        Some(Reason::Unmapped(0x3000))
     );
     // shows: pe_core/src/import.rt import_record ImportName
-    assert!(rt;
-        matches!(
-            refusal(alloc, 0x410, &[(0x290, 0xFF)])?,
-            Error::Malformed(Reason::ImportName(0x1090))
-        )
+    assert_eq!(rt;
+        reason_in(refusal(alloc, 0x410, &[(0x290, 0xFF)])?),
+        Some(Reason::ImportName(0x1090))
     );
-    assert!(rt;
-        matches!(
-            refusal(alloc, 0x2B4, &[])?,
-            Error::Short {
-                at: 0x2B0,
-                needed: 8
-            }
-        )
-    );
+    assert_eq!(rt; short_in(refusal(alloc, 0x2B4, &[])?), short(0x2B0, 8));
     Ok(())
 }
 
@@ -452,15 +411,7 @@ fn refuses_in_order(rt: HostRuntime) -> std::result::Result<(), Fail> {
     assert!(rt; matches!(named, Error::Malformed(Reason::Unmapped(0x3000))));
     let list = refusal(rt.alloc(), 0x2B4, &second)?;
     let found = list;
-    assert!(rt;
-        matches!(
-            found,
-            Error::Short {
-                at: 0x2B0,
-                needed: 8
-            }
-        )
-    );
+    assert_eq!(rt; short_in(found), short(0x2B0, 8));
     Ok(())
 }
 
@@ -468,33 +419,19 @@ fn refuses_in_order(rt: HostRuntime) -> std::result::Result<(), Fail> {
 fn refuses_entries(rt: HostRuntime) -> std::result::Result<(), Fail> {
     let alloc = rt.alloc();
     // shows: pe_core/src/import_list.rt import_of Unmapped
-    assert!(rt;
-        matches!(
-            refusal(alloc, 0x410, &[(0x2A9, 0x30)])?,
-            Error::Malformed(Reason::Unmapped(0x30D0))
-        )
+    assert_eq!(rt;
+        reason_in(refusal(alloc, 0x410, &[(0x2A9, 0x30)])?),
+        Some(Reason::Unmapped(0x30D0))
     );
-    assert!(rt;
-        matches!(
-            refusal(alloc, 0x2D1, &[])?,
-            Error::Short {
-                at: 0x2D0,
-                needed: 2
-            }
-        )
-    );
+    assert_eq!(rt; short_in(refusal(alloc, 0x2D1, &[])?), short(0x2D0, 2));
     // shows: pe_core/src/import_list.rt import_of ImportName
-    assert!(rt;
-        matches!(
-            refusal(alloc, 0x2D3, &[])?,
-            Error::Malformed(Reason::ImportName(0x10D0))
-        )
+    assert_eq!(rt;
+        reason_in(refusal(alloc, 0x2D3, &[])?),
+        Some(Reason::ImportName(0x10D0))
     );
-    assert!(rt;
-        matches!(
-            refusal(alloc, 0x410, &[(0x2D2, 0xFF)])?,
-            Error::Malformed(Reason::ImportName(0x10D0))
-        )
+    assert_eq!(rt;
+        reason_in(refusal(alloc, 0x410, &[(0x2D2, 0xFF)])?),
+        Some(Reason::ImportName(0x10D0))
     );
     Ok(())
 }
@@ -517,10 +454,7 @@ fn refuses_a_directory_before_memory(rt: HostRuntime) -> std::result::Result<(),
     let heap = LocalHeap::new(rt.alloc(), 0)?;
     let bytes = importing(rt.alloc(), 0x410)?;
     let sections = [one_section()[0]; 9];
-    let outside = DataDirectory {
-        virtual_address: 0x3060,
-        size: 0x28,
-    };
+    let outside = directory_at(0x3060, 0x28);
     let refused = ImportData::parse(&heap, &bytes, outside, &sections, ALIGNMENT, true);
     assert!(rt; matches!(refused, Err(Error::Malformed(Reason::Unmapped(0x3060)))));
     let refused = ImportData::parse(&heap, &bytes, DIRECTORY, &sections, ALIGNMENT, true);
@@ -565,10 +499,7 @@ fn unmapped_before_memory(rt: HostRuntime) -> std::result::Result<(), Fail> {
     let sections = [section; 9];
     let opts = ParseOptions::default();
     for (virtual_address, asked) in [(0x3000, false), (0x1060, true)] {
-        let directory = DataDirectory {
-            virtual_address,
-            size: 0x28,
-        };
+        let directory = directory_at(virtual_address, 0x28);
         let refusing = Refusing::new(rt.alloc(), 0);
         let data = ImportData::parse_with_opts(
             &refusing, &bytes, directory, &sections, ALIGNMENT, &opts, true,
@@ -588,10 +519,7 @@ fn unmapped_before_memory(rt: HostRuntime) -> std::result::Result<(), Fail> {
 #[test]
 fn libraries_refused(rt: HostRuntime) -> std::result::Result<(), Fail> {
     let bytes = naming(rt.alloc(), &["a.dll"; 10])?;
-    let directory = DataDirectory {
-        virtual_address: 0,
-        size: 0,
-    };
+    let directory = directory_at(0, 0);
     for (size, given) in [(100, false), (1024, true)] {
         let heap = LocalHeap::new(rt.alloc(), 4096)?;
         let small = LocalHeap::new(rt.alloc(), size)?;

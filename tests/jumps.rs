@@ -2,10 +2,9 @@
 //! stack has the return address where the frame at the jump's target has it.
 
 use crate::frames::{bytes_of, shown};
-use pe_core::{DataDirectory, ParseOptions};
-use pe_frame::{
-    FrameError, FunctionPlan, ImageFunctions, Registers, Stack, Stopped, step_in_image,
-};
+use crate::images::{directory_at, stack_at};
+use pe_core::ParseOptions;
+use pe_frame::{FrameError, FunctionPlan, ImageFunctions, Registers, Stopped, step_in_image};
 use pe_images::image;
 use pe_unwind::{ExceptionData, UnwindInfo};
 use std::alloc::{AllocError, Global};
@@ -82,10 +81,7 @@ fn step_at(
     rsp: u64,
 ) -> Result<Result<(Registers, bool), FrameError>, Fail> {
     let bytes = functions(alloc)?;
-    let table = DataDirectory {
-        virtual_address: 0x100,
-        size: 84,
-    };
+    let table = directory_at(0x100, 84);
     let opts = flat();
     let exceptions = ExceptionData::parse_with_opts(&bytes, table, &[], 0x200, &opts)?;
     let map = exceptions.section_map(&[], &opts);
@@ -94,10 +90,7 @@ fn step_at(
         map: &map,
     };
     let words = bytes_of(alloc, &WORDS)?;
-    let stack = Stack {
-        start: INSIDE,
-        bytes: &words,
-    };
+    let stack = stack_at(INSIDE, &words);
     let mut registers = Registers {
         general: [0; 16],
         xmm: [0; 16],

@@ -2,10 +2,7 @@
 
 use crate::directories::{at, image_of};
 use pe_core::{Error, Reason};
-use pe_directories::{
-    DirectoryError, GuardTable, IMAGE_GUARD_FLAG_EXPORT_SUPPRESSED,
-    IMAGE_GUARD_FLAG_FID_SUPPRESSED, LoadConfig,
-};
+use pe_directories::{DirectoryError, GuardTable, LoadConfig};
 use std::test::Fail;
 
 /// The tables of an image of x86 that lld-link 14 linked with `/safeseh /guard:cf,longjmp,ehcont`: their RVAs, addresses and
@@ -45,59 +42,6 @@ fn are(entries: GuardTable, rvas: &[u32]) -> Result<bool, Fail> {
         left = &left[1..];
     }
     Ok(left.is_empty())
-}
-
-#[test]
-fn tables_have_their_entries(rt: HostRuntime) -> Result<(), Fail> {
-    let bytes = with_tables(0x41_0500);
-    let image = image_of(&bytes, false);
-    let config = LoadConfig::parse(&image, at(0x1000, 64))?;
-    assert!(rt; are(config.se_handlers(&image)?, &[0x1035])?);
-    assert!(rt;
-        are(
-            config.guard_cf_functions(&image)?,
-            &[0x1000, 0x1010, 0x1020]
-        )?
-    );
-    assert!(rt; are(config.address_taken_iat_entries(&image)?, &[])?);
-    assert!(rt; are(config.long_jump_targets(&image)?, &[0x102C])?);
-    assert!(rt; are(config.eh_continuations(&image)?, &[0x1034])?);
-    assert_eq!(rt;
-        (
-            config.flag_size(),
-            config.guard_cf_functions(&image)?.rest().len()
-        ),
-        (0, 0xFC)
-    );
-    Ok(())
-}
-
-#[test]
-fn entries_have_flags(rt: HostRuntime) -> Result<(), Fail> {
-    assert_eq!(rt;
-        (
-            IMAGE_GUARD_FLAG_FID_SUPPRESSED,
-            IMAGE_GUARD_FLAG_EXPORT_SUPPRESSED
-        ),
-        (1, 2)
-    );
-    let bytes = with_tables(0x1041_0500);
-    let image = image_of(&bytes, false);
-    let config = LoadConfig::parse(&image, at(0x1000, 64))?;
-    assert_eq!(rt; config.flag_size(), 1);
-    // Entries of 5 bytes: 00 10 00 00, 10; 10 00 00 20, 10; 00 00 2C 10, 00.
-    let mut entries = config.guard_cf_functions(&image)?;
-    for (rva, flag) in [(0x1000, 0x10), (0x2000_0010, 0x10), (0x102C_0000, 0)] {
-        let Some(Ok(entry)) = entries.next() else {
-            return Err(Fail::new("an entry is missing"));
-        };
-        assert_eq!(rt; (entry.rva, entry.flags), (rva, &[flag][..]));
-    }
-    assert!(rt; entries.next().is_none());
-    assert_eq!(rt; entries.rest().len(), 0);
-    // Exception handlers have no flags.
-    assert!(rt; are(config.se_handlers(&image)?, &[0x1035])?);
-    Ok(())
 }
 
 #[test]

@@ -3,8 +3,7 @@
 
 use crate::images::image;
 use pe_minidump::{
-    AddressIndex, AddressRange, ContextArm64, ContextX64, Dump, DumpError, EXCEPTION_STREAM,
-    FUNCTION_TABLE_STREAM, Location,
+    AddressIndex, AddressRange, ContextArm64, ContextX64, Dump, DumpError, Location,
 };
 use std::alloc::{AllocError, Global};
 use std::test::Fail;
@@ -126,27 +125,6 @@ fn damaged_headers_are_refused(rt: HostRuntime) -> Result<(), Fail> {
     Ok(())
 }
 
-/// Two streams of one kind: the first counts. An entry after the directory's last is none.
-#[test]
-fn first_stream_of_a_kind_counts(rt: HostRuntime) -> Result<(), Fail> {
-    let bytes = image(
-        rt.alloc(),
-        80,
-        &[
-            (0, b"MDMP\x93\xA7\0\0\x02\0\0\0\x20\0\0\0"),
-            (32, b"\x0D\0\0\0\x02\0\0\0\x4A\0\0\0"),
-            (44, b"\x0D\0\0\0\x03\0\0\0\x4B\0\0\0"),
-            (56, b"\x06\0\0\0\x03\0\0\0\x4B\0\0\0"),
-            (74, b"first"),
-        ],
-    )?;
-    let dump = Dump::parse(&bytes)?;
-    let want: &[u8] = b"fi";
-    assert_eq!(rt; dump.stream(FUNCTION_TABLE_STREAM)?, Some(want));
-    assert_eq!(rt; dump.stream(EXCEPTION_STREAM)?, None);
-    Ok(())
-}
-
 #[test]
 fn lists_have_the_size_of_their_entries(rt: HostRuntime) -> Result<(), Fail> {
     let stream = image(rt.alloc(), 56, &[(0, &[1])])?;
@@ -213,31 +191,6 @@ fn truncated_memory_is_kept(rt: HostRuntime) -> Result<(), Fail> {
     let ranges = dump.memory_ranges(rt.alloc(), &list)?;
     let want: &[AddressRange] = &[range(0x1_0000_1000, 3), range(0x2000, 0)];
     assert_eq!(rt; ranges.as_slice(), want);
-    Ok(())
-}
-
-/// Three pieces from offset 7601 on, the first two of Wine.
-#[test]
-fn pieces_of_full_dumps_follow_one_another(rt: HostRuntime) -> Result<(), Fail> {
-    let stream =
-        b"\x03\0\0\0\0\0\0\0\xB1\x1D\0\0\0\0\0\0\0\0\x01\0\0\0\0\0\0 \0\0\0\0\0\0\0\0\x02\0\0\0\0\0\0\x10\0\0\0\0\0\0\
-        \0\0\x03\0\0\0\0\0\x01\0\0\0\0\0\0\0";
-    let bytes = with_stream(rt.alloc(), 9, stream)?;
-    let Some(list) = Dump::parse(&bytes)?.memory64_list()? else {
-        return Err(Fail::new("no memory"));
-    };
-    assert_eq!(rt; list.len(), 3);
-    let mut count = 0;
-    for (piece, want) in list.iter().zip([
-        (0x1_0000, 7601, 0x2000),
-        (0x2_0000, 15793, 0x1000),
-        (0x3_0000, 19889, 1),
-    ]) {
-        assert_eq!(rt; (piece.start, piece.offset, piece.lost), want);
-        assert!(rt; piece.bytes.is_empty());
-        count += 1;
-    }
-    assert_eq!(rt; count, 3);
     Ok(())
 }
 
@@ -460,45 +413,6 @@ fn refuses_smaller_contexts(rt: HostRuntime) -> Result<(), Fail> {
 
 pub(crate) fn range(start: u64, size: u64) -> AddressRange {
     AddressRange { start, size }
-}
-
-/// Ranges in no order that overlap: the first that has an address counts. The third is hidden by the second, the fourth is
-/// empty, the last passes the last address.
-#[test]
-fn finds_the_first_range_with_an_address(rt: HostRuntime) -> Result<(), Fail> {
-    let ranges = [
-        range(0x500, 0x10),
-        range(0x100, 0x500),
-        range(0x300, 0x300),
-        range(0x50, 0),
-        range(0x5F8, 0x20),
-        range(u64::MAX - 1, 8),
-    ];
-    let index = AddressIndex::new(rt.alloc(), &ranges)?;
-    for (address, want) in [
-        (0, None),
-        (0x50, None),
-        (0xFF, None),
-        (0x100, Some(1)),
-        (0x4FF, Some(1)),
-        (0x500, Some(0)),
-        (0x50F, Some(0)),
-        (0x510, Some(1)),
-        (0x5FF, Some(1)),
-        (0x600, Some(4)),
-        (0x617, Some(4)),
-        (0x618, None),
-        (u64::MAX - 2, None),
-        (u64::MAX - 1, Some(5)),
-        (u64::MAX, Some(5)),
-    ] {
-        assert_eq!(rt; index.find(address), want);
-    }
-    assert_eq!(rt; AddressIndex::new(rt.alloc(), &[])?.find(0), None);
-    let one = AddressIndex::new(rt.alloc(), &ranges[1..2])?;
-    let found = [0xFF, 0x100, 0x5FF, 0x600].map(|address| one.find(address));
-    assert_eq!(rt; found, [None, Some(0), Some(0), None]);
-    Ok(())
 }
 
 /// 10,000 ranges, each of 64 addresses more than its distance from the next, from the highest down: the one with the lower index

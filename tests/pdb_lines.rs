@@ -5,7 +5,7 @@
 use crate::images::{image, put, with_byte};
 use crate::pdb_inlined_bytes;
 use crate::pdb_symbols::lines_of;
-use crate::pdbs::{all_of, pdb, refused};
+use crate::pdbs::{all_of, pdb, record_truncated, refused, short};
 use pe_core::RangeEntry;
 use pe_pdb::{
     CodeLine, Contribution, DBI_STREAM, DEBUG_S_FILECHKSMS, DEBUG_S_INLINEELINES, Dbi,
@@ -192,12 +192,12 @@ fn rows_by_hand_have_the_lines_of_the_format(rt: HostRuntime) -> Result<(), Fail
     put(&mut none, &[(3, b"\x80")]);
     assert_eq!(rt; LineIndex::count(&none, &sections)?, 0);
     let two = lines_of(rt.alloc(), &msf, 1)?;
-    let short = PdbError::RecordTruncated {
-        offset: 88,
-        needed: 48,
-        length: 135,
-    };
-    assert!(rt; refused(LineIndex::count(&two[..135], &sections), short));
+    assert!(rt;
+        refused(
+            LineIndex::count(&two[..135], &sections),
+            record_truncated(88, 48, 135)
+        )
+    );
     Ok(())
 }
 
@@ -277,11 +277,7 @@ fn contributions_are_those_that_pdbutil_lists(rt: HostRuntime) -> Result<(), Fai
     assert_eq!(rt; found, (Some(6), None));
     assert_eq!(rt; SectionContributions::parse(&[])?.len(), 0);
     // shows: pe_pdb/src/contribution.rt parse Short
-    let short = PdbError::Short {
-        needed: 4,
-        length: 3,
-    };
-    assert!(rt; refused(SectionContributions::parse(&part[..3]), short));
+    assert!(rt; refused(SectionContributions::parse(&part[..3]), short(4, 3)));
     // shows: pe_pdb/src/contribution.rt parse ContributionsVersion
     let other = with_byte(wide, 0, 0xE5);
     let wanted = PdbError::ContributionsVersion(0xF131_51E5);
@@ -366,26 +362,13 @@ fn inlined_functions_are_where_pdbutil_says(rt: HostRuntime) -> Result<(), Fail>
     };
     assert_eq!(rt; (line(5), line(6)), (Some(7), Some(9)));
     // shows: pe_pdb/src/inlinee.rt record_end RecordTruncated
-    let truncated = PdbError::RecordTruncated {
-        offset: 40,
-        needed: 20,
-        length: 56,
-    };
-    assert!(rt; refused(InlineeLine::find(&other, 8), truncated));
+    assert!(rt; refused(InlineeLine::find(&other, 8), record_truncated(40, 20, 56)));
     // shows: pe_pdb/src/inlinee.rt record_end Short
-    let short = PdbError::Short {
-        needed: 4,
-        length: 3,
-    };
-    assert!(rt; refused(InlineeLine::find(&other[..19], 8), short));
+    assert!(rt; refused(InlineeLine::find(&other[..19], 8), short(4, 3)));
     // shows: pe_pdb/src/inlinee.rt find Short
-    assert!(rt; refused(InlineeLine::find(&other[..3], 8), short));
+    assert!(rt; refused(InlineeLine::find(&other[..3], 8), short(4, 3)));
     // shows: pe_pdb/src/inlinee.rt record_end Short
-    let short = PdbError::Short {
-        needed: 12,
-        length: 11,
-    };
-    assert!(rt; refused(InlineeLine::find(&other[..15], 5), short));
+    assert!(rt; refused(InlineeLine::find(&other[..15], 5), short(12, 11)));
     Ok(())
 }
 
@@ -424,11 +407,12 @@ fn annotations_are_those_of_cvinfo(rt: HostRuntime) -> Result<(), Fail> {
         assert!(rt; refused(InlineRows::row_at(bytes, 0), PdbError::Annotation(offset)));
     }
     // shows: pe_pdb/src/inline_site.rt parse Short
-    let short = PdbError::Short {
-        needed: 16,
-        length: 15,
-    };
-    assert!(rt; refused(InlineSite::parse(S_INLINESITE2, &bytes[..15]), short));
+    assert!(rt;
+        refused(
+            InlineSite::parse(S_INLINESITE2, &bytes[..15]),
+            short(16, 15)
+        )
+    );
     assert_eq!(rt;
         InlineSite::parse(S_INLINESITE2, &bytes[..17])?
             .annotations
@@ -444,62 +428,41 @@ fn damaged_names_and_files_are_refused(rt: HostRuntime) -> Result<(), Fail> {
     let msf = Msf::parse(&bytes)?;
     let stream = all_of(rt.alloc(), &msf, 13)?;
     // shows: pe_pdb/src/names.rt parse Short
-    let short = PdbError::Short {
-        needed: 12,
-        length: 11,
-    };
-    assert!(rt; refused(Names::parse(&stream[..11]), short));
+    assert!(rt; refused(Names::parse(&stream[..11]), short(12, 11)));
     // shows: pe_pdb/src/names.rt parse NamesSignature
     let other = with_byte(stream.clone()?, 3, 0xEE);
     assert!(rt; refused(Names::parse(&other), PdbError::NamesSignature(0xEEFE_EFFE)));
     // shows: pe_pdb/src/names.rt parse RecordTruncated
-    let truncated = PdbError::RecordTruncated {
-        offset: 12,
-        needed: 10,
-        length: 21,
-    };
-    assert!(rt; refused(Names::parse(&stream[..21]), truncated));
+    assert!(rt; refused(Names::parse(&stream[..21]), record_truncated(12, 10, 21)));
     let info = all_of(rt.alloc(), &msf, INFO_STREAM)?;
     // shows: pe_pdb/src/names.rt stream_texts Short
-    let short = PdbError::Short {
-        needed: 32,
-        length: 31,
-    };
-    assert!(rt; refused(named_stream(&info[..31], NAMES_STREAM), short));
+    assert!(rt; refused(named_stream(&info[..31], NAMES_STREAM), short(32, 31)));
     // shows: pe_pdb/src/names.rt stream_texts RecordTruncated
-    let truncated = PdbError::RecordTruncated {
-        offset: 32,
-        needed: 17,
-        length: 48,
-    };
-    assert!(rt; refused(named_stream(&info[..48], NAMES_STREAM), truncated));
+    assert!(rt;
+        refused(
+            named_stream(&info[..48], NAMES_STREAM),
+            record_truncated(32, 17, 48)
+        )
+    );
     // shows: pe_pdb/src/names.rt pairs_start RecordTruncated
-    let truncated = PdbError::RecordTruncated {
-        offset: 69,
-        needed: 16,
-        length: 84,
-    };
-    assert!(rt; refused(named_stream(&info[..84], NAMES_STREAM), truncated));
+    assert!(rt;
+        refused(
+            named_stream(&info[..84], NAMES_STREAM),
+            record_truncated(69, 16, 84)
+        )
+    );
     // shows: pe_pdb/src/names.rt pairs_start Short
-    let short = PdbError::Short {
-        needed: 8,
-        length: 7,
-    };
-    assert!(rt; refused(named_stream(&info[..56], NAMES_STREAM), short));
+    assert!(rt; refused(named_stream(&info[..56], NAMES_STREAM), short(8, 7)));
     // shows: pe_pdb/src/names.rt words_end Short
-    let short = PdbError::Short {
-        needed: 4,
-        length: 3,
-    };
-    assert!(rt; refused(named_stream(&info[..60], NAMES_STREAM), short));
+    assert!(rt; refused(named_stream(&info[..60], NAMES_STREAM), short(4, 3)));
     // shows: pe_pdb/src/names.rt words_end RecordTruncated
     let many = with_byte(info, 59, 0xFF);
-    let truncated = PdbError::RecordTruncated {
-        offset: 61,
-        needed: 4 * 0x00FF_0001,
-        length: 93,
-    };
-    assert!(rt; refused(named_stream(&many, NAMES_STREAM), truncated));
+    assert!(rt;
+        refused(
+            named_stream(&many, NAMES_STREAM),
+            record_truncated(61, 4 * 0x00FF_0001, 93)
+        )
+    );
     let lines = lines_of(rt.alloc(), &msf, 0)?;
     for subsection in Subsections::new(&lines) {
         let subsection = subsection?;
@@ -511,18 +474,14 @@ fn damaged_names_and_files_are_refused(rt: HostRuntime) -> Result<(), Fail> {
         assert_eq!(rt; (file.name_offset, file.kind, file.hash.len()), (6, 1, 16));
         assert_eq!(rt; (file.hash[0], file.hash[15]), (0xB8, 0x26));
         // shows: pe_pdb/src/checksum.rt parse Short
-        let short = PdbError::Short {
-            needed: 6,
-            length: 5,
-        };
-        assert!(rt; refused(FileChecksum::parse(&content[..29], 24), short));
+        assert!(rt; refused(FileChecksum::parse(&content[..29], 24), short(6, 5)));
         // shows: pe_pdb/src/checksum.rt parse RecordTruncated
-        let truncated = PdbError::RecordTruncated {
-            offset: 24,
-            needed: 22,
-            length: 45,
-        };
-        assert!(rt; refused(FileChecksum::parse(&content[..45], 24), truncated));
+        assert!(rt;
+            refused(
+                FileChecksum::parse(&content[..45], 24),
+                record_truncated(24, 22, 45)
+            )
+        );
     }
     Ok(())
 }
@@ -575,38 +534,27 @@ fn ids_are_those_that_pdbutil_lists(rt: HostRuntime) -> Result<(), Fail> {
     assert!(rt; refused(ids.put_starts(&mut room[..9]), small));
     let mut more = stream.clone()?;
     put(&mut more, &[(12, b"\x0B")]);
-    let end = PdbError::Short {
-        needed: 4,
-        length: 0,
-    };
-    assert!(rt; refused(TypeRecords::parse(&more)?.put_starts(&mut room), end));
-    assert!(rt; refused(TypeRecords::parse(&more)?.count(), end));
+    assert!(rt;
+        refused(
+            TypeRecords::parse(&more)?.put_starts(&mut room),
+            short(4, 0)
+        )
+    );
+    assert!(rt; refused(TypeRecords::parse(&more)?.count(), short(4, 0)));
     // shows: pe_pdb/src/ids.rt parse Short
-    let short = PdbError::Short {
-        needed: 56,
-        length: 55,
-    };
-    assert!(rt; refused(TypeRecords::parse(&stream[..55]), short));
+    assert!(rt; refused(TypeRecords::parse(&stream[..55]), short(56, 55)));
     // shows: pe_pdb/src/ids.rt parse RecordTruncated
-    let truncated = PdbError::RecordTruncated {
-        offset: 56,
-        needed: stream.len() - 56,
-        length: stream.len() - 1,
-    };
-    assert!(rt; refused(TypeRecords::parse(&stream[..stream.len() - 1]), truncated));
-    let short = PdbError::Short {
-        needed: 8,
-        length: 7,
-    };
-    assert!(rt; refused(FunctionId::parse(&twice[..7]), short));
+    assert!(rt;
+        refused(
+            TypeRecords::parse(&stream[..stream.len() - 1]),
+            record_truncated(56, stream.len() - 56, stream.len() - 1)
+        )
+    );
+    assert!(rt; refused(FunctionId::parse(&twice[..7]), short(8, 7)));
     // shows: pe_pdb/src/ids.rt parse Name
     assert!(rt; refused(FunctionId::parse(&twice[..13]), PdbError::Name(8)));
     // shows: pe_pdb/src/ids.rt string_id Short
-    let short = PdbError::Short {
-        needed: 4,
-        length: 3,
-    };
-    assert!(rt; refused(string_id(&twice[..3]), short));
+    assert!(rt; refused(string_id(&twice[..3]), short(4, 3)));
     // shows: pe_pdb/src/ids.rt string_id Name
     assert!(rt; refused(string_id(&twice[8..13]), PdbError::Name(4)));
     Ok(())

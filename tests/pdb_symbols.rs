@@ -3,7 +3,7 @@
 //! scattered streams. Records that are damaged are made by hand from LLVM's pages.
 
 use crate::images::{put, with_byte};
-use crate::pdbs::{all_of, pdb, refused};
+use crate::pdbs::{all_of, pdb, record_truncated, refused, short};
 use pe_pdb::{
     CountedEntries, DBI_STREAM, Dbi, FIRST_SYMBOL, INFO_STREAM, LineBlock, LineHeader, Module,
     Modules, Msf, PdbError, PdbInfo, ProcedureSymbol, PublicSymbol, SectionHeaders, Subsection,
@@ -95,21 +95,13 @@ fn damaged_heads_are_refused(rt: HostRuntime) -> Result<(), Fail> {
     let msf = Msf::parse(&bytes)?;
     let info = all_of(rt.alloc(), &msf, INFO_STREAM)?;
     // shows: pe_pdb/src/info.rt parse Short
-    let short = PdbError::Short {
-        needed: 28,
-        length: 27,
-    };
-    assert!(rt; refused(PdbInfo::parse(&info[..27]), short));
+    assert!(rt; refused(PdbInfo::parse(&info[..27]), short(28, 27)));
     // shows: pe_pdb/src/info.rt parse InfoVersion
     let older = with_byte(info.clone()?, 0, 0x95);
     assert!(rt; refused(PdbInfo::parse(&older), PdbError::InfoVersion(20000405)));
     let stream = all_of(rt.alloc(), &msf, DBI_STREAM)?;
     // shows: pe_pdb/src/dbi.rt parse Short
-    let short = PdbError::Short {
-        needed: 64,
-        length: 63,
-    };
-    assert!(rt; refused(Dbi::parse(&stream[..63]), short));
+    assert!(rt; refused(Dbi::parse(&stream[..63]), short(64, 63)));
     // shows: pe_pdb/src/dbi.rt parse DbiSignature
     let other = with_byte(stream.clone()?, 0, 0xFE);
     assert!(rt; refused(Dbi::parse(&other), PdbError::DbiSignature(0xFFFF_FFFE)));
@@ -139,16 +131,8 @@ fn damaged_records_are_refused(rt: HostRuntime) -> Result<(), Fail> {
     let msf = Msf::parse(&bytes)?;
     let symbols = all_of(rt.alloc(), &msf, 8)?;
     // shows: pe_pdb/src/symbol.rt parse Short
-    let short = PdbError::Short {
-        needed: 4,
-        length: 3,
-    };
-    assert!(rt; refused(SymbolRecord::parse(&symbols, 105), short));
-    let short = PdbError::Short {
-        needed: 4,
-        length: 0,
-    };
-    assert!(rt; refused(SymbolRecord::parse(&symbols, 109), short));
+    assert!(rt; refused(SymbolRecord::parse(&symbols, 105), short(4, 3)));
+    assert!(rt; refused(SymbolRecord::parse(&symbols, 109), short(4, 0)));
     // shows: pe_pdb/src/symbol.rt parse RecordSize
     let mut small = symbols.clone()?;
     put(&mut small, &[(20, b"\x01\0")]);
@@ -158,33 +142,25 @@ fn damaged_records_are_refused(rt: HostRuntime) -> Result<(), Fail> {
     };
     assert!(rt; refused(SymbolRecord::parse(&small, 20), size));
     // shows: pe_pdb/src/symbol.rt parse RecordTruncated
-    let truncated = PdbError::RecordTruncated {
-        offset: 20,
-        needed: 24,
-        length: 43,
-    };
-    assert!(rt; refused(SymbolRecord::parse(&symbols[..43], 20), truncated));
+    assert!(rt;
+        refused(
+            SymbolRecord::parse(&symbols[..43], 20),
+            record_truncated(20, 24, 43)
+        )
+    );
     let mut walk = SymbolRecords::new(&symbols[..43], 0);
     assert!(rt; matches!(walk.next(), Some(Ok(_))));
     assert!(rt; matches!(walk.next(), Some(Err(_))));
     assert!(rt; walk.next().is_none());
     let content = &symbols[4..20];
     // shows: pe_pdb/src/public.rt parse Short
-    let short = PdbError::Short {
-        needed: 10,
-        length: 9,
-    };
-    assert!(rt; refused(PublicSymbol::parse(&content[..9]), short));
+    assert!(rt; refused(PublicSymbol::parse(&content[..9]), short(10, 9)));
     // shows: pe_pdb/src/public.rt parse Name
     assert!(rt; refused(PublicSymbol::parse(&content[..15]), PdbError::Name(10)));
     let module = all_of(rt.alloc(), &msf, 12)?;
     let content = SymbolRecord::parse(&module, 212)?.content;
     // shows: pe_pdb/src/procedure.rt parse Short
-    let short = PdbError::Short {
-        needed: 35,
-        length: 34,
-    };
-    assert!(rt; refused(ProcedureSymbol::parse(&content[..34]), short));
+    assert!(rt; refused(ProcedureSymbol::parse(&content[..34]), short(35, 34)));
     // shows: pe_pdb/src/procedure.rt parse Name
     assert!(rt; refused(ProcedureSymbol::parse(&content[..40]), PdbError::Name(35)));
     Ok(())
@@ -197,11 +173,7 @@ fn damaged_modules_are_refused(rt: HostRuntime) -> Result<(), Fail> {
     let stream = all_of(rt.alloc(), &msf, DBI_STREAM)?;
     let modules = Dbi::parse(&stream)?.modules;
     // shows: pe_pdb/src/module.rt parse Short
-    let short = PdbError::Short {
-        needed: 64,
-        length: 63,
-    };
-    assert!(rt; refused(Module::parse(&modules[..63], 0), short));
+    assert!(rt; refused(Module::parse(&modules[..63], 0), short(64, 63)));
     // shows: pe_pdb/src/module.rt name_at Name
     assert!(rt; refused(Module::parse(&modules[..69], 0), PdbError::Name(64)));
     assert!(rt; refused(Module::parse(&modules[..75], 0), PdbError::Name(70)));
@@ -218,11 +190,7 @@ fn damaged_modules_are_refused(rt: HostRuntime) -> Result<(), Fail> {
     // shows: pe_pdb/src/module.rt symbol_bytes Short
     let mut few = header;
     few.symbols_size = 3;
-    let short = PdbError::Short {
-        needed: 4,
-        length: 3,
-    };
-    assert!(rt; refused(few.symbol_bytes(&own), short));
+    assert!(rt; refused(few.symbol_bytes(&own), short(4, 3)));
     few.symbols_size = 0;
     assert_eq!(rt; few.symbol_bytes(&[])?.len(), 0);
     // shows: pe_pdb/src/module.rt symbol_bytes ModuleSignature
@@ -256,47 +224,34 @@ fn damaged_lines_are_refused(rt: HostRuntime) -> Result<(), Fail> {
     let header = Module::parse(Dbi::parse(&dbi)?.modules, 0)?.header;
     let stream = all_of(rt.alloc(), &msf, 11)?;
     // shows: pe_pdb/src/line.rt line_bytes RecordTruncated
-    let truncated = PdbError::RecordTruncated {
-        offset: 248,
-        needed: 112,
-        length: 300,
-    };
-    assert!(rt; refused(header.line_bytes(&stream[..300]), truncated));
+    assert!(rt;
+        refused(
+            header.line_bytes(&stream[..300]),
+            record_truncated(248, 112, 300)
+        )
+    );
     // shows: pe_pdb/src/line.rt parse Short
-    let short = PdbError::Short {
-        needed: 8,
-        length: 7,
-    };
-    assert!(rt; refused(Subsection::parse(&lines[..95], 88), short));
+    assert!(rt; refused(Subsection::parse(&lines[..95], 88), short(8, 7)));
     // shows: pe_pdb/src/line.rt parse RecordTruncated
-    let truncated = PdbError::RecordTruncated {
-        offset: 88,
-        needed: 48,
-        length: 135,
-    };
-    assert!(rt; refused(Subsection::parse(&lines[..135], 88), truncated));
+    assert!(rt;
+        refused(
+            Subsection::parse(&lines[..135], 88),
+            record_truncated(88, 48, 135)
+        )
+    );
     let content = Subsection::parse(&lines, 88)?.content;
-    let short = PdbError::Short {
-        needed: 12,
-        length: 11,
-    };
-    assert!(rt; refused(LineHeader::parse(&content[..11]), short));
-    assert!(rt; refused(LineBlock::parse(&content[..23], 12), short));
-    let truncated = PdbError::RecordTruncated {
-        offset: 12,
-        needed: 28,
-        length: 39,
-    };
-    assert!(rt; refused(LineBlock::parse(&content[..39], 12), truncated));
+    assert!(rt; refused(LineHeader::parse(&content[..11]), short(12, 11)));
+    assert!(rt; refused(LineBlock::parse(&content[..23], 12), short(12, 11)));
+    assert!(rt;
+        refused(
+            LineBlock::parse(&content[..39], 12),
+            record_truncated(12, 28, 39)
+        )
+    );
     let mut many = lines.clone()?;
     put(&mut many, &[(88 + 8 + 16, &u32::to_le_bytes(3))]);
     let content = Subsection::parse(&many, 88)?.content;
-    let truncated = PdbError::RecordTruncated {
-        offset: 12,
-        needed: 36,
-        length: 28,
-    };
-    assert!(rt; refused(LineBlock::parse(content, 12), truncated));
+    assert!(rt; refused(LineBlock::parse(content, 12), record_truncated(12, 36, 28)));
     Ok(())
 }
 

@@ -1,9 +1,8 @@
 //! Program databases: one that lld-link wrote (`pdb_bytes`), by what llvm-pdbutil 14.0.6 prints of it; its streams again in smaller
 //! blocks, from the last block to the first; and files made by hand from LLVM's page on MSF files.
 
-use crate::images::{image, put};
+use crate::images::{image, piece_at, put, range_at};
 use crate::pdb_bytes::{LENGTH, PIECES};
-use pe_core::ByteRange;
 use pe_pdb::{Msf, PdbError};
 use std::alloc::{AllocError, Global};
 use std::test::Fail;
@@ -71,6 +70,18 @@ pub(crate) fn scattered(alloc: Global, msf: &Msf<'_>) -> Result<Vec<u8>, Fail> {
 }
 
 /// Whether a call was refused for this.
+pub(crate) fn short(needed: usize, length: usize) -> PdbError {
+    PdbError::Short { needed, length }
+}
+
+pub(crate) fn record_truncated(offset: usize, needed: usize, length: usize) -> PdbError {
+    PdbError::RecordTruncated {
+        offset,
+        needed,
+        length,
+    }
+}
+
 pub(crate) fn refused<T: Drop>(returned: pe_pdb::Result<T>, error: PdbError) -> bool {
     match returned {
         Ok(_) => false,
@@ -136,11 +147,7 @@ fn a_directory_may_take_several_blocks_of_its_list(rt: HostRuntime) -> Result<()
 fn damaged_files_are_refused(rt: HostRuntime) -> Result<(), Fail> {
     let good = of_blocks(rt.alloc(), 6, 12)?;
     // shows: pe_pdb/src/msf.rt parse Short
-    let short = PdbError::Short {
-        needed: 56,
-        length: 55,
-    };
-    assert!(rt; refused(Msf::parse(&good[..55]), short));
+    assert!(rt; refused(Msf::parse(&good[..55]), short(56, 55)));
     let older = image(
         rt.alloc(),
         60,
@@ -219,13 +226,7 @@ fn damaged_streams_are_refused_alone(rt: HostRuntime) -> Result<(), Fail> {
     let msf = Msf::parse(&bytes)?;
     let first = msf.stream(0)?;
     let found = first.contiguous();
-    assert_eq!(rt;
-        found,
-        Some(ByteRange {
-            offset: 2560,
-            length: 512
-        })
-    );
+    assert_eq!(rt; found, Some(range_at(2560, 512)));
     // shows: pe_pdb/src/streams.rt stream_from StreamSize
     let size = PdbError::StreamSize {
         stream: 1,

@@ -1,8 +1,9 @@
 //! The numbers in refusals.
 
+use crate::images::{directory_at, reason_in, short, short_in};
 use pe_core::{
-    DataDirectory, Error, ParseMode, ParseOptions, Reason, put_slice, put_u8, put_u16, put_u32,
-    put_u64, slice_at, u8_at, u16_at, u32_at, u64_at,
+    Error, ParseMode, ParseOptions, Reason, put_slice, put_u8, put_u16, put_u32, put_u64, slice_at,
+    u8_at, u16_at, u32_at, u64_at,
 };
 use pe_records::{
     CodeviewPDB20DebugInfo, DebugData, ImageDebugDirectory, ImageDebugDirectoryIterator,
@@ -59,10 +60,7 @@ fn of_writes(rt: HostRuntime) {
 fn of_debug_directories(rt: HostRuntime) {
     for mode in MODES {
         let opts = ParseOptions::default().with_parse_mode(mode);
-        let directory = DataDirectory {
-            virtual_address: 0x3000,
-            size: 28,
-        };
+        let directory = directory_at(0x3000, 28);
         let refusal = DebugData::parse_with_opts(&[0; 64], directory, &[], 512, &opts).err();
         assert!(rt; matches!(refusal, Some(Error::Malformed(Reason::Unmapped(0x3000)))));
     }
@@ -74,12 +72,7 @@ fn of_cut_debug_entries(rt: HostRuntime) {
     let bytes = [0u8; 29];
     let mut entries = ImageDebugDirectoryIterator::new(&bytes, 0);
     assert!(rt; matches!(entries.next(), Some(Ok(_))));
-    assert!(rt;
-        matches!(
-            entries.next(),
-            Some(Err(Error::Short { at: 0, needed: 28 }))
-        )
-    );
+    assert_eq!(rt; short_in(entries.next()), short(0, 28));
     assert!(rt; entries.next().is_none());
 }
 
@@ -124,14 +117,12 @@ fn of_other_records(rt: HostRuntime) {
 #[test]
 fn of_parts(rt: HostRuntime) {
     let mut parts = POGOEntryIterator::new(b"\0\x10\0\0\x03\0\0\0ab");
-    assert!(rt;
-        matches!(
-            parts.next(),
-            Some(Err(Error::Malformed(Reason::PogoName {
-                needed: 12,
-                length: 10
-            })))
-        )
+    assert_eq!(rt;
+        reason_in(parts.next()),
+        Some(Reason::PogoName {
+            needed: 12,
+            length: 10
+        })
     );
     assert!(rt; parts.next().is_none());
     let mut parts = POGOEntryIterator::new(b"\0\x10\0\0\x03\0\0");

@@ -1,18 +1,15 @@
 //! The leaves of a resource tree: their order, trees of other shapes, and what a walk costs.
 
-use crate::images::image;
+use crate::images::{directory_at, image, range_at, short, short_in};
 use crate::resources::flat;
-use pe_core::{ByteRange, DataDirectory, Error, MappedBytes, ParseMode};
+use pe_core::{ByteRange, Error, MappedBytes, ParseMode};
 use pe_resource::{LeafPosition, ResourceData, ResourceEntry, ResourceLeaves, ResourceTreeError};
 use std::alloc::{AllocError, Global};
 use std::test::Fail;
 
 /// The walk over the tree at the start of the bytes.
 fn leaves(bytes: &[u8]) -> pe_core::Result<ResourceLeaves<'_>> {
-    let directory = DataDirectory {
-        virtual_address: 0,
-        size: bytes.len() as u32,
-    };
+    let directory = directory_at(0, bytes.len() as u32);
     let image = MappedBytes::new(bytes, &[], 0, &flat(ParseMode::Strict));
     ResourceData::leaves(&image, directory)
 }
@@ -79,25 +76,9 @@ fn truncated_names(rt: HostRuntime) -> std::result::Result<(), Fail> {
     let bytes = small_tree(rt.alloc())?;
     let named = ResourceEntry::from(0x8000_0088_0000_0000);
     let text = bytes.get(..0x8D).ok_or("fewer bytes")?;
-    assert!(rt;
-        matches!(
-            named.name_units(text),
-            Err(Error::Short {
-                at: 0x8A,
-                needed: 4
-            })
-        )
-    );
+    assert_eq!(rt; short_in(named.name_units(text)), short(0x8A, 4));
     let count = bytes.get(..0x89).ok_or("fewer bytes")?;
-    assert!(rt;
-        matches!(
-            named.name_units(count),
-            Err(Error::Short {
-                at: 0x88,
-                needed: 2
-            })
-        )
-    );
+    assert_eq!(rt; short_in(named.name_units(count)), short(0x88, 2));
     Ok(())
 }
 
@@ -164,77 +145,16 @@ fn truncated_data_entries(rt: HostRuntime) -> std::result::Result<(), Fail> {
 
 /// The position before the first leaf of the tree at the start of the bytes.
 fn position(bytes: &[u8], mode: ParseMode) -> pe_core::Result<Option<(ByteRange, LeafPosition)>> {
-    let directory = DataDirectory {
-        virtual_address: 0,
-        size: bytes.len() as u32,
-    };
+    let directory = directory_at(0, bytes.len() as u32);
     let image = MappedBytes::new(bytes, &[], 0, &flat(mode));
     ResourceData::leaf_position(&image, directory)
-}
-
-/// A walk in numbers, which is kept between two leaves, and goes on from there.
-#[test]
-fn positions_in_turn(rt: HostRuntime) -> std::result::Result<(), Fail> {
-    let bytes = small_tree(rt.alloc())?;
-    let (data, mut position) = position(&bytes, ParseMode::Strict)?.ok_or("no tree")?;
-    let (none, whole) = (
-        ByteRange::default(),
-        ByteRange {
-            offset: 0,
-            length: 0x8E,
-        },
-    );
-    assert_eq!(rt; data, whole);
-    let first = LeafPosition {
-        types: ByteRange {
-            offset: 16,
-            length: 16,
-        },
-        ..LeafPosition::default()
-    };
-    assert_eq!(rt; position, first);
-    let Some(Ok(leaf)) = position.next(&bytes) else {
-        return Err("no leaf".into());
-    };
-    assert_eq!(rt; leaf.language.id(), Some(0x409));
-    let second = LeafPosition {
-        types: ByteRange {
-            offset: 24,
-            length: 8,
-        },
-        resource_type: ResourceEntry::from(0x8000_0088_8000_0020),
-        names: ByteRange {
-            offset: 0x38,
-            length: 0,
-        },
-        name: ResourceEntry::from(0x0000_0001_8000_0038),
-        languages: ByteRange {
-            offset: 0x50,
-            length: 8,
-        },
-    };
-    assert_eq!(rt; position, second);
-    let Some(Ok(leaf)) = position.next(&bytes) else {
-        return Err("no second leaf".into());
-    };
-    let found = (leaf.language.id(), leaf.data_entry.offset_to_data);
-    assert_eq!(rt; found, (Some(0x407), 0x2020));
-    let refused = position.next(&bytes);
-    assert!(rt; matches!(refused, Some(Err(ResourceTreeError::NotDirectory(0x68)))));
-    assert_eq!(rt; position.names, none);
-    assert!(rt; position.next(&bytes).is_none());
-    assert!(rt; position.next(&bytes).is_none());
-    Ok(())
 }
 
 /// A position outside the data is one error; in permissive mode data without a directory have no position.
 #[test]
 fn positions_outside(rt: HostRuntime) -> std::result::Result<(), Fail> {
     let bytes = small_tree(rt.alloc())?;
-    let outside = ByteRange {
-        offset: 0x8E,
-        length: 1,
-    };
+    let outside = range_at(0x8E, 1);
     let end = LeafPosition::default();
     for mut position in [
         LeafPosition {
@@ -333,13 +253,7 @@ fn contents_and_version_information(rt: HostRuntime) -> std::result::Result<(), 
     };
     let range = version.content_range(&image)?;
     let found = range;
-    assert_eq!(rt;
-        found,
-        ByteRange {
-            offset: 0xA0,
-            length: 0x78
-        }
-    );
+    assert_eq!(rt; found, range_at(0xA0, 0x78));
     let info = version
         .version_info(&image)?
         .ok_or("no version information")?;
@@ -350,13 +264,7 @@ fn contents_and_version_information(rt: HostRuntime) -> std::result::Result<(), 
     };
     let range = manifest.content_range(&image)?;
     let found = range;
-    assert_eq!(rt;
-        found,
-        ByteRange {
-            offset: 0x118,
-            length: 3
-        }
-    );
+    assert_eq!(rt; found, range_at(0x118, 3));
     assert!(rt; manifest.version_info(&image)?.is_none());
     assert!(rt; walk.next().is_none());
     Ok(())

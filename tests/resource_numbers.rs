@@ -1,11 +1,10 @@
 //! The numbers in refusals of resources.
 
 use crate::exports::one_section;
-use crate::images::{image, with_part};
+use crate::images::{directory_at, image, range_at, reason_in, with_part};
 use crate::resources::{flat, push_string, version_alone};
 use pe_core::{
-    ByteRange, DataDirectory, Error, MappedBytes, ParseMode, ParseOptions, Reason, Result,
-    SectionTable,
+    ByteRange, Error, MappedBytes, ParseMode, ParseOptions, Reason, Result, SectionTable,
 };
 use pe_resource::{
     ImageResourceDirectory, ResourceData, ResourceString, ResourceStringIterator, VersionName,
@@ -37,10 +36,7 @@ fn range_of(
     size: u32,
     mode: ParseMode,
 ) -> Result<Option<ByteRange>> {
-    let directory = DataDirectory {
-        virtual_address,
-        size,
-    };
+    let directory = directory_at(virtual_address, size);
     let opts = ParseOptions::default().with_parse_mode(mode);
     let sections = one_section();
     let image = MappedBytes::new(bytes, &sections, 0x200, &opts);
@@ -53,10 +49,7 @@ fn rvas_that_are_unmapped(rt: HostRuntime) -> std::result::Result<(), Fail> {
     let bytes = one_resource(rt.alloc())?;
     let elsewhere = with_part(one_resource(rt.alloc())?, 0x280, &[0x56, 0x34, 0x12]);
     for mode in MODES {
-        let content = ByteRange {
-            offset: 0x348,
-            length: 3,
-        };
+        let content = range_at(0x348, 3);
         assert_eq!(rt; range_of(&bytes, 0x1060, 0x100, mode)?, Some(content));
         let refused = range_of(&bytes, 0x3B60, 0x100, mode);
         assert!(rt; matches!(refused, Err(Error::Malformed(Reason::Unmapped(0x3B60)))));
@@ -68,10 +61,7 @@ fn rvas_that_are_unmapped(rt: HostRuntime) -> std::result::Result<(), Fail> {
 
 #[test]
 fn address_of_a_directory_alone(rt: HostRuntime) {
-    let directory = DataDirectory {
-        virtual_address: 0x3B60,
-        size: 0x100,
-    };
+    let directory = directory_at(0x3B60, 0x100);
     let sections: [SectionTable; 1] = one_section();
     let refused = ImageResourceDirectory::parse(&[0; 0x400], directory, &sections, 0x200);
     assert!(rt; matches!(refused, Err(Error::Malformed(Reason::Unmapped(0x3B60)))));
@@ -85,19 +75,9 @@ fn ends_of_bytes(rt: HostRuntime) -> std::result::Result<(), Fail> {
     for mode in MODES {
         // shows: pe_resource/src/content.rt file_range ResourceBounds
         let refused = range_of(&bytes, 0x1060, 0x1A1, mode);
-        assert!(rt;
-            matches!(
-                refused,
-                Err(Error::Malformed(Reason::ResourceBounds(0x401)))
-            )
-        );
+        assert_eq!(rt; reason_in(refused), Some(Reason::ResourceBounds(0x401)));
         let refused = range_of(&longer, 0x1060, 0x100, mode);
-        assert!(rt;
-            matches!(
-                refused,
-                Err(Error::Malformed(Reason::ResourceBounds(0x401)))
-            )
-        );
+        assert_eq!(rt; reason_in(refused), Some(Reason::ResourceBounds(0x401)));
     }
     Ok(())
 }
@@ -114,10 +94,7 @@ fn ends_of_entries(rt: HostRuntime) -> std::result::Result<(), Fail> {
     ] {
         let bytes = image(rt.alloc(), 64, &[(0x0C, &counts)])?;
         for size in [0, 15, 16, 39] {
-            let directory = DataDirectory {
-                virtual_address: 0,
-                size,
-            };
+            let directory = directory_at(0, size);
             let image = MappedBytes::new(&bytes, &[], 0, &opts);
             let refused = ResourceData::content_range(&image, directory, 24);
             // shows: pe_resource/src/resource.rt first_entries ResourceBounds
@@ -183,10 +160,7 @@ fn strings_of_version_information(rt: HostRuntime) -> std::result::Result<(), Fa
     let refused = VersionName::Comments.value_range(&strings).err();
     assert!(rt; is_reported(&refused.ok_or("read")?));
     let bytes = version_alone(alloc, strings.as_slice())?;
-    let directory = DataDirectory {
-        virtual_address: 0,
-        size: u32::try_from(bytes.len())?,
-    };
+    let directory = directory_at(0, u32::try_from(bytes.len())?);
     let opts = flat(ParseMode::Strict);
     let data = ResourceData::parse_with_opts(alloc, &bytes, directory, &[], 0, &opts);
     assert!(rt; is_reported(&data.err().ok_or("read")?));
@@ -201,12 +175,7 @@ fn strings_of_version_information(rt: HostRuntime) -> std::result::Result<(), Fa
     }
     let mut items = ResourceStringIterator::new(&strings);
     assert!(rt; matches!(items.next(), Some(Ok(_))));
-    assert!(rt;
-        matches!(
-            items.next(),
-            Some(Err(Error::Malformed(Reason::ResourceString(0))))
-        )
-    );
+    assert_eq!(rt; reason_in(items.next()), Some(Reason::ResourceString(0)));
     Ok(())
 }
 
@@ -231,10 +200,7 @@ fn fixed_information_in_version_information(rt: HostRuntime) -> std::result::Res
     let refused = VersionName::Comments.value_range(&strings).err();
     assert!(rt; is_reported(&refused.ok_or("read")?));
     let bytes = version_alone(alloc, strings.as_slice())?;
-    let directory = DataDirectory {
-        virtual_address: 0,
-        size: u32::try_from(bytes.len())?,
-    };
+    let directory = directory_at(0, u32::try_from(bytes.len())?);
     let opts = flat(ParseMode::Strict);
     let data = ResourceData::parse_with_opts(alloc, &bytes, directory, &[], 0, &opts);
     assert!(rt; is_reported(&data.err().ok_or("read")?));

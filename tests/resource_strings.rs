@@ -1,10 +1,10 @@
 //! Version strings: one alone, their texts, and the strings of a table against a plain program that collects them.
 
 use crate::refusing::Refusing;
-use crate::resources::{NAMES, flat, push_string, texts_of, version_alone};
+use crate::resources::push_string;
 use linked_list_allocator::LocalHeap;
-use pe_core::{DataDirectory, Error, ParseMode, Reason, Result};
-use pe_resource::{ResourceData, ResourceString, ResourceStringIterator};
+use pe_core::{Error, Reason, Result};
+use pe_resource::{ResourceString, ResourceStringIterator};
 use std::alloc::Global;
 use std::test::Fail;
 
@@ -166,119 +166,5 @@ fn each_request_refused(rt: HostRuntime) -> std::result::Result<(), Fail> {
         }
     }
     assert!(rt; keys > 0 && values > 0 && refused >= 6);
-    Ok(())
-}
-
-/// The plain program: the strings collected into a vector, and the first whose key's text is the name.
-fn collected_text(
-    alloc: Global,
-    data: &[u8],
-    name: &str,
-) -> std::result::Result<Option<String>, Fail> {
-    let mut strings = Vec::new(alloc);
-    for string in ResourceStringIterator::new(data) {
-        strings.push(string?)?;
-    }
-    for string in strings.iter() {
-        if let Some(key) = string.key_string(alloc)? {
-            if key.as_str() == name {
-                return Ok(string.value_string(alloc)?);
-            }
-        }
-    }
-    Ok(None)
-}
-
-/// The next number of a fixed sequence, and its high bits.
-fn next(seed: &mut u64) -> u64 {
-    *seed = seed
-        .wrapping_mul(6_364_136_223_846_793_005)
-        .wrapping_add(1_442_695_040_888_963_407);
-    *seed >> 33
-}
-
-/// Keys that are not among the names, though some look like one.
-const OTHER_KEYS: [&str; 4] = ["", "Comment", "CommentsX", "comments"];
-
-/// One of the names or of the other keys.
-fn any_key(seed: &mut u64) -> &'static str {
-    let index = (next(seed) % 16) as usize;
-    let key = match NAMES.get(index) {
-        Some(name) => Some(name),
-        None => OTHER_KEYS.get(index.saturating_sub(NAMES.len())),
-    };
-    key.copied().unwrap_or("")
-}
-
-/// Tables of generated strings, some with a value that is not there: every name has the same text by both programs.
-#[test]
-fn collected_strings(rt: HostRuntime) -> std::result::Result<(), Fail> {
-    let mut seed = 11;
-    let mut given = 0u32;
-    let mut refused = 0u32;
-    for _ in 0..300u32 {
-        let mut strings = Vec::new(rt.alloc());
-        let mut too_long = usize::MAX;
-        for _ in 0..next(&mut seed) % 24 {
-            if next(&mut seed) % 64 == 0 {
-                too_long = strings.len().saturating_add(3);
-            }
-            let key = any_key(&mut seed);
-            let value = any_key(&mut seed);
-            push_string(&mut strings, key, value)?;
-        }
-        if let Some(slot) = strings.get_mut(too_long) {
-            *slot = 255;
-        }
-        let bytes = version_alone(rt.alloc(), strings.as_slice())?;
-        let directory = DataDirectory {
-            virtual_address: 0,
-            size: u32::try_from(bytes.len())?,
-        };
-        let parsed: Result<ResourceData> = ResourceData::parse_with_opts(
-            rt.alloc(),
-            &bytes,
-            directory,
-            &[],
-            0,
-            &flat(ParseMode::Strict),
-        );
-        match parsed {
-            Ok(data) => {
-                given = given.wrapping_add(1);
-                let version = data.version_info.ok_or("no version information")?;
-                let texts = texts_of(rt.alloc(), &version.string_info)?;
-                for (text, name) in texts.iter().zip(NAMES) {
-                    let plain = collected_text(rt.alloc(), &strings, name)?;
-                    let same = match (text, &plain) {
-                        (Some(found), Some(wanted)) => found.as_str() == wanted.as_str(),
-                        (None, None) => true,
-                        _ => false,
-                    };
-                    assert!(rt; same, "{name}");
-                }
-            }
-            Err(error) => {
-                refused = refused.wrapping_add(1);
-                let mut last = None;
-                for string in ResourceStringIterator::new(&strings) {
-                    last = string.err();
-                }
-                assert!(rt;
-                    matches!(
-                        (error, last),
-                        (
-                            Error::Short { at: _, needed: _ },
-                            Some(Error::Short { at: _, needed: _ })
-                        ) | (
-                            Error::Malformed(Reason::ResourceString(_)),
-                            Some(Error::Malformed(Reason::ResourceString(_)))
-                        )
-                    )
-                );
-            }
-        }
-    }
-    assert!(rt; given >= 100 && refused >= 10);
     Ok(())
 }

@@ -1,12 +1,11 @@
 //! The walk through a resource tree: rings and chains, and generated trees against a plain program with a set of keys.
 
-use crate::images::image;
+use crate::images::{image, short, short_in};
 use linked_list_allocator::LocalHeap;
 use pe_core::{Error, Reason, Result};
 use pe_resource::{ImageResourceDirectory, ResourceEntry};
 use std::alloc::{AllocError, Global};
 use std::cell::Cell;
-use std::collections::BTreeSet;
 use std::test::Fail;
 
 /// The walk from an entry, from a heap that returns nothing; it has an entry as its answer, if it has one.
@@ -88,15 +87,7 @@ fn rings(rt: HostRuntime) -> std::result::Result<(), Fail> {
     assert_eq!(rt; last, ResourceEntry::from(0x2_8000_0030));
     let front = bytes.get(..0x30).ok_or("fewer bytes")?;
     let cut = walk(rt, start, front, |entry| entry.data_is_directory());
-    assert!(rt;
-        matches!(
-            cut,
-            Err(Error::Short {
-                at: 0x30,
-                needed: 16
-            })
-        )
-    );
+    assert_eq!(rt; short_in(cut), short(0x30, 16));
     Ok(())
 }
 
@@ -201,96 +192,5 @@ fn long_chains(rt: HostRuntime) -> std::result::Result<(), Fail> {
             "to {target}"
         );
     }
-    Ok(())
-}
-
-/// The plain program: an ordered set of the keys that were seen.
-fn walk_with_set<P: Fn(&ResourceEntry) -> bool>(
-    alloc: Global,
-    start: ResourceEntry,
-    bytes: &[u8],
-    predicate: P,
-) -> Result<ResourceEntry>
-    requires { P.IsAlwaysCallable predicate }
-{
-    let mut seen = BTreeSet::new(alloc);
-    seen.insert(start.offset_to_data_or_directory)?;
-    let mut current = start;
-    for _ in 0..100_000u32 {
-        let Some(entry) = current.next_depth(bytes)? else {
-            return Ok(current);
-        };
-        if !predicate(&entry) {
-            return Ok(entry);
-        }
-        if !seen.insert(entry.offset_to_data_or_directory)? {
-            let offset = entry.offset_to_directory();
-            return Err(Error::Malformed(Reason::ResourceCycle(offset)));
-        }
-        current = entry;
-    }
-    Err(Error::BadMagic(0))
-}
-
-/// The next number of a fixed sequence, and its high bits.
-fn next(seed: &mut u64) -> u64 {
-    *seed = seed
-        .wrapping_mul(6_364_136_223_846_793_005)
-        .wrapping_add(1_442_695_040_888_963_407);
-    *seed >> 33
-}
-
-fn same(first: &Result<ResourceEntry>, second: &Result<ResourceEntry>) -> bool {
-    match (first, second) {
-        (Ok(entry), Ok(other)) => entry == other,
-        (Err(Error::Short { at: _, needed: _ }), Err(Error::Short { at: _, needed: _ })) => true,
-        _ => is_cycle(first) && is_cycle(second),
-    }
-}
-
-/// Trees whose directories lead anywhere: on, back, after the end, with either bit 31, or nowhere. Both programs answer
-/// each walk alike.
-#[test]
-fn generated_trees(rt: HostRuntime) -> std::result::Result<(), Fail> {
-    let mut seed = 7;
-    let mut cycles = 0u32;
-    let mut entries = 0u32;
-    let mut cut = 0u32;
-    for _ in 0..400u32 {
-        let count = 1 + next(&mut seed) % 40;
-        let mut targets = Vec::new(rt.alloc());
-        for i in 0..count {
-            let target = match next(&mut seed) % 32 {
-                0 => None,
-                1 => Some(count),
-                2..=9 => Some(next(&mut seed) % count),
-                _ => Some((i + 1) % count),
-            };
-            let bit = if next(&mut seed) % 8 == 0 {
-                0u32
-            } else {
-                0x8000_0000
-            };
-            let offset = |index: u64| bit.wrapping_add(((index % 65536) as u32).wrapping_mul(24));
-            targets.push(target.map(offset))?;
-        }
-        let bytes = tree(rt.alloc(), &targets)?;
-        let start = ResourceEntry::from(0x8000_0000 + 24 * (next(&mut seed) % count));
-        for id in [None, Some(0u16), Some(3)] {
-            let passes = |entry: &ResourceEntry| id.is_none() || entry.id() != id;
-            let answer = walk(rt, start, &bytes, passes);
-            let plain = walk_with_set(rt.alloc(), start, &bytes, passes);
-            assert!(rt; same(&answer, &plain));
-            match answer {
-                Ok(_) => entries = entries.wrapping_add(1),
-                Err(Error::Malformed(_)) => cycles = cycles.wrapping_add(1),
-                Err(_) => cut = cut.wrapping_add(1),
-            }
-        }
-        let answer = walk(rt, start, &bytes, |entry| entry.data_is_directory());
-        let plain = walk_with_set(rt.alloc(), start, &bytes, |entry| entry.data_is_directory());
-        assert!(rt; same(&answer, &plain));
-    }
-    assert!(rt; cycles >= 50 && entries >= 50 && cut >= 10);
     Ok(())
 }

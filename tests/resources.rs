@@ -1,11 +1,11 @@
 //! Resources: the worked image, its damaged forms in both modes, version fields, and version strings by their names.
 
-use crate::images::image;
+use crate::images::{directory_at, image, reason_in, short, short_in};
 use linked_list_allocator::LocalHeap;
-use pe_core::{DataDirectory, Error, MappedBytes, ParseMode, ParseOptions, Reason, Result};
+use pe_core::{Error, ParseMode, ParseOptions, Reason, Result};
 use pe_resource::{
-    ByteRange, ImageResourceDirectory, RT_MANIFEST, RT_VERSION, ResourceData, ResourceEntry,
-    StringFileInfo, VersionField, VersionName, VsFixedFileInfo,
+    ImageResourceDirectory, RT_MANIFEST, RT_VERSION, ResourceData, ResourceEntry, StringFileInfo,
+    VersionField, VsFixedFileInfo,
 };
 use std::alloc::{AllocError, Global};
 use std::test::Fail;
@@ -80,10 +80,7 @@ fn resources<'a>(
     mode: ParseMode,
 ) -> Result<ResourceData<'a>> {
     let heap = LocalHeap::new(rt.alloc(), 0)?;
-    let directory = DataDirectory {
-        virtual_address: 0,
-        size,
-    };
+    let directory = directory_at(0, size);
     ResourceData::parse_with_opts(&heap, bytes, directory, &[], 0, &flat(mode))
 }
 
@@ -114,66 +111,9 @@ fn whole_resources(rt: HostRuntime) -> std::result::Result<(), Fail> {
         assert!(rt; version.string_info.company_name(rt.alloc())?.is_none());
         let manifest = data.manifest_data.ok_or("no manifest")?;
         assert_eq!(rt; manifest.bytes, [0x3C, 0x61, 0x3E].as_slice());
-        let by_default = ResourceData::parse(
-            rt.alloc(),
-            &bytes,
-            DataDirectory {
-                virtual_address: 0,
-                size: 0xEB,
-            },
-            &[],
-            0,
-        );
+        let by_default = ResourceData::parse(rt.alloc(), &bytes, directory_at(0, 0xEB), &[], 0);
         assert!(rt; matches!(by_default, Err(Error::Malformed(Reason::Unmapped(0)))));
     }
-    Ok(())
-}
-
-/// Where contents lie, and the values in one of them. What refuses version information is nothing to the manifest.
-#[test]
-fn ranges_of_contents(rt: HostRuntime) -> std::result::Result<(), Fail> {
-    let directory = DataDirectory {
-        virtual_address: 0,
-        size: 0xEB,
-    };
-    let (manifest, version) = (
-        ByteRange {
-            offset: 0xE8,
-            length: 3,
-        },
-        ByteRange {
-            offset: 0x70,
-            length: 0x78,
-        },
-    );
-    let bytes = version_and_manifest(rt.alloc(), 0xEB, &[])?;
-    for mode in MODES {
-        let image = MappedBytes::new(&bytes, &[], 0, &flat(mode));
-        for (id, range) in [
-            (RT_MANIFEST, Some(manifest)),
-            (RT_VERSION, Some(version)),
-            (9, None),
-        ] {
-            let found = ResourceData::content_range(&image, directory, id)?;
-            assert_eq!(rt; found, range);
-        }
-    }
-    let strings = bytes.as_slice().get(0x70..0xE8).ok_or("cut")?;
-    let fixed = VsFixedFileInfo::of_strings(strings)?;
-    assert!(rt; fixed.is_some_and(|info| info.is_valid()));
-    let comments = ByteRange {
-        offset: 0x74,
-        length: 4,
-    };
-    assert_eq!(rt; VersionName::Comments.value_range(strings)?, Some(comments));
-    assert_eq!(rt; VersionName::FileVersion.value_range(strings)?, None);
-    let bytes = version_and_manifest(rt.alloc(), 0xEB, &[(0x72, &[0xFF, 0xFF])])?;
-    let image = MappedBytes::new(&bytes, &[], 0, &flat(ParseMode::Strict));
-    let found = ResourceData::content_range(&image, directory, RT_MANIFEST)?;
-    assert_eq!(rt; found, Some(manifest));
-    let strings = bytes.as_slice().get(0x70..0xE8).ok_or("cut")?;
-    let refused = VersionName::Comments.value_range(strings);
-    assert!(rt; matches!(refused, Err(Error::Malformed(Reason::ResourceString(0)))));
     Ok(())
 }
 
@@ -182,12 +122,7 @@ fn bounds_by_mode(rt: HostRuntime) -> std::result::Result<(), Fail> {
     let bytes = version_and_manifest(rt.alloc(), 0xEB, &[])?;
     for mode in MODES {
         let past_the_end = resources(rt, &bytes, 0xEC, mode);
-        assert!(rt;
-            matches!(
-                past_the_end,
-                Err(Error::Malformed(Reason::ResourceBounds(0xEC)))
-            )
-        );
+        assert_eq!(rt; reason_in(past_the_end), Some(Reason::ResourceBounds(0xEC)));
     }
     for (size, count) in [(15, 0), (24, 2)] {
         let refused = resources(rt, &bytes, size, ParseMode::Strict);
@@ -242,15 +177,7 @@ fn faults_of_version_information(rt: HostRuntime) -> std::result::Result<(), Fai
         assert!(rt; matches!(outside, Err(Error::Malformed(Reason::ResourceBounds(0xEC)))));
         let bytes = version_and_manifest(rt.alloc(), 0xEB, &[(0x34, &[0xE0, 0, 0, 0])])?;
         let no_data_entry = resources(rt, &bytes, 0xEB, mode);
-        assert!(rt;
-            matches!(
-                no_data_entry,
-                Err(Error::Short {
-                    at: 0xE0,
-                    needed: 16
-                })
-            )
-        );
+        assert_eq!(rt; short_in(no_data_entry), short(0xE0, 16));
     }
     Ok(())
 }

@@ -3,10 +3,9 @@
 //! 0x110, and the header of the resource section at 0x1A8. The checksum that is expected is pefile's of the same bytes.
 
 use crate::images::with_part;
-use pe_core::{DataDirectory, Header, MappedBytes, ParseMode, ParseOptions};
+use pe_core::{Header, ParseOptions};
 use pe_edit::{Leaves, Resource, ResourceKey};
 use pe_images::{headers_alone, put};
-use pe_resource::ResourceData;
 use pe_rewrite::{RewriteError, edited_len, write_edited};
 use std::alloc::Global;
 use std::test::Fail;
@@ -121,36 +120,6 @@ fn another_section_stays_without_resources(rt: HostRuntime) -> Result<(), Fail> 
         assert!(rt; out[0x400..0x600].iter().all(|byte| *byte == data));
         assert_eq!(rt; &out[0x600..], b"after".as_slice());
     }
-    Ok(())
-}
-
-/// What is written is parsed, and has the leaf that was given.
-#[test]
-fn the_leaf_is_read(rt: HostRuntime) -> Result<(), Fail> {
-    let bytes = old_image(rt.alloc())?;
-    let mut out = vec![in rt.alloc(); OLD; LENGTH]?;
-    write_edited(
-        &bytes,
-        &header_of(&bytes)?,
-        &list(&[resource(7, b"abc")]),
-        &mut out,
-    )?;
-    let header = header_of(&out)?;
-    let sections = header.sections(rt.alloc(), &out)?;
-    let directory = DataDirectory {
-        virtual_address: 0x2000,
-        size: 0x60,
-    };
-    let opts = ParseOptions::default().with_parse_mode(ParseMode::Strict);
-    let image = MappedBytes::new(&out, &sections, 0x200, &opts);
-    let mut walk = ResourceData::leaves(&image, directory)?;
-    let Some(Ok(leaf)) = walk.next() else {
-        return Err("no leaf".into());
-    };
-    assert_eq!(rt; leaf.name.id(), Some(7));
-    let range = leaf.content_range(&image)?;
-    assert_eq!(rt; range.of(&out), b"abc".as_slice());
-    assert!(rt; walk.next().is_none());
     Ok(())
 }
 

@@ -1,9 +1,9 @@
 //! Resource sections that are written: their bytes, numbers in refusals, and contents that are empty. The bytes follow from
 //! Microsoft's page, the order of the parts from the definition.
 
-use crate::images::image;
+use crate::images::{directory_at, image};
 use crate::resources::flat;
-use pe_core::{DataDirectory, Error, MappedBytes, ParseMode, Reason};
+use pe_core::{Error, MappedBytes, ParseMode, Reason};
 use pe_edit::{
     EditError, Leaves, RecordError, RecordKey, RecordRange, Resource, ResourceKey, ResourceRecord,
     require_records, section_len, write_section,
@@ -95,10 +95,7 @@ fn an_empty_last_content_is_mapped(rt: HostRuntime) -> Result<(), Fail> {
     let mut out = [OLD; 0x60];
     let length = write_section(&list(&leaves), 0, &mut out)?;
     assert_eq!(rt; length, 0x60);
-    let directory = DataDirectory {
-        virtual_address: 0,
-        size: length as u32,
-    };
+    let directory = directory_at(0, length as u32);
     let opts = flat(ParseMode::Strict);
     let image = MappedBytes::new(&out, &[], 0, &opts);
     let mut walk = ResourceData::leaves(&image, directory)?;
@@ -281,10 +278,7 @@ fn as_many_leaves_as_there_are_types(rt: HostRuntime) -> Result<(), Fail> {
     assert_eq!(rt; length, 16 + 65_535 * (8 + 24 + 24 + 16 + 8));
     let mut out = vec![in rt.alloc(); OLD; length]?;
     assert_eq!(rt; write_section(&list(&leaves[1..]), 0, &mut out)?, length);
-    let directory = DataDirectory {
-        virtual_address: 0,
-        size: length as u32,
-    };
+    let directory = directory_at(0, length as u32);
     let opts = flat(ParseMode::Strict);
     let image = MappedBytes::new(&out, &[], 0, &opts);
     let mut count = 0u32;

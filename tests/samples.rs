@@ -2,7 +2,7 @@
 
 use crate::directories::image_of;
 use crate::directory_lists::{entries_of, two_dlls};
-use crate::images::{image, put, resources, with_debug, with_functions};
+use crate::images::{image, put, resources, stack_at, with_debug, with_functions};
 use crate::resource_leaves::version_and_manifest;
 use crate::version_blocks::page;
 use pe_core::ByteRange;
@@ -170,10 +170,7 @@ fn walks_a_stack(rt: HostRuntime) -> Result<(), Fail> {
     ] {
         stack_bytes.extend_from_slice(&u64::to_le_bytes(word))?;
     }
-    let stack = Stack {
-        start: 0x8000,
-        bytes: &stack_bytes,
-    };
+    let stack = stack_at(0x8000, &stack_bytes);
     // A leaf that the first function called, which the second one called.
     let mut registers = Registers {
         general: [0; 16],
@@ -187,10 +184,7 @@ fn walks_a_stack(rt: HostRuntime) -> Result<(), Fail> {
         assert!(rt; frames.as_slice() == &all[..usize::min(most, 4)]);
     }
     // A stack that is truncated ends the walk, and so does a return address that is no address of code.
-    let cut = Stack {
-        start: 0x8000,
-        bytes: &stack_bytes[..64],
-    };
+    let cut = stack_at(0x8000, &stack_bytes[..64]);
     let frames = walk_of(alloc, &bytes, base, registers, &cut, 9)?;
     assert!(rt; frames.as_slice() == &all[..3]);
     let frames = walk_of(alloc, &bytes, base - 0x1000, registers, &stack, 9)?;

@@ -2,30 +2,21 @@
 //! are those of `walks`.
 
 use crate::frames::bytes_of;
-use crate::images::{image, with_byte};
+use crate::images::{image, piece_at, with_byte};
 use crate::minidumps::with_stream;
 use crate::refusing::Refusing;
 use crate::walks::{
     APP, FRAMES, INNER, LIB, NT, OUTER, RBX, RSP, SIZE, app, exceptions, lib, module, nt, registers,
 };
 use pe_core::{Error, Header, ParseOptions};
-use pe_frame::{Memory, MemoryPiece, StackFrame, WalkEnd, Way};
+use pe_frame::{Memory, StackFrame, WalkEnd, Way};
 use pe_minidump::{Dump, DumpError, FixedFileInfo, Location, MemoryDescriptor, Module, Thread};
 use pe_stacks::{
-    IndexedMemory, IndexedModules, MemoryRuns, ModuleImage, RangeEntry, Stacks, ThreadFrames,
-    is_image_of, memory_and_stacks, memory_pieces, put_memory_runs, thread_context_arm64,
-    thread_context_x64,
+    IndexedMemory, IndexedModules, MemoryRuns, ModuleImage, Stacks, ThreadFrames, is_image_of,
+    memory_and_stacks, memory_pieces, thread_context_arm64, thread_context_x64,
 };
 use std::alloc::{AllocError, Global};
 use std::test::Fail;
-
-fn piece(start: u64, offset: u64, length: u64) -> MemoryPiece {
-    MemoryPiece {
-        start,
-        offset,
-        length,
-    }
-}
 
 /// The bytes of both stacks, and after them 16 others.
 fn file(alloc: Global) -> Result<Vec<u8>, AllocError> {
@@ -37,27 +28,6 @@ fn file(alloc: Global) -> Result<Vec<u8>, AllocError> {
         bytes.push(0xEE)?;
     }
     Ok(bytes)
-}
-
-/// The first of the pieces that have an address counts; a gap is none.
-#[test]
-fn first_piece_counts_and_gaps_are_none(rt: HostRuntime) -> Result<(), Fail> {
-    let bytes = [1, 2, 3, 4, 5, 6, 7, 8, 9, 10, 11, 12];
-    let pieces = [
-        piece(0x106, 8, 4),
-        piece(0x100, 0, 8),
-        piece(0x110, 0, 4),
-        piece(0x100, 11, 1),
-    ];
-    let memory = IndexedMemory::new(rt.alloc(), &bytes, &pieces)?;
-    assert_eq!(rt; memory.byte_at(0x100), Some(1));
-    assert_eq!(rt; memory.byte_at(0x106), Some(9));
-    let found = (memory.byte_at(0x109), memory.byte_at(0x10A));
-    assert_eq!(rt; found, (Some(12), None));
-    assert_eq!(rt; memory.u64_at(0x101), Some(0x0B0A_0906_0504_0302));
-    assert_eq!(rt; (memory.u64_at(0x103), memory.u64_at(0x110)), (None, None));
-    assert!(rt; IndexedMemory::new(rt.alloc(), &bytes, &[piece(0, 9, 4)]).is_err());
-    Ok(())
 }
 
 /// Modules and pieces that descend, with one piece too many after those of the stack.
@@ -85,10 +55,10 @@ fn a_walk_goes_through_modules_in_any_order(rt: HostRuntime) -> Result<(), Fail>
     assert!(rt; modules.find(LIB - 1).is_none());
     let bytes = file(alloc)?;
     let pieces = [
-        piece(0x2000, 160, 64),
-        piece(0x1044, 68, 92),
-        piece(0x1000, 0, 72),
-        piece(0x1000, 224, 16),
+        piece_at(0x2000, 160, 64),
+        piece_at(0x1044, 68, 92),
+        piece_at(0x1000, 0, 72),
+        piece_at(0x1000, 224, 16),
     ];
     let memory = IndexedMemory::new(alloc, &bytes, &pieces)?;
     let mut registers = registers(LIB + 0x70, 0x1000);
@@ -130,14 +100,14 @@ fn pieces_of_both_lists(rt: HostRuntime) -> Result<(), Fail> {
     let list = b"\x01\0\0\0\0\x10\0\0\0\0\0\0\x04\0\0\0\x20\0\0\0";
     let bytes = with_stream(alloc, 5, list)?;
     let pieces = memory_pieces(alloc, &Dump::parse(&bytes)?)?;
-    assert_eq!(rt; (pieces.len(), pieces[0]), (1, piece(0x1000, 32, 4)));
+    assert_eq!(rt; (pieces.len(), pieces[0]), (1, piece_at(0x1000, 32, 4)));
     // Two pieces of a full dump: the second is truncated.
     let list =
         b"\x02\0\0\0\0\0\0\0\x2C\0\0\0\0\0\0\0\0\x10\0\0\0\0\0\0\x08\0\0\0\0\0\0\0\0\x20\0\0\0\0\0\0\0\x10\0\0\0\0\0\0";
     let bytes = with_stream(alloc, 9, list)?;
     let pieces = memory_pieces(alloc, &Dump::parse(&bytes)?)?;
-    assert_eq!(rt; (pieces.len(), pieces[0]), (2, piece(0x1000, 44, 8)));
-    assert_eq!(rt; pieces[1], piece(0x2000, 52, 40));
+    assert_eq!(rt; (pieces.len(), pieces[0]), (2, piece_at(0x1000, 44, 8)));
+    assert_eq!(rt; pieces[1], piece_at(0x2000, 52, 40));
     // Both in one dump, whose directory has the memory list last: of one address its piece comes first.
     let bytes = image(
         alloc,
@@ -152,8 +122,8 @@ fn pieces_of_both_lists(rt: HostRuntime) -> Result<(), Fail> {
         ],
     )?;
     let pieces = memory_pieces(alloc, &Dump::parse(&bytes)?)?;
-    assert_eq!(rt; (pieces.len(), pieces[0]), (2, piece(0x1000, 32, 4)));
-    assert_eq!(rt; pieces[1], piece(0x1000, 88, 8));
+    assert_eq!(rt; (pieces.len(), pieces[0]), (2, piece_at(0x1000, 32, 4)));
+    assert_eq!(rt; pieces[1], piece_at(0x1000, 88, 8));
     // A list that is refused has none.
     let bytes = with_stream(alloc, 5, b"\x02\0\0\0")?;
     assert!(rt; memory_pieces(alloc, &Dump::parse(&bytes)?)?.is_empty());
@@ -178,12 +148,12 @@ fn stacks_of_threads_come_last(rt: HostRuntime) -> Result<(), Fail> {
         ],
     )?;
     let pieces = memory_and_stacks(alloc, &Dump::parse(&bytes)?)?;
-    assert_eq!(rt; (pieces.len(), pieces[0]), (2, piece(0x1000, 32, 4)));
-    assert_eq!(rt; pieces[1], piece(0x1000, 44, 8));
+    assert_eq!(rt; (pieces.len(), pieces[0]), (2, piece_at(0x1000, 32, 4)));
+    assert_eq!(rt; pieces[1], piece_at(0x1000, 44, 8));
     // Without a list of memory.
     bytes[32] = 0;
     let pieces = memory_and_stacks(alloc, &Dump::parse(&bytes)?)?;
-    assert_eq!(rt; (pieces.len(), pieces[0]), (1, piece(0x1000, 44, 8)));
+    assert_eq!(rt; (pieces.len(), pieces[0]), (1, piece_at(0x1000, 44, 8)));
     // Threads that are refused name none.
     bytes[48] = 1;
     assert!(rt; memory_and_stacks(alloc, &Dump::parse(&bytes)?)?.is_empty());
@@ -254,74 +224,10 @@ fn images_are_those_of_modules(rt: HostRuntime) -> Result<(), Fail> {
     Ok(())
 }
 
-/// Pieces in any order are runs in ascending order, the first piece that has an address first; runs that follow one another in
-/// memory and in the file are one.
-#[test]
-fn pieces_are_runs(rt: HostRuntime) -> Result<(), Fail> {
-    let bytes = [1, 2, 3, 4, 5, 6, 7, 8, 9, 10, 11, 12];
-    let pieces = [
-        piece(0x106, 8, 4),
-        piece(0x114, 4, 2),
-        piece(0x100, 0, 8),
-        piece(0x110, 0, 4),
-        piece(0x100, 11, 1),
-        piece(0x200, 3, 0),
-    ];
-    let memory = MemoryRuns::new(rt.alloc(), &bytes, &pieces)?;
-    let runs = [piece(0x100, 0, 6), piece(0x106, 8, 4), piece(0x110, 0, 6)];
-    assert_eq!(rt; memory.pieces(), &runs[..]);
-    assert_eq!(rt; memory.bytes_at(0x102, 100), &bytes[2..6]);
-    assert_eq!(rt; memory.bytes_at(0x102, 3), &bytes[2..5]);
-    assert_eq!(rt; memory.bytes_at(0x112, 9), &bytes[2..6]);
-    assert_eq!(rt;
-        (
-            memory.bytes_at(0x10A, 1).len(),
-            memory.bytes_at(0x200, 1).len()
-        ),
-        (0, 0)
-    );
-    assert!(rt; MemoryRuns::new(rt.alloc(), &bytes, &[piece(0, 9, 4)]).is_err());
-    assert!(rt;
-        MemoryRuns::new(rt.alloc(), &bytes, &[])?
-            .pieces()
-            .is_empty()
-    );
-    Ok(())
-}
-
-/// In a room of the caller there are the same runs, and nothing changes where a room is too small.
-#[test]
-fn runs_are_written_to_a_room(rt: HostRuntime) -> Result<(), Fail> {
-    let pieces = [piece(0x106, 8, 4), piece(0x100, 0, 8)];
-    let (mut entries, mut runs) = ([RangeEntry::default(); 9], [piece(1, 2, 3); 5]);
-    let found = put_memory_runs(&pieces, &mut entries[..7], &mut runs);
-    assert_eq!(rt; found, None);
-    let found = put_memory_runs(&pieces, &mut entries, &mut runs[..3]);
-    assert_eq!(rt; found, None);
-    assert_eq!(rt; runs, [piece(1, 2, 3); 5]);
-    assert_eq!(rt; put_memory_runs(&pieces, &mut entries, &mut runs), Some(2));
-    let found = (runs[0], runs[1]);
-    assert_eq!(rt; found, (piece(0x100, 0, 6), piece(0x106, 8, 4)));
-    let found = (runs[4], entries[8]);
-    assert_eq!(rt; found, (piece(1, 2, 3), RangeEntry::default()));
-    Ok(())
-}
-
-/// A piece that ends past the last address has it.
-#[test]
-fn runs_have_the_last_address(rt: HostRuntime) -> Result<(), Fail> {
-    let bytes = [1, 2, 3, 4];
-    let pieces = [piece(u64::MAX, 3, 1), piece(u64::MAX - 2, 0, 4)];
-    let memory = MemoryRuns::new(rt.alloc(), &bytes, &pieces)?;
-    assert_eq!(rt; memory.bytes_at(u64::MAX - 2, 4), &bytes[..2]);
-    assert_eq!(rt; memory.bytes_at(u64::MAX, 1), &bytes[3..]);
-    Ok(())
-}
-
 /// Each request for memory that runs need is refused in turn.
 #[test]
 fn memory_for_runs_is_refused(rt: HostRuntime) -> Result<(), Fail> {
-    let (bytes, pieces) = ([1, 2, 3, 4], [piece(2, 0, 2), piece(0, 2, 2)]);
+    let (bytes, pieces) = ([1, 2, 3, 4], [piece_at(2, 0, 2), piece_at(0, 2, 2)]);
     for k in 0..10 {
         let refusing = Refusing::new(rt.alloc(), k);
         let answer = MemoryRuns::new(&refusing, &bytes, &pieces);
@@ -340,7 +246,7 @@ fn memory_for_runs_is_refused(rt: HostRuntime) -> Result<(), Fail> {
 fn refused_walks_keep_what_is_left(rt: HostRuntime) -> Result<(), Fail> {
     let alloc = rt.alloc();
     let bytes = file(alloc)?;
-    let pieces = [piece(0x1000, 0, 24)];
+    let pieces = [piece_at(0x1000, 0, 24)];
     let memory = IndexedMemory::new(alloc, &bytes, &pieces)?;
     let modules = IndexedModules::new(alloc, &[])?;
     let top = StackFrame {
@@ -377,7 +283,7 @@ fn images_ask_for_their_sections_alone(rt: HostRuntime) -> Result<(), Fail> {
         .time_date_stamp;
     let own = dump_module(stamp, 0x2000);
     let other = dump_module(stamp + 1, 0x2000);
-    let pieces = [piece(APP, 0, bytes.len() as u64)];
+    let pieces = [piece_at(APP, 0, bytes.len() as u64)];
     let memory = MemoryRuns::new(alloc, &bytes, &pieces)?;
     for request in 0..2 {
         let refusing = [0; 5].map(|_| Refusing::new(alloc, request));
@@ -409,7 +315,7 @@ fn image_of_the_memory_ends_at_its_gap(rt: HostRuntime) -> Result<(), Fail> {
         .coff_header
         .time_date_stamp;
     let own = dump_module(stamp, 0x2000);
-    let pieces = [piece(APP + 0x800, 0x800, 0x900), piece(APP, 0, 0x800)];
+    let pieces = [piece_at(APP + 0x800, 0x800, 0x900), piece_at(APP, 0, 0x800)];
     let memory = MemoryRuns::new(alloc, &loaded, &pieces)?;
     let image = ModuleImage::from_memory(alloc, &memory, &opts, &own)?.ok_or("an image")?;
     assert_eq!(rt; (image.bytes.len(), image.sections.len()), (0x1100, 1));
@@ -417,7 +323,7 @@ fn image_of_the_memory_ends_at_its_gap(rt: HostRuntime) -> Result<(), Fail> {
     let other = dump_module(stamp + 1, 0x2000);
     assert!(rt; ModuleImage::from_memory(alloc, &memory, &opts, &other)?.is_none());
     // The exception data are past the gap.
-    let torn = [piece(APP + 0x801, 0x801, 0x8FF), piece(APP, 0, 0x800)];
+    let torn = [piece_at(APP + 0x801, 0x801, 0x8FF), piece_at(APP, 0, 0x800)];
     let memory = MemoryRuns::new(alloc, &loaded, &torn)?;
     assert_eq!(rt; memory.bytes_at(APP, 0x2000).len(), 0x800);
     assert!(rt; ModuleImage::from_memory(alloc, &memory, &opts, &own).is_err());

@@ -1,6 +1,6 @@
 //! COFF symbols and the string table.
 
-use crate::images::{image, object};
+use crate::images::{image, object, short_in};
 use crate::refusing::Refusing;
 use linked_list_allocator::LocalHeap;
 use pe_core::{CoffHeader, Error, Reason, Strtab, Symbol, SymbolTable};
@@ -71,25 +71,6 @@ fn cuts_the_string_table_at_zeros(rt: HostRuntime) -> Result<(), Fail> {
         Err(Error::Malformed(reason)) => assert_eq!(rt; reason, Reason::StringTable(6)),
         _ => return Err(Fail::new("a string that is no text is given")),
     }
-    Ok(())
-}
-
-/// The names of all symbols at once are those of the symbols one by one.
-#[test]
-fn names_all_symbols(rt: HostRuntime) -> Result<(), Fail> {
-    let bytes = object(rt.alloc())?;
-    let header = CoffHeader::parse(&bytes, 0)?;
-    let (Some(symbols), Some(strings)) = (header.symbols(&bytes)?, header.strings(&bytes)?) else {
-        return Err(Fail::new("no symbols or strings"));
-    };
-    let names = symbols.names(rt.alloc(), &strings)?;
-    let wanted = [".file", ".text", ".absolut", "ExitProcess", "main"];
-    assert_eq!(rt; names.len(), wanted.len());
-    for (name, want) in names.iter().zip(wanted) {
-        assert_eq!(rt; *name, want);
-    }
-    let none = SymbolTable { bytes: &[] };
-    assert!(rt; none.names(rt.alloc(), &strings)?.is_empty());
     Ok(())
 }
 
@@ -203,14 +184,9 @@ fn finds_the_tables_of_a_header(rt: HostRuntime) -> Result<(), Fail> {
     };
     assert!(rt; none.symbols(&bytes)?.is_none());
     assert!(rt; none.strings(&bytes)?.is_none());
-    assert!(rt;
-        matches!(
-            header.symbols(front(&bytes, 203)?),
-            Err(Error::Short {
-                at: 78,
-                needed: 126
-            })
-        )
+    assert_eq!(rt;
+        short_in(header.symbols(front(&bytes, 203)?)),
+        Some((78, 126))
     );
     assert!(rt;
         matches!(
@@ -234,11 +210,9 @@ fn finds_the_tables_of_a_header(rt: HostRuntime) -> Result<(), Fail> {
         ..header
     };
     assert!(rt; no_rows.symbols(front(&bytes, 78)?)?.is_some());
-    assert!(rt;
-        matches!(
-            no_rows.symbols(front(&bytes, 77)?),
-            Err(Error::Short { at: 78, needed: 0 })
-        )
+    assert_eq!(rt;
+        short_in(no_rows.symbols(front(&bytes, 77)?)),
+        Some((78, 0))
     );
     assert!(rt;
         matches!(

@@ -1,7 +1,7 @@
 //! The blocks of version information: the layout of Microsoft's page, byte by byte, lengths that are wrong, and truncated
 //! blocks at each place.
 
-use crate::images::image;
+use crate::images::{image, short, short_in};
 use crate::resources::flat;
 use pe_core::{Error, MappedBytes, ParseMode};
 use pe_resource::{
@@ -264,34 +264,6 @@ fn truncated_at_each_byte(rt: HostRuntime) -> std::result::Result<(), Fail> {
     Ok(())
 }
 
-/// The blocks in version information, of which the second ends in the middle of it, and what that is for its callers.
-#[test]
-fn children_at_each_length(rt: HostRuntime) -> std::result::Result<(), Fail> {
-    for n in 93..LENGTH {
-        let length = u16::to_le_bytes(u16::try_from(n).unwrap_or(0));
-        let short = page(rt.alloc(), &[(0, length.as_slice())])?;
-        let block = root(&short)?;
-        let tables = match block.string_tables() {
-            Ok(_) => 224 <= n,
-            Err(VersionBlockError::Image(Error::Short { .. })) => n < 98,
-            Err(VersionBlockError::PastEnd { length: 132, left }) => {
-                98 <= n && n < 224 && left == n - 92
-            }
-            Err(_) => false,
-        };
-        assert!(rt; tables, "{n}");
-        let languages = match block.translations() {
-            Ok(mut left) => n == 224 && left.next().is_none(),
-            Err(VersionBlockError::Image(Error::Short { .. })) => n < 98 || (224 < n && n < 230),
-            Err(VersionBlockError::PastEnd { length: 132, .. }) => 98 <= n && n < 224,
-            Err(VersionBlockError::PastEnd { length: 72, left }) => 230 <= n && left == n - 224,
-            Err(_) => false,
-        };
-        assert!(rt; languages, "{n}");
-    }
-    Ok(())
-}
-
 /// A block is found after one that is not read; without one the first error is returned.
 #[test]
 fn found_after_an_error(rt: HostRuntime) -> std::result::Result<(), Fail> {
@@ -354,12 +326,7 @@ fn values_of_other_lengths(rt: HostRuntime) -> std::result::Result<(), Fail> {
     let cut = page(alloc, &[(258, &[6])])?;
     let mut languages = root(&cut)?.translations()?;
     assert!(rt; languages.next().is_some_and(|it| it.is_ok()));
-    assert!(rt;
-        matches!(
-            languages.next(),
-            Some(Err(Error::Short { at: 0, needed: 4 }))
-        )
-    );
+    assert_eq!(rt; short_in(languages.next()), short(0, 4));
     assert!(rt; languages.next().is_none());
     Ok(())
 }

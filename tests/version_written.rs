@@ -1,13 +1,12 @@
 //! Blocks of version information that are written: their bytes, by Microsoft's page on VS_VERSIONINFO and its children, and
 //! refusals.
 
+use crate::images::record_range;
 use pe_core::Error;
-use pe_edit::RecordRange;
-use pe_resource::{Translation, VsFixedFileInfo};
+use pe_resource::VsFixedFileInfo;
 use pe_version::{
-    LanguageRecord, NewBlock, StringRecord, StringTable, TableRecord, VersionError, VersionRecords,
-    VersionText, VersionValue, block_len, read_version, version_bytes, version_len, write_block,
-    write_version,
+    LanguageRecord, NewBlock, StringRecord, TableRecord, VersionError, VersionRecords, block_len,
+    version_len, write_block, write_version,
 };
 use std::alloc::Global;
 use std::test::Fail;
@@ -128,68 +127,6 @@ const FIXED: VsFixedFileInfo = VsFixedFileInfo {
     file_date_ls: 0,
 };
 
-#[test]
-fn bytes_of_version_information(rt: HostRuntime) -> Result<(), Fail> {
-    let translations = [
-        Translation {
-            language: 0x409,
-            code_page: 1200,
-        },
-        Translation {
-            language: 0x407,
-            code_page: 0xABCD,
-        },
-    ];
-    let english = [
-        VersionText {
-            name: b"C\0o\0m\0p\0a\0n\0y\0N\0a\0m\0e\0",
-            text: b"A\0b\0c\0\0\0",
-        },
-        VersionText {
-            name: b"O\0w\0n\0",
-            text: b"x\0\0\0",
-        },
-    ];
-    let german = [VersionText {
-        name: b"F\0i\0l\0e\0V\0e\0r\0s\0i\0o\0n\0",
-        text: b"1\0.\02\0\0\0",
-    }];
-    let tables = [
-        StringTable {
-            translation: translations[0],
-            strings: &english,
-        },
-        StringTable {
-            translation: translations[1],
-            strings: &german,
-        },
-    ];
-    let value = VersionValue {
-        fixed: FIXED,
-        tables: &tables,
-        translations: &translations,
-    };
-    let wanted = whole(rt.alloc())?;
-    let made = version_bytes(rt.alloc(), &value)?;
-    assert_eq!(rt; made.as_slice(), wanted.as_slice());
-    let odd = [VersionText {
-        name: b"A\0",
-        text: b"x",
-    }];
-    let tables = [StringTable {
-        translation: translations[0],
-        strings: &odd,
-    }];
-    let value = VersionValue {
-        tables: &tables,
-        ..value
-    };
-    let Err(VersionError::Text) = version_bytes(rt.alloc(), &value) else {
-        return Err("half a code unit is accepted".into());
-    };
-    Ok(())
-}
-
 /// The bytes of windres.
 fn whole(alloc: Global) -> Result<Vec<u8>, Fail> {
     let mut bytes = Vec::new(alloc);
@@ -199,75 +136,14 @@ fn whole(alloc: Global) -> Result<Vec<u8>, Fail> {
     Ok(bytes)
 }
 
-/// Where the text `Abc` starts: in the table at 0x80, after its head and key, 24 bytes, and those of the string, 32.
-const ABC: usize = 0xB8;
-
-/// One text of windres' is changed, and written with all others.
-#[test]
-fn one_text_is_changed(rt: HostRuntime) -> Result<(), Fail> {
-    let bytes = whole(rt.alloc())?;
-    let Some(mut value) = read_version(rt.alloc(), &bytes)? else {
-        return Err("no version information".into());
-    };
-    assert_eq!(rt; value.fixed.file_version_ls, 0x30004);
-    assert_eq!(rt; value.translations[1].code_page, 0xABCD);
-    assert_eq!(rt; value.tables[1].translation.language, 0x407);
-    value.tables[0].strings[0].text = b"X\0y\0z\0\0\0";
-    let made = value.to_bytes(rt.alloc())?;
-    assert_eq!(rt; &bytes[ABC..ABC + 8], b"A\0b\0c\0\0\0".as_slice());
-    let mut wanted = whole(rt.alloc())?;
-    put(&mut wanted, ABC, b"X\0y\0z\0");
-    assert_eq!(rt; made.as_slice(), wanted.as_slice());
-    Ok(())
-}
-
-fn put(bytes: &mut [u8], offset: usize, part: &[u8]) {
-    for (place, byte) in bytes.iter_mut().skip(offset).zip(part) {
-        *place = *byte;
-    }
-}
-
-/// The first key, that of a table, the length of a table, that of a string, each wrong; and nothing at all.
-#[test]
-fn what_is_not_read(rt: HostRuntime) -> Result<(), Fail> {
-    for (offset, part, text) in [
-        (6, b"W", "no fixed file information"),
-        (
-            0x86,
-            b"G",
-            "key of a string table has no language and code page",
-        ),
-        (0x80, b"\x05", "version block of 5 bytes, smaller than 6"),
-        (0x98, b"\x05", "version block of 5 bytes, smaller than 6"),
-    ] {
-        let mut bytes = whole(rt.alloc())?;
-        put(&mut bytes, offset, part);
-        let Err(error) = read_version(rt.alloc(), &bytes) else {
-            return Err("version information is read".into());
-        };
-        let shown = format!(in rt.alloc(); "{error}")?;
-        assert_eq!(rt; shown.as_str(), text);
-    }
-    let Ok(None) = read_version(rt.alloc(), b"") else {
-        return Err("version information of no bytes".into());
-    };
-    Ok(())
-}
-
 /// Names and texts of what windres makes, one after the other: 22, 8, 6, 4, 22 and 8 bytes.
 const TEXTS: &[u8] =
     b"C\0o\0m\0p\0a\0n\0y\0N\0a\0m\0e\0A\0b\0c\0\0\0O\0w\0n\0x\0\0\0F\0i\0l\0e\0V\0e\0r\0s\0i\0o\0n\01\0.\02\0\0\0";
 
-const fn string(offset: u64, name: u64, text: u64) -> StringRecord {
+fn string(offset: u64, name: u64, text: u64) -> StringRecord {
     StringRecord {
-        name: RecordRange {
-            offset,
-            length: name,
-        },
-        text: RecordRange {
-            offset: offset + name,
-            length: text,
-        },
+        name: record_range(offset, name),
+        text: record_range(offset + name, text),
     }
 }
 
@@ -347,14 +223,8 @@ fn records_are_written(rt: HostRuntime) -> Result<(), Fail> {
 fn records_that_are_too_long(rt: HostRuntime) -> Result<(), Fail> {
     let texts = vec![in rt.alloc(); 1u8; 40_000]?;
     let long = StringRecord {
-        name: RecordRange {
-            offset: 0,
-            length: 2,
-        },
-        text: RecordRange {
-            offset: 0,
-            length: 32_644,
-        },
+        name: record_range(0, 2),
+        text: record_range(0, 32_644),
     };
     let table = TableRecord {
         first: 0,
@@ -371,17 +241,11 @@ fn records_that_are_too_long(rt: HostRuntime) -> Result<(), Fail> {
     // The table has 24 + 2 * (12 + 32,644) bytes; the other blocks 36, 64 and 92 more.
     assert_eq!(rt; version_len(&value)?, 65_336 + 36 + 64 + 92);
     let longer = StringRecord {
-        text: RecordRange {
-            offset: 0,
-            length: 32_900,
-        },
+        text: record_range(0, 32_900),
         ..long
     };
     let odd = StringRecord {
-        name: RecordRange {
-            offset: 0,
-            length: 3,
-        },
+        name: record_range(0, 3),
         ..long
     };
     let Err(VersionError::TooLong(_)) = version_len(&VersionRecords {
@@ -393,10 +257,7 @@ fn records_that_are_too_long(rt: HostRuntime) -> Result<(), Fail> {
     // shows: pe_version/src/measure.rt whole_len TooLong
     // A table of 24 bytes and strings of 12 each beside their texts, which by lengths alone would have 65,532 bytes.
     for (count, first, others, size) in [(4, 16_376, 16_364, 65_540), (6, 10_908, 10_908, 65_544)] {
-        let text = RecordRange {
-            offset: 0,
-            length: others,
-        };
+        let text = record_range(0, others);
         let mut strings = vec![in rt.alloc(); StringRecord { text, ..long }; count]?;
         strings[0].text.length = first;
         let Err(VersionError::TooLong(found)) = version_len(&VersionRecords {
@@ -445,14 +306,8 @@ fn records_that_are_too_long(rt: HostRuntime) -> Result<(), Fail> {
 fn shared_names_are_not_read(rt: HostRuntime) -> Result<(), Fail> {
     let texts = vec![in rt.alloc(); 1; 60_000]?;
     let string = StringRecord {
-        name: RecordRange {
-            offset: 0,
-            length: 60_000,
-        },
-        text: RecordRange {
-            offset: 0,
-            length: 0,
-        },
+        name: record_range(0, 60_000),
+        text: record_range(0, 0),
     };
     let strings = vec![in rt.alloc(); string; 100_000]?;
     let table = TableRecord {

@@ -2,12 +2,12 @@
 //! functions do: what is expected is what each of them was entered with.
 
 use crate::frames::bytes_of;
+use crate::images::{directory_at, piece_at, stack_at};
 use crate::sections;
-use pe_core::{DataDirectory, ParseOptions, SectionTable};
+use pe_core::{ParseOptions, SectionTable};
 use pe_frame::{
-    FrameError, LoadedModules, Memory, MemoryList, MemoryPiece, Module, ModuleOrder, Modules,
-    Registers, SearchedMemory, Stack, StackFrame, StackFrames, StackPieces, WalkEnd, WalkPosition,
-    Way,
+    FrameError, LoadedModules, Memory, MemoryList, Module, ModuleOrder, Modules, Registers,
+    SearchedMemory, StackFrame, StackFrames, StackPieces, WalkEnd, WalkPosition, Way,
 };
 use pe_images::image;
 use pe_unwind::ExceptionData;
@@ -111,10 +111,7 @@ pub(crate) fn exceptions(
     bytes: &[u8],
     functions: u32,
 ) -> Result<ExceptionData<'_>, pe_core::Error> {
-    let table = DataDirectory {
-        virtual_address: 0,
-        size: 12 * functions,
-    };
+    let table = directory_at(0, 12 * functions);
     ExceptionData::parse_with_opts(bytes, table, &[], 0x200, &flat())
 }
 
@@ -240,16 +237,7 @@ fn expect_walk<M: Memory>(
 fn a_walk_goes_through_all_modules(rt: HostRuntime) -> Result<(), Fail> {
     let alloc = rt.alloc();
     let (inner, outer) = (bytes_of(alloc, &INNER)?, bytes_of(alloc, &OUTER)?);
-    let pieces = [
-        Stack {
-            start: 0x1000,
-            bytes: &inner,
-        },
-        Stack {
-            start: 0x2000,
-            bytes: &outer,
-        },
-    ];
+    let pieces = [stack_at(0x1000, &inner), stack_at(0x2000, &outer)];
     let memory = StackPieces::new(&pieces);
     expect_walk(&rt, alloc, &memory, 100, &FRAMES, "bottom of the stack")?;
     let bound = "as many frames as were asked for";
@@ -294,10 +282,7 @@ fn end_of_step(
     }];
     let modules = Modules::new(&modules).map_err(|_| "one module ascends")?;
     let bytes = bytes_of(alloc, words)?;
-    let memory = Stack {
-        start: 0x1000,
-        bytes: &bytes,
-    };
+    let memory = stack_at(0x1000, &bytes);
     let mut walk = StackFrames::new(modules, &memory, top, 100);
     for _ in 0..frames {
         assert!(rt; walk.next().is_some());
@@ -347,10 +332,7 @@ fn a_frame_without_a_caller_stays(rt: HostRuntime) -> Result<(), Fail> {
     let modules = [module(LIB, &lib, &data)];
     let modules = Modules::new(&modules).map_err(|_| "one module ascends")?;
     let bytes = bytes_of(alloc, &[0, 0, 0, 0, 0xB1])?;
-    let memory = Stack {
-        start: 0x1000,
-        bytes: &bytes,
-    };
+    let memory = stack_at(0x1000, &bytes);
     let mut top = registers(LIB + 0x50, 0x1000);
     top.general[RBX] = 0xB0;
     let frame = StackFrame {
@@ -398,10 +380,7 @@ fn an_image_without_exception_data_has_calls(rt: HostRuntime) -> Result<(), Fail
         ),
     ] {
         let bytes = bytes_of(rt.alloc(), &words)?;
-        let memory = Stack {
-            start: 0x1000,
-            bytes: &bytes,
-        };
+        let memory = stack_at(0x1000, &bytes);
         let mut walk = StackFrames::new(modules, &memory, registers(APP + 0x90, 0x1000), 9);
         let top = walk.next().ok_or("the top frame")?;
         assert_eq!(rt; (top.way, top.is_guess), (Way::Top, false));
@@ -513,10 +492,7 @@ fn expect_frames(
     end: &str,
 ) -> Result<(), Fail> {
     let bytes = bytes_of(alloc, words)?;
-    let memory = Stack {
-        start: 0x1000,
-        bytes: &bytes,
-    };
+    let memory = stack_at(0x1000, &bytes);
     let top = registers(top.0, top.1);
     expect_frames_over(rt, alloc, top, &memory, frames, end)
 }
@@ -610,33 +586,6 @@ fn a_scan_finds_the_call_of_the_function_first(rt: HostRuntime) -> Result<(), Fa
     expect_frames(&rt, alloc, (APP + 0x90, 0x1000), &words, &frames, ZERO)
 }
 
-/// Where several functions share such code, the call that leads nearest to the frame is that of its function: those that end at 0xB0,
-/// 0x5A and 0xB8 lead to 0x80, 0x84 and 0x90. Of two that lead to one function the first is taken.
-#[test]
-fn a_scan_finds_the_call_of_the_nearest_function(rt: HostRuntime) -> Result<(), Fail> {
-    let alloc = rt.alloc();
-    for (calls, index) in [
-        ([0xB0, 0x5A, 0xB8], 2),
-        ([0xB0, 0xB8, 0x5A], 1),
-        ([0xB8, 0x5A, 0xB0], 0),
-        ([0xB0, 0x5A, 0x5A], 1),
-        ([0x5A, 0xB0, 0x50], 0),
-    ] {
-        let mut words = [0; 10];
-        words[0] = 7;
-        for (word, call) in words[1..].iter_mut().zip(calls) {
-            *word = APP + call;
-        }
-        let rsp = 0x1010 + 8 * index as u64;
-        let frames = [
-            (APP + 0x90, 0x1000, Way::Top, false),
-            (APP + calls[index], rsp, Way::Scanned, true),
-        ];
-        expect_frames(&rt, alloc, (APP + 0x90, 0x1000), &words, &frames, ZERO)?;
-    }
-    Ok(())
-}
-
 /// Nor do the callers of a call in such a function have records: the stack is scanned from there too, up to a function that has some.
 #[test]
 fn a_scan_finds_the_callers_of_calls_without_records(rt: HostRuntime) -> Result<(), Fail> {
@@ -661,10 +610,7 @@ fn expect_chain(
     frames: &[Frame],
 ) -> Result<(), Fail> {
     let bytes = bytes_of(alloc, words)?;
-    let memory = Stack {
-        start: 0x1000,
-        bytes: &bytes,
-    };
+    let memory = stack_at(0x1000, &bytes);
     let mut top = registers(APP + 0x90, 0x1000);
     top.general[RBP] = pointer;
     expect_frames_over(rt, alloc, top, &memory, frames, ZERO)
@@ -753,46 +699,6 @@ fn a_frame_at_no_call_was_interrupted(rt: HostRuntime) -> Result<(), Fail> {
         at_the_call(0x1040, Way::Records),
     ];
     expect_frames(&rt, alloc, (APP + 0x70, 0x1000), &words, &frames, BOTTOM)
-}
-
-/// A fiber runs on a stack of its own. Its frames end at the bottom of that, and those of the thread that switched to it at the
-/// bottom of the thread's stack, whichever of the two is higher.
-#[test]
-fn a_fiber_has_a_stack_of_its_own(rt: HostRuntime) -> Result<(), Fail> {
-    let alloc = rt.alloc();
-    // The function that pushes rbx twice, the second one at its call; its outermost frame returns to 0.
-    let fiber = bytes_of(alloc, &[0, 0, 0, 0, 0xB1, APP + 0x50, 0, 0, 0, 0, 0xB2, 0])?;
-    // The thread has called a function without a record, which switched to the fiber.
-    let thread = bytes_of(alloc, &OUTERMOST)?;
-    for start in [0x400, 0x8000] {
-        let own = Stack {
-            start,
-            bytes: &fiber,
-        };
-        let other = Stack {
-            start: 0x1000,
-            bytes: &thread,
-        };
-        let pieces = if start < 0x1000 {
-            [own, other]
-        } else {
-            [other, own]
-        };
-        let memory = StackPieces::new(&pieces);
-        let frames = [
-            (APP + 0x48, start, Way::Top, false),
-            at_the_call(start + 0x30, Way::Records),
-        ];
-        let top = registers(APP + 0x48, start);
-        expect_frames_over(&rt, alloc, top, &memory, &frames, BOTTOM)?;
-        let frames = [
-            (APP + 0x90, 0x1000, Way::Top, false),
-            at_the_call(0x1008, Way::Leaf),
-        ];
-        let top = registers(APP + 0x90, 0x1000);
-        expect_frames_over(&rt, alloc, top, &memory, &frames, BOTTOM)?;
-    }
-    Ok(())
 }
 
 #[test]
@@ -925,101 +831,6 @@ fn a_leaf_function_returns_into_a_module_without_an_image(rt: HostRuntime) -> Re
     expect_guesses(&rt, alloc, &[low, app], &[0xFFFF, 7], &frames, end)
 }
 
-/// In a module whose image is not at hand, where no return address into code is found, each address of such a module may be one: one to
-/// which the frame pointer leads, else the first on the stack. None below 64 KB is, nor is any from no module.
-#[test]
-fn without_images_stacks_are_walked_by_the_ranges_of_modules(rt: HostRuntime) -> Result<(), Fail> {
-    let alloc = rt.alloc();
-    let program = program(alloc)?;
-    let data = exceptions(&program, 3)?;
-    let sections = [section(0x40, 0x80, CODE), section(0xC0, 0x40, DATA)];
-    let app = Module {
-        size: 0x100,
-        sections: &sections,
-        ..module(APP, &program, &data)
-    };
-    let unknown = Module {
-        base: LIB,
-        bytes: &[],
-        sections: &[],
-        exceptions: None,
-        ..app
-    };
-    let end = WalkEnd::NoModule;
-    let top = (LIB + 0x90, 0x1000, Way::Top, false);
-    let first = (LIB + 0x44, 0x1010, Way::Scanned, true);
-    let last = (LIB + 0x100, 0x1020, Way::Scanned, true);
-    let words = [7, LIB + 0x44, LIB, LIB + 0x100, LIB + 0x101];
-    expect_guesses(&rt, alloc, &[unknown], &words, &[top, first, last], end)?;
-    // A return address into code comes before them.
-    let words = [7, LIB + 0x44, APP + 0x50, 0, 0, 0, 0, 0xB0, 0];
-    let call = (APP + 0x50, 0x1018, Way::Scanned, true);
-    expect_guesses(
-        &rt,
-        alloc,
-        &[app, unknown],
-        &words,
-        &[top, call],
-        WalkEnd::Zero,
-    )?;
-    let outside = (0, 0x1000, Way::Top, false);
-    let words = [7, LIB + 0x44];
-    expect_guesses(
-        &rt,
-        alloc,
-        &[unknown],
-        &words,
-        &[outside],
-        WalkEnd::NoModule,
-    )?;
-    let low = Module {
-        base: 0xFFF0,
-        ..unknown
-    };
-    let words = [7, 0xFFFF, 0x1_0000];
-    let found = (0x1_0000, 0x1018, Way::Scanned, true);
-    expect_guesses(
-        &rt,
-        alloc,
-        &[low, unknown],
-        &words,
-        &[top, found],
-        WalkEnd::NoModule,
-    )?;
-    // The frame pointer of the second record leads nowhere.
-    let bytes = bytes_of(
-        alloc,
-        &[7, LIB + 0x44, 0x1020, LIB + 0x60, 7, LIB + 0x70, 9],
-    )?;
-    let memory = Stack {
-        start: 0x1000,
-        bytes: &bytes,
-    };
-    let mut top = registers(LIB + 0x90, 0x1000);
-    top.general[RBP] = 0x1010;
-    let modules = [unknown];
-    let modules = Modules::new(&modules).map_err(|_| "the modules ascend")?;
-    let mut walk = StackFrames::new(modules, &memory, top, 100);
-    walk.next().ok_or("the top frame")?;
-    for (rip, rsp, rbp, way) in [
-        (LIB + 0x60, 0x1020, 0x1020, Way::FramePointer),
-        (LIB + 0x70, 0x1030, 0x1020, Way::Scanned),
-    ] {
-        let found = walk.next().ok_or("a frame")?;
-        let general = found.registers.general;
-        assert_eq!(rt;
-            (found.registers.rip, general[RSP], general[RBP]),
-            (rip, rsp, rbp)
-        );
-        assert_eq!(rt;
-            (found.way, found.has_called, found.is_guess),
-            (way, true, true)
-        );
-    }
-    assert!(rt; walk.next().is_none());
-    Ok(())
-}
-
 /// The walk from the first of these frames, over words from address 0x1000 on, has these, all of them guesses but the first, and ends
 /// so.
 fn expect_guesses(
@@ -1032,10 +843,7 @@ fn expect_guesses(
 ) -> Result<(), Fail> {
     let modules = Modules::new(modules).map_err(|_| "the modules ascend")?;
     let bytes = bytes_of(alloc, words)?;
-    let memory = Stack {
-        start: 0x1000,
-        bytes: &bytes,
-    };
+    let memory = stack_at(0x1000, &bytes);
     let top = registers(frames[0].0, frames[0].1);
     let mut walk = StackFrames::new(modules, &memory, top, 100);
     for (index, frame) in frames.iter().enumerate() {
@@ -1159,38 +967,6 @@ fn code_returns_are_of_executable_sections(rt: HostRuntime) -> Result<(), Fail> 
         &[(0x20, false), (0x22, true), (0x42, false)],
     )?;
     expect_code_returns(&rt, alloc, &[], &[(0x22, false)])
-}
-
-/// No valid image has such sections. By the definition the search asks the section with the number 2 first, counted from 1:
-/// where it starts at or before the last byte of the call, the one with the number 3 next, and else the one with the number 1.
-/// The last of those that start so is asked, and no other.
-#[test]
-fn code_returns_have_one_answer_in_any_order(rt: HostRuntime) -> Result<(), Fail> {
-    let alloc = rt.alloc();
-    let unordered = [
-        section(0x80, 0x20, CODE),
-        section(0x20, 0x20, CODE),
-        section(0x40, 0x20, CODE),
-    ];
-    let rvas = [
-        (0x10, false), // 2 starts after it, and 1 too
-        (0x22, true), // 2 does not, but 3
-        (0x42, true), // neither 2 nor 3
-        (0x82, false), // the same: 3 is asked, and 1 not, which has it
-    ];
-    expect_code_returns(&rt, alloc, &unordered, &rvas)?;
-    let overlapping = [
-        section(0x20, 0x40, CODE),
-        section(0x40, 0x10, DATA),
-        section(0x80, 0x20, CODE),
-    ];
-    let rvas = [
-        (0x22, true), // 2 starts after it, and 1 not
-        (0x42, false), // 3 starts after it, and 2 not: data, though 1 has it too
-        (0x52, false), // the same, though 1 alone has it
-        (0x82, true),
-    ];
-    expect_code_returns(&rt, alloc, &overlapping, &rvas)
 }
 
 /// Whether an address is one after a call, where these bytes end at it, at the end of a module.
@@ -1337,65 +1113,6 @@ fn modules_ascend(rt: HostRuntime) -> Result<(), Fail> {
     Ok(())
 }
 
-/// The words at these addresses.
-fn expect_words(
-    rt: &impl Abort,
-    pieces: &[Stack<'_>],
-    words: &[(u64, Option<u64>)],
-) -> Result<(), Fail> {
-    let memory = StackPieces::new(pieces);
-    for (address, word) in words {
-        assert_eq!(rt; memory.u64_at(*address), *word);
-    }
-    Ok(())
-}
-
-#[test]
-fn pieces_that_touch_hold_a_word_together(rt: HostRuntime) -> Result<(), Fail> {
-    let piece = |start, bytes| Stack { start, bytes };
-    let (first, second) = (
-        piece(0x100, &[1, 2, 3, 4, 5, 6, 7, 8, 9, 10]),
-        piece(0x10A, &[11, 12, 13, 14, 15, 16]),
-    );
-    let last = piece(u64::MAX - 7, &[7, 0, 0, 0, 0, 0, 0, 0, 1, 1]);
-    let words = [
-        (0xFF, None),
-        (0x100, Some(0x0807_0605_0403_0201)),
-        (0x102, Some(0x0A09_0807_0605_0403)),
-        (0x105, Some(0x0D0C_0B0A_0908_0706)),
-        (0x108, Some(0x100F_0E0D_0C0B_0A09)),
-        (0x109, None),
-        (u64::MAX - 7, Some(7)),
-        (u64::MAX - 6, None),
-    ];
-    expect_words(&rt, &[first, second, last], &words)?;
-    // In any order they are the same memory.
-    expect_words(&rt, &[last, second, first], &words)?;
-    // Without the piece between them, or a byte of it, what crosses is not known.
-    expect_words(
-        &rt,
-        &[first, piece(0x10B, &[0; 16])],
-        &[(0x102, words[2].1), (0x103, None)],
-    )?;
-    // Of pieces that overlap the first has a byte.
-    let other = piece(0x104, &[0xAA; 8]);
-    expect_words(
-        &rt,
-        &[first, other],
-        &[(0x104, Some(0xAAAA_0A09_0807_0605))],
-    )?;
-    expect_words(
-        &rt,
-        &[other, first],
-        &[(0x104, Some(0xAAAA_AAAA_AAAA_AAAA))],
-    )?;
-    expect_words(
-        &rt,
-        &[other, first],
-        &[(0x102, Some(0xAAAA_AAAA_AAAA_0403))],
-    )
-}
-
 #[test]
 fn an_error_of_memory_names_its_address(rt: HostRuntime) -> Result<(), Fail> {
     let memory = StackPieces::new(&[]);
@@ -1404,20 +1121,11 @@ fn an_error_of_memory_names_its_address(rt: HostRuntime) -> Result<(), Fail> {
     Ok(())
 }
 
-/// A piece of a list.
-fn listed(start: u64, offset: u64, length: u64) -> MemoryPiece {
-    MemoryPiece {
-        start,
-        offset,
-        length,
-    }
-}
-
 /// Memory by a list has the bytes where it says; what does not lie in them is refused with its offset and its length.
 #[test]
 fn lists_of_pieces_say_where_the_bytes_are(rt: HostRuntime) -> Result<(), Fail> {
     let bytes = [8, 7, 6, 5, 4, 3, 2, 1, 16, 15, 14, 13, 12, 11, 10, 9];
-    let pieces = [listed(0x100, 8, 8), listed(0x108, 0, 8)];
+    let pieces = [piece_at(0x100, 8, 8), piece_at(0x108, 0, 8)];
     let memory = MemoryList::new(&bytes, &pieces).map_err(|_| "pieces that are inside")?;
     for (address, word) in [
         (0xFF, None),
@@ -1428,7 +1136,7 @@ fn lists_of_pieces_say_where_the_bytes_are(rt: HostRuntime) -> Result<(), Fail> 
     ] {
         assert_eq!(rt; memory.u64_at(address), word);
     }
-    let outside = [listed(0, 16, 0), listed(0x100, 9, 8)];
+    let outside = [piece_at(0, 16, 0), piece_at(0x100, 9, 8)];
     let refused = MemoryList::new(&bytes, &outside);
     assert!(rt; matches!(refused, Err(pe_core::Error::Short { at: 9, needed: 8 })));
     Ok(())
@@ -1448,7 +1156,7 @@ fn words_of_many_pieces_are_found_soon(rt: HostRuntime) -> Result<(), Fail> {
         } else {
             count + index
         };
-        pieces.push(listed(start, index, 1))?;
+        pieces.push(piece_at(start, index, 1))?;
     }
     let memory = MemoryList::new(&bytes, &pieces).map_err(|_| "pieces that are inside")?;
     let mut known = 0;
@@ -1469,19 +1177,19 @@ fn searched_pieces_are_tested_as_they_are_used(rt: HostRuntime) -> Result<(), Fa
     let bytes = [8, 7, 6, 5, 4, 3, 2, 1, 16, 15, 14, 13, 12, 11, 10, 9];
     let (first, second) = (0x0102_0304_0506_0708, 0x090A_0B0C_0D0E_0F10);
     let ascending = [
-        listed(0x100, 8, 8),
-        listed(0x108, 0, 8),
-        listed(0x200, 9, 8),
+        piece_at(0x100, 8, 8),
+        piece_at(0x108, 0, 8),
+        piece_at(0x200, 9, 8),
     ];
     let overlapping = [
-        listed(0x100, 0, 16),
-        listed(0x108, 0, 8),
-        listed(0x200, 0, 8),
+        piece_at(0x100, 0, 16),
+        piece_at(0x108, 0, 8),
+        piece_at(0x200, 0, 8),
     ];
     let unordered = [
-        listed(0x108, 0, 8),
-        listed(0x100, 8, 8),
-        listed(0x200, 0, 8),
+        piece_at(0x108, 0, 8),
+        piece_at(0x100, 8, 8),
+        piece_at(0x200, 0, 8),
     ];
     for (pieces, address, word) in [
         (&ascending, 0xFF, None),
@@ -1499,34 +1207,5 @@ fn searched_pieces_are_tested_as_they_are_used(rt: HostRuntime) -> Result<(), Fa
         assert_eq!(rt; SearchedMemory::new(&bytes, pieces).u64_at(address), word);
     }
     assert_eq!(rt; SearchedMemory::new(&bytes, &[]).u64_at(0x100), None);
-    Ok(())
-}
-
-/// A word of ascending pieces, of which some touch, is that of the list, also where only some of its bytes are there.
-#[test]
-fn searched_words_are_those_of_the_list(rt: HostRuntime) -> Result<(), Fail> {
-    let mut bytes = Vec::new(rt.alloc());
-    let mut pieces = Vec::new(rt.alloc());
-    let mut start = 0;
-    for index in 0..1000 {
-        bytes.push((index % 251) as u8)?;
-        // Pieces of 1 to 13 bytes, which overlap in the bytes, with gaps of 0 to 2.
-        let length = (index * index % 13 + 1).min(index + 1);
-        pieces.push(listed(start, index + 1 - length, length))?;
-        start += length + index % 3;
-    }
-    let memory = MemoryList::new(&bytes, &pieces).map_err(|_| "pieces that are inside")?;
-    assert!(rt; memory.is_ascending());
-    let searched = SearchedMemory::new(&bytes, &pieces);
-    let mut known = 0;
-    for address in 0..start + 16 {
-        assert_eq!(rt; searched.u64_at(address), memory.u64_at(address));
-        if memory.u64_at(address).is_some() {
-            known += 1;
-        }
-    }
-    assert!(rt; known > 100);
-    assert_eq!(rt; searched.u64_at(u64::MAX), None);
-    assert_eq!(rt; searched.u64_at(u64::MAX - 7), None);
     Ok(())
 }

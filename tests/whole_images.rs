@@ -1,14 +1,14 @@
 //! Whole images, in both modes: each field of an image, what refuses it, and what the options leave out.
 
 use crate::images::{
-    headers_alone, image, with_byte, with_exports, with_functions, with_imports, with_part,
-    with_resources,
+    function_at, headers_alone, image, reason_in, with_byte, with_exports, with_functions,
+    with_imports, with_part,
 };
 use crate::imports::{check_imports, sharing};
 use pe_image::{
     AttributeCertificateRevision, AttributeCertificateType, DebugData, Error, ExceptionData,
     Limits, MAGIC_32, MAGIC_64, PE, ParseMode, ParseOptions, Reason, Register, ReproInfo,
-    RuntimeFunction, UnwindCode, UnwindOperation,
+    UnwindCode, UnwindOperation,
 };
 use std::alloc::{AllocError, Allocator, Global};
 use std::process::Abort;
@@ -91,11 +91,7 @@ fn check_functions(rt: &impl Abort, pe: &PE<'_>) -> Result<(), Fail> {
     let want = [(0x1000, 0x1010, 0x1020), (0x1020, 0x1040, 0x1001)];
     assert_eq!(rt; data.len(), want.len());
     for (i, (begin_address, end_address, unwind_info_address)) in want.iter().enumerate() {
-        let function = RuntimeFunction {
-            begin_address: *begin_address,
-            end_address: *end_address,
-            unwind_info_address: *unwind_info_address,
-        };
+        let function = function_at(*begin_address, *end_address, *unwind_info_address);
         assert_eq!(rt; data.get_function(i)?, function, "function {i}");
     }
     let opts = ParseOptions::default();
@@ -270,17 +266,6 @@ fn pe32_library(rt: HostRuntime) -> Result<(), Fail> {
     Ok(())
 }
 
-#[test]
-fn refused_exports_are_absent(rt: HostRuntime) -> Result<(), Fail> {
-    let bytes = with_part(with_exports(rt.alloc())?, 0x27C, &[0, 0x30, 0, 0]);
-    for mode in MODES {
-        let pe = PE::parse_with_opts(rt.alloc(), &bytes, &in_mode(mode))?;
-        assert!(rt; has_no_exports(&pe));
-        check_listed(&rt, &pe)?;
-    }
-    Ok(())
-}
-
 /// What refuses the imports refuses the image in both modes, unless the options pass imports over.
 #[test]
 fn refused_imports(rt: HostRuntime) -> Result<(), Fail> {
@@ -293,6 +278,9 @@ fn refused_imports(rt: HostRuntime) -> Result<(), Fail> {
             (&no_text, Reason::ImportName(0x1090)),
         ] {
             let refused = refusal(alloc, bytes, mode)?;
+            assert!(rt; matches!(refused, Error::Malformed(found) if found == reason));
+            let unlisted = PE::parse_without_lists(alloc, bytes, &in_mode(mode));
+            let refused = unlisted.err().ok_or("given")?;
             assert!(rt; matches!(refused, Error::Malformed(found) if found == reason));
             let opts = ParseOptions {
                 parse_imports: false,
@@ -366,53 +354,21 @@ fn limited_imports_of_one_list(rt: HostRuntime) -> Result<(), Fail> {
             ..in_mode(mode)
         };
         let refused = refusal_above(alloc, &bytes, &opts, 1_000_000)?;
-        assert!(rt;
-            matches!(
-                refused,
-                Error::Malformed(Reason::ImportsLimit {
-                    count: 3_276_800_000,
-                    limit: 1_000_000
-                })
-            )
+        assert_eq!(rt;
+            reason_in(refused),
+            Some(Reason::ImportsLimit {
+                count: 3_276_800_000,
+                limit: 1_000_000
+            })
         );
     }
-    Ok(())
-}
-
-#[test]
-fn refused_resources(rt: HostRuntime) -> Result<(), Fail> {
-    let bytes = with_part(with_resources(rt.alloc())?, 0x294, &[0x20, 0, 0, 0x80]);
-    let pe = permissive_alone(&rt, rt.alloc(), &bytes, Reason::ResourceCycle(0x20))?;
-    assert!(rt; pe.resource_data.is_none());
-    check_listed(&rt, &pe)?;
     let opts = ParseOptions {
-        parse_resources: false,
-        ..ParseOptions::default()
+        resolve_rva: false,
+        ..in_mode(ParseMode::Permissive)
     };
-    let pe = PE::parse_with_opts(rt.alloc(), &bytes, &opts)?;
-    assert!(rt; pe.resource_data.is_none());
-    check_listed(&rt, &pe)
-}
-
-#[test]
-fn refused_relocations(rt: HostRuntime) -> Result<(), Fail> {
-    let bytes = with_part(
-        with_functions(rt.alloc())?,
-        0xF0,
-        &[0, 0x30, 0, 0, 8, 0, 0, 0],
-    );
-    let pe = permissive_alone(&rt, rt.alloc(), &bytes, Reason::Unmapped(0x3000))?;
-    assert!(rt; pe.relocation_data.is_none());
-    check_listed(&rt, &pe)
-}
-
-#[test]
-fn refused_exceptions(rt: HostRuntime) -> Result<(), Fail> {
-    let bytes = with_byte(with_functions(rt.alloc())?, 0xE4, 0x20);
-    let pe = permissive_alone(&rt, rt.alloc(), &bytes, Reason::ExceptionSize(32))?;
-    assert!(rt; pe.exception_data.is_none());
-    check_debug(&rt, &pe.debug_data)?;
-    check_certificate(&rt, &pe)
+    let pe = PE::parse_without_lists(alloc, &bytes, &opts)?;
+    assert!(rt; pe.imports.is_empty());
+    Ok(())
 }
 
 /// The table of debug entries goes on to the end of the file: sixteen whole entries and one that is truncated.

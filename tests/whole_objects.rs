@@ -1,7 +1,7 @@
 //! TE images and COFF objects as one value.
 
-use crate::images::{image, object, te, te_with_debug, with_byte, with_part};
-use pe_image::{Coff, DataDirectory, DebugData, Error, Reason, ReproInfo, TE};
+use crate::images::{directory_at, image, object, short, short_in, te, te_with_debug, with_byte};
+use pe_image::{Coff, DebugData, Error, Reason, ReproInfo, TE};
 use std::alloc::Global;
 use std::process::Abort;
 use std::test::Fail;
@@ -49,10 +49,7 @@ fn te_image_without_sections(rt: HostRuntime) -> Result<(), Fail> {
 fn debug_data_of_a_te_image(rt: HostRuntime) -> Result<(), Fail> {
     let bytes = te_with_debug(rt.alloc())?;
     let te = TE::parse(rt.alloc(), &bytes)?;
-    let directory = DataDirectory {
-        virtual_address: 0x50,
-        size: 0x38,
-    };
+    let directory = directory_at(0x50, 0x38);
     assert_eq!(rt; te.header.debug_dir, directory);
     let guid = *b"\x10\x11\x12\x13\x14\x15\x16\x17\x18\x19\x1A\x1B\x1C\x1D\x1E\x1F";
     assert_eq!(rt; te.debug_data.guid(), Some(guid));
@@ -81,15 +78,7 @@ fn refuses_te_images(rt: HostRuntime) -> Result<(), Fail> {
     let sections = with_byte(past_the_end, 4, 4);
     let refused = te_refusal(alloc, &sections)?;
     let found = refused;
-    assert!(rt;
-        matches!(
-            found,
-            Error::Short {
-                at: 40,
-                needed: 160
-            }
-        )
-    );
+    assert_eq!(rt; short_in(found), short(40, 160));
     let size = with_byte(te_with_debug(alloc)?, 0x60, 23);
     let refused = te_refusal(alloc, &size)?;
     assert!(rt; matches!(refused, Error::Malformed(Reason::DebugSize(23))));
@@ -169,15 +158,7 @@ fn sections_after_an_optional_header(rt: HostRuntime) -> Result<(), Fail> {
     let front = bytes.get(..0x43B).ok_or("fewer bytes")?;
     let refused = Coff::parse(rt.alloc(), front).err().ok_or("given")?;
     let found = refused;
-    assert!(rt;
-        matches!(
-            found,
-            Error::Short {
-                at: 0x414,
-                needed: 40
-            }
-        )
-    );
+    assert_eq!(rt; short_in(found), short(0x414, 40));
     Ok(())
 }
 

@@ -1,10 +1,10 @@
 //! Images, sections and certificates as they are written.
 
 use crate::images::{
-    headers_alone, image, pointer_below_64, put, with_every_directory, with_functions, with_part,
+    headers_alone, image, pointer_below_64, put, reason_in, with_functions, with_part,
 };
 use crate::whole_images::in_mode;
-use pe_image::{CertificateList, Error, ImageWriter, PE, ParseMode, ParseOptions, Reason};
+use pe_image::{CertificateList, Error, PE, ParseMode, Reason};
 use std::alloc::{AllocError, Global};
 use std::process::Abort;
 use std::test::Fail;
@@ -168,43 +168,6 @@ fn refuses_what_can_not_be_written(rt: HostRuntime) -> Result<(), Fail> {
     Ok(())
 }
 
-/// Each error comes before those after it: all of them at once, and one less each time. A whole file has the last three alone.
-#[test]
-fn refuses_in_order(rt: HostRuntime) -> Result<(), Fail> {
-    let alloc = rt.alloc();
-    let permissive = in_mode(ParseMode::Permissive);
-    let two = with_part(with_functions(alloc)?, 0x46, &[2]);
-    let header: Vec<u8> = Vec::from_slice(alloc, two.get(0x148..0x170).ok_or("short")?)?;
-    let mut bytes = two;
-    // The second section's data pass the end of the file.
-    put(&mut bytes, &[(0x170, &header), (0x180, &[0xFF, 0xFF])]);
-    put(&mut bytes, &[(0x4C, &[1]), (0x7C, &[0, 3])]);
-    for (offset, part, reason) in [
-        (0x7C, [0, 3].as_slice(), Reason::WriteAlignment(0x300)),
-        (0x7C, &[0, 2], Reason::WriteSymbols(1)),
-        (0x4C, &[0], Reason::WriteOverlap(0, 1)),
-        // The first section has no bytes, and the second has too many.
-        (0x158, &[0, 0, 0, 0], Reason::WriteSection(1)),
-    ] {
-        put(&mut bytes, &[(offset, part)]);
-        let pe = PE::parse_with_opts(alloc, &bytes, &permissive)?;
-        is_refused(&rt, alloc, &pe, Writer::Image, 8, reason)?;
-        let of_file = match reason {
-            Reason::WriteSection(k) => Reason::WriteSection(k),
-            _ => Reason::WriteOverlap(0, 1),
-        };
-        is_refused(&rt, alloc, &pe, Writer::Whole, 8, of_file)?;
-    }
-    // The second section has no bytes either.
-    put(&mut bytes, &[(0x180, &[0, 0])]);
-    let pe = PE::parse_with_opts(alloc, &bytes, &permissive)?;
-    let fit = Reason::WriteFit {
-        end: SIZE as u64,
-        length: 8,
-    };
-    is_refused(&rt, alloc, &pe, Writer::Whole, 8, fit)
-}
-
 /// The image with functions and these sections' raw sizes and pointers, at addresses of their own.
 fn with_sections(alloc: Global, data: [[u32; 2]; 4]) -> Result<Vec<u8>, AllocError> {
     let mut bytes = with_part(with_functions(alloc)?, 0x46, &[4]);
@@ -358,67 +321,6 @@ fn with_rows<'a>(alloc: Global, bytes: &'a [u8], rows: &[(u32, u32)]) -> Result<
     Ok(pe)
 }
 
-/// Each section has zeros up to 8 bytes, which lie over the sections before it, and later ones over them.
-#[test]
-fn writes_later_sections_over_others(rt: HostRuntime) -> Result<(), Fail> {
-    let alloc = rt.alloc();
-    let mut bytes = with_functions(alloc)?;
-    put(
-        &mut bytes,
-        &[(0x300, &[1, 2, 3, 4, 5, 6, 7, 8]), (0x30C, &[9])],
-    );
-    // What is left from 0x300 on; bytes that none covers are 0x55.
-    let cases: [(&[(u32, u32)], &[u8]); 8] = [
-        // They rise, also with empty ones between them.
-        (
-            &[(0x300, 1), (0x302, 1), (0x304, 1)],
-            &[1, 0, 3, 0, 5, 0, 0, 0, 0, 0, 0, 0, 0x55],
-        ),
-        (
-            &[(0x300, 1), (0x301, 0), (0x301, 0), (0x304, 2)],
-            &[1, 0, 0, 0, 5, 6, 0, 0, 0, 0, 0, 0, 0x55],
-        ),
-        // They fall: the zeros of the last cover the data of the others.
-        (
-            &[(0x304, 1), (0x302, 1), (0x300, 1)],
-            &[1, 0, 0, 0, 0, 0, 0, 0, 0, 0, 0, 0, 0x55],
-        ),
-        // They do neither.
-        (
-            &[(0x304, 1), (0x300, 2), (0x306, 1)],
-            &[1, 2, 0, 0, 0, 0, 7, 0, 0, 0, 0, 0, 0, 0, 0x55],
-        ),
-        // The next one lies inside the zeros, or apart from them.
-        (
-            &[(0x300, 9), (0x30A, 1), (0x309, 0)],
-            &[1, 2, 3, 4, 5, 6, 7, 8, 0, 0, 0, 0, 0, 0, 0, 0, 0, 0, 0x55],
-        ),
-        (
-            &[(0x300, 1), (0x30C, 1)],
-            &[
-                1, 0, 0, 0, 0, 0, 0, 0, 0x55, 0x55, 0x55, 0x55, 9, 0, 0, 0, 0, 0, 0, 0, 0x55,
-            ],
-        ),
-        // They are equal.
-        (
-            &[(0x300, 8), (0x308, 0), (0x300, 8), (0x300, 8)],
-            &[1, 2, 3, 4, 5, 6, 7, 8, 0x55],
-        ),
-        (&[(0x302, 0), (0x302, 0)], &[0x55, 0x55, 0x55]),
-    ];
-    for (rows, left) in cases {
-        let pe = with_rows(alloc, &bytes, rows)?;
-        let mut written = buffer(alloc, 0x400, 0x55)?;
-        let mut offset = 0x148;
-        let end = pe.write_sections(&mut written, &mut offset, Some(8))?;
-        assert_eq!(rt; end, 0x148 + 40 * rows.len());
-        let mut expected = buffer(alloc, 0x400, 0x55)?;
-        put(&mut expected, &[(0x300, left)]);
-        assert!(rt; written.get(end..) == expected.get(end..), "{rows:?}");
-    }
-    Ok(())
-}
-
 /// The data of two equal sections lie over the section table: the second writes the header of the first over, and its
 /// own header after its data.
 #[test]
@@ -462,32 +364,6 @@ fn writes_certificates_alone(rt: HostRuntime) -> Result<(), Fail> {
     Ok(())
 }
 
-/// Every buffer that is too short is refused and stays as it was.
-#[test]
-fn refuses_short_buffers(rt: HostRuntime) -> Result<(), Fail> {
-    let alloc = rt.alloc();
-    let bytes = with_functions(alloc)?;
-    let pe = PE::parse(alloc, &bytes)?;
-    for (writer, needed) in [
-        (Writer::Image, 0x410),
-        (Writer::Whole, 0x410),
-        (Writer::Sections(0x148, Some(0x200)), 0x400),
-        (Writer::Certificates, 0x410),
-    ] {
-        for len in 0..needed {
-            let mut written = buffer(alloc, len, 0x55)?;
-            let refusal = writer.write(&pe, &mut written).err().ok_or("written")?;
-            assert!(rt;
-                matches!(refusal, Error::Malformed(Reason::WriteFit { length, .. }) if length == len)
-            );
-            assert!(rt; written.iter().all(|byte| *byte == 0x55));
-        }
-        let mut written = buffer(alloc, needed, 0)?;
-        assert!(rt; writer.write(&pe, &mut written).is_ok());
-    }
-    Ok(())
-}
-
 /// How many bytes the writers need, by the layout: the certificate ends at 0x410, the section with its zeros at 0x400 and
 /// its data at 0x3F0; five bytes follow the certificate.
 #[test]
@@ -505,12 +381,7 @@ fn returns_how_many_bytes_are_needed(rt: HostRuntime) -> Result<(), Fail> {
     assert_eq!(rt; pe.write_into(&mut written)?, 0x3F0);
     assert!(rt; pe.write_into(&mut written[..0x3FF]).is_err());
     pe.header.coff_header.pointer_to_symbol_table = 7;
-    assert!(rt;
-        matches!(
-            pe.written_len(),
-            Err(Error::Malformed(Reason::WriteSymbols(7)))
-        )
-    );
+    assert_eq!(rt; reason_in(pe.written_len()), Some(Reason::WriteSymbols(7)));
     assert_eq!(rt; pe.whole_len()?, 0x415);
     Ok(())
 }
@@ -529,33 +400,6 @@ fn writes_what_was_changed(rt: HostRuntime) -> Result<(), Fail> {
     let again = PE::parse(alloc, &written)?;
     assert!(rt; again.header == pe.header);
     assert_eq!(rt; again.certificates.len(), 1);
-    Ok(())
-}
-
-/// What no field describes stays as it is in the file, where `write_into` refuses the image or writes zeros: a pointer to COFF
-/// symbols, bytes after a section's data, bytes between the headers and the section, and those after the certificate.
-#[test]
-fn writes_a_whole_file(rt: HostRuntime) -> Result<(), Fail> {
-    let alloc = rt.alloc();
-    let mut bytes = with_functions(alloc)?;
-    put(
-        &mut bytes,
-        &[
-            (0x4C, &[3, 2, 1]),
-            (0x158, &[0xF0, 1, 0, 0]),
-            (0x170, &[8; 0x90]),
-            (0x3F0, &[7; 16]),
-        ],
-    );
-    bytes.extend_from_slice(&[1, 2, 3, 4, 5])?;
-    let mut expected = Vec::from_slice(alloc, &bytes)?;
-    put(&mut expected, &[(0x48, &[0x44, 0x33, 0x22, 0x11])]);
-    expected.extend_from_slice(&[0x55, 0x55])?;
-    let mut pe = PE::parse(alloc, &bytes)?;
-    pe.header.coff_header.time_date_stamp = 0x1122_3344;
-    let mut written = buffer(alloc, 0x417, 0x55)?;
-    assert_eq!(rt; pe.write_whole(&mut written)?, 0x415);
-    assert!(rt; written == expected);
     Ok(())
 }
 
@@ -603,49 +447,6 @@ fn writes_certificates_at_an_odd_offset(rt: HostRuntime) -> Result<(), Fail> {
     assert_eq!(rt; pe.write_certificates(&mut written)?, 0x40F);
     let certificate = [9, 0, 0, 0, 0, 2, 2, 0, 0xAA, 0, 0, 0, 0, 0, 0, 0, 0x55];
     assert!(rt; written.get(0x3FF..) == Some(certificate.as_slice()));
-    Ok(())
-}
-
-/// The parts of an image are written as the image is, with the two certificates of its table, and without a list of them.
-#[test]
-fn writes_parts_as_an_image(rt: HostRuntime) -> Result<(), Fail> {
-    let alloc = rt.alloc();
-    let bytes = with_every_directory(alloc)?;
-    let pe = PE::parse(alloc, &bytes)?;
-    let opts = ParseOptions::default();
-    let writer = ImageWriter {
-        source: &bytes,
-        header: &pe.header,
-        sections: &pe.sections,
-        certificates: CertificateList::of_image(&bytes, &pe.header, &opts)?,
-    };
-    let (mut parts, mut value) = (buffer(alloc, 0xA20, 0x55)?, buffer(alloc, 0xA20, 0x55)?);
-    assert_eq!(rt;
-        (writer.write_into(&mut parts)?, pe.write_into(&mut value)?),
-        (0xA20, 0xA20)
-    );
-    assert!(rt; parts == value);
-    assert_eq!(rt; writer.write_whole(&mut parts)?, 0xA20);
-    assert!(rt; parts == bytes);
-    assert_eq!(rt;
-        (writer.written_len()?, writer.whole_len()?),
-        (0xA20, 0xA20)
-    );
-    let opts = ParseOptions {
-        parse_attribute_certificates: false,
-        ..opts
-    };
-    let without = ImageWriter {
-        certificates: CertificateList::of_image(&bytes, &pe.header, &opts)?,
-        ..writer
-    };
-    let mut parts = buffer(alloc, 0xA20, 0x55)?;
-    assert_eq!(rt; without.write_into(&mut parts)?, 0xA00);
-    assert!(rt; parts.get(0xA00..) == Some([0x55; 0x20].as_slice()));
-    assert_eq!(rt;
-        (without.written_len()?, without.whole_len()?),
-        (0xA00, 0xA20)
-    );
     Ok(())
 }
 

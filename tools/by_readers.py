@@ -1,4 +1,4 @@
-"""What pefile, llvm-readobj and wrestool read of an image, for compare_pe, in the terms in which the JSON of `pe` says the same."""
+"""What pefile, llvm-readobj, wrestool and peinfo read of an image, for compare_pe, in the terms in which the JSON of `pe` says the same."""
 
 import collections
 import hashlib
@@ -6,11 +6,12 @@ import re
 import shutil
 import struct
 import subprocess
+import tempfile
 import uuid
 import xml.etree.ElementTree
 
 from by_struct import LOAD_CONFIG, records_of
-from comparing import field, nested, number, parts, run, value
+from comparing import content, field, nested, number, parts, run, value
 
 try:
     import pefile
@@ -18,6 +19,8 @@ except ImportError:
     pefile = None
 
 WRESTOOL = shutil.which("wrestool")
+# peinfo, or a program that lists as it does, where one is named.
+LISTER = None
 X86, X64, HIGHADJ, MANIFEST, EXTENDED, CALLBACKS, SECTOR = 0x14C, 0x8664, 4, 24, 20, 1 << 16, 512
 MAGIC = {0x10B: "PE32", 0x20B: "PE32+"}
 TYPES = {"ABSOLUTE": 0, "HIGH": 1, "LOW": 2, "HIGHLOW": 3, "HIGHADJ": 4, "DIR64": 10}
@@ -430,7 +433,9 @@ def exports_in(tree):
 def pdb_in(tree):
     for entry in (it for table in parts(tree, "DebugDirectory") for it in parts(table, "DebugEntry")):
         for it in parts(entry, "PDBInfo"):
-            guid = uuid.UUID(bytes_le=bytes.fromhex(re.search(r"\((.*)\)", field(it, "PDBGUID"))[1]))
+            # Of later versions it is no list of bytes.
+            told = field(it, "PDBGUID")
+            guid = uuid.UUID(told) if told.startswith("{") else uuid.UUID(bytes_le=bytes.fromhex(re.search(r"\((.*)\)", told)[1]))
             return field(it, "PDBFileName"), f"{{{str(guid).upper()}}}", value(it, "PDBAge")
     return None
 
@@ -442,8 +447,10 @@ def type_in(relocation):
 
 
 def raw_bytes(members):
-    """The bytes that it prints of a record, or None."""
+    """The bytes that it prints of a record, or None. Of no bytes it prints nothing."""
     found = parts(members, "RawData")
+    if value(members, "SizeOfData") == 0:
+        return b""
     # The text after two blanks is what the bytes are as characters.
     rows = [re.match(r"[0-9A-F]+: ([0-9A-F ]+?)  +\|", it) for raw in found for it in raw if isinstance(it, str)]
     return bytes.fromhex("".join(it[1].replace(" ", "") for it in rows if it)) if found else None
@@ -490,8 +497,8 @@ def by_llvm(readobj, path):
         "shown names": [re.sub(r" ?\([0-9A-F ]+\)$", "", field(it, "Name")) for it in sections],
         "imports": imports_in(tree), "exports by one name": exports_in(tree), "delay imports": delay_imports_in(tree),
         "load configuration": load_config_in(tree), "guarded RVAs": tables_in(tree),
-        "bytes of debug records": records_of(((value(it, "Type"), raw_bytes(it)) for it in entries if raw_bytes(it) is not None),
-                                             lambda data: data),
+        "bytes of debug records": records_of(
+            ((value(it, "Type"), data) for it in entries if (data := raw_bytes(it)) is not None), lambda data: data),
         "debug": [tuple(value(it, name) for name in of_entry) for it in entries], "pdb 7.0": pdb_in(tree), "tls fields": tls_in(tree),
         "relocations by page": collections.Counter((value(it, "Address") & ~0xFFF, type_in(it)) for it in relocations),
     }
@@ -514,3 +521,21 @@ def by_wrestool(path):
     words = [WRESTOOL, "--raw", "-x", f"-t{MANIFEST}", path]
     done = subprocess.run(words, stdin=subprocess.DEVNULL, capture_output=True, timeout=60)
     return {"bytes of the manifest": done.stdout} if done.returncode == 0 and done.stdout else None
+
+
+# peinfo.
+
+
+def by_lister(path):
+    """The lines of its listing, but for what it says of a truncated debug entry, and whether what it writes anew is the file, where some
+    bytes are zero. None where it refuses the image or is not asked. It may refuse to write it, or not write at all."""
+    answer = run([LISTER, "list", path, "--permissive"]) if LISTER else None
+    if not answer or answer[0] != 0:
+        return None
+    said, old = {"listing": [it for it in answer[1].splitlines() if it != "debug cut"]}, content(path)
+    with tempfile.TemporaryDirectory() as room:
+        done = run([LISTER, "rewrite", path, f"{room}/out"])
+        if done and done[0] == 0:
+            new = content(f"{room}/out")
+            said["written again"] = len(new) == len(old) and all(one in (0, other) for one, other in zip(new, old))
+    return said

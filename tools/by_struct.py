@@ -1,4 +1,4 @@
-"""Reads by Python's struct, for compare_pe, what pefile and llvm-readobj do not read, or not whole: debug records, all fields and
+"""Reads by Python's struct, for compare_pe, what pefile and llvm-readobj do not read, or not whole: what debug records have, all fields and
 tables of load configurations, delay imports, CLR headers, the checksum of the Rich header, COFF symbols, the tree of resources with
 all version strings, and TE images. Each function returns what the JSON of `pe` says of the same, in the same terms."""
 
@@ -8,11 +8,11 @@ import struct
 
 from comparing import Image, Unread
 
-RESOURCES, DEBUG, CONFIG, DELAYED, CLR, VERSION = 2, 6, 10, 13, 14, 16
+RESOURCES, CONFIG, DELAYED, CLR, VERSION = 2, 10, 13, 14, 16
 FEATURES, POGO, REPRO, EMBEDDED, CHECKSUM, CHARACTERISTICS = 12, 13, 16, 17, 19, 20
 POGO_SIGNATURES = {0x4C544347: "LTCG", 0x50475500: "PGU"}
 MACHINES = 0x14C, 0x8664, 0x1C0, 0x1C4, 0xAA64, 0xEBC
-DEBUG_ENTRY, SYMBOL, TE_HEADER = struct.Struct("<IIHHIIII"), struct.Struct("<8sIhHBB"), struct.Struct("<HHBBHIIQIIII")
+SYMBOL, TE_HEADER = struct.Struct("<8sIhHBB"), struct.Struct("<HHBBHIIQIIII")
 TE_SECTION, LEAST_HEADER = 0x12, 40
 # IMAGE_LOAD_CONFIG_DIRECTORY64 of winnt.h: P is as wide as an address, H and I as in struct, and each field is aligned.
 LOAD_CONFIG = """
@@ -99,13 +99,6 @@ def records_of(entries, data_of):
             except Unread:
                 found[name] = None
     return {name: it for name, it in found.items() if it is not None}
-
-
-def debug_records(image):
-    address, size = image.directory(DEBUG)
-    table = image.bytes[image.place_of(address):][:size] if address else b""
-    rows = [DEBUG_ENTRY.unpack_from(table, at) for at in range(0, len(table) - DEBUG_ENTRY.size + 1, DEBUG_ENTRY.size)]
-    return records_of([(row[4], row[5], row[7]) for row in rows], lambda length, place: image.bytes[place:place + length])
 
 
 # Directories.
@@ -396,7 +389,7 @@ def read(kind, data, path):
         machine, count, stamp, place, number = struct.unpack_from("<HHIII", data)
         return {"symbols": symbols_of(data, place, number), "object header": (machine, stamp, count, place, number)}
     image = Image(path)
-    ways = {"debug records": debug_records, "all of the load configuration": load_config,
+    ways = {"all of the load configuration": load_config,
             "tables of the load configuration": guard_tables, "delay imports": lambda it: delay_imports(it)[0],
             "stamps of delay imports": lambda it: delay_imports(it)[1], "CLR header": clr_of,
             "Rich checksum": rich_checksum, "symbols": symbols_of_image, "resources": lambda it: list(Resources(it).leaves()),

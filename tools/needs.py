@@ -15,23 +15,27 @@ import time
 
 # The first package that a system has, with this version or a later one, is taken. Debian 12 has a cargo of 2022 and its cargo-web,
 # Ubuntu 24.04 one of 2024 and later ones by their versions.
-CARGO, RUSTC = ((name, f"{name}-web", *(f"{name}-1.{it}" for it in (89, 85, 82, 81))) for name in ("cargo", "rustc"))
+CARGO, RUSTC = ((name, f"{name}-web", *(f"{name}-1.{it}" for it in (89, 85))) for name in ("cargo", "rustc"))
 # The feature serde of the cargo crate: cargo looks for what it depends on also without it.
 SERDE = {"crate serde-1": "librust-serde-dev", "crate serde_derive-1": "librust-serde-derive-dev",
          "crate serde_json-1": "librust-serde-json-dev"}
-RUST = {"cargo 1.81": CARGO, "rustc 1.81": RUSTC, "cc": "gcc", "libc.a of cc": "libc6-dev", **SERDE}
+RUST = {"cargo 1.85": CARGO, "rustc 1.85": RUSTC, "cc": "gcc", "libc.a of cc": "libc6-dev", **SERDE}
 CRATES = {"crate clap-4": "librust-clap-dev", "crate clap_complete-4": "librust-clap-complete-dev", "crate chrono-0.4": "librust-chrono-dev",
           "crate csv-1": "librust-csv-dev", "crate cpp_demangle-0.4": "librust-cpp-demangle-dev",
           "crate rustc-demangle-0.1": "librust-rustc-demangle-dev", "crate indicatif-0.17": "librust-indicatif-dev",
           "crate libc-0.2": "librust-libc-dev", "crate md-": "librust-md-5-dev", "crate rayon-1": "librust-rayon-dev",
           "crate sha1-": "librust-sha1-dev", "crate sha2-": "librust-sha2-dev",
           "crate openssl-0.10": "librust-openssl-dev", "libcrypto.a of cc": "libssl-dev", "pkg-config": "pkg-config"}
+SCROLL = {"crate scroll-0.": "librust-scroll-dev", "crate scroll_derive-0.": "librust-scroll-derive-dev",
+          "crate goblin-0.2": "librust-goblin-dev"}
+# That very version. Debian 12 has it without its security updates, Ubuntu 24.04 beside others, and `rustup toolchain install 1.85` anywhere.
+OLDEST = "rustc =1.85"
 MINGW = "x86_64-w64-mingw32"
 # Its program wine speaks of what is missing of 32 bits.
 WINE = shutil.which("wine64") or "/usr/lib/wine/wine64"
 WASM = {"wasm-opt": "binaryen"}
 WINDOWS = {f"{MINGW}-gcc": "gcc-mingw-w64-x86-64-win32", f"{MINGW}-windres": "binutils-mingw-w64-x86-64", "llvm-dlltool": "llvm"}
-TRIAL = {"cc": "gcc", "libc.a of cc": "libc6-dev", "rustc 1.81": RUSTC, "cargo 1.81": CARGO}
+TRIAL = {"cc": "gcc", "libc.a of cc": "libc6-dev", "rustc 1.85": RUSTC, "cargo 1.85": CARGO}
 
 Group = collections.namedtuple("Group", "about needs is_of_gate")
 
@@ -56,8 +60,8 @@ GROUPS = {
         "make": "make"}),
     "pe-tests": of_gate("what pe opens, its man page, and queries over its JSON",
                         **{"strace": "strace", "groff": "groff-base", "jq": "jq", "sqlite3": "sqlite3"}),
-    "goblin": of_gate("bindings/goblin", **{"crate scroll-0.": "librust-scroll-dev", "crate scroll_derive-0.": "librust-scroll-derive-dev",
-                                            "crate goblin-0.2": "librust-goblin-dev"}),
+    "goblin": of_gate("bindings/goblin", **SCROLL),
+    "oldest": by_hand("the crates by the Rust that they declare", **{OLDEST: ("rustc-1.85", "rustc-web")}, **RUST, **CRATES, **SCROLL),
     "cmake": of_gate("a project of CMake", **{"cmake": "cmake"}),
     "python": of_gate("the Python module", **{"/usr/include/python3.*/Python.h": "python3-dev", "module setuptools": "python3-setuptools",
                                               "module wheel": "python3-wheel"}),
@@ -76,17 +80,17 @@ GROUPS = {
     "wasm": of_gate("the library for wasm", **TRIAL, **WASM, **{"node": "nodejs", "clang": "clang"}),
     "windows-x64": of_gate("the library for windows-x64", **TRIAL, **WINDOWS, **{
         WINE: "wine64", "clang": "clang", "lld-link": "lld", "objcopy": "binutils", "ld": "binutils"}),
-    "js": of_gate("the npm package", **WASM, **{"node": "nodejs", "npm": "npm", "rustc 1.81": RUSTC}),
+    "js": of_gate("the npm package", **WASM, **{"node": "nodejs", "npm": "npm", "rustc 1.85": RUSTC}),
     "types": of_gate("the types of the npm package", **{"tsc": "node-typescript"}),
     "build-wasm": by_hand("a build for wasm", **WASM),
     "build-windows-x64": by_hand("a build for windows-x64", **WINDOWS),
     "clippy": by_hand("cargo clippy", **{"cargo-clippy": "rust-clippy"}),
-    "page": by_hand("the page in Chromium", **{"node": "nodejs", "chromium": "chromium", "rustc 1.81": RUSTC}),
+    "page": by_hand("the page in Chromium", **{"node": "nodejs", "chromium": "chromium", "rustc 1.85": RUSTC}),
     "pdb": by_hand("names and lines of pe by PDB files", **{"clang": "clang", "lld-link": "lld", "ld.lld": "lld", "llvm-pdbutil": "llvm",
                                                              "llvm-symbolizer-19": "llvm-19"}),
     "packages": by_hand("packages on bare trees", **{
         "mmdebstrap": "mmdebstrap", "unshare": "util-linux", "rpm2cpio": "rpm2cpio", "cpio": "cpio", "module ensurepip": "python3-venv",
-        "npm": "npm", "node": "nodejs", "chromium": "chromium", "rustc 1.81": RUSTC, WINE: "wine64", "gcc": "gcc", "clang": "clang"}),
+        "npm": "npm", "node": "nodejs", "chromium": "chromium", "rustc 1.85": RUSTC, WINE: "wine64", "gcc": "gcc", "clang": "clang"}),
     "breakpad": by_hand("symbol files of pe by LLDB", **{"clang": "clang", "lld-link": "lld", "lldb-19": "lldb-19",
                                                          "yaml2obj-14": "llvm-14"}),
     "notebook": by_hand("notebooks", **{"chromium": "chromium", "jupyter-nbconvert": "jupyter-nbconvert",
@@ -122,14 +126,22 @@ def said_by(*words):
         return ""
 
 
+def fits(version, wanted):
+    """Whether the version in a text is that version, or without a sign before it no older one."""
+    return version_of(version) == version_of(wanted) if wanted.startswith("=") else version_of(version) >= version_of(wanted)
+
+
 def find_command(need):
-    """The path of a command that is new enough. Ubuntu's later versions of cargo are not on PATH."""
-    name, _, lowest = need.partition(" ")
-    if not lowest:
+    """The path of a command of the version that is needed. Ubuntu's later versions of cargo are not on PATH, nor are all of rustup's."""
+    name, _, wanted = need.partition(" ")
+    if not wanted:
         return shutil.which(name)
-    for path in filter(None, [shutil.which(name), *sorted(glob.glob(f"/usr/lib/rust-1.*/bin/{name}"), key=version_of, reverse=True)]):
+    more = sorted(glob.glob(f"/usr/lib/rust-1.*/bin/{name}"), key=version_of, reverse=True)
+    if wanted.startswith("="):
+        more += [f"/usr/bin/{name}", *glob.glob(os.path.expanduser(f"~/.rustup/toolchains/{wanted[1:]}*/bin/{name}"))]
+    for path in filter(None, [shutil.which(name), *more]):
         said = said_by(path, "--version")
-        if re.search(r"\d+\.\d+", said) and version_of(said) >= version_of(lowest):
+        if re.search(r"\d+\.\d+", said) and fits(said, wanted):
             return path
     return None
 
@@ -221,8 +233,8 @@ def chosen(needs):
     versions = dict(re.findall(r"^(\S+):\n(?:.*\n)?  Candidate: (?!\(none\))(?:\d+:)?(\S+)", said, re.M))
     packages, without = set(), []
     for need, names in needs.items():
-        lowest = need.split(" ")[1] if re.fullmatch(r"\S+ [\d.]+", need) else "0.0"
-        found = [it for it in of_names(names) if it in versions and (lowest == "0.0" or version_of(versions[it]) >= version_of(lowest))]
+        wanted = need.split(" ")[1] if re.fullmatch(r"\S+ =?[\d.]+", need) else ""
+        found = [it for it in of_names(names) if it in versions and (not wanted or fits(versions[it], wanted))]
         packages.update(found[:1])
         without += [] if found else [need]
     return sorted(packages), without
@@ -288,7 +300,7 @@ def before(what):
         leave = ", or set PE_NO_SETUP=1 to leave out what needs them" if what == "gate" else ""
         print(f"{what}: missing: {in_words(needs)}: {how}{leave}", file=sys.stderr)
         return 1
-    print(os.path.dirname(find_command("cargo 1.81") or ""))
+    print(os.path.dirname(find_command("cargo 1.85") or ""))
     return 0
 
 

@@ -95,6 +95,17 @@ def crates_below(name, lines):
     return [*dict.fromkeys(found)]
 
 
+def edits_of(path):
+    """The edits of a crate by their names, from its file: the source that each edits, and its lines, which stand below '[NAME] SOURCE'."""
+    if not os.path.exists(path):
+        return {}
+    with open(path, encoding="utf-8") as file:
+        before, *parts = re.split(r"^\[(\w+)\] (src/\S+)\n", file.read(), flags=re.M)
+    if before or len({*parts[::3]}) < len(parts) / 3:
+        raise Unusable(f"{path}: text before the first line '[NAME] src/..', or two edits of one name")
+    return {name: (source, lines) for name, source, lines in zip(parts[::3], parts[1::3], parts[2::3])}
+
+
 class Crate:
     """A crate of the repository, its functions by their paths, and its edits."""
 
@@ -117,9 +128,7 @@ class Crate:
             for it in functions_of(text):
                 path = self.path_of(file, it)
                 self.functions[path], self.files[path] = it, file
-        folder = f"{self.folder}/edits"
-        names = sorted(os.listdir(folder)) if os.path.isdir(folder) else []
-        self.edits = [f"{folder}/{it}" for it in names if it.endswith(".edit")]
+        self.edits = edits_of(f"{self.folder}/edits.txt")
 
     def path_of(self, file, function):
         """The function's path below the crate, as a check names it."""

@@ -84,6 +84,6 @@ copy_with_program() {
   {
     cat crates.txt
     echo
-    echo "$name: pe_core pe_records pe_unwind pe_plan pe_frame pe_resource pe_image pe_sign pe_edit pe_version pe_rewrite pe_directories pe_minidump pe_stacks pe_pdb pe_pkcs7 pe_images"
+    echo "$name: pe_core pe_records pe_unwind pe_plan pe_frame pe_resource pe_image pe_sign pe_edit pe_version pe_rewrite pe_directories pe_minidump pe_stacks pe_pdb pe_pkcs7 pe_images anyhow"
   } >"$folder/crates.txt"
 }

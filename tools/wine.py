@@ -5,13 +5,23 @@ import os
 import shutil
 
 from limits import Failed, limited
-from needs import WINE
+from needs import MINGW, WINE
+from targets import run
 
 # Wine makes its folder at the first program, which takes most of a minute on a busy machine.
 SECONDS = 600
 SECONDS_TO_END = 60
 # Debian's package wine64 alone has it under another name, and not on PATH.
 SERVER = shutil.which("wineserver") or "/usr/lib/wine/wineserver64"
+
+
+def random_numbers(room):
+    """A folder with the DLL that programs in Rust need of Windows and Wine 8 lacks."""
+    folder = os.path.join(room, "random")
+    os.mkdir(folder)
+    source = os.path.join(os.path.dirname(os.path.realpath(__file__)), "bcryptprimitives.c")
+    run([f"{MINGW}-gcc", "-shared", "-O2", "-Wall", "-Werror", source, "-o", os.path.join(folder, "bcryptprimitives.dll"), "-ladvapi32"])
+    return folder
 
 
 class Wine:

@@ -175,6 +175,8 @@ export class Pdb extends File {
   #said = new Set();
   // What is refused of what was read.
   #errors = [];
+  // The OMAP tables: where code was that a tool moved, and where it is.
+  #omap;
 
   constructor(memory, bytes) {
     super(memory, placed(memory, bytes));
@@ -195,9 +197,18 @@ export class Pdb extends File {
     return this.info.dbi_result === constants.PE_C_DONE && this.call('pe_c_is_pdb_of', { key, pdb: this.info }) !== null;
   }
 
-  /** Whether a tool moved the code of the image after it was linked (OMAP): then RVAs are those before that. */
+  /** Whether a tool moved the code of the image after it was linked (OMAP): see index.d.ts. */
   get isMoved() {
-    return this.info.dbi_result === constants.PE_C_DONE && this.info.omap_from_source !== NO_STREAM;
+    const { dbi_result: result, omap_to_source: to, omap_from_source: from } = this.info;
+    return result === constants.PE_C_DONE && (to !== NO_STREAM || from !== NO_STREAM);
+  }
+
+  /** Where the code at an RVA of the image was when it was linked, or where that of then is now; null where it is nowhere. */
+  #moved(rva, isBack = false) {
+    if (!this.isMoved) return rva;
+    const { omap_to_source: to, omap_from_source: from } = this.info;
+    this.#omap ??= refusedIn(this.#errors, 'OMAP', () => [to, from].map((it) => new File(memoryOf(this), placed(memoryOf(this), this.stream(it))))) ?? [];
+    return this.#omap[Number(isBack)]?.call('pe_c_pdb_moved_rva', { rva }) ?? null;
   }
 
   /** A copy of the stream with a number. */
@@ -220,8 +231,13 @@ export class Pdb extends File {
   /** Where the section headers stand in the memory. */
   #sectionHeaders() {
     this.#checkDbi();
-    this.#sections ??= Object.values(placed(memoryOf(this), this.#streamOrNone(this.info.section_headers)));
+    this.#sections ??= Object.values(placed(memoryOf(this), this.#headers()));
     return this.#sections;
+  }
+
+  /** The section headers by which symbols count. */
+  #headers() {
+    return this.isMoved ? this.stream(this.info.original_section_headers) : this.#streamOrNone(this.info.section_headers);
   }
 
   /** The modules: see index.d.ts. */
@@ -238,7 +254,7 @@ export class Pdb extends File {
 
   /** The symbols of some kinds in a copy of a stream. */
   #listedSymbols(bytes, symbols, kinds) {
-    const memory = memoryOf(this), sections = this.#streamOrNone(this.info.section_headers);
+    const memory = memoryOf(this), sections = this.#headers();
     return lent(memory, () => {
       const file = new File(memory, placed(memory, bytes)), found = [];
       for (const it of file.many('pe_c_list_pdb_symbols', { ...symbols }, { given: { sections } })) {
@@ -334,20 +350,22 @@ export class Pdb extends File {
 
   /** The function at an RVA and its line, or null: see index.d.ts. */
   find(rva, { isReturn = false } = {}) {
-    const at = rva - Number(isReturn);
-    if (!(at >= 0 && at <= 0xFFFFFFFF)) return null;
+    const asked = rva - Number(isReturn), at = asked >= 0 && asked <= 0xFFFFFFFF ? this.#moved(asked) : null;
+    if (at === null) return null;
     const own = this.#moduleAt(at)?.symbols, found = own?.find(at) ?? null;
     const symbols = found ? own : this.#publics, symbol = found ?? this.#publics?.find(at);
     if (!symbol) return null;
     const line = found && own.line(at), none = { file: null, line: null, column: null };
     const { file, line: number, column } = line && line.line !== null ? line : none;
-    return { name: symbols.utf8(symbol.name), start: symbol.rva, offset: rva - symbol.rva,
+    // Where the start of a moved function is gone, it is by the distance.
+    const offset = at + Number(isReturn) - symbol.rva, start = this.#moved(symbol.rva, true) ?? (rva - offset) >>> 0;
+    return { name: symbols.utf8(symbol.name), start, offset,
       source: found ? 'procedure' : 'public', file, line: number, column, isInlined: false };
   }
 
   /** The functions at an RVA, the innermost first: see index.d.ts. */
   frames(rva, options = {}) {
-    const own = this.find(rva, options), at = rva - Number(options.isReturn ?? false);
+    const own = this.find(rva, options), at = own && this.#moved(rva - Number(options.isReturn ?? false));
     const found = own?.source === 'procedure' ? this.#inlined(this.#moduleAt(at), at) : Object.assign([], { isLimited: false });
     const inlined = found.map(({ name, file, line }) => ({ ...own, name, file, line, column: null, isInlined: true }));
     return Object.assign(own ? [...inlined, own] : [], { isLimited: found.isLimited });

@@ -1041,10 +1041,12 @@ test('a PDB, its streams, modules and symbols', () => {
   const index = [0n, 0n], kind = constants.PE_C_PDB_PUBLICS;
   assert.equal(symbols.call('pe_c_pdb_index', { kind, symbols: range, sections, room: index }), 2n);
   assert.equal(symbols.utf8(symbols.call('pe_c_find_pdb_symbol', { kind, sections, index, rva: 0x104F }).name), 'entry');
+  assert.equal(symbols.utf8(symbols.call('pe_c_read_pdb_symbol', { kind, symbols: range, sections, rva: 0x104F }).name), 'entry');
   const own = library.file(stream(12)), [, { lines }] = modules, entries = Array.from({ length: 6 }, () => ({}));
   assert.equal(own.call('pe_c_pdb_lines', { lines, sections, room: entries }), 6n);
   const line = own.call('pe_c_find_pdb_line', { index: entries, rva: 0x1070 }), files = own.call('pe_c_pdb_files', { lines });
   assert.deepEqual([line.rva, line.line], [0x1065, 900]);
+  assert.deepEqual(own.call('pe_c_read_pdb_line', { lines, sections, rva: 0x1070 }), line);
   const number = library.file(stream(1)).call('pe_c_pdb_named_stream', { name: new TextEncoder().encode('/names') });
   const names = stream(number), path = own.call('pe_c_pdb_file_name', { files, names, file: line.file });
   assert.equal(library.file(names).utf8(path), 'generated\\else.inc');
@@ -1082,6 +1084,27 @@ test('a PDB names functions and lines', () => {
   assert.deepEqual([0xFFF, -1, 2 ** 32, NaN].map((it) => pdb.find(it)), [null, null, null, null]);
   assert.deepEqual([pdb.damaged, pdb.isMoved, pdb.stream(3).length], [[], false, 717]);
   assert.equal(refused(() => pdb.stream(16)).constant, 'PE_C_PDB_NO_STREAM');
+});
+
+// The code of helper and local at 0x3010, and no other code left: by OMAP tables in place of the hash tables.
+test('code that was moved is named', () => {
+  const bytes = new Uint8Array(readFileSync(join(folder, 't.pdb'))), view = new DataView(bytes.buffer), streams = DBI + 717 - 22;
+  const tables = [[12, 6, [0x1000, 0, 0x3010, 0x1050, 0x304C, 0]], [16, 8, [0x1000, 0, 0x1050, 0x3010, 0x108C, 0]]];
+  for (const [at, entry, rows] of tables) {
+    const number = view.getUint16(DBI + at, true), table = library.openPdb(bytes).stream(number);
+    const start = Buffer.from(bytes.buffer).indexOf(table);
+    for (let it = 0; it + 2 <= table.length / 4; it++) view.setUint32(start + 4 * it, rows[it] ?? (it % 2 ? 0 : 0xFFFFFFFF), true);
+    view.setUint16(streams + entry, number, true);
+  }
+  view.setUint16(streams + 20, view.getUint16(streams + 10, true), true);
+  const pdb = library.openPdb(bytes), found = (rva, options) => Object.values(pdb.find(rva, options) ?? {}).slice(0, 6);
+  assert.deepEqual(found(0x3025), ['helper', 0x3010, 0x15, 'procedure', 'generated\\else.inc', 900]);
+  assert.deepEqual(found(0x3026, { isReturn: true }), ['helper', 0x3010, 0x16, 'procedure', 'generated\\else.inc', 900]);
+  assert.deepEqual(pdb.frames(0x304B).map(({ name, start }) => [name, start]), [['local', 0x3040]]);
+  assert.deepEqual([0x1050, 0x304C].map((it) => pdb.find(it)), [null, null]);
+  assert.deepEqual([pdb.isMoved, pdb.damaged], [true, []]);
+  const table = library.file(pdb.stream(pdb.info.omap_from_source));
+  assert.deepEqual([0x1060, 0x1000].map((rva) => table.call('pe_c_pdb_moved_rva', { rva })), [0x3020, null]);
 });
 
 test('a PDB is that of the image that names it', () => {

@@ -1054,9 +1054,11 @@ static void pdb_symbols(const uint8_t *bytes, size_t length, const uint8_t *head
         pe_c_pdb_symbol found = PE_C_EMPTY;
         CALL(pe_c_pdb_index, index, kind, bytes, length, &walk, headers, headers_length, index, NUMBERS, &written);
         add(written);
-        for (uint32_t rva = 0xFFF; rva < 0x2000; rva += 0x51)
+        for (uint32_t rva = 0xFFF; rva < 0x2000; rva += 0x51) {
             CALL(pe_c_find_pdb_symbol, found, kind, bytes, length, headers, headers_length, index,
                  written < NUMBERS ? (size_t)written : NUMBERS, rva, &found);
+            CALL(pe_c_read_pdb_symbol, found, kind, bytes, length, &walk, headers, headers_length, rva, &found);
+        }
     }
     LIST(pe_c_list_pdb_symbols, pe_c_pdb_symbol, bytes, length, headers, headers_length, &walk);
 }
@@ -1066,13 +1068,15 @@ static void pdb_lines(const uint8_t *bytes, size_t length, const pe_c_range *ran
                       size_t headers_length, const uint8_t *names, size_t names_length)
 {
     pe_c_pdb_line_entry index[NUMBERS] = PE_C_EMPTY;
-    pe_c_pdb_line line = PE_C_EMPTY;
+    pe_c_pdb_line line = PE_C_EMPTY, read = PE_C_EMPTY;
     pe_c_range files = PE_C_EMPTY, name = PE_C_EMPTY;
     uint64_t written = 0;
     CALL(pe_c_pdb_lines, index, bytes, length, range, headers, headers_length, index, NUMBERS, &written);
     add(written);
-    for (uint32_t rva = 0xFFF; rva < 0x1100; rva += 11)
+    for (uint32_t rva = 0xFFF; rva < 0x1100; rva += 11) {
+        CALL(pe_c_read_pdb_line, read, bytes, length, range, headers, headers_length, rva, &read);
         CALL(pe_c_find_pdb_line, line, index, written < NUMBERS ? (size_t)written : NUMBERS, rva, &line);
+    }
     CALL(pe_c_pdb_files, files, bytes, length, range, &files);
     CALL(pe_c_pdb_file_name, name, bytes, length, &files, names, names_length, line.file, &name);
 }
@@ -1128,7 +1132,7 @@ static void pdb_streams(const struct file *file, const pe_c_pdb_info *info, cons
     static const uint8_t name[6] = {'/', 'n', 'a', 'm', 'e', 's'};
     pe_c_pdb_module module = PE_C_EMPTY;
     pe_c_range walk = info->modules;
-    uint32_t number = 0;
+    uint32_t number = 0, moved = 0;
     uint64_t one = 0;
     size_t headers = stream_of(file, NULL, 0, info->section_headers, section_bytes);
     size_t length = stream_of(file, starts, count, info->symbol_stream, stream_bytes);
@@ -1136,6 +1140,7 @@ static void pdb_streams(const struct file *file, const pe_c_pdb_info *info, cons
     pdb_symbols(stream_bytes, length, section_bytes, headers, all);
     length = stream_of(file, starts, count, 1, stream_bytes);
     CALL(pe_c_pdb_named_stream, number, stream_bytes, length, name, sizeof name, &number);
+    CALL(pe_c_pdb_moved_rva, moved, stream_bytes, length, 0x1050, &moved);
     length = stream_of(file, starts, count, 3, stream_bytes);
     CALL(pe_c_list_pdb_modules, module, stream_bytes, length, &walk, &module, 1, &one);
     LIST(pe_c_list_pdb_modules, pe_c_pdb_module, stream_bytes, length, &walk);

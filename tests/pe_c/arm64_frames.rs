@@ -135,14 +135,6 @@ fn with_records(alloc: Global) -> Result<Vec<u8>, AllocError> {
     )
 }
 
-fn piece(start: u64, offset: u64, length: u64) -> MemoryPiece {
-    MemoryPiece {
-        start,
-        offset,
-        length,
-    }
-}
-
 /// A step over pieces of memory. No directory of the image is read.
 fn step_over(
     bytes: &[u8],
@@ -157,7 +149,7 @@ fn step_over(
 
 /// A step over the bytes of a stack from an address on.
 fn step(bytes: &[u8], stack: (u64, &[u8]), frame: &mut Arm64StackFrame) -> u32 {
-    let whole = piece(stack.0, 0, stack.1.len() as u64);
+    let whole = piece_at(stack.0, 0, stack.1.len() as u64);
     step_over(bytes, stack.1, &[whole], frame)
 }
 
@@ -254,7 +246,10 @@ fn steps_are_refused(rt: HostRuntime) -> Result<(), Fail> {
 fn leaves_a_leaf(rt: HostRuntime) {
     let mut frame = frame_at(7, 8, changed(ENTRY, &[]));
     frame.leaf = u32::MAX;
-    assert_eq!(rt; step_over(&[], &[], &[piece(0, 0, 1)], &mut frame), SHORT);
+    assert_eq!(rt;
+        step_over(&[], &[], &[piece_at(0, 0, 1)], &mut frame),
+        SHORT
+    );
     assert_eq!(rt; step_over(&[], &[], &[], &mut frame), DONE);
     let mut wanted = left_at(7, 8, of_caller());
     wanted.leaf = u32::MAX;

@@ -15,18 +15,12 @@ use super::steps::{
     pe_c_next_library, pe_c_next_resource_leaf,
 };
 use super::unwinding::no_record;
-use crate::arm64::frames::{Arm64FrameRegisters, Arm64StackFrame, pe_c_step_arm64};
 use crate::directories::delay_imports::pe_c_delay_imports;
-use crate::headers::loaded::pe_c_relocate;
-use crate::lists::exports::pe_c_list_exports;
-use crate::lists::imports::pe_c_list_imports;
 use crate::names::exports::Exports;
 use crate::names::imports::{Imports, Libraries};
-use crate::stack::frames::{FrameRegisters, StackFrame, pe_c_step};
 use crate::unwinding::pe_c_function_table;
 use crate::unwinding::plan::pe_c_next_record;
 use pe_images::image as bytes_of;
-use pe_unwind::{Arm64RuntimeFunction, RuntimeFunction};
 
 /// Where the second half of the bytes starts.
 const HALF: usize = 0x400;
@@ -80,21 +74,6 @@ fn ranges_of_tables(rt: HostRuntime) -> Result<(), Fail> {
         range_by(|v, out| pe_c_delay_imports(v, out), view)
     });
     assert_eq!(rt; found, want);
-    Ok(())
-}
-
-/// A block of page 0 with one entry, which names the number at 0x100, in the second half that at 0x108. The field of the image base is
-/// at 0x70.
-#[test]
-fn relocations(rt: HostRuntime) -> Result<(), Fail> {
-    let mut bytes = in_both(rt.alloc(), &[(0x14, &[12, 0, 0, 0, 0x00, 0xA1, 0, 0])])?;
-    put(&mut bytes, &[(HALF + 0x18, &[0x08])]);
-    let changed = by_second(&bytes, &with_directory(5, 12), |view| {
-        let mut room = [0; 0x200];
-        let answer = pe_c_relocate(view, 1, &mut room);
-        (answer, [room[0x70], room[0x100], room[0x108]])
-    });
-    assert_eq!(rt; changed, (DONE, [1, 0, 1]));
     Ok(())
 }
 
@@ -241,114 +220,4 @@ fn steps(rt: HostRuntime) -> Result<(), Fail> {
     Ok(())
 }
 
-/// With room for more a walk that keeps a section is listed by it too.
-#[test]
-fn lists(rt: HostRuntime) -> Result<(), Fail> {
-    let bytes = with_walks(rt.alloc())?;
-    let (image, sections) = (image(X64), halves());
-    let view = view(&bytes, &image, &sections);
-    let second = KeptSections {
-        first: 2,
-        second: 0,
-    };
-    let mut walk = from_import(Imports {
-        left: range(0x40, 8),
-        rva: 0x1000,
-    });
-    walk.kept = second;
-    let (mut out, mut written) = ([NO_IMPORT; 2], 0);
-    let answer = pe_c_list_imports(&view, &mut walk, &mut [], &mut out, &mut written);
-    let found = (answer, written, of_range(out[0].name));
-    assert_eq!(rt; found, (DONE, 1, [0x4C2, 1]));
-    let mut walk = from_exports(Exports {
-        names: range(0x10, 4),
-        ordinals: range(0x14, 2),
-        addresses: range(0x18, 4),
-        next: 0,
-        directory: directory(0, 0),
-    });
-    walk.kept = second;
-    let (mut out, mut written) = ([NO_EXPORT; 2], 0);
-    let answer = pe_c_list_exports(&view, &mut walk, &mut [], &mut out, &mut written);
-    let found = (answer, written, of_range(out[0].name));
-    assert_eq!(rt; found, (DONE, 1, [0x480, 5]));
-    Ok(())
-}
-
 // ---- records of x64 and ARM64
-
-/// A function of x64 at 10h, whose record is at RVA 0x10E0; a step in it after its prolog, of a stack whose first word is 1.
-#[test]
-fn x64_steps(rt: HostRuntime) -> Result<(), Fail> {
-    let mut bytes = with_walks(rt.alloc())?;
-    put(
-        &mut bytes,
-        &[(0x10, &[0, 0x50, 0, 0, 0x10, 0x50, 0, 0, 0xE0, 0x10, 0, 0])],
-    );
-    let (image, table) = (image(X64), range(0x10, 12));
-    let stepped = by_second(&bytes, &image, |view| {
-        let mut frame = StackFrame {
-            registers: FrameRegisters {
-                general: [0x10_0000; 16],
-                xmm: [0; 32],
-                rip: 0x1_4000_500F,
-            },
-            address: 0,
-            function: RuntimeFunction {
-                begin_address: 0x5000,
-                end_address: 0x5010,
-                unwind_info_address: 0x10E0,
-            },
-            rva: 0x500F,
-            leaf: 0,
-            interrupted: 0,
-        };
-        let stack = piece(0x10_0000, &[0; 8]);
-        let memory = [1, 0, 0, 0, 0, 0, 0, 0];
-        let answer = pe_c_step(view, &table, &[], &memory, &stack, &mut frame);
-        (answer, frame.registers.rip)
-    });
-    assert_eq!(rt; stepped, (DONE, 1));
-    Ok(())
-}
-
-/// A function of ARM64 at 10h, whose record is at RVA 0x1080 of the second half: 128 bytes, and codes that are an end alone. A step
-/// in it goes on at the link register.
-#[test]
-fn arm64_steps(rt: HostRuntime) -> Result<(), Fail> {
-    let bytes = bytes_of(
-        rt.alloc(),
-        2 * HALF,
-        &[
-            (0x10, &[0, 0x50, 0, 0, 0x80, 0x10, 0, 0]),
-            (0x480, &[0x20, 0, 0, 8, 0xE4, 0xE4, 0xE4, 0xE4]),
-        ],
-    )?;
-    let image = having(image(ARM64), 3, directory(0x1010, 8));
-    let function = Arm64RuntimeFunction {
-        begin_address: 0x5000,
-        unwind_data: 0x1080,
-    };
-    let stepped = by_second(&bytes, &image, |view| {
-        let mut registers = Arm64FrameRegisters {
-            general: [0; 31],
-            floats: [0; 8],
-            sp: 0x10_0000,
-            pc: 0x1_4000_5000,
-        };
-        registers.general[30] = 0x7FF6_1234_5678;
-        let mut frame = Arm64StackFrame {
-            registers,
-            address: 0,
-            function,
-            rva: 0x5008,
-            leaf: 0,
-            interrupted: 0,
-            spare: 0,
-        };
-        let answer = pe_c_step_arm64(view, &[], &[], &mut frame);
-        (answer, frame.registers.pc)
-    });
-    assert_eq!(rt; stepped, (DONE, 0x7FF6_1234_5678));
-    Ok(())
-}

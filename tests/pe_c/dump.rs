@@ -17,8 +17,7 @@ use crate::dump::memory::{
     DumpPiece, Memory64Walk, pe_c_dump_memory_at, pe_c_dump_memory64, pe_c_next_memory64,
 };
 use crate::dump::records::{
-    DumpException, DumpProcess, DumpSystem, pe_c_dump_exception, pe_c_dump_process,
-    pe_c_dump_system,
+    DumpProcess, DumpSystem, pe_c_dump_exception, pe_c_dump_process, pe_c_dump_system,
 };
 use crate::dump::{
     DumpInfo, pe_c_dump, pe_c_dump_entry_at, pe_c_dump_range, pe_c_dump_stream, pe_c_dump_text,
@@ -26,7 +25,7 @@ use crate::dump::{
 use crate::stack::frames::FrameRegisters;
 use pe_images::image as bytes_of;
 use pe_minidump::{
-    DirectoryEntry, FixedFileInfo, Handle, Location, MemoryDescriptor, ProcessTimes,
+    DirectoryEntry, Exception, FixedFileInfo, Handle, Location, MemoryDescriptor, ProcessTimes,
     ProcessorPower, Thread, ThreadInfo, UnloadedModule,
 };
 
@@ -515,7 +514,7 @@ fn regions_by_their_index(rt: HostRuntime) -> Result<(), Fail> {
     Ok(())
 }
 
-const NO_EXCEPTION: DumpException = DumpException {
+const NO_EXCEPTION: Exception = Exception {
     thread_id: 9,
     exception_code: 9,
     exception_flags: 9,
@@ -806,7 +805,7 @@ fn context_of_the_crash_counts(rt: HostRuntime) -> Result<(), Fail> {
         thread_context,
         ..NO_THREAD
     };
-    let raised = |thread_id: u32, thread_context: Location| DumpException {
+    let raised = |thread_id: u32, thread_context: Location| Exception {
         thread_id,
         thread_context,
         ..NO_EXCEPTION
@@ -834,7 +833,7 @@ fn context_of_the_crash_counts_on_arm64(rt: HostRuntime) -> Result<(), Fail> {
         thread_context,
         ..NO_THREAD
     };
-    let raised = |thread_id: u32| DumpException {
+    let raised = |thread_id: u32| Exception {
         thread_id,
         thread_context: crash,
         ..NO_EXCEPTION

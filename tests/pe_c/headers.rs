@@ -46,10 +46,7 @@ fn untouched() -> Headers {
             major_linker_version: 9,
             minor_linker_version: 9,
         },
-        dos_stub: Range {
-            offset: 9,
-            length: 9,
-        },
+        dos_stub: range(9, 9),
         optional_offset: 9,
         directories_offset: 9,
         dos: DosFields {

@@ -5,10 +5,8 @@ use super::exports::from as from_exports;
 use super::made::*;
 use crate::headers::coff::{Symbol, SymbolWalk};
 use crate::lists::exports::pe_c_list_exports;
-use crate::lists::forwarders::pe_c_list_export_addresses;
 use crate::lists::section_names::pe_c_list_long_section_names;
 use crate::lists::symbols::{NamedSymbol, NamedSymbolWalk, pe_c_list_symbols};
-use crate::names::export_addresses::{AddressTable, Exported};
 use crate::names::exports::{Export, Exports};
 use pe_images::image as bytes_of;
 
@@ -25,23 +23,6 @@ fn with_texts(alloc: Global, parts: &[(usize, &[u8])]) -> Result<Vec<u8>, Fail> 
     bytes[0x1B8..].fill(b'e');
     Ok(bytes)
 }
-
-/// Names at 148h, 175h, 147h (inside a character), 160h, 100h, 152h (a zero), 146h, 1B8h and 176h, and an address.
-const TABLES: [(usize, &[u8]); 4] = [
-    (
-        0x20,
-        &[0x48, 0x11, 0, 0, 0x75, 0x11, 0, 0, 0x47, 0x11, 0, 0],
-    ),
-    (
-        0x2C,
-        &[0x60, 0x11, 0, 0, 0x00, 0x11, 0, 0, 0x52, 0x11, 0, 0],
-    ),
-    (
-        0x38,
-        &[0x46, 0x11, 0, 0, 0xB8, 0x11, 0, 0, 0x76, 0x11, 0, 0],
-    ),
-    (0x68, &[8, 0x10, 0, 0]),
-];
 
 const NO_EXPORT: Export = Export {
     name: NO_RANGE,
@@ -99,53 +80,6 @@ fn exports_that_share_much(rt: HostRuntime) -> Result<(), Fail> {
             let start = if room < 8 { 0x7777 } else { 0x100 };
             assert_eq!(rt; runs[0].start, start, "{room}");
         }
-    }
-    Ok(())
-}
-
-/// Forwarders at the offsets of `TABLES`, twice each, under names at 152h: of the nine, three have no text, since one starts inside a
-/// character, one has an invalid byte and one no zero. With 17 runs or more they are read together.
-#[test]
-fn forwarders_together(rt: HostRuntime) -> Result<(), Fail> {
-    let mut bytes = with_texts(rt.alloc(), &TABLES)?;
-    let rvas: [u8; 36] = bytes[0x20..0x44].try_into().unwrap_or([0; 36]);
-    bytes[0x68..0x8C].copy_from_slice(&rvas);
-    for i in 0..18 {
-        bytes[0x20 + 4 * i..0x24 + 4 * i].copy_from_slice(&[0x52, 0x11, 0, 0]);
-        bytes[0x90 + 2 * i] = i as u8 % 9;
-    }
-    let (image, sections) = (image(X64), sections());
-    let view = view(&bytes, &image, &sections);
-    let mut start = exports();
-    (start.names, start.ordinals) = (range(0x20, 72), range(0x90, 36));
-    (start.addresses, start.directory) = (range(0x68, 36), directory(0x1100, 0x100));
-    let want = [
-        [0x148, 10],
-        [0x175, 60],
-        OVER,
-        OVER,
-        [0x100, 82],
-        [0x152, 0],
-        [0x146, 12],
-        OVER,
-        [0x176, 59],
-    ];
-    for room in [0, 16, 17, 37] {
-        let mut runs = [RUN; 37];
-        let mut walk = from_exports(start);
-        let mut entries = [NO_EXPORT; 19];
-        let mut written = 77;
-        let lent = &mut runs[..room];
-        let answer = pe_c_list_exports(&view, &mut walk, lent, &mut entries, &mut written);
-        assert_eq!(rt; (answer, written, walk.exports.next), (DONE, 18, 18));
-        for i in 0..18 {
-            assert_eq!(rt; of_range(entries[i].forwarder), want[i % 9], "{room} {i}");
-            assert_eq!(rt; of_range(entries[i].name), [0x152, 0]);
-            let found = (entries[i].index, entries[i].is_forwarder);
-            assert_eq!(rt; found, (i as u32 % 9, 1));
-        }
-        let first = if room < 17 { 0x7777 } else { 0x100 };
-        assert_eq!(rt; runs[0].start, first, "{room}");
     }
     Ok(())
 }
@@ -220,72 +154,6 @@ fn symbols_with_their_names(rt: HostRuntime) -> Result<(), Fail> {
         ([0x32, 18], 2, 0)
     );
     assert_eq!(rt; entries[1].symbol.string_offset, 0x10);
-    Ok(())
-}
-
-/// Twelve symbols that have the string at 100h as their name, of 83 bytes with its zero, of a table of 272.
-#[test]
-fn symbols_that_share_much(rt: HostRuntime) -> Result<(), Fail> {
-    let mut bytes = with_texts(rt.alloc(), &[])?;
-    for i in 0..12 {
-        bytes[0x18 + 18 * i + 4] = 0x10;
-    }
-    for room in [0, 4, 5, 12] {
-        let mut walk = symbols(range(0x18, 216), range(0xF0, 0x110));
-        let mut runs = [RUN; 12];
-        let mut entries = [NO_SYMBOL; 13];
-        let mut written = 77;
-        let lent = &mut runs[..room];
-        let answer = pe_c_list_symbols(&bytes, &mut walk, lent, &mut entries, &mut written);
-        assert_eq!(rt; (answer, written), (DONE, 12));
-        for (i, entry) in entries[..12].iter().enumerate() {
-            assert_eq!(rt; (entry.symbol.index, entry.name_result), (i as u64, DONE));
-            assert_eq!(rt; of_range(entry.name), [0x100, 82]);
-        }
-        // The first starts after a zero and is not counted, three have 249 bytes, and the fifth is too much.
-        let start = if room < 5 { 0x7777 } else { 0x10 };
-        assert_eq!(rt; runs[0].start, start, "{room}");
-    }
-    Ok(())
-}
-
-/// A table of the addresses at the offsets of `TABLES`, as in `forwarders_together`.
-#[test]
-fn forwarders_by_their_index(rt: HostRuntime) -> Result<(), Fail> {
-    let bytes = with_texts(rt.alloc(), &TABLES)?;
-    let (image, sections) = (image(X64), sections());
-    let view = view(&bytes, &image, &sections);
-    let table = AddressTable {
-        name: range(0, 0),
-        addresses: range(0x20, 36),
-        directory: directory(0x1100, 0x100),
-        ordinal_base: 3,
-        has_name: 0,
-    };
-    let none = Exported {
-        forwarder: NO_RANGE,
-        ordinal: 7,
-        rva: 8,
-        is_forwarder: 9,
-    };
-    let (mut next, mut written) = (4, 77);
-    let (mut runs, mut entries) = ([RUN; 2], [none; 2]);
-    let answer = pe_c_list_export_addresses(
-        &view,
-        &table,
-        &mut next,
-        &mut runs,
-        &mut entries,
-        &mut written,
-    );
-    assert_eq!(rt; (answer, written, next), (DONE, 2, 6));
-    let said = entries.map(|it| (of_range(it.forwarder), it.ordinal, it.rva, it.is_forwarder));
-    assert_eq!(rt;
-        said,
-        [([0x100, 82], 7, 0x1100, 1), ([0x152, 0], 8, 0x1152, 1)]
-    );
-    // The room has the texts of the call's own entries.
-    assert_eq!(rt; runs.map(|run| run.start), [0x100, 0x152]);
     Ok(())
 }
 

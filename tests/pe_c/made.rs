@@ -8,10 +8,12 @@ pub(crate) use crate::base::view::View;
 pub(crate) use crate::failures::headers::Failure;
 pub(crate) use crate::headers::image::Image;
 pub(crate) use pe_core::{DataDirectory, SectionTable};
+pub(crate) use pe_edit::RecordRange;
 pub(crate) use pe_frame::{IndexEntry, MemoryPiece};
 use pe_images::image as bytes_of;
 pub(crate) use pe_images::put;
 use pe_records::ImageDebugDirectory;
+pub(crate) use pe_unwind::RuntimeFunction;
 pub(crate) use std::alloc::{AllocError, Global};
 pub(crate) use std::test::Fail;
 
@@ -258,6 +260,30 @@ pub(crate) fn directory(virtual_address: u32, size: u32) -> DataDirectory {
     }
 }
 
+pub(crate) fn piece_at(start: u64, offset: u64, length: u64) -> MemoryPiece {
+    MemoryPiece {
+        start,
+        offset,
+        length,
+    }
+}
+
+pub(crate) fn record_range(offset: u64, length: u64) -> RecordRange {
+    RecordRange { offset, length }
+}
+
+pub(crate) fn function_at(
+    begin_address: u32,
+    end_address: u32,
+    unwind_info_address: u32,
+) -> RuntimeFunction {
+    RuntimeFunction {
+        begin_address,
+        end_address,
+        unwind_info_address,
+    }
+}
+
 /// The headers' word on an image of a machine, with one section and no directories.
 pub(crate) fn image(machine: u16) -> Image {
     Image {
@@ -373,11 +399,7 @@ pub(crate) fn bytes_of_words(alloc: Global, words: &[u64]) -> Result<Vec<u8>, Al
 
 /// All bytes as one piece of memory, from this address on.
 pub(crate) fn piece(start: u64, bytes: &[u8]) -> [MemoryPiece; 1] {
-    [MemoryPiece {
-        start,
-        offset: 0,
-        length: bytes.len() as u64,
-    }]
+    [piece_at(start, 0, bytes.len() as u64)]
 }
 
 /// Numbers of four bytes, one after the other.

@@ -5,14 +5,6 @@ use super::made::*;
 use crate::dump::memory_runs::{pe_c_memory_ranges, pe_c_memory_runs};
 use pe_stacks::RangeEntry;
 
-fn piece(start: u64, offset: u64, length: u64) -> MemoryPiece {
-    MemoryPiece {
-        start,
-        offset,
-        length,
-    }
-}
-
 /// What is in the rooms before a call.
 const LEFT: MemoryPiece = MemoryPiece {
     start: 77,
@@ -28,11 +20,11 @@ const LEFT_ENTRY: RangeEntry = RangeEntry {
 /// They descend. The first lies over the end of the second, and the third over that of the fourth; the last is alone.
 fn five_pieces() -> [MemoryPiece; 5] {
     [
-        piece(0x2008, 0, 8),
-        piece(0x2000, 0x10, 16),
-        piece(0x1008, 0x20, 8),
-        piece(0x1000, 0x40, 16),
-        piece(0x4000, 0x50, 16),
+        piece_at(0x2008, 0, 8),
+        piece_at(0x2000, 0x10, 16),
+        piece_at(0x1008, 0x20, 8),
+        piece_at(0x1000, 0x40, 16),
+        piece_at(0x4000, 0x50, 16),
     ]
 }
 
@@ -45,26 +37,26 @@ fn runs_have_the_first_piece_of_an_address(rt: HostRuntime) -> Result<(), Fail> 
     assert_eq!(rt;
         [runs[0], runs[1], runs[2], runs[3], runs[4]],
         [
-            piece(0x1000, 0x40, 8),
-            piece(0x1008, 0x20, 8),
-            piece(0x2000, 0x10, 8),
-            piece(0x2008, 0, 8),
-            piece(0x4000, 0x50, 16),
+            piece_at(0x1000, 0x40, 8),
+            piece_at(0x1008, 0x20, 8),
+            piece_at(0x2000, 0x10, 8),
+            piece_at(0x2008, 0, 8),
+            piece_at(0x4000, 0x50, 16),
         ]
     );
     assert_eq!(rt; (runs[10], entries[20]), (LEFT, LEFT_ENTRY));
     // Two that follow one another, in the file too, are one, up to the last address.
     let end = u64::MAX - 7;
     let list = [
-        piece(end + 4, 4, 4),
-        piece(end, 0, 4),
-        piece(end + 6, 16, 8),
+        piece_at(end + 4, 4, 4),
+        piece_at(end, 0, 4),
+        piece_at(end + 6, 16, 8),
     ];
     let found = pe_c_memory_runs(&list, &mut entries, &mut runs, &mut written);
     assert_eq!(rt; found, DONE);
-    assert_eq!(rt; (written, runs[0]), (1, piece(end, 0, 8)));
+    assert_eq!(rt; (written, runs[0]), (1, piece_at(end, 0, 8)));
     // Those that follow one another in memory alone are two.
-    let list = [piece(0x1008, 0x20, 8), piece(0x1000, 0x10, 8)];
+    let list = [piece_at(0x1008, 0x20, 8), piece_at(0x1000, 0x10, 8)];
     let found = pe_c_memory_runs(&list, &mut entries, &mut runs, &mut written);
     assert_eq!(rt; found, DONE);
     assert_eq!(rt; (written, runs[0]), (2, list[1]));
@@ -81,7 +73,7 @@ fn runs_that_are_refused_change_nothing(rt: HostRuntime) -> Result<(), Fail> {
     let found = pe_c_memory_runs(&list, &mut entries, &mut runs[..9], &mut written);
     assert_eq!(rt; found, ROOM);
     // shows: pe_c/src/dump/memory_runs.rt pe_c_memory_runs Short
-    let past = [piece(0x1000, u64::MAX, 1)];
+    let past = [piece_at(0x1000, u64::MAX, 1)];
     let found = pe_c_memory_runs(&past, &mut entries, &mut runs, &mut written);
     assert_eq!(rt; found, SHORT);
     assert_eq!(rt; (written, runs, entries), (9, [LEFT; 10], [LEFT_ENTRY; 20]));

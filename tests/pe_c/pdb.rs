@@ -8,14 +8,16 @@ use super::made::{
     PDB_STREAM_SIZE, PDB20, SHORT, of_range, range,
 };
 use super::pdb_bytes::{LENGTH, PIECES};
-use crate::base::ranges::NO_BYTES;
+use crate::base::ranges::{NO_BYTES, Range};
 use crate::base::results::{DONE, NOTHING, ROOM};
 use crate::debug::records::SymbolKey;
-use crate::pdb::index::{pe_c_find_pdb_symbol, pe_c_pdb_index};
+use crate::pdb::index::{pe_c_find_pdb_symbol, pe_c_pdb_index, pe_c_read_pdb_symbol};
 use crate::pdb::lines::{
     pe_c_find_pdb_line, pe_c_pdb_file_name, pe_c_pdb_files, pe_c_pdb_lines, pe_c_pdb_named_stream,
+    pe_c_read_pdb_line,
 };
 use crate::pdb::modules::{PdbModule, pe_c_list_pdb_modules};
+use crate::pdb::omap::pe_c_pdb_moved_rva;
 use crate::pdb::symbols::{PdbSymbol, pe_c_list_pdb_symbols};
 use crate::pdb::{Pdb, pe_c_is_pdb_of, pe_c_pdb, pe_c_pdb_starts, pe_c_pdb_stream};
 use pe_images::{image, put};
@@ -475,6 +477,11 @@ fn an_index_finds_symbols(rt: HostRuntime) -> Result<(), Fail> {
         let result = pe_c_find_pdb_symbol(kind, bytes, &sections, index, rva, &mut out);
         (result, out.rva, of_range(out.name))
     };
+    let read = |kind: u32, bytes: &[u8], symbols: &Range, rva: u32| {
+        let mut out = NO_SYMBOL;
+        let result = pe_c_read_pdb_symbol(kind, bytes, symbols, &sections, rva, &mut out);
+        (result, out.rva, of_range(out.name))
+    };
     for (rva, wanted) in [
         (0xFFF, (NOTHING, 9, [0, 0])),
         (0x1000, (DONE, 0x1000, [14, 5])),
@@ -483,6 +490,7 @@ fn an_index_finds_symbols(rt: HostRuntime) -> Result<(), Fail> {
         (0xFFFF_FFFF, (DONE, 0x1050, [34, 6])),
     ] {
         assert_eq!(rt; found(0, &symbols, &publics[..2], rva), wanted);
+        assert_eq!(rt; read(0, &symbols, &all, rva), wanted);
     }
     for (rva, wanted) in [
         (0x104F, (NOTHING, 9, [0, 0])),
@@ -494,6 +502,7 @@ fn an_index_finds_symbols(rt: HostRuntime) -> Result<(), Fail> {
     ] {
         assert_eq!(rt; found(1, &module, &index, rva), wanted);
         assert_eq!(rt; found(77, &module, &index, rva), wanted);
+        assert_eq!(rt; read(1, &module, &own, rva), wanted);
     }
     // Entries that no call made.
     let said = found(0, &symbols, &[2], 0x9000);
@@ -591,17 +600,19 @@ fn lines_are_those_that_pdbutil_lists(rt: HostRuntime) -> Result<(), Fail> {
     let found = |rva: u32| {
         let mut out = NO_LINE.line;
         let result = pe_c_find_pdb_line(&room[..6], rva, &mut out);
-        (result, out.line)
+        let mut read = NO_LINE.line;
+        let same = pe_c_read_pdb_line(&module, &lines, &sections, rva, &mut read);
+        (result, out.line, result == same && out == read)
     };
     for (rva, wanted) in [
-        (0x104F, (NOTHING, 9)),
-        (0x1050, (DONE, 4)),
-        (0x1064, (DONE, 5)),
-        (0x1065, (DONE, 900)),
-        (0x107C, (DONE, 9)),
-        (0x107D, (NOTHING, 9)),
-        (0x108B, (DONE, 2)),
-        (0x108C, (NOTHING, 9)),
+        (0x104F, (NOTHING, 9, true)),
+        (0x1050, (DONE, 4, true)),
+        (0x1064, (DONE, 5, true)),
+        (0x1065, (DONE, 900, true)),
+        (0x107C, (DONE, 9, true)),
+        (0x107D, (NOTHING, 9, true)),
+        (0x108B, (DONE, 2, true)),
+        (0x108C, (NOTHING, 9, true)),
     ] {
         assert_eq!(rt; found(rva), wanted);
     }
@@ -616,6 +627,32 @@ fn lines_are_those_that_pdbutil_lists(rt: HostRuntime) -> Result<(), Fail> {
         let headers = &sections[..headers];
         let result = pe_c_pdb_lines(&module, &start, headers, &mut room, &mut written);
         assert_eq!(rt; (result, written, room[0].index), (error, 9, 9));
+    }
+    Ok(())
+}
+
+/// By three rows: code from 0x1000 on is at 0x3000, from 0x1050 on nowhere, from 0x2000 on at the end of what RVAs have.
+#[test]
+fn omap_tables_move_rvas(rt: HostRuntime) -> Result<(), Fail> {
+    let mut table = [0u8; 24];
+    let rows = [0x1000u32, 0x3000, 0x1050, 0, 0x2000, 0xFFFF_FFF0];
+    for (i, number) in rows.iter().enumerate() {
+        table[4 * i..4 * i + 4].copy_from_slice(&number.to_le_bytes());
+    }
+    for (length, rva, wanted) in [
+        (24, 0xFFF, (NOTHING, 9)),
+        (24, 0x1000, (DONE, 0x3000)),
+        (24, 0x104F, (DONE, 0x304F)),
+        (24, 0x1050, (NOTHING, 9)),
+        (24, 0x200F, (DONE, 0xFFFF_FFFF)),
+        (24, 0x2010, (NOTHING, 9)),
+        (23, 0x200F, (NOTHING, 9)),
+        (15, 0x1050, (DONE, 0x3050)),
+        (7, 0x1000, (NOTHING, 9)),
+    ] {
+        let mut out = 9;
+        let result = pe_c_pdb_moved_rva(&table[..length], rva, &mut out);
+        assert_eq!(rt; (result, out), wanted);
     }
     Ok(())
 }

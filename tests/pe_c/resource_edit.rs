@@ -22,10 +22,6 @@ const NONE: RecordRange = RecordRange {
     length: 0,
 };
 
-fn range(offset: u64, length: u64) -> RecordRange {
-    RecordRange { offset, length }
-}
-
 fn id(id: u32) -> RecordKey {
     RecordKey {
         name: NONE,
@@ -36,7 +32,7 @@ fn id(id: u32) -> RecordKey {
 
 fn name(offset: u64, length: u64) -> RecordKey {
     RecordKey {
-        name: range(offset, length),
+        name: record_range(offset, length),
         id: 0,
         has_name: 1,
     }
@@ -112,8 +108,8 @@ fn edited(
 fn resources_are_written(rt: HostRuntime) -> Result<(), Fail> {
     let bytes = old_image(rt.alloc(), 0, b"MZ")?;
     let records = [
-        resource(name(0, 4), range(4, 3)),
-        resource(id(7), range(7, 1)),
+        resource(name(0, 4), record_range(4, 3)),
+        resource(id(7), record_range(7, 1)),
     ];
     let (numbers, lengths, room) = edited(rt.alloc(), &bytes, &records, &DATA, LENGTH + 2)?;
     assert_eq!(rt; numbers, [DONE; 2]);
@@ -181,13 +177,13 @@ fn refused(
 #[test]
 fn records_are_refused(rt: HostRuntime) -> Result<(), Fail> {
     let bytes = old_image(rt.alloc(), 0, b"MZ")?;
-    let good = resource(id(1), range(4, 3));
+    let good = resource(id(1), record_range(4, 3));
     let wide = ResourceRecord {
         language: 0x1_0000,
         ..good
     };
     for (number, record) in [
-        (466, resource(id(1), range(4, 5))),
+        (466, resource(id(1), record_range(4, 5))),
         (466, resource(name(6, 4), NONE)),
         (466, resource(id(0x1_0000), NONE)),
         (466, wide),
@@ -200,7 +196,7 @@ fn records_are_refused(rt: HostRuntime) -> Result<(), Fail> {
     }
     // The range of no name is not read.
     let unused = RecordKey {
-        name: range(100, 100),
+        name: record_range(100, 100),
         id: 2,
         has_name: 0,
     };
@@ -227,7 +223,7 @@ fn names_are_bounded(rt: HostRuntime) -> Result<(), Fail> {
 fn shared_contents_are_bounded(rt: HostRuntime) -> Result<(), Fail> {
     let bytes = old_image(rt.alloc(), 0, b"MZ")?;
     let data = vec![in rt.alloc(); 1; 0x8_0000]?;
-    let record = resource(id(1), range(0, 0x8_0000));
+    let record = resource(id(1), record_range(0, 0x8_0000));
     assert_eq!(rt; refused(rt.alloc(), &bytes, &[record; 49], &data)?, 474);
     // The next test is that of their order.
     assert_eq!(rt; refused(rt.alloc(), &bytes, &[record; 48], &data)?, 453);
@@ -236,7 +232,7 @@ fn shared_contents_are_bounded(rt: HostRuntime) -> Result<(), Fail> {
 
 #[test]
 fn images_are_refused(rt: HostRuntime) -> Result<(), Fail> {
-    let record = [resource(id(1), range(4, 3))];
+    let record = [resource(id(1), record_range(4, 3))];
     for (number, offset, part) in [
         (3, 0, &b"ZM"[..]),
         (32, 0x8C, &[0, 0][..]),

@@ -63,18 +63,12 @@ fn file(alloc: Global) -> Result<Vec<u8>, AllocError> {
 /// A range by what `openssl asn1parse` prints of an element of the signature, its offset and the lengths of its header and its
 /// content.
 fn whole(offset: u64, header: u64, length: u64) -> Range {
-    Range {
-        offset: BEFORE + offset,
-        length: header + length,
-    }
+    range(BEFORE + offset, header + length)
 }
 
 /// The range of its content.
 fn content(offset: u64, header: u64, length: u64) -> Range {
-    Range {
-        offset: BEFORE + offset + header,
-        length,
-    }
+    range(BEFORE + offset + header, length)
 }
 
 fn same(one: Range, other: Range) -> bool {

@@ -64,11 +64,7 @@ fn frame_at(unwind: u32, offset: u32, registers: FrameRegisters) -> StackFrame {
     StackFrame {
         registers,
         address: NO_ADDRESS,
-        function: RuntimeFunction {
-            begin_address: 0x5000,
-            end_address: 0x5040,
-            unwind_info_address: unwind,
-        },
+        function: function_at(0x5000, 0x5040, unwind),
         rva: 0x5000 + offset,
         leaf: 0,
         interrupted: NOT_SAID,
@@ -161,7 +157,7 @@ fn step_over(
 
 /// A step over the bytes of a stack from an address on.
 fn step_by(bytes: &[u8], code: &[u8], stack: (u64, &[u8]), frame: &mut StackFrame) -> u32 {
-    let whole = piece(stack.0, 0, stack.1.len() as u64);
+    let whole = piece_at(stack.0, 0, stack.1.len() as u64);
     step_over(bytes, code, stack.1, &[whole], frame)
 }
 
@@ -314,21 +310,13 @@ fn step_pieces(
     [answer, frame.interrupted]
 }
 
-fn piece(start: u64, offset: u64, length: u64) -> MemoryPiece {
-    MemoryPiece {
-        start,
-        offset,
-        length,
-    }
-}
-
 /// A step says that an interrupt stopped the caller only if it undid the frame that the processor pushed.
 #[test]
 fn steps_say_what_an_interrupt_left(rt: HostRuntime) -> Result<(), Fail> {
     let bytes = with_records(rt.alloc())?;
     let words = [RETURN_ADDRESS, 0x33, 0, 0x100, 0x2B];
     let stack = bytes_of_words(rt.alloc(), &words)?;
-    let pieces = [piece(ENTRY, 0, 40)];
+    let pieces = [piece_at(ENTRY, 0, 40)];
     let mut frame = frame_at(0x10B0, 0, changed(&[(RSP, ENTRY)]));
     assert_eq!(rt; step_pieces(&bytes, &stack, &pieces, &mut frame), [DONE, 1]);
     let found = [frame.registers.rip, frame.registers.general[RSP]];

@@ -35,15 +35,11 @@ const TOP: u32 = 0;
 
 const RECORDS: u32 = 1;
 
-const LEAF: u32 = 2;
-
 const BOUND: u32 = 0;
 
 const BOTTOM: u32 = 1;
 
 const NO_MODULE: u32 = 2;
-
-const NO_FUNCTION: u32 = 3;
 
 const STEP: u32 = 6;
 
@@ -220,30 +216,6 @@ fn frames_in_one_call(rt: HostRuntime) -> Result<(), Fail> {
     Ok(())
 }
 
-/// After a call of a null pointer the return address is at the stack pointer, which is a guess. In a module without a table it is too,
-/// and the stack is scanned from there: it has no word more.
-#[test]
-fn a_call_of_a_null_pointer_has_a_caller(rt: HostRuntime) -> Result<(), Fail> {
-    let (bytes, headers, sections) = (program(rt.alloc())?, image(X64), code());
-    let stack = bytes_of_words(rt.alloc(), &[AFTER_CALL])?;
-    let mut modules = [module(&bytes, &headers, &sections)];
-    let mut walk = walk_from(0, STACK, 9);
-    for frame in [([0, STACK], [TOP, 0]), ([AFTER_CALL, STACK + 8], [LEAF, 1])] {
-        let found = pe_c_next_frame(&modules, &stack, &piece(STACK, &stack), &mut walk);
-        assert_eq!(rt; found, DONE);
-        assert_eq!(rt; frame_of(&walk), frame);
-        assert_eq!(rt; [walk.is_guess, walk.spare], [frame.1[1], 0]);
-    }
-    modules[0].table = range(0, 0);
-    let mut walk = walk_from(0, STACK, 9);
-    for answer in [DONE, DONE, NOTHING] {
-        let found = pe_c_next_frame(&modules, &stack, &piece(STACK, &stack), &mut walk);
-        assert_eq!(rt; found, answer);
-    }
-    assert_eq!(rt; end_of(&walk), ([0, 0], [NO_FUNCTION, 0]));
-    Ok(())
-}
-
 /// A walk that comes to 0 without records, or to no code: then the stack is not known to be whole.
 #[test]
 fn ends_without_records(rt: HostRuntime) -> Result<(), Fail> {
@@ -283,11 +255,7 @@ fn ranges_that_lie(rt: HostRuntime) -> Result<(), Fail> {
 
 /// A piece of 8 bytes far from the stack.
 fn far_piece(offset: u64) -> MemoryPiece {
-    MemoryPiece {
-        start: 1 << 40,
-        offset,
-        length: 8,
-    }
+    piece_at(1 << 40, offset, 8)
 }
 
 /// The mark is that the pieces ascend and do not overlap. A walk that is over has it too, and a call of no frames sets it.
@@ -297,11 +265,7 @@ fn walks_are_marked_by_the_order_of_their_pieces(rt: HostRuntime) -> Result<(), 
     let modules = [module(&bytes, &headers, &sections)];
     let stack = bytes_of_words(rt.alloc(), &[8, 1])?;
     let [near] = piece(STACK, &stack);
-    let last = MemoryPiece {
-        start: STACK + 15,
-        offset: 0,
-        length: 1,
-    };
+    let last = piece_at(STACK + 15, 0, 1);
     for (pieces, mark) in [
         ([near, far_piece(8)], 1),
         ([far_piece(8), near], 0),

@@ -21,14 +21,6 @@ const OTHER: RuntimeFunction = RuntimeFunction {
     unwind_info_address: 9,
 };
 
-fn function(begin_address: u32, end_address: u32, unwind_info_address: u32) -> RuntimeFunction {
-    RuntimeFunction {
-        begin_address,
-        end_address,
-        unwind_info_address,
-    }
-}
-
 /// An image for x64 with its exception directory there.
 fn with_table(virtual_address: u32, size: u32) -> Image {
     having(image(X64), 3, directory(virtual_address, size))
@@ -89,8 +81,8 @@ fn functions_of_addresses(rt: HostRuntime) -> Result<(), Fail> {
         let answer = pe_c_find_function(&bytes, table, rva, &mut out);
         (answer, out)
     };
-    let first = function(0x1000, 0x1010, 0x2000);
-    let last = function(0x1020, 0x1030, 0x2021);
+    let first = function_at(0x1000, 0x1010, 0x2000);
+    let last = function_at(0x1020, 0x1030, 0x2021);
     for (rva, want) in [
         (0x0FFF, (NOTHING, OTHER)),
         (0x1000, (DONE, first)),
@@ -115,7 +107,7 @@ fn functions_by_index(rt: HostRuntime) -> Result<(), Fail> {
         let answer = pe_c_function_at(&bytes, table, index, &mut out);
         (answer, out)
     };
-    assert_eq!(rt; at(&TABLE, 1), (DONE, function(0x1020, 0x1040, 0x2010)));
+    assert_eq!(rt; at(&TABLE, 1), (DONE, function_at(0x1020, 0x1040, 0x2010)));
     assert_eq!(rt; at(&TABLE, 3), (FUNCTION_INDEX, OTHER));
     assert_eq!(rt; at(&range(4, 35), 2), (FUNCTION_INDEX, OTHER));
     Ok(())
@@ -260,7 +252,7 @@ fn records_are_read(rt: HostRuntime) -> Result<(), Fail> {
         [0x64, 2, 1, 0],
         [0, 1, 0, 5, 0, 0],
         OVER,
-        function(0x5000, 0x5010, 0x1030),
+        function_at(0x5000, 0x5010, 0x1030),
     );
     assert_eq!(rt; record_of(&bytes, &table, 0x1060), (DONE, chained));
     Ok(())

@@ -2,7 +2,6 @@
 
 use super::made::*;
 use crate::write::version::{pe_c_write_block, pe_c_write_version};
-use pe_edit::RecordRange;
 use pe_resource::VsFixedFileInfo;
 use pe_version::{LanguageRecord, StringRecord, TableRecord};
 
@@ -149,14 +148,8 @@ fn versions_are_written(rt: HostRuntime) -> Result<(), Fail> {
 #[test]
 fn versions_are_refused(rt: HostRuntime) -> Result<(), Fail> {
     let string = |name, text| StringRecord {
-        name: RecordRange {
-            offset: 0,
-            length: name,
-        },
-        text: RecordRange {
-            offset: 0,
-            length: text,
-        },
+        name: record_range(0, name),
+        text: record_range(0, text),
     };
     let long = [1u8; 65_524];
     for (number, name, text, count, texts) in [

@@ -48,10 +48,7 @@ NOT_INLINE static int calls_leaf(int n)
     return result * 3 + sink;
 }
 
-static void in_a_leaf(void)
-{
-    sink = calls_leaf(5);
-}
+static void in_a_leaf(void) { sink = calls_leaf(5); }
 
 NOT_INLINE static int goes_down(int n, int a, int b)
 {
@@ -63,10 +60,7 @@ NOT_INLINE static int goes_down(int n, int a, int b)
     return result + room[sink & 7];
 }
 
-static void deep(void)
-{
-    sink = goes_down(3000, 1, 2);
-}
+static void deep(void) { sink = goes_down(3000, 1, 2); }
 
 NOT_INLINE static int floods(int n)
 {
@@ -76,10 +70,7 @@ NOT_INLINE static int floods(int n)
     return floods(n + 1) + room[sink & 7];
 }
 
-static void stack_overflow(void)
-{
-    sink = floods(1);
-}
+static void stack_overflow(void) { sink = floods(1); }
 
 NOT_INLINE static int allocates(int n)
 {
@@ -95,10 +86,7 @@ NOT_INLINE static int allocates(int n)
     return first[0] + second[n];
 }
 
-static void after_alloca(void)
-{
-    sink = allocates(77);
-}
+static void after_alloca(void) { sink = allocates(77); }
 
 NOT_INLINE static int is_large(int n)
 {
@@ -111,10 +99,7 @@ NOT_INLINE static int is_large(int n)
     return room[n];
 }
 
-static void large_frame(void)
-{
-    sink = is_large(77);
-}
+static void large_frame(void) { sink = is_large(77); }
 
 FRAME_POINTER static int has_frame_pointer(int n)
 {
@@ -127,10 +112,7 @@ FRAME_POINTER static int has_frame_pointer(int n)
     return room[n];
 }
 
-static void frame_pointer(void)
-{
-    sink = has_frame_pointer(77);
-}
+static void frame_pointer(void) { sink = has_frame_pointer(77); }
 
 NOT_INLINE static double keeps_floats(double a, double b, double c, int n)
 {
@@ -150,10 +132,7 @@ NOT_INLINE static double keeps_floats(double a, double b, double c, int n)
     return product + quotient + difference + other + sum + root;
 }
 
-static void among_floats(void)
-{
-    floating_sink = keeps_floats(1.5, 2.5, 3.5, 20);
-}
+static void among_floats(void) { floating_sink = keeps_floats(1.5, 2.5, 3.5, 20); }
 
 NOT_INLINE static long long takes_many(int a, int b, int c, int d, int e, int f, double g, long long h)
 {
@@ -171,10 +150,7 @@ NOT_INLINE static long long takes_many(int a, int b, int c, int d, int e, int f,
     return h + a * b + c * d;
 }
 
-static void in_a_switch(void)
-{
-    sink = (int)takes_many(5, 2, 3, 4, 5, 6, 7.5, 8);
-}
+static void in_a_switch(void) { sink = (int)takes_many(5, 2, 3, 4, 5, 6, 7.5, 8); }
 
 /* ---- parts and tail calls */
 
@@ -202,10 +178,7 @@ NOT_INLINE static int calls_rare(int n, int factor)
     return room[n & 15] + sink;
 }
 
-static void from_a_cold_part(void)
-{
-    sink = calls_rare(77, 3);
-}
+static void from_a_cold_part(void) { sink = calls_rare(77, 3); }
 
 COLD static void notes(int n)
 {
@@ -229,10 +202,7 @@ NOT_INLINE static int faults_in_its_cold_part(int n, int factor)
     return room[n & 15] + sink;
 }
 
-static void in_a_cold_part(void)
-{
-    sink = faults_in_its_cold_part(77, 3);
-}
+static void in_a_cold_part(void) { sink = faults_in_its_cold_part(77, 3); }
 
 NOT_INLINE static int is_called_last(int n)
 {
@@ -240,10 +210,7 @@ NOT_INLINE static int is_called_last(int n)
     return reads_nowhere(n + 3);
 }
 
-static void after_a_tail_call(void)
-{
-    sink = is_called_last(7) * 3;
-}
+static void after_a_tail_call(void) { sink = is_called_last(7) * 3; }
 
 __attribute__((noinline, noreturn)) static void never_returns(int n)
 {
@@ -263,10 +230,7 @@ NOT_INLINE static int calls_what_never_returns(int n)
     return n + sink;
 }
 
-static void call_without_return(void)
-{
-    sink = calls_what_never_returns(7);
-}
+static void call_without_return(void) { sink = calls_what_never_returns(7); }
 
 static void crash_called_by_assembler(void *argument)
 {
@@ -276,10 +240,7 @@ static void crash_called_by_assembler(void *argument)
     LEAVE();
 }
 
-static void call_at_a_function_end(void)
-{
-    call_at_the_end(crash_called_by_assembler, 0);
-}
+static void call_at_a_function_end(void) { call_at_the_end(crash_called_by_assembler, 0); }
 
 /* ---- code that is no function */
 
@@ -293,10 +254,7 @@ NOT_INLINE static int calls_no_function(int n)
     return result;
 }
 
-static void null_call(void)
-{
-    sink = calls_no_function(7);
-}
+static void null_call(void) { sink = calls_no_function(7); }
 
 NOT_INLINE static int returns_to_nowhere(int n)
 {
@@ -307,10 +265,7 @@ NOT_INLINE static int returns_to_nowhere(int n)
     return result;
 }
 
-static void wild_call(void)
-{
-    sink = returns_to_nowhere(7);
-}
+static void wild_call(void) { sink = returns_to_nowhere(7); }
 
 /* ---- through libraries, and back */
 
@@ -332,20 +287,9 @@ static void in_qsort(void)
     sink = numbers[3];
 }
 
-static void from_a_library(void)
-{
-    sink = call_each(crashes_at_3, 10);
-}
-
-static void from_a_library_among_floats(void)
-{
-    floating_sink = call_among_floats(crashes_at_3, 2.5, 3.5);
-}
-
-static void from_a_library_by_a_tail_call(void)
-{
-    sink = call_last(reads_nowhere);
-}
+static void from_a_library(void) { sink = call_each(crashes_at_3, 10); }
+static void from_a_library_among_floats(void) { floating_sink = call_among_floats(crashes_at_3, 2.5, 3.5); }
+static void from_a_library_by_a_tail_call(void) { sink = call_last(reads_nowhere); }
 
 static BOOL CALLBACK on_locale(LPSTR name)
 {
@@ -356,10 +300,7 @@ static BOOL CALLBACK on_locale(LPSTR name)
     return TRUE;
 }
 
-static void from_kernelbase(void)
-{
-    EnumSystemLocalesA(on_locale, LCID_INSTALLED);
-}
+static void from_kernelbase(void) { EnumSystemLocalesA(on_locale, LCID_INSTALLED); }
 
 static LRESULT CALLBACK on_message(HWND window, UINT message, WPARAM w, LPARAM l)
 {
@@ -415,10 +356,7 @@ NOT_INLINE static int copies(void *to, int count)
     return room[3];
 }
 
-static void in_memcpy(void)
-{
-    sink = copies((void *)(DWORD64)0x20, 300 + zero);
-}
+static void in_memcpy(void) { sink = copies((void *)(DWORD64)0x20, 300 + zero); }
 
 static void in_free(void)
 {
@@ -553,10 +491,7 @@ static void raised_in_a_handler(void)
     sink = reads_nowhere(1);
 }
 
-static void raised(void)
-{
-    RaiseException(0xE0001234, 0, 0, 0);
-}
+static void raised(void) { RaiseException(0xE0001234, 0, 0, 0); }
 
 static void without_an_exception(void)
 {

@@ -63,10 +63,7 @@ NOT_INLINE int passes(int n)
     return throws(n) + one;
 }
 
-void uncaught()
-{
-    sink = passes(7);
-}
+void uncaught() { sink = passes(7); }
 
 NOT_INLINE int is_noexcept(int n) noexcept
 {
@@ -74,10 +71,7 @@ NOT_INLINE int is_noexcept(int n) noexcept
     return passes(n) + one;
 }
 
-void in_noexcept()
-{
-    sink = is_noexcept(7) + one;
-}
+void in_noexcept() { sink = is_noexcept(7) + one; }
 
 NOT_INLINE int catches(int n)
 {
@@ -90,10 +84,7 @@ NOT_INLINE int catches(int n)
     return sink;
 }
 
-void in_a_catch()
-{
-    sink = catches(7) + one;
-}
+void in_a_catch() { sink = catches(7) + one; }
 
 struct Crashing {
     NOT_INLINE ~Crashing()
@@ -131,10 +122,7 @@ NOT_INLINE int throws_again(int n)
     return sink;
 }
 
-void thrown_again()
-{
-    sink = throws_again(7) + one;
-}
+void thrown_again() { sink = throws_again(7) + one; }
 
 DWORD WINAPI throws_in_a_thread(void *)
 {
@@ -143,10 +131,7 @@ DWORD WINAPI throws_in_a_thread(void *)
     return 0;
 }
 
-void in_a_thread()
-{
-    WaitForSingleObject(CreateThread(0, 0, throws_in_a_thread, 0, 0, 0), INFINITE);
-}
+void in_a_thread() { WaitForSingleObject(CreateThread(0, 0, throws_in_a_thread, 0, 0, 0), INFINITE); }
 
 } // namespace
 
@@ -264,7 +249,6 @@ void framed_top() { sink = framed_reads_nowhere(7) + one; }
 void framed_between() { sink = framed_calls(calls_framed, 7) + one; }
 void framed_deep() { sink = framed_goes_down(reads_nowhere, 20) + one; }
 void framed_top_deep() { sink = framed_goes_down(framed_reads_nowhere, 20) + one; }
-
 void another_convention() { sink = bare_keeps_all(reads_nowhere, 7) + one; }
 
 /* Code that the program makes: it calls what is in rcx. */

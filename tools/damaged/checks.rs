@@ -25,10 +25,10 @@ pub struct Counts {
     pub written: u64,
     /// Requests for memory that were refused.
     pub denied: u64,
-    pub strict: [u64; 37],
-    pub permissive: [u64; 37],
+    pub strict: [u64; 38],
+    pub permissive: [u64; 38],
     /// Of all other calls and of iterators.
-    pub other: [u64; 37],
+    pub other: [u64; 38],
     /// What was read of further directories and resource leaves, in each layout.
     pub found: [u64; 30],
 }
@@ -40,15 +40,15 @@ impl Counts {
             permissive_given: 0,
             written: 0,
             denied: 0,
-            strict: [0; 37],
-            permissive: [0; 37],
-            other: [0; 37],
+            strict: [0; 38],
+            permissive: [0; 38],
+            other: [0; 38],
             found: [0; 30],
         }
     }
 }
 
-fn add(to: &mut [u64; 37], from: &[u64; 37]) {
+fn add(to: &mut [u64; 38], from: &[u64; 38]) {
     for (sum, count) in to.iter_mut().zip(from.iter()) {
         *sum = sum.wrapping_add(*count);
     }

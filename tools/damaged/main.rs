@@ -1,7 +1,6 @@
 //! Walks over images, damaged ones for tools/try_damaged, whole ones for bench/hostile:
 //!
 //!     damaged try IMAGES SECONDS SEED [FILE ..]    damaged copies of the FILEs, or of images made by hand, in turn
-//!     damaged make NUMBER SEED OUT [FILE ..]       writes the image with this number
 //!     damaged walk FILE ..                         parses and walks each FILE, and prints how long that took
 #![tactic(auto)]
 
@@ -72,7 +71,7 @@ fn bases(rt: &HostRuntime, from: usize) -> io::Result<Vec<Base>> {
     Ok(bases)
 }
 
-fn show_kinds(rt: &HostRuntime, what: &str, refusals: &[u64; 37]) -> io::Result<()> {
+fn show_kinds(rt: &HostRuntime, what: &str, refusals: &[u64; 38]) -> io::Result<()> {
     for (kind, count) in KINDS.iter().zip(refusals.iter()) {
         if *count > 0 {
             println!(rt; "{what} {kind} {count}")?;
@@ -156,17 +155,6 @@ fn try_images(rt: &HostRuntime) -> io::Result<()> {
     )
 }
 
-/// Writes the damaged image with a number.
-fn make_image(rt: &HostRuntime) -> io::Result<()> {
-    let (number, seed, out) = (number(rt, 2)?, number(rt, 3)?, word(rt, 4)?);
-    let bases = bases(rt, 5)?;
-    let mut image = Vec::new(rt.alloc());
-    if let Some(base) = base_of(&bases, number) {
-        base.make(seed, number, &mut image)?;
-    }
-    fs::write(rt, &out, &image)
-}
-
 /// Parses the bytes and walks over them, as what their first two say they are; an image in permissive mode.
 fn walk_bytes<'a>(walk: &mut Walk<'a>, alloc: Global, bytes: &'a [u8]) {
     match u16_at(bytes, 0) {
@@ -207,7 +195,6 @@ fn walk_file(rt: &HostRuntime, file: &String) -> io::Result<()> {
 fn main(rt: HostRuntime) -> io::Result<()> {
     match word(&rt, 1)?.as_str() {
         "try" => try_images(&rt),
-        "make" => make_image(&rt),
         "walk" => {
             for file in env::args(&rt)?.skip(2) {
                 walk_file(&rt, &file)?;

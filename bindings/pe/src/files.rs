@@ -20,8 +20,10 @@ use std::path::{Path, PathBuf};
 /// How many files are read side by side.
 const AT_ONCE: usize = 64;
 
-/// How much of a file below a folder is read to see whether it is an image.
+/// How much of a file below a folder is read to see whether it is an image, and of one whose headers do not end there: 65,535 section
+/// headers have 40 bytes each.
 const START: u64 = 4096;
+const HEADERS: u64 = 4 << 20;
 
 /// What is said of a file.
 pub struct Report {
@@ -190,10 +192,19 @@ pub fn below(folder: &Path) -> Vec<PathBuf> {
     Below { waiting: vec![folder.to_path_buf()], skipped: &skipped }.collect()
 }
 
-/// The first bytes of a file, where its headers are.
-pub fn start_of(path: &Path) -> io::Result<Vec<u8>> {
+/// The first bytes of a file.
+fn start_of(path: &Path, most: u64) -> io::Result<Vec<u8>> {
     let mut start = Vec::new();
-    File::open(path)?.take(START).read_to_end(&mut start)?;
+    File::open(path)?.take(most).read_to_end(&mut start)?;
+    Ok(start)
+}
+
+/// The first bytes of a file, with the headers of an image.
+pub fn headers_of(path: &Path) -> io::Result<Vec<u8>> {
+    let start = start_of(path, START)?;
+    if Image::parse(&start, Mode::Permissive).is_err_and(|error| error == Error::SHORT) {
+        return start_of(path, HEADERS);
+    }
     Ok(start)
 }
 
@@ -208,7 +219,12 @@ fn progress(is_recursive: bool) -> Progress {
 /// As `fs::read`, into large pages. `-` is standard input. A pipe or a device by another name is refused, since it may never
 /// end, or do something when it is read.
 pub fn whole(path: &Path) -> io::Result<Vec<u8>> {
-    let mut bytes = Vec::new();
+    whole_in(path, Vec::new())
+}
+
+/// The same in the memory of what was read before.
+pub fn whole_in(path: &Path, mut bytes: Vec<u8>) -> io::Result<Vec<u8>> {
+    bytes.clear();
     if path == Path::new("-") {
         io::stdin().lock().read_to_end(&mut bytes)?;
         return Ok(bytes);
@@ -231,7 +247,7 @@ type Said = Result<Report, Option<&'static str>>;
 /// and is not read on.
 fn said_of(found: &Found, report: &(impl Fn(&Path, &[u8]) -> Report + Sync)) -> io::Result<Said> {
     if found.is_below {
-        let start = start_of(&found.path)?;
+        let start = start_of(&found.path, START)?;
         if Image::parse(&start, Mode::Permissive).is_err_and(|error| error == Error::BAD_MAGIC) {
             return Ok(Err(kind_of(&start)));
         }

@@ -138,7 +138,7 @@ fn of_pdb(path: &Path, pdb: &Pdb<'_>) -> Result<SymbolFile, String> {
 /// The functions of a PDB, none where they are not those of the image as it is.
 fn functions_of(pdb: &Pdb<'_>, file: &mut SymbolFile) -> Functions {
     if pdb.is_moved() {
-        file.complain("functions", "a tool moved the code of the image after it was linked (OMAP), which is not read");
+        file.complain("functions", "a tool moved the code of the image after it was linked (OMAP): their ranges are not those of the image");
         return Functions::default();
     }
     Functions::of_pdb(pdb, file)

@@ -337,6 +337,32 @@ fn without_images_and_lists_a_stack_is_walked_by_ranges_of_modules() {
     assert!(marked.iter().all(|it| out.contains(it)) && out.contains("--images FOLDER"), "{out}");
 }
 
+/// The headers of an image may be longer than what is read of most files.
+#[test]
+fn an_image_of_many_sections_is_found() {
+    let (size, mut image) = (0x30_0000u32, made::with_functions());
+    image.resize(size as usize, 0);
+    image[0x46..0x48].copy_from_slice(&[0xFF, 0xFF]);
+    image[0x90..0x94].copy_from_slice(&size.to_le_bytes());
+    let folder = Folder::new("stack-many-sections");
+    let file = folder.file("a.exe", &image);
+    let list = made::modules(&[(0x1_8000_0000, size, 0, 0, [0, 0])]);
+    let (said, _) = said_of("stack-of-many-sections", &made::dump_of(&[list], &[]), &["--images", &file]);
+    assert_eq!((&said["modules"][0]["image"], &said["modules"][0]["image_file"]), (&json!("file"), &json!(file)));
+}
+
+/// A link to memory that is not there can be opened, and not read.
+#[cfg(target_os = "linux")]
+#[test]
+fn a_file_of_images_that_cannot_be_read_is_said() {
+    let folder = Folder::new("stack-unread");
+    let (dump, images) = (folder.file("a.dmp", &made::dump()), folder.0.join("images"));
+    fs::create_dir(&images).unwrap();
+    std::os::unix::fs::symlink("/proc/self/mem", images.join("a.dll")).unwrap();
+    let (_, complaints, status) = run(&["stack", &dump, "--images", images.to_str().unwrap()]);
+    assert_eq!((complaints, status), (format!("pe: {}/a.dll: Input/output error (os error 5)\n", images.display()), LOST));
+}
+
 /// Of all images 2^20 section headers are read. These share their memory.
 #[test]
 fn images_of_too_many_sections_are_said() {

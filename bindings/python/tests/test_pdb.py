@@ -37,6 +37,20 @@ def made(name):
     return bytes(whole)
 
 
+def moved_pdb():
+    """t.pdb with the code of helper and local moved to 3010h, and no other code left: by OMAP tables in place of the hash tables."""
+    whole, debug_streams = bytearray(content("t.pdb")), DBI + 717 - 22
+    tables = [(12, 6, [0x1000, 0, 0x3010, 0x1050, 0x304C, 0]), (16, 8, [0x1000, 0, 0x1050, 0x3010, 0x108C, 0])]
+    for at, entry, rows in tables:
+        number, = struct.unpack_from("<H", whole, DBI + at)
+        table = Pdb(bytes(whole)).stream(number)
+        rows += [0xFFFFFFFF, 0] * (len(table) // 8 - len(rows) // 2)
+        struct.pack_into(f"<{len(rows)}I", whole, whole.index(table), *rows)
+        struct.pack_into("<H", whole, debug_streams + entry, number)
+    whole[debug_streams + 20:debug_streams + 22] = whole[debug_streams + 10:debug_streams + 12]
+    return bytes(whole)
+
+
 def names(found):
     return found and (found.name, found.start, found.offset, found.source)
 
@@ -46,6 +60,15 @@ def placed(found):
 
 
 class Files(unittest.TestCase):
+    def test_moved_code(self):
+        pdb = Pdb(moved_pdb())
+        self.assertTrue(pdb.is_moved)
+        self.assertEqual(names(pdb.find(0x3025)), ("helper", 0x3010, 0x15, "procedure"))
+        self.assertEqual(placed(pdb.frames(0x3026, is_return=True)), [("helper", "generated\\else.inc", 900, False)])
+        self.assertEqual(names(pdb.find(0x304B)), ("local", 0x3040, 11, "procedure"))
+        self.assertEqual([pdb.find(it) for it in (0x1050, 0x304C, 0xFFF)], [None] * 3)
+        self.assertEqual([(it.kind, it.error) for it in pdb.warnings], [(WarningKind.SYMBOLS, None)])
+
     def test_identity(self):
         pdb = Pdb(content("t.pdb"))
         self.assertEqual((pdb.machine.name, pdb.info.number_of_streams, pdb.info.age, pdb.age), ("AMD64", 16, 1, 1))

@@ -146,11 +146,13 @@ fn lines_of_lies(bytes: &[u8], sections: &[u8], random: &mut Random, number: u64
         assert!(result == sys::DONE || index == [sys::PdbLineEntry::default(); 3]);
         index[0].line.rva = few;
         let _ = sys::pe_c_find_pdb_line(index.as_ptr(), index.len(), few, &mut line);
+        let _ = sys::pe_c_read_pdb_line(at, length, &range, headers, headers_length, few, &mut line);
         let _ = sys::pe_c_pdb_files(at, length, &range, &mut files);
         let mut name = sys::Range::default();
         let _ = sys::pe_c_pdb_file_name(at, length, &files, at, length, few, &mut name);
         assert!(name.of(bytes).is_some());
         let _ = sys::pe_c_pdb_named_stream(at, length, b"/names".as_ptr(), 6, &mut stream);
+        let _ = sys::pe_c_pdb_moved_rva(at, length, few, &mut stream);
     }
 }
 
@@ -199,6 +201,7 @@ fn symbols_of_lies(bytes: &[u8], sections: &[u8], random: &mut Random, number: u
             index[0] = (u64::from(few) << 32) + random.edge(number) % 4096;
             let (room, found) = (index.as_ptr(), &mut symbols[0]);
             let _ = sys::pe_c_find_pdb_symbol(kind, at, length, headers, headers_length, room, 4, few, found);
+            let _ = sys::pe_c_read_pdb_symbol(kind, at, length, &range, headers, headers_length, few, &mut symbols[1]);
         }
         let (mut walk, entries) = (range, symbols.as_mut_ptr());
         let result =

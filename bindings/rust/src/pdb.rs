@@ -136,6 +136,32 @@ impl PdbSymbol {
     }
 }
 
+/// Where the code of an image is that a tool moved after it was linked (OMAP), and where it was then: see [`Pdb::omap`].
+#[derive(Clone, Debug, PartialEq, Eq)]
+pub struct Omap {
+    to_source: Vec<u8>,
+    from_source: Vec<u8>,
+}
+
+impl Omap {
+    /// Where the code at an RVA of the image was when it was linked, from which symbols and lines count. `None` where it was nowhere.
+    pub fn linked_rva(&self, rva: u32) -> Option<u32> {
+        moved(&self.to_source, rva)
+    }
+
+    /// Where the code is in the image that was at an RVA when it was linked. `None` where it is nowhere.
+    pub fn image_rva(&self, linked_rva: u32) -> Option<u32> {
+        moved(&self.from_source, linked_rva)
+    }
+}
+
+fn moved(table: &[u8], rva: u32) -> Option<u32> {
+    let mut found = 0;
+    // SAFETY: the pointer and the length are those of one slice; the number is lent for the call.
+    let number = unsafe { sys::pe_c_pdb_moved_rva(table.as_ptr(), table.len(), rva, &mut found) };
+    (number == sys::DONE).then_some(found)
+}
+
 /// A stream of a number, unless that is none.
 fn stream_number(number: u16) -> Option<u16> {
     (number != NO_STREAM).then_some(number)
@@ -161,7 +187,11 @@ impl<'a> Pdb<'a> {
             sys::pe_c_pdb_starts(bytes.as_ptr(), bytes.len(), room, entries, &mut written)
         })?;
         let mut pdb = Pdb { bytes, info, starts, sections: Ok(Vec::new()) };
-        pdb.sections = pdb.dbi().and_then(|()| pdb.stream_or_none(pdb.info.section_headers));
+        // Symbols of code that was moved count in the headers of before, and in no others.
+        pdb.sections = pdb.dbi().and_then(|()| match pdb.is_moved() {
+            true => pdb.stream(info.original_section_headers.into()),
+            false => pdb.stream_or_none(info.section_headers),
+        });
         Ok(pdb)
     }
 
@@ -190,10 +220,23 @@ impl<'a> Pdb<'a> {
         Error::of(self.info.dbi_result)
     }
 
-    /// Whether a tool moved the code of the image after it was linked (OMAP). Then RVAs of symbols are those before that, and are not
-    /// those of the image: nothing here maps them.
+    /// Whether a tool moved the code of the image after it was linked (OMAP). Then RVAs of symbols are those before that: [`Pdb::omap`]
+    /// maps them.
     pub fn is_moved(&self) -> bool {
-        stream_number(self.info.omap_from_source).is_some()
+        [self.info.omap_to_source, self.info.omap_from_source].map(stream_number) != [None, None]
+    }
+
+    /// Where code is that a tool moved after the link. `None` where none did.
+    ///
+    /// # Errors
+    ///
+    /// Those of [`Pdb::stream`], also where one of the two tables is not there.
+    pub fn omap(&self) -> Result<Option<Omap>, Error> {
+        if !self.is_moved() {
+            return Ok(None);
+        }
+        let [to_source, from_source] = [self.info.omap_to_source, self.info.omap_from_source];
+        Ok(Some(Omap { to_source: self.stream(to_source.into())?, from_source: self.stream(from_source.into())? }))
     }
 
     /// Whether it was linked with /DEBUG:FASTLINK: then symbols and lines are in the objects, and it has hardly more than the public
@@ -351,18 +394,22 @@ pub(crate) fn count_in(range: &Range, bytes: &[u8], size: usize) -> usize {
 
 /// What a call writes to a room, in one of as many entries as it asks for. The first one has so many: where these are enough the call does
 /// not read all twice.
-pub(crate) fn filled<T: Clone + Default>(
+pub(crate) fn filled<T: Copy>(
     first: usize,
     call: impl Fn(*mut T, usize, &mut u64) -> u32,
 ) -> Result<Vec<T>, Error> {
-    let (mut room, mut written) = (room_for(first, T::default())?, 0);
-    let mut number = call(room.as_mut_ptr(), room.len(), &mut written);
+    let (mut room, mut most, mut written) = (Vec::new(), first, 0);
+    room.try_reserve_exact(most).map_err(|_| Error::MEMORY)?;
+    let mut number = call(room.as_mut_ptr(), most, &mut written);
     if number == sys::ROOM {
-        room = room_for(usize::try_from(written).map_err(|_| Error::MEMORY)?, T::default())?;
-        number = call(room.as_mut_ptr(), room.len(), &mut written);
+        most = usize::try_from(written).map_err(|_| Error::MEMORY)?;
+        room.try_reserve_exact(most).map_err(|_| Error::MEMORY)?;
+        number = call(room.as_mut_ptr(), most, &mut written);
     }
-    room.truncate(written as usize);
-    Error::of(number).map(|()| room)
+    Error::of(number)?;
+    // SAFETY: the call wrote so many items, of the `most` that the room has place for.
+    unsafe { room.set_len(most.min(written as usize)) };
+    Ok(room)
 }
 
 /// The features at the end of an info stream: numbers after the table of the names of streams. Others among them mean nothing.

@@ -1,9 +1,9 @@
-//! Names and lines of the functions at RVAs, by a PDB. A module is read when an RVA in it is asked for first: its procedures and lines are
-//! sorted, and each RVA is looked up by halves. The functions that are inlined there are read of the records of the procedure. A function
+//! Names and lines of the functions at RVAs, by a PDB. A module is read when an RVA in it is asked for first. For the first few RVAs of a
+//! module its procedures and lines are read each time; then they are sorted, and each RVA is looked up by halves. The functions that are inlined there are read of the records of the procedure. A function
 //! without debug information is in no module: the public symbols name it, if the linker wrote them.
 
 use crate::image::{returned, text_of, Error};
-use crate::pdb::{count_in, filled, Pdb, PdbModule, PROCEDURES, PUBLICS, ROW};
+use crate::pdb::{count_in, filled, Omap, Pdb, PdbModule, PROCEDURES, PUBLICS, ROW};
 use crate::sys::{self, PdbInlined, PdbLine, PdbLineEntry as LineEntry, PdbModuleRange, Range};
 use alloc::collections::BTreeMap;
 use alloc::string::String;
@@ -20,6 +20,8 @@ const PROCEDURE: usize = 64;
 const ID: usize = 16;
 /// How many inlined functions an RVA has at most.
 const MOST_INLINED: usize = 64;
+/// For how many RVAs all records are read, before an index of them is made: one costs as much as to read them some three times.
+const FEW: u32 = 4;
 
 /// A function at an RVA, and where in its source.
 #[derive(Clone, Debug, Default, PartialEq, Eq)]
@@ -31,7 +33,7 @@ pub struct SymbolFrame {
     pub name: String,
     /// Where the function starts. Of an inlined one it is that of the procedure that has its code.
     pub function_rva: u32,
-    /// How far after it the RVA is.
+    /// How far after it the RVA is; of code that a tool moved, how far it was when the image was linked.
     pub offset: u32,
     /// The path of the source file. `None` where nothing says it.
     pub file: Option<String>,
@@ -59,23 +61,32 @@ pub struct DamagedModule {
     pub has_names: bool,
 }
 
-/// The symbols of a kind, with their index.
+/// An index that is made once more than a few RVAs were looked up without it, and why it is refused.
+struct Lookup<T> {
+    asked: Cell<u32>,
+    index: OnceCell<Result<Vec<T>, Error>>,
+    refused: Cell<Option<Error>>,
+}
+
+/// The symbols of a kind, in a range of these bytes.
 struct Symbols {
+    kind: u32,
     bytes: Vec<u8>,
-    index: Vec<u64>,
+    range: Range,
+    lookup: Lookup<u64>,
 }
 
 /// The lines of a module, with where its source files are.
-#[derive(Default)]
 struct Lines {
-    index: Vec<LineEntry>,
-    files: Option<Range>,
+    range: Range,
+    files: Result<Option<Range>, Error>,
+    lookup: Lookup<LineEntry>,
 }
 
 /// What is read of a module: its procedures, and its lines, which may be refused alone.
 struct Read {
     symbols: Symbols,
-    lines: Result<Lines, Error>,
+    lines: Lines,
     /// Why the inlined functions of an RVA are refused, or the name or the line of one, of the first that was asked for.
     inlined_error: Cell<Option<Error>>,
     /// Where the names of the source files are that were asked for, so that each is sought once.
@@ -108,6 +119,7 @@ struct Ids {
 /// ```
 pub struct Symbolizer<'p> {
     pdb: &'p Pdb<'p>,
+    omap: Option<Omap>,
     sections: &'p [u8],
     publics: Symbols,
     modules: Vec<Module>,
@@ -129,28 +141,77 @@ impl fmt::Debug for Symbolizer<'_> {
     }
 }
 
+impl<T> Lookup<T> {
+    fn new() -> Lookup<T> {
+        Lookup { asked: Cell::new(0), index: OnceCell::new(), refused: Cell::new(None) }
+    }
+
+    /// The index, which is made where it is not.
+    fn made(&self, make: impl FnOnce() -> Result<Vec<T>, Error>) -> Option<&[T]> {
+        let made = self.index.get_or_init(make);
+        self.refused.set(self.refused.get().or(made.as_ref().err().copied()));
+        made.as_deref().ok()
+    }
+
+    /// What is found of an RVA: by reading all, or where that was done a few times by the index.
+    fn find<R>(
+        &self,
+        read: impl FnOnce() -> Result<Option<R>, Error>,
+        make: impl FnOnce() -> Result<Vec<T>, Error>,
+        find: impl FnOnce(&[T]) -> Option<R>,
+    ) -> Option<R> {
+        if self.refused.get().is_some() {
+            return None;
+        }
+        if self.index.get().is_some() || self.asked.replace(self.asked.get() + 1) >= FEW {
+            return find(self.made(make)?);
+        }
+        let found = read();
+        self.refused.set(found.as_ref().err().copied());
+        found.ok()?
+    }
+}
+
 impl Symbols {
-    /// The symbols of a kind in these bytes.
-    fn of(kind: u32, bytes: Vec<u8>, symbols: Range, sections: &[u8]) -> Result<Symbols, Error> {
+    /// The symbols of a kind in a range of these bytes.
+    fn of(kind: u32, bytes: Vec<u8>, range: Range) -> Symbols {
+        Symbols { kind, bytes, range, lookup: Lookup::new() }
+    }
+
+    /// Their index: an RVA in each entry, above the offset of the record.
+    fn index(&self, sections: &[u8]) -> Option<&[u64]> {
+        self.lookup.made(|| self.made(sections))
+    }
+
+    fn made(&self, sections: &[u8]) -> Result<Vec<u64>, Error> {
+        let (kind, at, length) = (self.kind, self.bytes.as_ptr(), self.bytes.len());
+        let first = count_in(&self.range, &self.bytes, if kind == PUBLICS { PUBLIC } else { PROCEDURE });
         // SAFETY: the pointers and lengths are those of slices; the records are lent for the call.
-        let first = count_in(&symbols, &bytes, if kind == PUBLICS { PUBLIC } else { PROCEDURE });
-        let index = filled(first, |room, entries, written| unsafe {
+        filled(first, |room, entries, written| unsafe {
             let (headers, size) = (sections.as_ptr(), sections.len());
-            sys::pe_c_pdb_index(kind, bytes.as_ptr(), bytes.len(), &symbols, headers, size, room, entries, written)
-        })?;
-        Ok(Symbols { bytes, index })
+            sys::pe_c_pdb_index(kind, at, length, &self.range, headers, size, room, entries, written)
+        })
     }
 
     /// The symbol of an RVA.
-    fn find(&self, kind: u32, sections: &[u8], rva: u32) -> Option<sys::PdbSymbol> {
-        let (bytes, index, mut found) = (&self.bytes, &self.index, sys::PdbSymbol::default());
-        // SAFETY: as above.
-        let number = unsafe {
-            let (headers, size, entries) = (sections.as_ptr(), sections.len(), index.as_ptr());
-            let (at, length) = (bytes.as_ptr(), bytes.len());
-            sys::pe_c_find_pdb_symbol(kind, at, length, headers, size, entries, index.len(), rva, &mut found)
+    fn find(&self, sections: &[u8], rva: u32) -> Option<sys::PdbSymbol> {
+        let (kind, at, length) = (self.kind, self.bytes.as_ptr(), self.bytes.len());
+        let (headers, size) = (sections.as_ptr(), sections.len());
+        let read = || {
+            let mut found = sys::PdbSymbol::default();
+            // SAFETY: as above.
+            let number =
+                unsafe { sys::pe_c_read_pdb_symbol(kind, at, length, &self.range, headers, size, rva, &mut found) };
+            returned(number, found)
         };
-        (number == sys::DONE).then_some(found)
+        let find = |index: &[u64]| {
+            let (entries, count, mut found) = (index.as_ptr(), index.len(), sys::PdbSymbol::default());
+            // SAFETY: as above.
+            let number =
+                unsafe { sys::pe_c_find_pdb_symbol(kind, at, length, headers, size, entries, count, rva, &mut found) };
+            (number == sys::DONE).then_some(found)
+        };
+        self.lookup.find(read, || self.made(sections), find)
     }
 
     /// The frame of a symbol.
@@ -170,24 +231,37 @@ impl Symbols {
 
 impl Lines {
     /// The lines of a module, of the bytes of its stream.
-    fn of(bytes: &[u8], lines: &Range, sections: &[u8]) -> Result<Lines, Error> {
+    fn of(bytes: &[u8], range: Range) -> Lines {
         let (at, length, mut files) = (bytes.as_ptr(), bytes.len(), Range::default());
         // SAFETY: as above.
-        let found = returned(unsafe { sys::pe_c_pdb_files(at, length, lines, &mut files) }, ())?;
-        // SAFETY: as above.
-        let index = filled(count_in(lines, bytes, ROW), |room, entries, written| unsafe {
-            let (headers, size) = (sections.as_ptr(), sections.len());
-            sys::pe_c_pdb_lines(at, length, lines, headers, size, room, entries, written)
-        })?;
-        Ok(Lines { index, files: found.map(|()| files) })
+        let found = returned(unsafe { sys::pe_c_pdb_files(at, length, &range, &mut files) }, ());
+        let lookup = Lookup::new();
+        lookup.refused.set(found.as_ref().err().copied());
+        Lines { range, files: found.map(|it| it.map(|()| files)), lookup }
     }
 
     /// The line of an RVA.
-    fn find(&self, rva: u32) -> Option<PdbLine> {
-        let mut found = PdbLine::default();
-        // SAFETY: as above.
-        let number = unsafe { sys::pe_c_find_pdb_line(self.index.as_ptr(), self.index.len(), rva, &mut found) };
-        (number == sys::DONE).then_some(found)
+    fn find(&self, bytes: &[u8], sections: &[u8], rva: u32) -> Option<PdbLine> {
+        let (at, length, headers, size) = (bytes.as_ptr(), bytes.len(), sections.as_ptr(), sections.len());
+        let read = || {
+            let mut found = PdbLine::default();
+            // SAFETY: as above.
+            let number = unsafe { sys::pe_c_read_pdb_line(at, length, &self.range, headers, size, rva, &mut found) };
+            returned(number, found)
+        };
+        let make = || {
+            // SAFETY: as above.
+            filled(count_in(&self.range, bytes, ROW), |room, entries, written| unsafe {
+                sys::pe_c_pdb_lines(at, length, &self.range, headers, size, room, entries, written)
+            })
+        };
+        let find = |index: &[LineEntry]| {
+            let mut found = PdbLine::default();
+            // SAFETY: as above.
+            let number = unsafe { sys::pe_c_find_pdb_line(index.as_ptr(), index.len(), rva, &mut found) };
+            (number == sys::DONE).then_some(found)
+        };
+        self.lookup.find(read, make, find)
     }
 }
 
@@ -201,7 +275,7 @@ impl Read {
     /// Where it is in the names.
     fn file_name(&self, file: u32, names: &[u8]) -> Option<Range> {
         let (bytes, mut name) = (&self.symbols.bytes, Range::default());
-        let files = self.lines.as_ref().ok()?.files?;
+        let files = self.lines.files.ok()??;
         // SAFETY: as above.
         let number = unsafe {
             let (at, length) = (names.as_ptr(), names.len());
@@ -273,16 +347,21 @@ impl Pdb<'_> {
     ///
     /// # Errors
     ///
-    /// Those of [`Pdb::modules`], of the streams of symbols and section headers, and [`Error::MEMORY`].
+    /// Those of [`Pdb::omap`], of [`Pdb::modules`], of the streams of symbols and section headers, and [`Error::MEMORY`].
     pub fn symbolizer(&self) -> Result<Symbolizer<'_>, Error> {
         let sections = self.section_headers()?;
         let bytes = self.symbol_stream()?;
         let all = Range { offset: 0, length: bytes.len() as u64 };
+        let publics = Symbols::of(PUBLICS, bytes, all);
+        // Whether a record is refused: what is found is of no account.
+        publics.find(sections, 0);
+        publics.lookup.refused.get().map_or(Ok(()), Err)?;
         let modules = self.modules()?.into_iter().map(|module| Module { module, read: OnceCell::new() });
         Ok(Symbolizer {
             pdb: self,
+            omap: self.omap()?,
             sections,
-            publics: Symbols::of(PUBLICS, bytes, all, sections)?,
+            publics,
             modules: modules.collect(),
             ranges: self.module_ranges().ok().and_then(ascending),
             starts: OnceCell::new(),
@@ -315,8 +394,8 @@ impl Symbolizer<'_> {
         let rest = self.left.get().checked_sub(bytes.len());
         self.left.set(rest.unwrap_or_default());
         rest.ok_or(Error::PDB_STREAM_SIZE)?;
-        let symbols = Symbols::of(PROCEDURES, bytes, module.symbols(), self.sections)?;
-        let lines = Lines::of(&symbols.bytes, &module.lines(), self.sections);
+        let symbols = Symbols::of(PROCEDURES, bytes, module.symbols());
+        let lines = Lines::of(&symbols.bytes, module.lines());
         Ok(Read { symbols, lines, inlined_error: Cell::new(None), files: RefCell::default() })
     }
 
@@ -336,7 +415,8 @@ impl Symbolizer<'_> {
     fn all_starts(&self) -> Vec<(u32, usize)> {
         let read = self.modules.iter().enumerate().filter_map(|(number, it)| Some((number, self.read(it)?)));
         let mut starts: Vec<(u32, usize)> = read
-            .flat_map(|(number, it)| it.symbols.index.iter().map(move |entry| ((entry >> 32) as u32, number)))
+            .filter_map(|(number, it)| Some((number, it.symbols.index(self.sections)?)))
+            .flat_map(|(number, it)| it.iter().map(move |entry| ((entry >> 32) as u32, number)))
             .collect();
         starts.sort_unstable_by(|one, other| one.0.cmp(&other.0).then(other.1.cmp(&one.1)));
         starts.dedup_by_key(|it| it.0);
@@ -357,7 +437,10 @@ impl Symbolizer<'_> {
     pub fn damaged(&self) -> Vec<DamagedModule> {
         let errors = |read: &Result<Read, Error>| match read {
             Err(error) => [Some((*error, false)), None],
-            Ok(it) => [it.lines.as_ref().err().copied(), it.inlined_error.get()].map(|it| Some((it?, true))),
+            Ok(it) => match it.symbols.lookup.refused.get() {
+                Some(error) => [Some((error, false)), None],
+                None => [it.lines.lookup.refused.get(), it.inlined_error.get()].map(|it| Some((it?, true))),
+            },
         };
         let damaged = self.modules.iter().filter_map(|it| Some((&it.module.name, errors(it.read.get()?))));
         let of = |name: &String, (error, has_names)| DamagedModule { name: name.clone(), error, has_names };
@@ -369,15 +452,26 @@ impl Symbolizer<'_> {
     ///
     /// A return address is that after the call: ask for the byte before it, since a call may be the last instruction of a function.
     pub fn frames(&self, rva: u32) -> Vec<SymbolFrame> {
+        let Some(omap) = &self.omap else { return self.linked_frames(rva) };
+        let mut frames = omap.linked_rva(rva).map(|it| self.linked_frames(it)).unwrap_or_default();
+        for it in &mut frames {
+            // Where the start of a moved function is gone, it is by the distance.
+            it.function_rva = omap.image_rva(it.function_rva).unwrap_or(rva.wrapping_sub(it.offset));
+        }
+        frames
+    }
+
+    /// Those at an RVA of the image as it was linked.
+    fn linked_frames(&self, rva: u32) -> Vec<SymbolFrame> {
         self.procedure(rva).unwrap_or_else(|| self.public(rva).into_iter().collect())
     }
 
     fn procedure(&self, rva: u32) -> Option<Vec<SymbolFrame>> {
         let module = self.module_at(rva)?;
         let read = self.read(module)?;
-        let found = read.symbols.find(PROCEDURES, self.sections, rva)?;
+        let found = read.symbols.find(self.sections, rva)?;
         let mut own = read.symbols.frame(&found, rva)?;
-        if let Some(line) = read.lines.as_ref().ok().and_then(|it| it.find(rva)) {
+        if let Some(line) = read.lines.find(&read.symbols.bytes, self.sections, rva) {
             own.file = self.file(read, line.file);
             own.line = Some(line.line);
             own.column = u16::try_from(line.column).ok().filter(|it| *it != 0);
@@ -435,7 +529,7 @@ impl Symbolizer<'_> {
     }
 
     fn public(&self, rva: u32) -> Option<SymbolFrame> {
-        let found = self.publics.find(PUBLICS, self.sections, rva)?;
+        let found = self.publics.find(self.sections, rva)?;
         Some(SymbolFrame { is_public: true, ..self.publics.frame(&found, rva)? })
     }
 }

@@ -2867,9 +2867,9 @@ pub struct PdbInfo {
     pub section_headers: u16,
     /// Those before a tool moved the code of the image, by which symbols count then.
     pub original_section_headers: u16,
-    /// Where an RVA was before that; no call reads it.
+    /// Where an RVA was before that, for [`pe_c_pdb_moved_rva`].
     pub omap_to_source: u16,
-    /// Where an RVA of that is now; no call reads it.
+    /// Where an RVA of that is now.
     pub omap_from_source: u16,
 }
 const _: () = assert!(core::mem::size_of::<PdbInfo>() == 96);
@@ -4985,6 +4985,22 @@ extern "C" {
         rva: u32,
         out: *mut PdbSymbol,
     ) -> u32;
+    /// Finds the symbol of an RVA without an index: what [`pe_c_find_pdb_symbol`] finds by one that [`pe_c_pdb_index`]
+    /// makes of these arguments.
+    ///
+    /// It reads all records once, which for a few RVAs takes less than to make an index. [`NOTHING`] without one.
+    ///
+    /// Errors: those of [`pe_c_pdb_index`] but [`ROOM`], then those of the record that is found.
+    pub fn pe_c_read_pdb_symbol(
+        kind: u32,
+        bytes: *const u8,
+        length: usize,
+        symbols: *const Range,
+        sections: *const u8,
+        sections_length: usize,
+        rva: u32,
+        out: *mut PdbSymbol,
+    ) -> u32;
     /// Makes an index of the lines of a module by their RVAs at the start of `room`, in ascending order.
     ///
     /// `bytes` are those of the stream of the module, and `lines` is its range of them. Rows outside of the code of
@@ -5009,6 +5025,21 @@ extern "C" {
     /// [`NOTHING`] where no row has it, and where its code is of no line. It takes log n steps. By entries that do not
     /// ascend it finds some line, or none.
     pub fn pe_c_find_pdb_line(index: *const PdbLineEntry, entries: usize, rva: u32, out: *mut PdbLine) -> u32;
+    /// Finds the line of an RVA without an index: what [`pe_c_find_pdb_line`] finds by one that [`pe_c_pdb_lines`]
+    /// makes of these arguments.
+    ///
+    /// It reads all rows once. [`NOTHING`] without one.
+    ///
+    /// Errors: those of [`pe_c_pdb_lines`] but [`ROOM`].
+    pub fn pe_c_read_pdb_line(
+        bytes: *const u8,
+        length: usize,
+        lines: *const Range,
+        sections: *const u8,
+        sections_length: usize,
+        rva: u32,
+        out: *mut PdbLine,
+    ) -> u32;
     /// Returns the range of the source files of a module in its stream.
     ///
     /// `lines` is its range of lines. [`NOTHING`] without files.
@@ -5033,6 +5064,12 @@ extern "C" {
         file: u32,
         out: *mut Range,
     ) -> u32;
+    /// Returns where the code at an RVA is by an OMAP table, whose bytes are those of its stream: by `omap_to_source`
+    /// of [`PdbInfo`] where an RVA of the image was when it was linked, by `omap_from_source` where one of then is now.
+    ///
+    /// [`NOTHING`] where it is nowhere. Other calls then take the stream `original_section_headers`, and RVAs of then.
+    /// It is looked up by halves: where rows do not ascend, some row or none is taken. It never returns an error.
+    pub fn pe_c_pdb_moved_rva(bytes: *const u8, length: usize, rva: u32, out: *mut u32) -> u32;
     /// Writes to the start of `room` which RVAs are of which module: a range for each section contribution, in their
     /// order.
     ///

@@ -32,6 +32,45 @@ fn a_pdb_has_the_key_of_its_image() {
     assert!(format!("{pdb:?}").starts_with("Pdb { info: PdbInfo { guid: "));
 }
 
+/// The PDB with the code of `helper` and `local` moved to 0x3010, and no other code left: by OMAP tables in place of the hash tables.
+fn moved_pdb() -> Vec<u8> {
+    let mut bytes = made::pdb();
+    let debug_streams = DBI + 717 - 22;
+    let rows = [[(0x1000u32, 0), (0x3010, 0x1050), (0x304C, 0)], [(0x1000, 0), (0x1050, 0x3010), (0x108C, 0u32)]];
+    for (index, (rows, number_at)) in rows.iter().zip([DBI + 12, DBI + 16]).enumerate() {
+        let number = u16::from_le_bytes([bytes[number_at], bytes[number_at + 1]]);
+        let table = Pdb::parse(&bytes).unwrap().stream(number.into()).unwrap();
+        let at = bytes.windows(table.len()).position(|it| it == table).unwrap();
+        let all = rows.iter().copied().chain(std::iter::repeat((u32::MAX, 0)));
+        for (row, (from, to)) in bytes[at..at + table.len()].chunks_exact_mut(8).zip(all) {
+            row.copy_from_slice(&[from.to_le_bytes(), to.to_le_bytes()].concat());
+        }
+        let entry = debug_streams + 2 * (3 + index);
+        bytes[entry..entry + 2].copy_from_slice(&number.to_le_bytes());
+    }
+    let headers = bytes[debug_streams + 10..debug_streams + 12].to_vec();
+    bytes[debug_streams + 20..debug_streams + 22].copy_from_slice(&headers);
+    bytes
+}
+
+/// From 0x3010 on there are the 45 bytes of `helper`, and at 0x3040 `local`; a row reaches to the next one.
+#[test]
+fn code_that_was_moved_is_named() {
+    let bytes = moved_pdb();
+    let pdb = Pdb::parse(&bytes).unwrap();
+    let omap = pdb.omap().unwrap().unwrap();
+    assert!(pdb.is_moved());
+    assert_eq!([0xFFF, 0x1050, 0x3010, 0x304B, 0x304C].map(|it| omap.linked_rva(it)), [None, None, Some(0x1050), Some(0x108B), None]);
+    assert_eq!([0x1048, 0x1050, 0x108B].map(|it| omap.image_rva(it)), [None, Some(0x3010), Some(0x304B)]);
+    let symbolizer = pdb.symbolizer().unwrap();
+    let frames = symbolizer.frames(0x3025);
+    assert_eq!(named(&frames), [("helper", 0x3010, 0x15, false)]);
+    assert_eq!((frames[0].file.as_deref(), frames[0].line), (Some("generated\\else.inc"), Some(900)));
+    assert_eq!(named(&symbolizer.frames(0x304B)), [("local", 0x3040, 11, false)]);
+    assert_eq!([0x1050, 0x304C].map(|it| symbolizer.frames(it).len()), [0, 0]);
+    assert_eq!(Pdb::parse(&made::pdb()).unwrap().omap(), Ok(None));
+}
+
 #[test]
 fn modules_and_symbols_are_listed() {
     let bytes = made::pdb();

@@ -213,7 +213,7 @@ fn with_parts(certificates: &[u8], signers: &[u8]) -> Vec<u8> {
     der(0x30, &[kind, der(0xA0, &der(0x30, &parts))].concat())
 }
 
-/// Lists cost what their bytes cost: a million empty elements, and elements in elements 10,000 deep. `bench/elements` counts it.
+/// Lists cost what their bytes cost: a million empty elements, and elements in elements 10,000 deep.
 #[test]
 fn wide_and_deep() {
     let bytes = with_certificates(&[0x30, 0].repeat(1_000_000));

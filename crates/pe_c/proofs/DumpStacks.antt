@@ -20,7 +20,7 @@ use Rattle.pe_stacks.specs.ThreadContexts.{context_at, first_of, or_else, raised
 use Rattle.pe_c.specs.DumpContexts.{raised_of, thread_context_at}
 use Rattle.pe_c.specs.DumpImages.{fits}
 use Rattle.pe_c.specs.DumpLaws.{as_reported}
-use Rattle.pe_c.specs.DumpRecords.{exception_reported, module_reported}
+use Rattle.pe_c.specs.DumpRecords.{module_reported}
 use Rattle.pe_c.specs.DumpRuns.{part_in, range_in}
 use Rattle.pe_c.specs.Images.{image_info_by, image_info_of}
 use Rattle.pe_c.specs.declared.base.ranges.Range.{Range}
@@ -47,10 +47,10 @@ module _ {C D : Type 0} (reported : C → D) where
   first_alike f g same None l = same l
   first_alike f g same (Some k) l = ap (λ r. or_else r (f l)) (same k) ∙ ap (or_else (g k)) (same l)
 
-  pub counts : (read : List ℕ → Result C DumpRefusal) (at : Location → Result D DumpRefusal) (d : DumpView) (t : Thread) (e : Exception) → ((l : Location) → at l ≡ (located d.bytes l.rva l.size >>= λ s. read s >>= λ c. Ok (reported c))) → exception d ≡ Ok (Some e) → thread_context_at at t (exception_reported e) ≡ told (thread_context read d t)
+  pub counts : (read : List ℕ → Result C DumpRefusal) (at : Location → Result D DumpRefusal) (d : DumpView) (t : Thread) (e : Exception) → ((l : Location) → at l ≡ (located d.bytes l.rva l.size >>= λ s. read s >>= λ c. Ok (reported c))) → exception d ≡ Ok (Some e) → thread_context_at at t e ≡ told (thread_context read d t)
   counts read at d t e is raised =
-      first_alike at (λ l. told (context_at read d l)) (λ l. is l ∙ in_turn read (located d.bytes l.rva l.size)) (raised_of (exception_reported e) t) t.thread_context
-      ∙ told_first (context_at read d) (raised_of (exception_reported e) t) (context_at read d t.thread_context)
+      first_alike at (λ l. told (context_at read d l)) (λ l. is l ∙ in_turn read (located d.bytes l.rva l.size)) (raised_of e t) t.thread_context
+      ∙ told_first (context_at read d) (raised_of e t) (context_at read d t.thread_context)
       ∙ ap (λ (x : Result (Option Exception) DumpRefusal). told (first_of (context_at read d) (raised_by t.thread_id x) (context_at read d t.thread_context))) (sym raised)
 
 -- ---- images

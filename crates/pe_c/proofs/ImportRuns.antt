@@ -4,7 +4,7 @@ use Rattle.std.specs.Prelude.{nat_le, if◌then◌else◌}
 use Rattle.std.specs.List.{AllZip}
 use Rattle.std.specs.Option.{option_map}
 use Rattle.std.proofs.lemmas.Bool.Decides.{nat_tests}
-use Rattle.std.proofs.lemmas.List.{append-nil, map-append, places}
+use Rattle.std.proofs.lemmas.List.{append-nil, map-append}
 use Rattle.std.proofs.lemmas.Nat.{column_fits, div-mul-add}
 use Rattle.std.proofs.Math.Nat.{mul-suc}
 use Rattle.pe_core.proofs.NumberBytes.{le_small}
@@ -13,7 +13,7 @@ use Rattle.pe_core.proofs.Map.{offset_is}
 use Rattle.pe_core.proofs.EntryItems.{each_front, each_same, none_of_none}
 use Rattle.pe_core.specs.Bytes.{AreBytes, holds, le, range, record_at}
 use Rattle.pe_core.specs.Gathered.{all_or_refusal, up_to_none, with_rest}
-use Rattle.pe_core.specs.Imports.{EntryView, ImportRecordView, ImportView, import_entries, import_entry_at, entry_size, import_data_at, import_of, import_record, import_record_at, import_records, imports, is_last, lookup_at, lookup_entries, lookups_at, lookups_rva, name_or_refusal, named_import}
+use Rattle.pe_core.specs.Imports.{EntryView, ImportRecordView, ImportView, import_entries, import_entry_at, entry_size, import_data_at, import_of, import_record, import_record_at, import_records, imports, is_last, lookup_entries, lookups_at, lookups_rva, name_or_refusal, named_import}
 use Rattle.pe_core.specs.Records.{import_entry}
 use Rattle.pe_core.specs.Refusals.{Refusal, Short, ◌>>=◌}
 use Rattle.pe_core.specs.Rows.{each}
@@ -36,9 +36,8 @@ use Rattle.pe_c.specs.Walks.{left_entry}
 use Rattle.pe_c.proofs.Runs.{makes_by, reports_more, reports_none, reports_refused}
 use Rattle.pe_c.proofs.ExportParts.{text_stands}
 use Rattle.pe_core.proofs.Steps.{given, same_inside}
+use Rattle.pe_image.proofs.StandingLists.{held, le_of_range, list_inside, not_last, rows_front, some_inside}
 use Rattle.pe_core.proofs.EntryLists.{some_size}
-
--- ---- lists
 
 -- ---- an import
 
@@ -92,11 +91,6 @@ over q n rva = record { left = record { offset = q; length = n }; rva = rva }
 -- the entries from q on
 abbrev slots : ℕ → List ℕ → List ℕ → ℕ → ℕ → ℕ → EntryView
 slots w b dll q rva k = record { dll = dll; entry = le b (q + w * k) w; rva = rva + w * k }
-
-le_of_range : (b : List ℕ) (q m p n : ℕ) → q + m ≤ length b → p + n ≤ m → le (range b q m) p n ≡ le b (q + p) n
-unfolding le
-le_of_range b q m p zero h i = refl
-le_of_range b q m p (suc n) h i = let fewer : le (range b q m) p n ≡ le b (q + p) n = le_of_range b q m p n h (omega (arith, i)) in grind (arith, places)
 
 entry_left : (w : ℕ) (b : List ℕ) (q m : ℕ) → 0 < w → w ≤ m → q + m ≤ length b → left_entry w b (record { offset = q; length = m }) ≡ Ok (Some (range b q m))
 entry_left w b q m some h i = grind (arith, nat_tests)
@@ -163,42 +157,6 @@ run offset w b dll some (suc n) q rva inside small =
 
 -- ---- lists
 
--- rows of one width from an offset on: the first, and those after it
-rows_front : {X : Type 0} (row : ℕ → X) (w q n : ℕ) → each (λ k. row (q + w * k)) (suc n) ≡ row q ∷ each (λ k. row (q + w + w * k)) n
-rows_front {X} row w q n =
-    let first : q + w * 0 ≡ q = omega arith in
-    each_front (λ k. row (q + w * k)) (λ k. row (q + w + w * k)) n (λ k. ap row (omega (arith, mul-suc w k)))
-    ∙ ap (λ (p : ℕ). row p ∷ each (λ k. row (q + w + w * k)) n) first
-
-after_first : {X : Type 0} (x : X) (rest : Result (List X) Refusal) (xs : List X) → with_rest (x ∷ []) rest ≡ Ok xs → (ys : List X) × (rest ≡ Ok ys) × (x ∷ ys ≡ xs)
-after_first x (Ok ys) xs e = (ys, refl, same_inside (x ∷ ys) xs e)
-after_first x (Err r) xs e = absurd cc
-
-held : {Y : Type 0} (b : List ℕ) (p n : ℕ) (y z : Y) → record_at b p n y ≡ Ok z → p + n ≤ length b
-held b p n y z e = grind (arith, nat_tests)
-
--- the entries of a list that is returned are all there
-inside_by : (w : ℕ) (b : List ℕ) (q : ℕ) (es : List ℕ) (row : Result (Option ℕ) Refusal) (rows : List (Result (Option ℕ) Refusal)) → lookup_at w b q ≡ row → up_to_none (row ∷ rows) ≡ Ok es →
-    ((ys : List ℕ) → up_to_none rows ≡ Ok ys → q + w ≤ length b → q + w + w * length ys ≤ length b) → q + w * length es ≤ length b
-inside_by w b q es (Ok None) rows e given more =
-    subst (λ (xs : List ℕ). q + w * length xs ≤ length b) (same_inside [] es given) (omega (arith, held b q w _ None e))
-inside_by w b q es (Ok (Some x)) rows e given more =
-    let after = after_first x (up_to_none rows) es given in
-    subst (λ (xs : List ℕ). q + w * length xs ≤ length b) after.2 (omega (arith, mul-suc w (length after.0), more after.0 after.1 (held b q w _ (Some x) e)))
-inside_by w b q es (Err r) rows e given more = absurd cc
-
-inside : (w : ℕ) (b : List ℕ) (n q : ℕ) (es : List ℕ) → up_to_none (each (λ k. lookup_at w b (q + w * k)) n) ≡ Ok es → q ≤ length b → q + w * length es ≤ length b
-inside w b zero q es e h =
-    let none : Ok [] ≡ Ok es = ap up_to_none (sym (none_of_none (λ k. lookup_at w b (q + w * k)))) ∙ e in
-    subst (λ (xs : List ℕ). q + w * length xs ≤ length b) (same_inside [] es none) (omega (arith, h))
-inside w b (suc n) q es e h =
-    inside_by w b q es (lookup_at w b q) (each (λ k. lookup_at w b (q + w + w * k)) n) refl (ap up_to_none (sym (rows_front (lookup_at w b) w q n)) ∙ e) (λ ys f i. inside w b n (q + w) ys f i)
-
-list_inside : (w : ℕ) (b : List ℕ) (q : ℕ) (es : List ℕ) → lookup_entries w b q ≡ Ok es → q + w * length es ≤ length b
-unfolding lookup_entries
-list_inside w b q es e =
-    inside_by w b q es (lookup_at w b q) (each (λ k. lookup_at w b (q + w + w * k)) (length b)) refl (ap up_to_none (sym (rows_front (lookup_at w b) w q (length b))) ∙ e) (λ ys f i. inside w b (length b) (q + w) ys f i)
-
 -- a list stands where its range is, and is of whole entries
 record ListStands (w : ℕ) (b : List ℕ) (r : Range) (list : List ℕ) : Type 0 where
   count : ℕ
@@ -245,9 +203,6 @@ record_imports offset w b r left some small s low =
 
 -- ---- a library
 
-some_inside : {X : Type 0} (x y : X) → ◌≡◌ {A = Result (Option X) Refusal} (Ok (Some x)) (Ok (Some y)) → x ≡ y
-some_inside x y e = cc
-
 pub there_by : {Y : Type 0} (here : Bool) (y z : Y) → if◌then◌else◌ {A = Result Y Refusal} here (Ok y) (Err Short) ≡ Ok z → z ≡ y
 there_by true y z e = sym (same_inside y z e)
 there_by false y z e = absurd cc
@@ -258,10 +213,6 @@ there_is b p y z e = there_by (holds b p 20) y z e
 name_is : (o : Option (List ℕ)) (name : List ℕ) → name_or_refusal o ≡ Ok name → o ≡ Some name
 name_is None name e = absurd cc
 name_is (Some n) name e = ap (λ (x : List ℕ). Some x) (same_inside n name e)
-
-not_last : (last : Bool) (r : ImportRecordView) (more : Result (Option ImportRecordView) Refusal) → if◌then◌else◌ last (Ok None) more ≡ Ok (Some r) → more ≡ Ok (Some r)
-not_last true r more e = absurd cc
-not_last false r more e = e
 
 low_address : (b : List ℕ) (p : ℕ) → AreBytes b → (import_entry b p).address_table_rva < 4294967296
 unfolding import_entry

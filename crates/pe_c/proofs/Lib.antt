@@ -16,6 +16,7 @@ pub mod Utf16Texts
 pub mod StreamLists
 pub mod PdbStreams
 pub mod PdbFrames
+pub mod PdbReadings
 pub mod ListStarts
 pub mod EntryRuns
 pub mod EvenRecords

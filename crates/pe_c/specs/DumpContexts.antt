@@ -7,13 +7,13 @@ use Rattle.pe_minidump.specs.Dumps.{located}
 use Rattle.pe_minidump.specs.Refusals.{DumpRefusal}
 use Rattle.pe_minidump.specs.declared.context_arm64.ContextArm64.{ContextArm64}
 use Rattle.pe_minidump.specs.declared.context_x64.ContextX64.{ContextX64}
+use Rattle.pe_minidump.specs.declared.exception.Exception.{Exception}
 use Rattle.pe_minidump.specs.declared.location.Location.{Location}
 use Rattle.pe_minidump.specs.declared.thread.Thread.{Thread}
 use Rattle.pe_stacks.specs.ThreadContexts.{first_of}
 use Rattle.pe_c.specs.StackFrames.{flat_registers}
 use Rattle.pe_c.specs.declared.dump.contexts.Arm64Context.{Arm64Context}
 use Rattle.pe_c.specs.declared.dump.contexts.X64Context.{X64Context}
-use Rattle.pe_c.specs.declared.dump.records.DumpException.{DumpException}
 
 -- XMM registers that were not saved are 0
 abbrev pub xmm_or_zero : Option (List ℕ) → List ℕ
@@ -50,9 +50,9 @@ abbrev pub context_arm64_at : List ℕ → Location → Result Arm64Context Dump
 context_arm64_at b l = located b l.rva l.size >>= λ s. context_arm64 s >>= λ c. Ok (arm64_reported c)
 
 -- where the context of an exception stands, if the exception names the thread
-abbrev pub raised_of : DumpException → Thread → Option Location
+abbrev pub raised_of : Exception → Thread → Option Location
 raised_of e t = if e.thread_id == t.thread_id then Some e.thread_context else None
 
 -- the registers of a thread that count: those of the exception, if it names the thread and they can be read, else the thread's own
-abbrev pub thread_context_at : {C : Type 0} → (Location → Result C DumpRefusal) → Thread → DumpException → Result C DumpRefusal
+abbrev pub thread_context_at : {C : Type 0} → (Location → Result C DumpRefusal) → Thread → Exception → Result C DumpRefusal
 thread_context_at at t e = first_of at (raised_of e t) (at t.thread_context)

@@ -18,7 +18,6 @@ use Rattle.pe_c.specs.Exports.{or_zero}
 use Rattle.pe_c.specs.declared.dump.lists.DumpMemoryRegion.{DumpMemoryRegion}
 use Rattle.pe_c.specs.declared.dump.lists.DumpModule.{DumpModule}
 use Rattle.pe_c.specs.declared.dump.lists.DumpThreadName.{DumpThreadName}
-use Rattle.pe_c.specs.declared.dump.records.DumpException.{DumpException}
 use Rattle.pe_c.specs.declared.dump.records.DumpProcess.{DumpProcess}
 use Rattle.pe_c.specs.declared.dump.records.DumpSystem.{DumpSystem}
 use Rattle.pe_c.specs.declared.base.ranges.Range.{Range}
@@ -63,21 +62,9 @@ region_reported m = record {
 
 -- ---- single records
 
-abbrev pub exception_reported : Exception → DumpException
-exception_reported e = record {
-  thread_id = e.thread_id;
-  exception_code = e.raised.exception_code;
-  exception_flags = e.raised.exception_flags;
-  number_parameters = e.raised.number_parameters;
-  exception_record = e.raised.exception_record;
-  exception_address = e.raised.exception_address;
-  exception_information = e.raised.exception_information;
-  thread_context = e.thread_context;
-}
-
-abbrev pub exception_at : List ℕ → Range → Result DumpException DumpRefusal
+abbrev pub exception_at : List ℕ → Range → Result Exception DumpRefusal
 exception_at b r =
-    located b r.offset r.length >>= λ s. at_start 168 (exception_stream s 0) s >>= λ e. Ok (exception_reported e)
+    located b r.offset r.length >>= λ s. at_start 168 (exception_stream s 0) s
 
 abbrev pub system_reported : SystemInfo → DumpSystem
 system_reported s = record {

@@ -2,6 +2,7 @@
 use Rattle.std.specs.Prelude.{◌≡◌, ℕ, ◌+◌, ◌==◌, Bool, true, false, List, drop, length, nat_le, take, Option, Some, None, Result, Ok, Err, if◌then◌else◌}
 use Rattle.std.specs.List.Sorted.{IsNonDecreasing, IsPermutation}
 use Rattle.pe_core.specs.Refusals.{◌>>=◌}
+use Rattle.pe_pdb.specs.Frames.{procedure_with, symbol_before}
 use Rattle.pe_pdb.specs.Refusals.{PdbRefusal}
 use Rattle.pe_pdb.specs.SectionHeaders.{headers_of}
 use Rattle.pe_pdb.specs.SymbolEntries.{addresses}
@@ -66,3 +67,15 @@ HandsOutFound b sections number old new (Some a) = PdbHandsOut number old new (s
 abbrev pub FindsSymbol : SymbolClass → List ℕ → List ℕ → List ℕ → ℕ → ℕ → PdbSymbol → PdbSymbol → Type 0
 FindsSymbol class b sections index rva number old new =
     (found : Option SymbolAddress) × FindsAddress class index b rva found × HandsOutFound b sections number old new found
+
+-- ---- without an index
+
+-- the symbol of an RVA, of the entries of all records
+abbrev pub symbol_with : SymbolClass → List ℕ → List ℕ → ℕ → Option SymbolAddress
+symbol_with PublicFunctions xs b rva = symbol_before xs rva
+symbol_with Procedures xs b rva = procedure_with xs b rva
+
+-- the record of that; or the number of the refusal of one of the records
+abbrev pub ReadsSymbol : SymbolClass → List ℕ → Result (List ℕ) PdbRefusal → List ℕ → ℕ → ℕ → PdbSymbol → PdbSymbol → Type 0
+ReadsSymbol class b (Ok xs) sections rva number old new = HandsOutFound b sections number old new (symbol_with class xs b rva)
+ReadsSymbol class b (Err refusal) sections rva number old new = (number ≡ pdb_number refusal) × (new ≡ old)

@@ -4,6 +4,7 @@ use Rattle.std.specs.List.Sorted.{IsNonDecreasingBy}
 use Rattle.std.specs.Option.{option_map}
 use Rattle.pe_core.specs.Refusals.{◌>>=◌}
 use Rattle.pe_pdb.specs.Checksums.{checksum_at}
+use Rattle.pe_pdb.specs.Frames.{line_with}
 use Rattle.pe_pdb.specs.LineEntries.{module_lines}
 use Rattle.pe_pdb.specs.LineIndexes.{AreEntries, LineAt}
 use Rattle.pe_pdb.specs.LineKeys.{line_key}
@@ -50,6 +51,11 @@ abbrev pub FindsLine : List LineEntry → ℕ → ℕ → CodeLine → CodeLine 
 FindsLine index rva number old new =
     (found : Option CodeLine) × (IsNonDecreasingBy line_key index → (xs : List CodeLine) → AreEntries xs index → LineAt xs rva found)
     × HandsOutLine number old new found
+
+-- the same without an index: the line of the RVA, of all rows; or the number of the refusal of one of the subsections
+abbrev pub ReadsLine : Result (List CodeLine) PdbRefusal → ℕ → ℕ → CodeLine → CodeLine → Type 0
+ReadsLine (Ok xs) rva number old new = HandsOutLine number old new (line_with xs rva)
+ReadsLine (Err refusal) rva number old new = (number ≡ pdb_number refusal) × (new ≡ old)
 
 -- ---- source files
 

@@ -9,6 +9,7 @@ pub mod index;
 pub mod inlined;
 pub mod lines;
 pub mod modules;
+pub mod omap;
 pub mod symbols;
 
 ghost use Rattle.std.specs.Prelude.{◌≡◌, ◌↔◌, IsTrue, Ok, length};

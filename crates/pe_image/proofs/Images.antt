@@ -115,10 +115,10 @@ pub core_refused_unless : (b : List ℕ) (opts : ParseOptions) (e : Error) → U
 core_refused_unless b opts e h = unless_more e (core_of b opts ≡ Err (kind_of e)) (IsImage b opts (Err (kind_of e))) (core_refused b opts (kind_of e)) h
 
 -- where an image has a core, its section headers were there before
-sections_first : (b : List ℕ) (opts : ParseOptions) (c : CoreView) → core_of b opts ≡ Ok c → IsOk (sections_read b opts)
+pub sections_first : (b : List ℕ) (opts : ParseOptions) (c : CoreView) → core_of b opts ≡ Ok c → IsOk (sections_read b opts)
 sections_first b opts c given = rw (sections_of_core b opts c given) refl
 
-with_core : (b : List ℕ) (opts : ParseOptions) (c : CoreView) (r : Result ImageView Refusal) → core_of b opts ≡ Ok c → IsAfterCore b opts (unless_refused b opts c) r → IsImage b opts r
+pub with_core : (b : List ℕ) (opts : ParseOptions) (c : CoreView) (r : Result ImageView Refusal) → core_of b opts ≡ Ok c → IsAfterCore b opts (unless_refused b opts c) r → IsImage b opts r
 unfolding before_resources
 with_core b opts c r given is = rw given is
 

@@ -10,6 +10,9 @@ pub mod ImageParts
 pub mod Headline
 pub mod SectionsFirst
 pub mod Limited
+pub mod SharedLists
+pub mod StandingLists
+pub mod Unlisted
 pub mod ExceptionFields
 pub mod Overlays
 pub mod Rows

@@ -1,5 +1,5 @@
 -- An image within a limit of imports.
-use Rattle.std.proofs.Common.{◌≡◌, ℕ, ◌-◌, ◌^◌, ◌<◌, ◌≤◌, Bool, true, false, List, Option, None, Some, Result, Ok, Err, refl, ap, ◌∙◌, arith}
+use Rattle.std.proofs.Common.{◌≡◌, ℕ, ◌-◌, ◌^◌, ◌<◌, ◌≤◌, Bool, true, false, List, [], Option, None, Some, Result, Ok, Err, refl, ap, ◌∙◌, arith}
 use Rattle.std.specs.Prelude.{min, nat_lt, IsOk, if◌then◌else◌}
 use Rattle.std.proofs.lemmas.Bool.Decides.{nat_tests}
 use Rattle.pe_core.specs.Header.{HeaderView, header_at}
@@ -14,6 +14,7 @@ use Rattle.pe_image.specs.Image.{ImageView, IsImage, ReturnsImage}
 use Rattle.pe_image.specs.Layout.{alignment, directory, is_64}
 use Rattle.pe_image.specs.Limits.{IsImageWithin, ReturnsImageWithin, entry_count, import_count, imports_with, number_or_0}
 use Rattle.pe_image.specs.LimitSteps.{imported_of, unless_above}
+use Rattle.pe_image.specs.SharedLists.{core_if_listed, if_listed}
 use Rattle.pe_image.specs.declared.pe.PE.{PE}
 use Rattle.pe_core.proofs.ImportLists.{unless_memory}
 use Rattle.pe_core.proofs.Comparisons.{lt_is, lt_is_not}
@@ -65,10 +66,9 @@ in_turn : {X Y : Type 0} (most : Option ℕ) (count : X → ℕ) (found : Result
 in_turn most count (Err e) f make = none_above most (Err e)
 in_turn most count (Ok x) f make = first_limited most (count x) (f x) (λ y. Ok (make (x, y))) ∙ paired (unless_above most (count x) (f x)) x make
 
--- the core within the limit, as it is read: what the import directory says comes last
-pub limited_core : (most : Option ℕ) (b : List ℕ) (o : ParseOptions) (header : HeaderView) (sections : List SectionTable)
+all_limited : (most : Option ℕ) (b : List ℕ) (o : ParseOptions) (header : HeaderView) (sections : List SectionTable)
     → unless_above most (number_or_0 (imports_with b o header.optional_header sections)) (core_with b o header sections)
-    ≡ (imported_of most (section_map o sections (alignment header.optional_header)) (entry_size (is_64 header.optional_header)) b (import_directory o header.optional_header) >>= λ imported.
+    ≡ (imported_of true most (section_map o sections (alignment header.optional_header)) (entry_size (is_64 header.optional_header)) b (import_directory o header.optional_header) >>= λ imported.
     Ok (record {
       header = header;
       sections = sections;
@@ -78,22 +78,69 @@ pub limited_core : (most : Option ℕ) (b : List ℕ) (o : ParseOptions) (header
       imports = imported.1;
     }))
 unfolding core_with imported_of
-limited_core most b o header sections =
+all_limited most b o header sections =
     let offset = section_map o sections (alignment header.optional_header) in
     let width = entry_size (is_64 header.optional_header) in
     let data_found = export_data_of offset b (directory 0 header.optional_header) in
     in_turn {X = Option (List ImportRecordView)} {Y = List ImportView} most (entry_count width) (import_data_of offset width b (import_directory o header.optional_header)) (imports_of offset width b)
     (λ both. record { header = header; sections = sections; export_data = data_found; exports = exports_of offset b data_found; import_data = both.0; imports = both.1 })
 
--- an image whose headers are refused has no imports, and is refused for its headers before memory is asked for
-header_refused : (most : Option ℕ) (b : List ℕ) (o : ParseOptions) (e : Refusal) → header_at b o.parse_mode ≡ Err e → unless_above most (import_count b o) (core_of b o) ≡ Err e
-unfolding import_count core_of
-header_refused most b o e h = rw h (none_above most (Err e))
+-- without the imports
+dropped : {X : Type 0} (most : Option ℕ) (count : X → ℕ) (found : Result X Refusal) (f : X → Result (List ImportView) Refusal) (make : X × List ImportView → CoreView)
+    → ((x : X) (is : List ImportView) → record (make (x, is)) { imports = [] } ≡ make (x, []))
+    → core_if_listed false ((found >>= λ x. unless_above most (count x) (f x) >>= λ y. Ok (x, y)) >>= λ both. Ok (make both))
+    ≡ ((found >>= λ x. unless_above most (count x) (if_listed false (f x)) >>= λ y. Ok (x, y)) >>= λ both. Ok (make both))
+dropped most count (Err e) f make same = refl
+dropped {X} most count (Ok x) f make same = by_limit most (f x)
+  where
+    by_list : (r : Result (List ImportView) Refusal) → core_if_listed false ((r >>= λ y. Ok (x, y)) >>= λ both. Ok (make both)) ≡ ((if_listed false r >>= λ y. Ok (x, y)) >>= λ both. Ok (make both))
+    by_list (Ok is) = ap (λ (c : CoreView). Ok c) (same x is)
+    by_list (Err e) = refl
 
-pub refused_by_header : (most : Option ℕ) (b : List ℕ) (o : ParseOptions) (e : Error) → header_at b o.parse_mode ≡ Err (kind_of e) →
-    UnlessMemory e (unless_above most (import_count b o) (core_of b o) ≡ Err (kind_of e)) × IfMemory e (IsOk (sections_read b o))
-refused_by_header most b o e h =
-    (unless_memory e (unless_above most (import_count b o) (core_of b o) ≡ Err (kind_of e)) (header_refused most b o (kind_of e) h), header_owes_nothing b o.parse_mode e (IsOk (sections_read b o)) h)
+    by_test : (t : Bool) (r : Result (List ImportView) Refusal) → core_if_listed false (((if t then Err ImportsLimit else r) >>= λ y. Ok (x, y)) >>= λ both. Ok (make both))
+        ≡ (((if t then Err ImportsLimit else if_listed false r) >>= λ y. Ok (x, y)) >>= λ both. Ok (make both))
+    by_test true r = refl
+    by_test false r = by_list r
+
+    by_limit : (most : Option ℕ) (r : Result (List ImportView) Refusal) → core_if_listed false ((unless_above most (count x) r >>= λ y. Ok (x, y)) >>= λ both. Ok (make both))
+        ≡ ((unless_above most (count x) (if_listed false r) >>= λ y. Ok (x, y)) >>= λ both. Ok (make both))
+    by_limit None r = by_list r
+    by_limit (Some limit) r = by_test (nat_lt limit (count x)) r
+
+pub limited_core : (listed : Bool) (most : Option ℕ) (b : List ℕ) (o : ParseOptions) (header : HeaderView) (sections : List SectionTable)
+    → core_if_listed listed (unless_above most (number_or_0 (imports_with b o header.optional_header sections)) (core_with b o header sections))
+    ≡ (imported_of listed most (section_map o sections (alignment header.optional_header)) (entry_size (is_64 header.optional_header)) b (import_directory o header.optional_header) >>= λ imported.
+    Ok (record {
+      header = header;
+      sections = sections;
+      export_data = export_data_of (section_map o sections (alignment header.optional_header)) b (directory 0 header.optional_header);
+      exports = exports_of (section_map o sections (alignment header.optional_header)) b (export_data_of (section_map o sections (alignment header.optional_header)) b (directory 0 header.optional_header));
+      import_data = imported.0;
+      imports = imported.1;
+    }))
+unfolding imported_of
+limited_core true most b o header sections = all_limited most b o header sections
+limited_core false most b o header sections =
+    let offset = section_map o sections (alignment header.optional_header) in
+    let width = entry_size (is_64 header.optional_header) in
+    let data_found = export_data_of offset b (directory 0 header.optional_header) in
+    ap (core_if_listed false) (all_limited most b o header sections)
+    ∙ dropped {X = Option (List ImportRecordView)} most (entry_count width) (import_data_of offset width b (import_directory o header.optional_header)) (imports_of offset width b)
+    (λ both. record { header = header; sections = sections; export_data = data_found; exports = exports_of offset b data_found; import_data = both.0; imports = both.1 }) (λ x is. refl)
+
+-- an image whose headers are refused has no imports, and is refused for its headers before memory is asked for
+refused_any : (listed : Bool) (e : Refusal) → core_if_listed listed (Err e) ≡ Err e
+refused_any true e = refl
+refused_any false e = refl
+
+header_refused : (listed : Bool) (most : Option ℕ) (b : List ℕ) (o : ParseOptions) (e : Refusal) → header_at b o.parse_mode ≡ Err e → core_if_listed listed (unless_above most (import_count b o) (core_of b o)) ≡ Err e
+unfolding import_count core_of
+header_refused listed most b o e h = rw h (ap (core_if_listed listed) (none_above most (Err e)) ∙ refused_any listed e)
+
+pub refused_by_header : (listed : Bool) (most : Option ℕ) (b : List ℕ) (o : ParseOptions) (e : Error) → header_at b o.parse_mode ≡ Err (kind_of e) →
+    UnlessMemory e (core_if_listed listed (unless_above most (import_count b o) (core_of b o)) ≡ Err (kind_of e)) × IfMemory e (IsOk (sections_read b o))
+refused_by_header listed most b o e h =
+    (unless_memory e (core_if_listed listed (unless_above most (import_count b o) (core_of b o)) ≡ Err (kind_of e)) (header_refused listed most b o (kind_of e) h), header_owes_nothing b o.parse_mode e (IsOk (sections_read b o)) h)
 
 -- ---- the image
 

@@ -89,7 +89,7 @@ after b o (Ok c) x h (f, are, given) =
     sections_of_core b o c (core_before b o (core_of b o) c h) ∙ ap (λ sections. Ok sections) (sym (ap (λ (x : ImageView). x.sections) same ∙ same_sections b o c f))
 after b o (Err e) x h is = absurd cc
 
-sections_of_image : (b : List ℕ) (o : ParseOptions) (x : ImageView) → IsImage b o (Ok x) → sections_read b o ≡ Ok x.sections
+pub sections_of_image : (b : List ℕ) (o : ParseOptions) (x : ImageView) → IsImage b o (Ok x) → sections_read b o ≡ Ok x.sections
 sections_of_image b o x is = after b o (before_resources b o) x refl is
 
 pub sections_given : {Z : Type 0} (b : List ℕ) (o : ParseOptions) (r : Result (PE Z) Error) → ReturnsImage b o r → IfOk r (λ p. sections_read b o ≡ Ok (image_view p).sections)

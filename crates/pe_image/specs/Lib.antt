@@ -9,7 +9,9 @@ pub mod CoreParts
 pub mod FieldSteps
 pub mod ImageSteps
 pub mod Limits
+pub mod SharedLists
 pub mod LimitSteps
+pub mod Unlisted
 pub mod Te
 pub mod Objects
 pub mod Overlay

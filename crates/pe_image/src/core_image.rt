@@ -16,13 +16,15 @@ ghost use Rattle.pe_image.specs.CoreParts.{core_view, imported_view, CoreHasLayo
 ghost use Rattle.pe_image.specs.LayoutParts.{import_directory_in, layout_of};
 ghost use Rattle.pe_image.specs.Limits.{entry_count, import_count, imports_with, number_or_0};
 ghost use Rattle.pe_image.specs.LimitSteps.{imported_of, unless_above};
+ghost use Rattle.pe_image.specs.SharedLists.{AllStand, core_if_listed, if_listed, tested};
 ghost use Rattle.pe_image.specs.Memory.{AsksForMemory, HasExports, HasImports, MemoryOnlyIf};
 
 use crate::layout::Layout;
+use crate::shared_lists::without_shared_entries;
 use pe_core::laws::names_of_records_are_read_again;
 use pe_core::{
     DataDirectory, Error, Export, ExportData, Header, Import, ImportData, MappedBytes,
-    ParseOptions, Reason, Result, SectionIndex, SectionMap, SectionTable, find_offset,
+    ParseOptions, Reason, Result, SectionIndex, SectionMap, SectionTable, find_offset, lookup_size,
 };
 use std::alloc::Allocator;
 
@@ -54,6 +56,8 @@ pub(crate) struct Wanted {
     pub most: Option<u32>,
     /// Whether the names of the DLLs are listed.
     pub libraries: bool,
+    /// Whether the imports are listed; else they are tested alone.
+    pub imports: bool,
 }
 
 /// The section headers of an image.
@@ -184,21 +188,51 @@ fn import_data<'a, A: Allocator + Copy + Drop>(
     Ok(Some(data))
 }
 
-/// The imports of the import directory, if there is one.
+/// None of the imports, or the first error among them. Records may share their lookup entries, so they may be more than fit in
+/// memory: then those are left out that records before have too.
+fn no_imports<'a, A: Allocator + Copy + Drop>(
+    alloc: A,
+    image: &MappedBytes<'a, '_>,
+    data: &ImportData<'a, A>,
+    is_64: bool,
+) -> Result<Vec<Import<'a>, A>>
+    requires { AllStand (offset_in image.now.map) (entry_size is_64)
+        image.now.bytes.now (import_data_view data.now) }
+    ensures { ReturnsUnlessMemory (λ v. map import_view v.items) result (tested
+        (offset_in image.now.map) (entry_size is_64) image.now.bytes.now (import_data_view data.now)) }
+{
+    // Lists that share no entry have no more than the file has room for.
+    if data.import_count(is_64) <= image.bytes.len() / lookup_size(is_64) {
+        Import::parse_with_map(alloc, image, data, is_64)?;
+    } else {
+        let left = without_shared_entries(alloc, image, data, is_64)?;
+        Import::parse_with_map(alloc, image, &left, is_64)?;
+    }
+    Ok(Vec::new(alloc))
+}
+
+/// The imports of the import directory, if there is one; none where they are not listed, unless there is an error among them.
 fn imports<'a, A: Allocator + Copy + Drop>(
     alloc: A,
     image: &MappedBytes<'a, '_>,
     import_data: &Option<ImportData<'a, A>>,
     is_64: bool,
+    listed: bool,
 ) -> Result<Vec<Import<'a>, A>>
+    requires { IfSome (option_map import_data_view import_data.now)
+        (AllStand (offset_in image.now.map) (entry_size is_64) image.now.bytes.now) }
     ensures imports { ReturnsUnlessMemory (λ v. map import_view v.items) result
-        (imports_of (offset_in image.now.map) (entry_size is_64) image.now.bytes.now
-        (option_map import_data_view import_data.now)) }
+        (if_listed listed (imports_of (offset_in image.now.map) (entry_size is_64)
+        image.now.bytes.now (option_map import_data_view import_data.now))) }
     ensures memory { MemoryOnlyIf (IsSome (option_map import_data_view import_data.now)) result }
 {
-    match import_data {
-        None => Ok(Vec::new(alloc)),
-        Some(data) => Import::parse_with_map(alloc, image, data, is_64),
+    let Some(data) = import_data else {
+        return Ok(Vec::new(alloc));
+    };
+    if listed {
+        Import::parse_with_map(alloc, image, data, is_64)
+    } else {
+        no_imports(alloc, image, data, is_64)
     }
 }
 
@@ -258,9 +292,9 @@ struct Imported<'a, A: Allocator + Copy + Drop> {
 }
 
 impl<'a, A: Allocator + Copy + Drop> Imported<'a, A> {
-    /// Reads what the import directory says; without the names of the DLLs where they are not wanted. Errors: those of the
-    /// directory; `ImportsLimit` if there is a limit and it has more imports; those of its imports; `Memory`.
-    #[tactic(auto, using(crate::proofs::Limited::tested_first, crate::proofs::Requests::asks_for_imports), unfolding(crate::specs::LimitSteps::imported_of))]
+    /// Reads what the import directory says; without its imports and the names of the DLLs where they are not wanted. Errors:
+    /// those of the directory; `ImportsLimit` if there is a limit and it has more imports; those of its imports; `Memory`.
+    #[tactic(auto, using(crate::proofs::Limited::tested_first, crate::proofs::Requests::asks_for_imports, crate::proofs::StandingLists::all_stand), unfolding(crate::specs::LimitSteps::imported_of))]
     fn read(
         alloc: A,
         image: &MappedBytes<'a, '_>,
@@ -268,7 +302,7 @@ impl<'a, A: Allocator + Copy + Drop> Imported<'a, A> {
         layout: &Layout,
         wanted: Wanted,
     ) -> Result<Imported<'a, A>>
-        ensures imported { ReturnsUnlessMemory imported_view result (imported_of wanted.most
+        ensures imported { ReturnsUnlessMemory imported_view result (imported_of wanted.imports wanted.most
             (offset_in image.now.map) (entry_size layout.now.is_64) image.now.bytes.now
             (import_directory_in opts.now layout.now)) }
         ensures libraries { IfOk result (λ imported. wanted.libraries ≡ true → AreLibrariesOf
@@ -280,7 +314,7 @@ impl<'a, A: Allocator + Copy + Drop> Imported<'a, A> {
     {
         let data = import_data(alloc, image, opts, layout)?;
         require_within(&data, layout.is_64, wanted.most)?;
-        let imports = imports(alloc, image, &data, layout.is_64)?;
+        let imports = imports(alloc, image, &data, layout.is_64, wanted.imports)?;
         let libraries = if wanted.libraries {
             libraries(alloc, image, opts, layout, &data)?
         } else {
@@ -305,11 +339,11 @@ impl<'a, A: Allocator + Copy + Drop> Core<'a, A> {
         headers: Headers<'a, A>,
         wanted: Wanted,
     ) -> Result<Core<'a, A>>
-        ensures core { ReturnsUnlessMemory core_view result (unless_above wanted.most (number_or_0
-            (imports_with bytes.entry.now opts.now
+        ensures core { ReturnsUnlessMemory core_view result (core_if_listed wanted.imports
+            (unless_above wanted.most (number_or_0 (imports_with bytes.entry.now opts.now
             (header_view headers.entry.header).optional_header headers.entry.sections.items))
             (core_with bytes.entry.now opts.now
-            (header_view headers.entry.header) headers.entry.sections.items)) }
+            (header_view headers.entry.header) headers.entry.sections.items))) }
         ensures memory { MemoryOnlyIf
             (HasExports bytes.entry.now opts.now headers.entry.sections.items
             (header_view headers.entry.header).optional_header
@@ -357,6 +391,7 @@ impl<'a, A: Allocator + Copy + Drop> Core<'a, A> {
         let wanted = Wanted {
             most: None,
             libraries: true,
+            imports: true,
         };
         Core::read_within(alloc, bytes, opts, wanted)
     }
@@ -372,12 +407,13 @@ impl<'a, A: Allocator + Copy + Drop> Core<'a, A> {
         let wanted = Wanted {
             most: None,
             libraries: false,
+            imports: true,
         };
         Core::read_within(alloc, bytes, opts, wanted)
     }
 
-    /// Reads the core of an image, as `read` does, unless there is a limit and it has more imports; without the names of the DLLs
-    /// where they are not wanted. `ImportsLimit` comes after the errors of the import directory, and before those of its imports.
+    /// Reads the core of an image, as `read` does, unless there is a limit and it has more imports; without its imports and the
+    /// names of the DLLs where they are not wanted. `ImportsLimit` comes after the errors of the import directory, and before those of its imports.
     #[tactic(auto, using(crate::proofs::NoMemory::header_owes_nothing, crate::proofs::Requests::asks_for_sections, crate::proofs::Requests::asks_for_core), unfolding(crate::specs::Core::core_of, crate::specs::Limits::import_count))]
     pub fn read_within(
         alloc: A,
@@ -386,8 +422,9 @@ impl<'a, A: Allocator + Copy + Drop> Core<'a, A> {
         wanted: Wanted,
     ) -> Result<Core<'a, A>>
         ensures core { ReturnsUnlessMemoryAfter (sections_read bytes.entry.now opts.now)
-            core_view result (unless_above wanted.most (import_count bytes.entry.now opts.now)
-            (core_of bytes.entry.now opts.now)) }
+            core_view result (core_if_listed wanted.imports
+            (unless_above wanted.most (import_count bytes.entry.now opts.now)
+            (core_of bytes.entry.now opts.now))) }
         ensures memory { MemoryOnlyIf (AsksForMemory bytes.entry.now opts.now) result }
         ensures libraries { IfOk result (λ core. wanted.libraries ≡ true → CoreHasLibraries core) }
         ensures none { IfOk result (λ core. wanted.libraries ≡ false → core.libraries.items ≡ []) }

@@ -14,6 +14,7 @@ pub mod laws;
 mod layout;
 mod limits;
 mod pe;
+mod shared_lists;
 mod te;
 mod write;
 

@@ -16,6 +16,7 @@ ghost use Rattle.pe_image.specs.ImageSteps.{ReturnsAfterCore};
 ghost use Rattle.pe_image.specs.LayoutParts.{layout_of};
 ghost use Rattle.pe_image.specs.Limits.{ReturnsImageWithin};
 ghost use Rattle.pe_image.specs.Memory.{AsksForMemory, HasCertificates, MemoryOnlyIf};
+ghost use Rattle.pe_image.specs.Unlisted.{ReturnsUnlisted};
 
 use crate::core_image::{Core, Wanted};
 use crate::fields::{FirstFields, resource_data};
@@ -243,6 +244,26 @@ impl<'a, A: Allocator + Copy + Drop> PE<'a, A> {
         PE::with_core(alloc, bytes, opts, core)
     }
 
+    /// Reads the image in `bytes`, a whole file, as `parse_with_opts` does, but leaves `imports` and `libraries` empty. Its errors
+    /// are the same, also those of the imports. Records may share lookup entries in a hostile image, and to list the import of each
+    /// then takes quadratic time and memory.
+    pub fn parse_without_lists(alloc: A, bytes: &'a [u8], opts: &ParseOptions) -> Result<PE<'a, A>>
+        ensures image { ReturnsUnlisted bytes.entry.now opts.now result }
+        ensures memory { MemoryOnlyIf (AsksForMemory bytes.entry.now opts.now) result }
+        ensures sections { IfOk result
+            (λ p. sections_read bytes.entry.now opts.now ≡ Ok (image_view p).sections) }
+        ensures libraries { IfOk result (λ p. p.libraries.items ≡ []) }
+        ensures source { IfOk result (λ p. source_of p ≡ bytes.entry.now) }
+    {
+        let wanted = Wanted {
+            most: None,
+            libraries: false,
+            imports: false,
+        };
+        let core = Core::read_within(alloc, bytes, opts, wanted)?;
+        PE::with_core(alloc, bytes, opts, core)
+    }
+
     /// Reads the image in `bytes`, a whole file, as `parse_with_opts` does, unless it has more than a limit allows.
     /// Import records may share their lookup entries, so the imports of a file of 1 MiB may not fit in memory. An image
     /// with more of them than `limits.imports` is refused as `ImportsLimit`, in both modes, after the errors of its
@@ -263,6 +284,7 @@ impl<'a, A: Allocator + Copy + Drop> PE<'a, A> {
         let wanted = Wanted {
             most: Some(limits.imports),
             libraries: true,
+            imports: true,
         };
         let core = Core::read_within(alloc, bytes, opts, wanted)?;
         PE::with_core(alloc, bytes, opts, core)

@@ -5,7 +5,6 @@ use Rattle.pe_core.specs.Rows.{each}
 use Rattle.pe_minidump.specs.declared.dump.DirectoryEntry.{DirectoryEntry}
 use Rattle.pe_minidump.specs.declared.dump.DumpHeader.{DumpHeader}
 use Rattle.pe_minidump.specs.declared.exception.Exception.{Exception}
-use Rattle.pe_minidump.specs.declared.exception.ExceptionRecord.{ExceptionRecord}
 use Rattle.pe_minidump.specs.declared.handle.Handle.{Handle}
 use Rattle.pe_minidump.specs.declared.memory.MemoryDescriptor.{MemoryDescriptor}
 use Rattle.pe_minidump.specs.declared.memory.MemoryRange.{MemoryRange}
@@ -174,21 +173,15 @@ system_info b p = record {
   suite_mask = le b (p + 28) 2;
 }
 
--- an exception, 152 bytes
-unfoldable pub exception_record : List ℕ → ℕ → ExceptionRecord
-exception_record b p = record {
-  exception_code = le b p 4;
-  exception_flags = le b (p + 4) 4;
-  exception_record = le b (p + 8) 8;
-  exception_address = le b (p + 16) 8;
-  number_parameters = le b (p + 24) 4;
-  exception_information = each (λ i. le b (p + 32 + 8 * i) 8) 15;
-}
-
 -- the exception that a dump was written for, 168 bytes
 unfoldable pub exception_stream : List ℕ → ℕ → Exception
 exception_stream b p = record {
   thread_id = le b p 4;
-  raised = exception_record b (p + 8);
+  exception_code = le b (p + 8) 4;
+  exception_flags = le b (p + 12) 4;
+  number_parameters = le b (p + 32) 4;
+  exception_record = le b (p + 16) 8;
+  exception_address = le b (p + 24) 8;
+  exception_information = each (λ i. le b (p + 40 + 8 * i) 8) 15;
   thread_context = location_at b (p + 160);
 }

@@ -8,7 +8,7 @@ ghost use Rattle.std.specs.Prelude.{◌≡◌, ◌+◌, ◌*◌, ◌≤◌, leng
 ghost use Rattle.pe_core.specs.Bytes.{le};
 ghost use Rattle.pe_core.specs.Rows.{each};
 ghost use Rattle.pe_minidump.specs.Dumps.{dump_view};
-ghost use Rattle.pe_minidump.specs.Records.{exception_record, exception_stream};
+ghost use Rattle.pe_minidump.specs.Records.{exception_stream};
 ghost use Rattle.pe_minidump.specs.Refusals.{DumpReturns};
 ghost use Rattle.pe_minidump.specs.Streams.{at_start, exception};
 
@@ -21,32 +21,24 @@ use pe_core::{read_u32, read_u64};
 /// The size of the stream in bytes.
 const SIZE_OF_EXCEPTION_STREAM: usize = 168;
 
-/// What happened (`MINIDUMP_EXCEPTION`), 152 bytes.
-#[repr(C)]
-#[derive(Clone, Copy, Debug, PartialEq)]
-pub struct ExceptionRecord {
-    /// The code, as `EXCEPTION_ACCESS_VIOLATION`, C0000005h.
-    pub exception_code: u32,
-    /// `EXCEPTION_NONCONTINUABLE`, 1, or 0.
-    pub exception_flags: u32,
-    /// The address, in the process, of another exception that it belongs to; 0 if there is none.
-    pub exception_record: u64,
-    /// The address of the instruction.
-    pub exception_address: u64,
-    /// How many elements of `exception_information` are valid, as the file says: it may be above 15, which the array has.
-    pub number_parameters: u32,
-    /// The parameters. An access violation has two: 0 for a read, 1 for a write, 8 for execution, and the address.
-    pub exception_information: [u64; 15],
-}
-
-/// The exception of a dump (`MINIDUMP_EXCEPTION_STREAM`), 168 bytes.
+/// The exception of a dump (`MINIDUMP_EXCEPTION_STREAM`), 168 bytes, with the fields of its `MINIDUMP_EXCEPTION` among its own.
 #[repr(C)]
 #[derive(Clone, Copy, Debug, PartialEq)]
 pub struct Exception {
     /// The ID of the thread that raised it.
     pub thread_id: u32,
-    /// The exception.
-    pub raised: ExceptionRecord,
+    /// The code, as `EXCEPTION_ACCESS_VIOLATION`, C0000005h.
+    pub exception_code: u32,
+    /// `EXCEPTION_NONCONTINUABLE`, 1, or 0.
+    pub exception_flags: u32,
+    /// How many elements of `exception_information` are valid, as the file says: it may be above 15, which the array has.
+    pub number_parameters: u32,
+    /// The address, in the process, of another exception that it belongs to; 0 if there is none.
+    pub exception_record: u64,
+    /// The address of the instruction.
+    pub exception_address: u64,
+    /// The parameters. An access violation has two: 0 for a read, 1 for a write, 8 for execution, and the address.
+    pub exception_information: [u64; 15],
     /// Where the context of the thread stands, as it was when the exception was raised.
     pub thread_context: Location,
 }
@@ -76,24 +68,6 @@ fn parameters_at(bytes: &[u8], offset: usize) -> [u64; 15]
     ]
 }
 
-impl ExceptionRecord {
-    /// The exception at an offset in bytes that are known to have one.
-    #[tactic(auto, unfolding(crate::specs::Records::exception_record))]
-    fn at(bytes: &[u8], offset: usize) -> ExceptionRecord
-        requires { offset + 152 ≤ length bytes.now }
-        ensures { result ≡ exception_record bytes.now offset }
-    {
-        ExceptionRecord {
-            exception_code: read_u32(bytes, offset),
-            exception_flags: read_u32(bytes, offset + 4),
-            exception_record: read_u64(bytes, offset + 8),
-            exception_address: read_u64(bytes, offset + 16),
-            number_parameters: read_u32(bytes, offset + 24),
-            exception_information: parameters_at(bytes, offset + 32),
-        }
-    }
-}
-
 /// The exception at the start of a stream. Error: `Short` if it has fewer than 168 bytes.
 #[tactic(auto, unfolding(crate::specs::Records::exception_stream))]
 pub fn exception_of(stream: &[u8]) -> Result<Exception>
@@ -102,7 +76,12 @@ pub fn exception_of(stream: &[u8]) -> Result<Exception>
     require_fields(stream, SIZE_OF_EXCEPTION_STREAM)?;
     Ok(Exception {
         thread_id: read_u32(stream, 0),
-        raised: ExceptionRecord::at(stream, 8),
+        exception_code: read_u32(stream, 8),
+        exception_flags: read_u32(stream, 12),
+        number_parameters: read_u32(stream, 32),
+        exception_record: read_u64(stream, 16),
+        exception_address: read_u64(stream, 24),
+        exception_information: parameters_at(stream, 40),
         thread_context: Location::at(stream, 160),
     })
 }

@@ -41,7 +41,7 @@ pub use dump::{
     DirectoryEntry, Dump, DumpHeader, MINIDUMP_SIGNATURE, MINIDUMP_VERSION, first_entry,
 };
 pub use error::{DumpError, Result};
-pub use exception::{Exception, ExceptionRecord, exception_of};
+pub use exception::{Exception, exception_of};
 pub use handle::Handle;
 pub use list::{counted_list, headed_list, headed_list_64};
 pub use location::{Location, located};

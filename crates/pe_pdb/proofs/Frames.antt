@@ -24,14 +24,14 @@ use Rattle.pe_pdb.proofs.NearestEntries.{nearest_once}
 
 -- ---- the greatest of the items that pass a test
 
-record IsGreatest {X : Type 0} (key : X → ℕ) (p : X → Bool) (xs : List X) (i : ℕ) (x : X) : Type 0 where
-  listed : i < length xs
-  is : (d : X) → get_or xs i d ≡ x
-  passes : p x ≡ true
-  last : (k : ℕ) (d : X) → k < length xs → p (get_or xs k d) ≡ true → key (get_or xs k d) ≤ key x
-  latest : (k : ℕ) (d : X) → k < length xs → p (get_or xs k d) ≡ true → key (get_or xs k d) ≡ key x → k ≤ i
+pub record IsGreatest {X : Type 0} (key : X → ℕ) (p : X → Bool) (xs : List X) (i : ℕ) (x : X) : Type 0 where
+  pub listed : i < length xs
+  pub is : (d : X) → get_or xs i d ≡ x
+  pub passes : p x ≡ true
+  pub last : (k : ℕ) (d : X) → k < length xs → p (get_or xs k d) ≡ true → key (get_or xs k d) ≤ key x
+  pub latest : (k : ℕ) (d : X) → k < length xs → p (get_or xs k d) ≡ true → key (get_or xs k d) ≡ key x → k ≤ i
 
-abbrev Greatest : {X : Type 0} → (X → ℕ) → (X → Bool) → List X → Option X → Type 0
+abbrev pub Greatest : {X : Type 0} → (X → ℕ) → (X → Bool) → List X → Option X → Type 0
 Greatest {X} key p xs None = (k : ℕ) (d : X) → k < length xs → p (get_or xs k d) ≡ false
 Greatest key p xs (Some x) = (i : ℕ) × IsGreatest key p xs i x
 
@@ -96,7 +96,7 @@ unfolding greatest
 greatest_if key p x xs true is g = later_is key p x xs (greatest key (filter p xs)) is g
 greatest_if key p x xs false is g = skipped key p x xs (greatest key (filter p xs)) is g
 
-greatest_of : {X : Type 0} (key : X → ℕ) (p : X → Bool) (xs : List X) → Greatest key p xs (greatest key (filter p xs))
+pub greatest_of : {X : Type 0} (key : X → ℕ) (p : X → Bool) (xs : List X) → Greatest key p xs (greatest key (filter p xs))
 unfolding greatest
 greatest_of key p [] = λ k d lt. absurd (omega (arith, lt))
 greatest_of key p (x ∷ xs) = greatest_if key p x xs (p x) refl (greatest_of key p xs)

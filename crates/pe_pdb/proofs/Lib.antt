@@ -23,3 +23,5 @@ pub mod RecordStarts
 pub mod WrittenAnnotations
 pub mod Halves
 pub mod Frames
+pub mod OmapRows
+pub mod Scans

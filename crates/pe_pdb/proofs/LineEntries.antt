@@ -1,12 +1,13 @@
 -- The lines of a module, as loops over rows, blocks and subsections write them to a room.
-use Rattle.std.proofs.Common.{◌≡◌, ℕ, suc, ◌+◌, ◌≤◌, List, [], ◌∷◌, ◌++◌, length, take, set, Option, Some, None, Result, Ok, Err, refl, ap, sym, subst, ◌∙◌, arith, append_assoc, length-append, inl, inr}
+use Rattle.std.proofs.Common.{◌≡◌, ℕ, suc, ◌+◌, ◌^◌, ◌<◌, ◌≤◌, true, ltb, List, [], ◌∷◌, ◌++◌, length, take, set, Option, Some, None, Result, Ok, Err, refl, ap, sym, subst, ◌∙◌, arith, append_assoc, length-append, inl, inr}
 use Rattle.std.proofs.lemmas.Bool.{cases_lt}
+use Rattle.std.proofs.lemmas.Bool.Decides.{nat_tests}
 use Rattle.std.proofs.lemmas.List.{append-nil, set_past, take-append-le, take_all, take_more_set}
 use Rattle.std.proofs.Math.ListN.{length-set}
 use Rattle.std.specs.Option.{option_to_list}
 use Rattle.pe_core.specs.Gathered.{with_rest}
-use Rattle.pe_pdb.specs.LineEntries.{HasEntries, LineCode, Writes, block_lines, code_line, entries_from, gathered}
-use Rattle.pe_pdb.specs.Lines.{BlockView}
+use Rattle.pe_pdb.specs.LineEntries.{HasEntries, LineCode, Writes, block_lines, code_line, entries_from, gathered, lines_of_subsection, module_lines}
+use Rattle.pe_pdb.specs.Lines.{BlockView, subsections}
 use Rattle.pe_pdb.specs.Refusals.{PdbRefusal}
 use Rattle.pe_pdb.specs.declared.line_entries.CodeLine.{CodeLine}
 use Rattle.pe_pdb.specs.declared.line_entries.LineEntry.{LineEntry}
@@ -101,10 +102,10 @@ rows_none c b count room = subst (λ (l : List CodeLine). Writes l count room co
 
 -- ---- loops over items
 
--- the lines of the items before those that are left are written
-pub record Gathers {X : Type 0} (f : X → Result (List CodeLine) PdbRefusal) (whole left : List (Result X PdbRefusal)) (first : ℕ) (room : List LineEntry) (count : ℕ) (after : List LineEntry) : Type 0 where
+-- of the lines of the items before those that are left this holds
+pub record Gathers {X : Type 0} (f : X → Result (List CodeLine) PdbRefusal) (whole left : List (Result X PdbRefusal)) (P : List CodeLine → Type 0) : Type 0 where
   pub sofar : List CodeLine
-  pub writes : Writes sofar first room count after
+  pub holds : P sofar
   pub more : gathered f whole ≡ with_rest sofar (gathered f left)
 
 with_none : (r : Result (List CodeLine) PdbRefusal) → with_rest [] r ≡ r
@@ -131,37 +132,40 @@ gathered_error : {X : Type 0} (f : X → Result (List CodeLine) PdbRefusal) (mor
 unfolding gathered
 gathered_error f more r = refl
 
-pub gathers_none : {X : Type 0} (f : X → Result (List CodeLine) PdbRefusal) (whole : List (Result X PdbRefusal)) (count : ℕ) (room : List LineEntry) → Gathers f whole whole count room count room
-gathers_none f whole count room = record { sofar = []; writes = writes_nothing count room; more = sym (with_none (gathered f whole)) }
+pub gathers_none : {X : Type 0} (f : X → Result (List CodeLine) PdbRefusal) (whole : List (Result X PdbRefusal)) (P : List CodeLine → Type 0) → P [] → Gathers f whole whole P
+gathers_none f whole P none = record { sofar = []; holds = none; more = sym (with_none (gathered f whole)) }
 
-pub gathers_more : {X : Type 0} (f : X → Result (List CodeLine) PdbRefusal) (whole left rest : List (Result X PdbRefusal)) (x : X) (ys : List CodeLine) (first count n : ℕ) (room after next : List LineEntry) →
-    Gathers f whole left first room count after → left ≡ Ok x ∷ rest → f x ≡ Ok ys → Writes ys count after n next → Gathers f whole rest first room n next
-gathers_more {X} f whole left rest x ys first count n room after next so is lines writes = record {
+pub gathers_more : {X : Type 0} (f : X → Result (List CodeLine) PdbRefusal) (whole left rest : List (Result X PdbRefusal)) (x : X) (ys : List CodeLine) (P Q : List CodeLine → Type 0) →
+    Gathers f whole left P → left ≡ Ok x ∷ rest → f x ≡ Ok ys → ((xs : List CodeLine) → P xs → Q (xs ++ ys)) → Gathers f whole rest Q
+gathers_more {X} f whole left rest x ys P Q so is lines next = record {
   sofar = so.sofar ++ ys;
-  writes = writes_both so.sofar ys first count n room after next so.writes writes;
+  holds = next so.sofar so.holds;
   more = so.more ∙ ap (λ (l : List (Result X PdbRefusal)). with_rest so.sofar (gathered f l)) is
       ∙ ap (λ (r : Result (List CodeLine) PdbRefusal). with_rest so.sofar r) (gathered_more f x rest ys lines) ∙ with_joined so.sofar ys (gathered f rest);
 }
 
 -- an item that is refused
-pub gathers_error : {X : Type 0} (f : X → Result (List CodeLine) PdbRefusal) (whole left : List (Result X PdbRefusal)) (r : PdbRefusal) (first count : ℕ) (room after : List LineEntry) →
-    Gathers f whole left first room count after → left ≡ Err r ∷ [] → gathered f whole ≡ Err r
-gathers_error {X} f whole left r first count room after so is =
+pub gathers_error : {X : Type 0} (f : X → Result (List CodeLine) PdbRefusal) (whole left : List (Result X PdbRefusal)) (r : PdbRefusal) (P : List CodeLine → Type 0) →
+    Gathers f whole left P → left ≡ Err r ∷ [] → gathered f whole ≡ Err r
+gathers_error {X} f whole left r P so is =
     so.more ∙ ap (λ (l : List (Result X PdbRefusal)). with_rest so.sofar (gathered f l)) is ∙ ap (λ (e : Result (List CodeLine) PdbRefusal). with_rest so.sofar e) (gathered_error f [] r)
 
 -- an item whose lines are refused
-pub gathers_refused : {X : Type 0} (f : X → Result (List CodeLine) PdbRefusal) (whole left rest : List (Result X PdbRefusal)) (x : X) (r : PdbRefusal) (first count : ℕ) (room after : List LineEntry) →
-    Gathers f whole left first room count after → left ≡ Ok x ∷ rest → f x ≡ Err r → gathered f whole ≡ Err r
-gathers_refused {X} f whole left rest x r first count room after so is refused =
+pub gathers_refused : {X : Type 0} (f : X → Result (List CodeLine) PdbRefusal) (whole left rest : List (Result X PdbRefusal)) (x : X) (r : PdbRefusal) (P : List CodeLine → Type 0) →
+    Gathers f whole left P → left ≡ Ok x ∷ rest → f x ≡ Err r → gathered f whole ≡ Err r
+gathers_refused {X} f whole left rest x r P so is refused =
     so.more ∙ ap (λ (l : List (Result X PdbRefusal)). with_rest so.sofar (gathered f l)) is ∙ ap (λ (e : Result (List CodeLine) PdbRefusal). with_rest so.sofar e) (gathered_refused f x rest r refused)
 
 -- no more items
-pub gathers_all : {X : Type 0} (f : X → Result (List CodeLine) PdbRefusal) (whole left : List (Result X PdbRefusal)) (first count : ℕ) (room after : List LineEntry) →
-    (so : Gathers f whole left first room count after) → left ≡ [] → gathered f whole ≡ Ok so.sofar
-gathers_all {X} f whole left first count room after so is =
+pub gathers_all : {X : Type 0} (f : X → Result (List CodeLine) PdbRefusal) (whole left : List (Result X PdbRefusal)) (P : List CodeLine → Type 0) →
+    (so : Gathers f whole left P) → left ≡ [] → gathered f whole ≡ Ok so.sofar
+gathers_all {X} f whole left P so is =
     so.more ∙ ap (λ (l : List (Result X PdbRefusal)). with_rest so.sofar (gathered f l)) is ∙ ap (λ (e : Result (List CodeLine) PdbRefusal). with_rest so.sofar e) (gathered_none f)
     ∙ ap (λ (l : List CodeLine). Ok l) (append-nil so.sofar)
 
 pub line_few : (o : Option CodeLine) → length (option_to_list o) ≤ 1
 line_few None = omega arith
 line_few (Some x) = omega arith
+
+pub lines_small : (sections b : List ℕ) → length b < 2 ^ 32 → module_lines sections b ≡ gathered (lines_of_subsection sections) (subsections b 0)
+lines_small sections b small = let t : ltb (length b) (2 ^ 32) ≡ true = grind (arith, nat_tests) in rw t

@@ -12,12 +12,16 @@ use Rattle.pe_pdb.specs.declared.symbol_entries.SymbolClass.{SymbolClass}
 use Rattle.pe_pdb.specs.Symbols.{Symbol, symbol_at, symbols}
 use Rattle.pe_pdb.proofs.RecordWalks.{symbol_offset, symbols_more, symbols_none, symbols_refused}
 
--- the entries of the records before offset p are written, and those of the records from there on are left
-pub record Gathers (rva : Symbol → Option ℕ) (b : List ℕ) (start p count : ℕ) (room : List ℕ) : Type 0 where
+-- of the entries of the records before offset p this holds, and those of the records from there on are left
+pub record Gathers (rva : Symbol → Option ℕ) (b : List ℕ) (start p : ℕ) (P : List ℕ → Type 0) : Type 0 where
   pub sofar : List ℕ
-  pub counted : count ≡ length sofar
-  pub written : take count room ≡ take (length room) sofar
+  pub holds : P sofar
   pub left : addresses_of rva (symbols b start) ≡ with_rest sofar (addresses_of rva (symbols b p))
+
+-- so many entries are written to a room, as far as it has place
+pub record Written (count : ℕ) (room xs : List ℕ) : Type 0 where
+  pub counted : count ≡ length xs
+  pub written : take count room ≡ take (length room) xs
 
 with_none : (r : Result (List ℕ) PdbRefusal) → with_rest [] r ≡ r
 with_none (Ok xs) = refl
@@ -30,13 +34,11 @@ with_joined xs ys (Err r) = refl
 take_none : (n : ℕ) → take {A = ℕ} n [] ≡ []
 take_none n = take_all n [] (omega arith)
 
-pub gathers_none : (rva : Symbol → Option ℕ) (b : List ℕ) (start : ℕ) (room : List ℕ) → Gathers rva b start start 0 room
-gathers_none rva b start room = record {
-  sofar = [];
-  counted = refl;
-  written = sym (take_none (length room));
-  left = sym (with_none (addresses_of rva (symbols b start)));
-}
+pub gathers_none : (rva : Symbol → Option ℕ) (b : List ℕ) (start : ℕ) (P : List ℕ → Type 0) → P [] → Gathers rva b start start P
+gathers_none rva b start P none = record { sofar = []; holds = none; left = sym (with_none (addresses_of rva (symbols b start))) }
+
+pub written_none : (room : List ℕ) → Written 0 room []
+written_none room = record { counted = refl; written = sym (take_none (length room)) }
 
 -- one more entry
 put_more : (room xs : List ℕ) (o : Option ℕ) → take (length xs) room ≡ take (length room) xs →
@@ -70,26 +72,34 @@ entries_step : (rva : Symbol → Option ℕ) (s : Symbol) (more : List (Result S
 unfolding addresses_of
 entries_step rva s more = refl
 
-pub gathers_more : (rva : Symbol → Option ℕ) (b : List ℕ) (start p count : ℕ) (room : List ℕ) (s : Symbol) (q next : ℕ) (after : List ℕ) →
-    Gathers rva b start p count room → p < length b → symbol_at b p ≡ Ok s → q ≡ s.offset + 4 + length s.content →
-    next ≡ count + length (option_to_list (rva s)) → after ≡ address_put room count (option_map (λ x. address x p) (rva s)) → Gathers rva b start q next after
-gathers_more rva b start p count room s q next after so lt is end counts puts =
-    let f : ℕ → ℕ = λ x. address x p in
-    let o : Option ℕ = option_map f (rva s) in
-    let xs : List ℕ = so.sofar in
+pub written_more : (count : ℕ) (room : List ℕ) (p : ℕ) (o : Option ℕ) (next : ℕ) (after xs : List ℕ) →
+    next ≡ count + length (option_to_list o) → after ≡ address_put room count (option_map (λ x. address x p) o) → Written count room xs →
+    Written next after (xs ++ option_to_list (option_map (λ x. address x p) o))
+written_more count room p o next after xs counts puts so =
+    let put : Option ℕ = option_map (λ x. address x p) o in
     let number : count ≡ length xs = so.counted in
-    let one : length (option_to_list o) ≡ length (option_to_list (rva s)) = length_mapped f (rva s) in
-    let at : s.offset ≡ p = symbol_offset b p s is in
-    let made : after ≡ address_put room (length xs) o = puts ∙ ap (λ n. address_put room n o) number in
-    let total : next ≡ length xs + length (option_to_list o) = omega (arith, counts, number, one) in
+    let one : length (option_to_list put) ≡ length (option_to_list o) = length_mapped (λ x. address x p) o in
+    let made : after ≡ address_put room (length xs) put = puts ∙ ap (λ n. address_put room n put) number in
+    let total : next ≡ length xs + length (option_to_list put) = omega (arith, counts, number, one) in
     record {
-      sofar = xs ++ option_to_list o;
-      counted = total ∙ sym (length-append xs (option_to_list o));
+      counted = total ∙ sym (length-append xs (option_to_list put));
       written =
           ap (λ n. take n after) total
-          ∙ ap (λ (l : List ℕ). take (length xs + length (option_to_list o)) l) made
-          ∙ put_more room xs o (ap (λ n. take n room) (sym number) ∙ so.written)
-          ∙ ap (λ (l : List ℕ). take (length l) (xs ++ option_to_list o)) (sym made);
+          ∙ ap (λ (l : List ℕ). take (length xs + length (option_to_list put)) l) made
+          ∙ put_more room xs put (ap (λ n. take n room) (sym number) ∙ so.written)
+          ∙ ap (λ (l : List ℕ). take (length l) (xs ++ option_to_list put)) (sym made);
+    }
+
+pub gathers_more : (rva : Symbol → Option ℕ) (b : List ℕ) (start p : ℕ) (s : Symbol) (q : ℕ) (P Q : List ℕ → Type 0) →
+    Gathers rva b start p P → p < length b → symbol_at b p ≡ Ok s → q ≡ s.offset + 4 + length s.content →
+    ((xs : List ℕ) → P xs → Q (xs ++ option_to_list (option_map (λ x. address x p) (rva s)))) → Gathers rva b start q Q
+gathers_more rva b start p s q P Q so lt is end next =
+    let o : Option ℕ = option_map (λ x. address x p) (rva s) in
+    let xs : List ℕ = so.sofar in
+    let at : s.offset ≡ p = symbol_offset b p s is in
+    record {
+      sofar = xs ++ option_to_list o;
+      holds = next xs so.holds;
       left =
           so.left
           ∙ ap (λ (l : List (Result Symbol PdbRefusal)). with_rest xs (addresses_of rva l)) (symbols_more b p s lt is ∙ ap (λ n. Ok s ∷ symbols b n) (sym end))
@@ -107,15 +117,15 @@ unfolding addresses_of
 entries_refused rva r = refl
 
 -- a record that is refused
-pub gathers_refused : (rva : Symbol → Option ℕ) (b : List ℕ) (start p count : ℕ) (room : List ℕ) (r : PdbRefusal) →
-    Gathers rva b start p count room → p < length b → symbol_at b p ≡ Err r → addresses_of rva (symbols b start) ≡ Err r
-gathers_refused rva b start p count room r so lt is =
+pub gathers_refused : (rva : Symbol → Option ℕ) (b : List ℕ) (start p : ℕ) (P : List ℕ → Type 0) (r : PdbRefusal) →
+    Gathers rva b start p P → p < length b → symbol_at b p ≡ Err r → addresses_of rva (symbols b start) ≡ Err r
+gathers_refused rva b start p P r so lt is =
     so.left ∙ ap (λ (l : List (Result Symbol PdbRefusal)). with_rest so.sofar (addresses_of rva l)) (symbols_refused b p r lt is) ∙ ap (λ (e : Result (List ℕ) PdbRefusal). with_rest so.sofar e) (entries_refused rva r)
 
 -- the end
-pub gathers_all : (rva : Symbol → Option ℕ) (b : List ℕ) (start p count : ℕ) (room : List ℕ) →
-    (so : Gathers rva b start p count room) → length b ≤ p → addresses_of rva (symbols b start) ≡ Ok so.sofar
-gathers_all rva b start p count room so past =
+pub gathers_all : (rva : Symbol → Option ℕ) (b : List ℕ) (start p : ℕ) (P : List ℕ → Type 0) →
+    (so : Gathers rva b start p P) → length b ≤ p → addresses_of rva (symbols b start) ≡ Ok so.sofar
+gathers_all rva b start p P so past =
     so.left ∙ ap (λ (l : List (Result Symbol PdbRefusal)). with_rest so.sofar (addresses_of rva l)) (symbols_none b p past) ∙ ap (λ (e : Result (List ℕ) PdbRefusal). with_rest so.sofar e) (entries_none rva)
     ∙ ap (λ (l : List ℕ). Ok l) (append-nil so.sofar)
 

@@ -40,16 +40,22 @@ greatest key [] = None
 greatest key (x ∷ more) = later key x (greatest key more)
 
 -- of symbols, by their entries, the last that is at or before an RVA
+abbrev pub address_before : ℕ → List ℕ → Option ℕ
+address_before rva xs = greatest (λ a. a) (filter (λ a. nat_le (rva_in a) rva) xs)
+
 abbrev pub symbol_before : List ℕ → ℕ → Option SymbolAddress
-symbol_before xs rva = option_map symbol_address (greatest (λ a. a) (filter (λ a. nat_le (rva_in a) rva) xs))
+symbol_before xs rva = option_map symbol_address (address_before rva xs)
 
 -- of procedures, if its code has the RVA
 abbrev pub procedure_with : List ℕ → List ℕ → ℕ → Option SymbolAddress
 procedure_with xs b rva = if_reaches b rva (symbol_before xs rva)
 
 -- of lines, if its code has the RVA, and it is one
+abbrev pub row_before : ℕ → List CodeLine → Option CodeLine
+row_before rva xs = greatest (λ x. x.rva) (filter (λ x. nat_le x.rva rva) xs)
+
 abbrev pub line_with : List CodeLine → ℕ → Option CodeLine
-line_with xs rva = if_covers rva (greatest (λ x. x.rva) (filter (λ x. nat_le x.rva rva) xs))
+line_with xs rva = if_covers rva (row_before rva xs)
 
 -- the record with an id, which follows all those before it
 abbrev pub id_record : TypesView → ℕ → Result (Option Symbol) PdbRefusal

@@ -31,3 +31,5 @@ pub mod WrittenAnnotations
 pub mod Contributions
 pub mod ModuleIndexes
 pub mod Frames
+pub mod Omap
+pub mod Scans

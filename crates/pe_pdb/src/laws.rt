@@ -3,6 +3,7 @@
 ghost use Rattle.std.specs.Prelude.{◌≡◌, ◌↔◌, ℕ, ◌+◌, ◌++◌, ◌∷◌, ◌-◌, ◌*◌, ◌/◌, ◌^◌, ◌<◌, ◌≤◌, [], length, map, nat_le, take, List, Ok, Option, Result, Some, if◌then◌else◌, true};
 ghost use Rattle.std.specs.Int.{div_ceil};
 ghost use Rattle.std.specs.List.{All, Contains};
+ghost use Rattle.std.specs.List.Sorted.{IsNonDecreasingBy};
 ghost use Rattle.std.specs.Option.{option_map, option_to_list};
 ghost use Rattle.pe_core.specs.Offsets.{bytes_in};
 ghost use Rattle.pe_core.specs.declared.byte_range.ByteRange.{ByteRange};
@@ -18,6 +19,7 @@ ghost use Rattle.pe_pdb.specs.LineEntries.{module_lines};
 ghost use Rattle.pe_pdb.specs.Lookups.{digits};
 ghost use Rattle.pe_pdb.specs.LineIndexes.{IsLastBefore, LineAt, NoneStarts, is_line};
 ghost use Rattle.pe_pdb.specs.Modules.{module_at, module_end, modules};
+ghost use Rattle.pe_pdb.specs.Omap.{moved_by, moved_to, omap, omap_row};
 ghost use Rattle.pe_pdb.specs.SectionHeaders.{rva_of, start_of};
 ghost use Rattle.pe_pdb.specs.SymbolEntries.{HasEntry, addresses, rva_by};
 ghost use Rattle.pe_pdb.specs.SymbolIndexes.{Covering, Nearest};
@@ -138,7 +140,7 @@ pub fn index_is_list()
 {}
 
 /// A caller has the frames of an RVA who finds them so: `ModuleIndex::module_at` names its module; `covering` in an index of the
-/// procedures of the module finds the procedure, and `line_at` in one of its lines the line; `InlineStack` has the functions that are
+/// procedures of the module finds the procedure, and `line_at` in one of its lines the line; `inlined_at` the functions that are
 /// inlined there, and `TypeRecords::get` their records. Where no procedure has the RVA, `nearest` in an index of the public functions
 /// finds the one before it. Nothing is found in lists that are refused.
 pub fn indexes_find_the_frames()
@@ -163,6 +165,15 @@ pub fn frames_of_module_alone()
     ensures lines { (p : PdbParts) (rva : ℕ) (modules : List ModuleParts) (m : ModuleParts) (lines : List ℕ) →
         module_with p rva ≡ Some m → module_with (with_modules p modules) rva ≡ Some (with_lines m lines) →
         map without_source (frames_at (with_modules p modules) rva) ≡ map without_source (frames_at p rva) }
+{}
+
+/// In an OMAP table that ascends an RVA is by the row that is at or before it where the next one is after it: `moved_to` finds by halves what
+/// reading the table from its start finds.
+#[tactic(auto, using(crate::proofs::OmapRows::by_row))]
+pub fn omap_is_search()
+    ensures { (b : List ℕ) (rva i : ℕ) → IsNonDecreasingBy (λ x. x.rva) (omap b) → i < length (omap b) →
+        (omap_row b (8 * i)).rva ≤ rva → (i + 1 < length (omap b) → rva < (omap_row b (8 * (i + 1))).rva) →
+        moved_to (omap b) rva ≡ moved_by rva (omap_row b (8 * i)) }
 {}
 
 /// A lookup reads at most as many entries of its index as their number has binary digits, and two, in whatever order they are.

@@ -16,7 +16,7 @@
 //!    has an RVA. `SectionContributions` and `ModuleIndex` say which module that is in;
 //! 5. `LineIndex` finds the line of an RVA in the lines of its module (`Subsections`); `FileChecksum` and `Names` have the name of
 //!    its file;
-//! 6. `InlineStack` has the functions that were inlined there, the innermost first; `InlineeLine` has their lines, and
+//! 6. `inlined_at` finds the functions that were inlined there, the innermost first; `InlineeLine` has their lines, and
 //!    `TypeRecords` their names (`FunctionId`).
 //!
 //! The frames of an RVA have one definition, `frames_at` of `specs/Frames.antt`, which reads lists from their start. The law
@@ -46,11 +46,13 @@ mod line;
 mod line_entries;
 mod line_index;
 mod line_lookup;
+mod line_scan;
 mod module;
 mod module_index;
 mod module_lookup;
 mod msf;
 mod names;
+mod omap;
 mod procedure;
 mod public;
 mod sections;
@@ -61,6 +63,7 @@ mod symbol;
 mod symbol_entries;
 mod symbol_index;
 mod symbol_lookup;
+mod symbol_scan;
 
 pub use checksum::FileChecksum;
 pub use contribution::{Contribution, ModuleRange, SectionContributions};
@@ -78,7 +81,7 @@ pub use ids::{
 pub use info::{INFO_STREAM, PdbInfo};
 pub use inline_rows::{InlineRow, InlineRows};
 pub use inline_site::{InlineSite, S_INLINESITE, S_INLINESITE2};
-pub use inline_stack::{InlineStack, MOST_INLINED};
+pub use inline_stack::{MOST_INLINED, NO_INLINE_FRAME, inlined_at};
 pub use inline_walk::{InlineFrame, InlineFrames};
 pub use inlinee::{DEBUG_S_INLINEELINES, InlineeLine, SourceLine};
 pub use key::PdbKey;
@@ -89,11 +92,13 @@ pub use line::{
 pub use line_entries::{CodeLine, LineEntry};
 pub use line_index::LineIndex;
 pub use line_lookup::{line_in, put_line_index, search_lines};
+pub use line_scan::find_line;
 pub use module::{FIRST_SYMBOL, Module, ModuleRecord, Modules};
 pub use module_index::ModuleIndex;
 pub use module_lookup::search_ranges;
 pub use msf::SuperBlock;
 pub use names::{NAMES_STREAM, Names, named_stream};
+pub use omap::{OmapRow, moved_to};
 pub use procedure::{ProcedureSymbol, S_GPROC32, S_GPROC32_ID, S_LPROC32, S_LPROC32_ID};
 pub use public::{PublicSymbol, S_PUB32};
 pub use sections::SectionHeaders;
@@ -102,5 +107,6 @@ pub use symbol::{SymbolRecord, SymbolRecords};
 pub use symbol_entries::SymbolClass;
 pub use symbol_index::SymbolIndex;
 pub use symbol_lookup::{
-    SymbolAddress, covering_address, nearest_address, put_symbol_index, search_symbols,
+    SymbolAddress, covering_address, if_reaches, nearest_address, put_symbol_index, search_symbols,
 };
+pub use symbol_scan::find_symbol;

@@ -41,10 +41,10 @@ pub struct LineEntry {
 
 /// The code whose lines a subsection has.
 #[derive(Clone, Copy)]
-struct Code<'a> {
-    rva: u32,
-    header: LineHeader,
-    content: &'a [u8],
+pub(crate) struct Code<'a> {
+    pub(crate) rva: u32,
+    pub(crate) header: LineHeader,
+    pub(crate) content: &'a [u8],
 }
 
 /// The column of a row of a block of the code. 0 where there is none.
@@ -62,7 +62,7 @@ fn column_of(code: &Code<'_>, block: &LineBlock<'_>, index: usize) -> u16
 
 /// The row with an index in a block of the code. `None` if it is not in the code, or past 2^32.
 #[tactic(auto, unfolding(crate::specs::LineEntries::code_line))]
-fn code_line(code: &Code<'_>, block: &LineBlock<'_>, index: usize) -> Option<CodeLine>
+pub(crate) fn code_line(code: &Code<'_>, block: &LineBlock<'_>, index: usize) -> Option<CodeLine>
     requires inside { block.now.offset + block.now.size ≤ length code.now.content.now }
     requires listed { index < rows_in (block_view block.now) }
     ensures { result ≡ code_line (code_view code.now) (block_view block.now) index }

@@ -6,7 +6,7 @@ ghost use Rattle.std.specs.Prelude.{◌≡◌, ◌+◌, ◌≤◌, ◌*◌, ◌^
 ghost use Rattle.pe_pdb.specs.LineEntries.{count_of, module_lines};
 ghost use Rattle.pe_pdb.specs.LineKeys.{line_key};
 ghost use Rattle.pe_pdb.specs.Lookups.{digits};
-ghost use Rattle.pe_pdb.specs.LineIndexes.{AreEntries, IndexesLines, LastBefore, LineAt, PutsLineIndex, PutsSortedLines, in_room, is_line};
+ghost use Rattle.pe_pdb.specs.LineIndexes.{AreEntries, IndexesLines, LastBefore, LineAt, PutsLineIndex, PutsSortedLines, if_covers, in_room, is_line};
 ghost use Rattle.pe_pdb.specs.Refusals.{PdbReturns};
 ghost use Rattle.pe_pdb.specs.declared.line_entries.CodeLine.{CodeLine as Line};
 ghost use Rattle.std.specs.List.Sorted.{IsNonDecreasingBy, IsPermutation};
@@ -128,7 +128,15 @@ pub fn search_lines(entries: &mut CountedEntries<'_, LineEntry>, rva: u32) -> Op
 pub fn line_in(entries: &[LineEntry], rva: u32) -> Option<CodeLine>
     ensures { IsNonDecreasingBy line_key entries.now → (xs : List Line) → AreEntries xs entries.now → LineAt xs rva result }
 {
-    let found = search_lines(&mut CountedEntries::new(entries), rva)?;
+    if_covers(rva, search_lines(&mut CountedEntries::new(entries), rva))
+}
+
+/// The last line at or before an RVA, if its code has the RVA, and it is one.
+#[inline(always)]
+pub(crate) fn if_covers(rva: u32, last: Option<CodeLine>) -> Option<CodeLine>
+    ensures { result ≡ if_covers rva last }
+{
+    let found = last?;
     if rva.saturating_sub(found.rva) < found.code_size && is_line(found.line) {
         return Some(found);
     }

@@ -24,7 +24,7 @@ pub enum SymbolClass {
 }
 
 /// The RVA of a symbol of a class. `None` of other records.
-fn rva_by(
+pub(crate) fn rva_by(
     class: SymbolClass,
     sections: &SectionHeaders<'_>,
     record: &SymbolRecord<'_>,

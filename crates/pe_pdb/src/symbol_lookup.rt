@@ -9,7 +9,7 @@ ghost use Rattle.pe_pdb.specs.Lookups.{digits};
 ghost use Rattle.pe_pdb.specs.Refusals.{PdbReturns};
 ghost use Rattle.pe_pdb.specs.SymbolEntries.{addresses, count_of};
 ghost use Rattle.pe_pdb.specs.Symbols.{symbol_at};
-ghost use Rattle.pe_pdb.specs.SymbolIndexes.{Covering, Indexes, Nearest, PutsIndex, PutsSorted, code_size, in_room};
+ghost use Rattle.pe_pdb.specs.SymbolIndexes.{Covering, Indexes, Nearest, PutsIndex, PutsSorted, code_size, if_reaches, in_room, symbol_address};
 
 use crate::counted_entries::CountedEntries;
 use crate::error::{PdbError, Result};
@@ -146,11 +146,18 @@ pub fn search_symbols(entries: &mut CountedEntries<'_, u64>, rva: u32) -> Option
     if after == 0 {
         return None;
     }
-    let address = entries.get(after - 1);
-    Some(SymbolAddress {
+    Some(symbol_address(entries.get(after - 1)))
+}
+
+/// The symbol of an entry.
+#[inline(always)]
+pub(crate) fn symbol_address(address: u64) -> SymbolAddress
+    ensures { result ≡ symbol_address address }
+{
+    SymbolAddress {
         rva: (address / UNIT) as u32,
         record_offset: (address % UNIT) as u32,
-    })
+    }
 }
 
 /// What `SymbolIndex::nearest` finds in the entries of an index. Where entries do not ascend, which those of an index do, what is found
@@ -165,7 +172,15 @@ pub fn nearest_address(entries: &[u64], rva: u32) -> Option<SymbolAddress>
 pub fn covering_address(entries: &[u64], bytes: &[u8], rva: u32) -> Option<SymbolAddress>
     ensures { IsNonDecreasing entries.now → (xs : List ℕ) → IsPermutation xs entries.now → Covering xs bytes.now rva result }
 {
-    let found = nearest_address(entries, rva)?;
+    if_reaches(bytes, rva, nearest_address(entries, rva))
+}
+
+/// A procedure that is the nearest one, if its code has the RVA. The bytes are those of its module.
+#[inline(always)]
+pub fn if_reaches(bytes: &[u8], rva: u32, nearest: Option<SymbolAddress>) -> Option<SymbolAddress>
+    ensures { result ≡ if_reaches bytes.now rva nearest }
+{
+    let found = nearest?;
     if rva.saturating_sub(found.rva) < code_size(bytes, found.record_offset as usize) {
         return Some(found);
     }

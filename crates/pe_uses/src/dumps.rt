@@ -33,7 +33,7 @@ pub fn crash_of(bytes: &[u8]) -> Result<Option<Crash>, DumpError> {
         }
     }
     Ok(Some(Crash {
-        code: exception.raised.exception_code,
+        code: exception.exception_code,
         thread_id: exception.thread_id,
         rip: context.rip,
         rsp: context.general[4],

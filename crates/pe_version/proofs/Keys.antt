@@ -1,11 +1,9 @@
 -- The code units of a key, one more at a time.
-use Rattle.std.proofs.Common.{◌≡◌, ℕ, ◌+◌, ◌-◌, ◌*◌, ◌<◌, ◌≤◌, ◌≢◌, ◌==◌, ◌&&◌, Bool, true, false, List, [], ◌∷◌, length, drop, refl, ap, sym, ◌∙◌, arith, length-drop}
+use Rattle.std.proofs.Common.{◌≡◌, ℕ, ◌+◌, ◌-◌, ◌<◌, ◌≤◌, ◌≢◌, ◌==◌, ◌&&◌, Bool, true, false, List, length, drop, ap, sym, ◌∙◌, arith, length-drop}
 use Rattle.std.specs.Prelude.{not}
 use Rattle.std.specs.List.{list_all}
 use Rattle.std.proofs.lemmas.Bool.Decides.{nat_tests}
-use Rattle.std.proofs.lemmas.List.{drop-drop}
 use Rattle.pe_core.specs.Bytes.{le}
-use Rattle.pe_core.proofs.EntryItems.{le_after}
 use Rattle.pe_resource.specs.VersionStrings.{units}
 use Rattle.pe_edit.proofs.Units.{short, units_at}
 

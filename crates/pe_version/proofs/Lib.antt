@@ -5,8 +5,6 @@ pub mod Calls
 pub mod VersionsRead
 pub mod OneText
 pub mod Making
-pub mod Whole
-pub mod ValuesRead
 pub mod Flat
 pub mod Named
 pub mod Setting

@@ -1,59 +1,18 @@
--- Version information made of its blocks.
-use Rattle.std.proofs.Common.{◌≡◌, ℕ, ◌+◌, ◌<◌, ◌≤◌, Bool, true, false, List, [], ◌∷◌, ◌++◌, length, drop, get_or, Result, Ok, Err, refl, ap, sym, ◌∙◌, arith}
-use Rattle.std.specs.Prelude.{nat_le}
+-- What is made of its elements, one after the other.
+use Rattle.std.proofs.Common.{◌≡◌, ℕ, ◌+◌, ◌<◌, ◌≤◌, Bool, true, false, List, [], ◌∷◌, ◌++◌, length, drop, get_or, Result, Ok, Err, refl, ap, sym, ◌∙◌}
 use Rattle.std.specs.List.{flat_map}
-use Rattle.std.proofs.lemmas.Bool.Decides.{nat_tests}
 use Rattle.std.proofs.lemmas.List.{append-nil, append_assoc, drop_all, drop_more}
-use Rattle.pe_core.specs.Bytes.{splice}
-use Rattle.pe_core.specs.Refusals.{WriteFit, outcome}
-use Rattle.pe_version.specs.VersionRefusals.{VersionRefusal, Image, length_of, written}
-use Rattle.pe_version.specs.VersionViews.{each_made}
-
--- ---- one block
+use Rattle.pe_core.specs.Refusals.{outcome}
+use Rattle.pe_version.specs.VersionRefusals.{VersionRefusal, length_of}
+use Rattle.pe_version.specs.VersionRecords.{each_made}
 
 pub refused_by_length : (made : Result (List ℕ) VersionRefusal) (r : VersionRefusal) → length_of made ≡ Err r → made ≡ Err r
 refused_by_length (Ok s) r h = absurd cc
 refused_by_length (Err e) r h = let same : e ≡ r = cc in ap (λ (k : VersionRefusal). Err k) same
 
-whole_splice : (old s : List ℕ) → length s ≡ length old → splice old 0 s ≡ s
-unfolding splice
-whole_splice old s e = ap (λ (l : List ℕ). s ++ l) (drop_all (0 + length s) old (omega (arith, e))) ∙ append-nil s
-
-written_by : (fits : Bool) (x y : ℕ × List ℕ) → outcome ((fits, Image WriteFit) ∷ []) x ≡ Ok y → x.1 ≡ y.1
-written_by true x y h = let same : x ≡ y = cc in ap (λ (p : ℕ × List ℕ). p.1) same
-written_by false x y h = absurd cc
-
-pub made_by : (made : Result (List ℕ) VersionRefusal) (old new : List ℕ) (n m : ℕ) → length_of made ≡ Ok n → length old ≡ n → written made old ≡ Ok (m, new) → made ≡ Ok new
-made_by (Ok s) old new n m size room h =
-    let is : length s ≡ n = cc in
-    ap (λ (l : List ℕ). Ok l) (sym (whole_splice old s (is ∙ sym room)) ∙ written_by (nat_le (length s) (length old)) (length s, splice old 0 s) (m, new) h)
-made_by (Err e) old new n m size room h = absurd cc
-
-pub length_by : (made : Result (List ℕ) VersionRefusal) (old new : List ℕ) (n m : ℕ) → length_of made ≡ Ok n → length old ≡ n → written made old ≡ Ok (m, new) → length new ≡ n
-length_by (Ok s) old new n m size room h =
-    let is : length s ≡ n = cc in
-    ap length (sym (written_by (nat_le (length s) (length old)) (length s, splice old 0 s) (m, new) h) ∙ whole_splice old s (is ∙ sym room)) ∙ is
-length_by (Err e) old new n m size room h = absurd cc
-
-no_refusal : (fits : Bool) (x : ℕ × List ℕ) (r : VersionRefusal) → fits ≡ true → outcome ((fits, Image WriteFit) ∷ []) x ≡ Err r → ⊥
-no_refusal true x r e h = absurd cc
-no_refusal false x r e h = absurd cc
-
-pub refused_by_write : (made : Result (List ℕ) VersionRefusal) (old : List ℕ) (n : ℕ) (r : VersionRefusal) → length_of made ≡ Ok n → length old ≡ n → written made old ≡ Err r → made ≡ Err r
-refused_by_write (Ok s) old n r size room h =
-    let is : length s ≡ n = cc in
-    let fits : nat_le (length s) (length old) ≡ true = grind (arith, nat_tests, is, room) in
-    absurd (no_refusal (nat_le (length s) (length old)) (length s, splice old 0 s) r fits h)
-refused_by_write (Err e) old n r size room h = let same : e ≡ r = cc in ap (λ (k : VersionRefusal). Err k) same
-
--- ---- elements, one after the other
-
 -- the first elements are made, and these are left
 pub record Made {X : Type 0} (tests : X → List (Bool × VersionRefusal)) (bytes : X → List ℕ) (done : List ℕ) (i : ℕ) (xs : List X) : Type 0 where
   pub is : outcome (flat_map tests (drop i xs)) (done ++ flat_map bytes (drop i xs)) ≡ each_made tests bytes xs
-
-pub nothing_made : {X : Type 0} (tests : X → List (Bool × VersionRefusal)) (bytes : X → List ℕ) (xs : List X) → Made tests bytes [] 0 xs
-nothing_made tests bytes xs = record { is = refl }
 
 pub passes : (a b : List (Bool × VersionRefusal)) (x s y : List ℕ) → outcome a x ≡ Ok s → outcome (a ++ b) y ≡ outcome b y
 passes [] b x s y h = refl

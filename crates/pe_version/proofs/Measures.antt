@@ -10,16 +10,14 @@ use Rattle.pe_core.specs.Refusals.{outcome}
 use Rattle.pe_core.proofs.Splices.{length-bytes_of}
 use Rattle.pe_resource.specs.VersionStrings.{up_to_four}
 use Rattle.pe_resource.specs.declared.version_block.Translation.{Translation}
-use Rattle.pe_version.specs.VersionRecords.{Measured, capped, capped_length_of, table_made, tables_made, texts_made, variables_made}
-use Rattle.pe_version.specs.VersionRefusals.{VersionRefusal, Key, TooLong, VersionReturns, block_of, block_tests, key_fits, length_of}
+use Rattle.pe_version.specs.VersionRecords.{Measured, capped, capped_length_of, each_made, table_made, tables_made, texts_made, variables_made}
+use Rattle.pe_version.specs.VersionRefusals.{VersionRefusal, TooLong, VersionReturns, block_of, block_tests, key_fits, length_of}
 use Rattle.pe_version.specs.VersionValues.{TableValue, TextValue, Value, all_blocks, blocks_of_table, fixed_bytes, key_of, root_block, strings_block, table_block, table_blocks, text_block, text_blocks, translation_block, translation_bytes, utf16, variables_block, version_of}
-use Rattle.pe_version.specs.VersionViews.{each_made}
 use Rattle.pe_version.specs.WrittenBlocks.{BlockValue, before_others, block_length, blocks_bytes, padded_block}
 use Rattle.pe_version.specs.declared.error.VersionError.{VersionError}
 use Rattle.pe_version.proofs.Calls.{padded_size}
-use Rattle.pe_version.proofs.Making.{Made, all_made, nothing_made, one_made, one_refused, passes, refused_by_length, stops, value_same}
+use Rattle.pe_version.proofs.Making.{Made, all_made, one_made, one_refused, passes, refused_by_length, stops, value_same}
 use Rattle.pe_version.proofs.Tests.{made_fits}
-use Rattle.pe_version.proofs.Whole as whole
 
 -- ---- sums of at most 65,536
 
@@ -74,9 +72,6 @@ pub record MeasuredTo {X : Type 0} (tests : X → List (Bool × VersionRefusal))
   pub done : List ℕ
   pub made : Made tests bytes done i xs
   pub is : sum ≡ capped (length done)
-
-pub nothing_measured : {X : Type 0} (tests : X → List (Bool × VersionRefusal)) (bytes : X → List ℕ) (xs : List X) → MeasuredTo tests bytes 0 0 xs
-nothing_measured tests bytes xs = record { done = []; made = nothing_made tests bytes xs; is = refl }
 
 pub one_measured : {X : Type 0} (tests : X → List (Bool × VersionRefusal)) (bytes : X → List ℕ) (sum size next i : ℕ) (xs : List X) (d : X) → i < length xs →
     length_of (outcome (tests (get_or xs i d)) (bytes (get_or xs i d))) ≡ Ok size → next ≡ capped (sum + size) → MeasuredTo tests bytes sum i xs → MeasuredTo tests bytes next (i + 1) xs
@@ -151,11 +146,6 @@ text_passes : (t : Bool) (n : ℕ) → n % 4 ≡ 0 → (not t || n % 2 == 0) ≡
 text_passes true n e = let two : n % 2 ≡ 0 = omega (arith, e) in grind (arith, nat_tests, two)
 text_passes false n e = refl
 
-pub key_refused : (k : BlockValue) (key : List ℕ) (value children : ℕ) → Measured k key value children → key_fits key ≡ false → length_of (block_of k) ≡ Err Key
-key_refused k key value children m e =
-    let refused : key_fits k.key ≡ false = ap key_fits m.key_is ∙ e in
-    no_length (block_of k) Key (rw refused refl)
-
 length_by : (k : BlockValue) (key : List ℕ) (value children : ℕ) → Measured k key value children → block_length k ≡ up_to_four (8 + length key) + value + length k.children
 length_by k key value children m =
     let even : length k.value % 4 ≡ 0 = ap (λ (n : ℕ). n % 4) m.value_is ∙ m.four in
@@ -165,23 +155,12 @@ capped_small : (n c : ℕ) (t : Bool) → nat_lt n 65536 ≡ t → c ≡ capped 
 capped_small n c true e is h = is ∙ ap (λ (s : Bool). if s then n else 65536) e
 capped_small n c false e is h = absurd (omega (arith, is ∙ ap (λ (s : Bool). if s then n else 65536) e, h))
 
-capped_least : (n c : ℕ) (t : Bool) → nat_lt n 65536 ≡ t → c ≡ capped n → c ≤ n
-capped_least n c true e is = omega (arith, is ∙ ap (λ (s : Bool). if s then n else 65536) e)
-capped_least n c false e is = let more : 65536 ≤ n = grind (arith, nat_tests, e) in omega (arith, is ∙ ap (λ (s : Bool). if s then n else 65536) e, more)
-
 passed : (k : BlockValue) (key : List ℕ) (value children : ℕ) (t : Bool) (x : List ℕ) → Measured k key value children → key_fits key ≡ true → nat_lt (block_length k) 65536 ≡ t → outcome (block_tests k) x ≡ outcome ((t, TooLong) ∷ []) x
 passed k key value children t x m e f =
     let fits : key_fits k.key ≡ true = ap key_fits m.key_is ∙ e in
     let even : length k.value % 4 ≡ 0 = ap (λ (n : ℕ). n % 4) m.value_is ∙ m.four in
     let text : (not k.is_text || length k.value % 2 == 0) ≡ true = text_passes k.is_text (length k.value) even in
     rw (fits, text, f) refl
-
-pub long_refused : (k : BlockValue) (key : List ℕ) (value children end : ℕ) → Measured k key value children → key_fits key ≡ true → end ≡ up_to_four (8 + length key) + value + children → 65535 < end → length_of (block_of k) ≡ Err TooLong
-long_refused k key value children end m e is long =
-    let least : children ≤ length k.children = capped_least (length k.children) children (nat_lt (length k.children) 65536) refl m.children_are in
-    let size : 65536 ≤ block_length k = omega (arith, length_by k key value children m, is, long, least) in
-    let t : nat_lt (block_length k) 65536 ≡ false = grind (arith, nat_tests, size) in
-    no_length (block_of k) TooLong (passed k key value children false (padded_block k) m e t)
 
 pub accepted : (k : BlockValue) (key : List ℕ) (value children end n : ℕ) → Measured k key value children → key_fits key ≡ true → end ≡ up_to_four (8 + length key) + value + children → end ≤ 65535 → n ≡ up_to_four end → length_of (block_of k) ≡ Ok n
 accepted k key value children end n m e is short up =
@@ -236,15 +215,19 @@ length_pairs (p ∷ ps) =
 pub pairs_measured : (ps : List Translation) (key : List ℕ) (n : ℕ) → key ≡ utf16 (codes "Translation") → n ≡ 4 * length ps → Measured (translation_block ps) key n 0
 pairs_measured ps key n e f = record { key_is = sym e; value_is = length_pairs ps ∙ sym f; four = omega (arith, f); children_are = refl }
 
+-- a refusal of the inner block is that of both
+pairs_stop : (ps : List Translation) (r : VersionRefusal) → block_of (translation_block ps) ≡ Err r → variables_made ps ≡ Err r
+pairs_stop ps r e = stops (block_tests (translation_block ps)) (block_tests (variables_block ps) ++ []) (padded_block (translation_block ps)) (padded_block (variables_block ps)) r e
+
 pub many_refused : (ps : List Translation) → 65535 < length ps → length_of (variables_made ps) ≡ Err TooLong
 many_refused ps h =
     let m : Measured (translation_block ps) (utf16 (codes "Translation")) (4 * length ps) 0 = pairs_measured ps (utf16 (codes "Translation")) (4 * length ps) refl refl in
     let size : 65536 ≤ block_length (translation_block ps) = omega (arith, length_by (translation_block ps) (utf16 (codes "Translation")) (4 * length ps) 0 m, h) in
     let t : nat_lt (block_length (translation_block ps)) 65536 ≡ false = grind (arith, nat_tests, size) in
-    no_length (variables_made ps) TooLong (whole.variables_refused ps TooLong (passed (translation_block ps) (utf16 (codes "Translation")) (4 * length ps) 0 false (padded_block (translation_block ps)) m refl t))
+    no_length (variables_made ps) TooLong (pairs_stop ps TooLong (passed (translation_block ps) (utf16 (codes "Translation")) (4 * length ps) 0 false (padded_block (translation_block ps)) m refl t))
 
 pub pairs_refused : (ps : List Translation) (r : VersionRefusal) → length_of (block_of (translation_block ps)) ≡ Err r → length_of (variables_made ps) ≡ Err r
-pairs_refused ps r e = no_length (variables_made ps) r (whole.variables_refused ps r (refused_by_length _ r e))
+pairs_refused ps r e = no_length (variables_made ps) r (pairs_stop ps r (refused_by_length _ r e))
 
 variables_is : (ps : List Translation) (s : List ℕ) → block_of (translation_block ps) ≡ Ok s → variables_made ps ≡ block_of (variables_block ps)
 variables_is ps s e =

@@ -8,8 +8,7 @@ use Rattle.std.proofs.lemmas.Slice.Eq.{bytes_eq-Decides}
 use Rattle.pe_resource.specs.VersionFields.{VersionView, value_named, version_in, version_key}
 use Rattle.pe_resource.specs.VersionStrings.{is_name, text}
 use Rattle.pe_resource.specs.declared.version.VersionName.{VersionName}
-use Rattle.pe_version.specs.VersionReads.{table_with}
-use Rattle.pe_version.specs.VersionStrings.{SameNames, padded, text_with_name, value_with}
+use Rattle.pe_version.specs.VersionStrings.{SameNames, padded, table_with, text_with_name, value_with}
 use Rattle.pe_version.specs.VersionValues.{NumbersFit, TableValue, TablesHavePairs, TextValue, Value, replaced, text_named, version_of, with_text}
 use Rattle.pe_version.proofs.Named.{text_is}
 use Rattle.pe_version.proofs.OneText.{set_is_read}

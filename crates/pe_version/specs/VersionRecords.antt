@@ -71,6 +71,10 @@ records_version v = version_at v.fixed.now v.tables.now v.strings.now v.translat
 
 -- ---- what is written of the parts of a value, or the first refusal
 
+-- of each element, one after the other
+abbrev pub each_made : {X : Type 0} → (X → List (Bool × VersionRefusal)) → (X → List ℕ) → List X → Result (List ℕ) VersionRefusal
+each_made tests bytes xs = outcome (flat_map tests xs) (flat_map bytes xs)
+
 abbrev pub texts_made : List TextValue → Result (List ℕ) VersionRefusal
 texts_made ss = outcome (flat_map block_tests (map text_block ss)) (text_blocks ss)
 

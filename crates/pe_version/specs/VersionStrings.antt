@@ -4,8 +4,7 @@ use Rattle.std.specs.List.{find, flat_map}
 use Rattle.std.specs.Option.{option_map}
 use Rattle.std.specs.Str.{bytes_eq}
 use Rattle.pe_resource.specs.VersionStrings.{VersionString, is_name, text, up_to_four}
-use Rattle.pe_version.specs.VersionReads.{table_with}
-use Rattle.pe_version.specs.VersionValues.{TableValue, TextValue, Value, root_block, strings_block, table_block, text_block, translation_block, variables_block}
+use Rattle.pe_version.specs.VersionValues.{TableValue, TextValue, Value, root_block, strings_block, table_block, text_block, translation_block, variables_block, with_text}
 use Rattle.pe_version.specs.WrittenBlocks.{BlockValue, block_length, type_number, value_length}
 
 -- a value with zeros up to a multiple of four, which `VersionInfo` takes for its end
@@ -40,7 +39,10 @@ text_with_name name ss = option_map (λ s. s.text) (find (λ s. is_name name (te
 
 -- ---- one string set
 
--- a string that is set in each table
+-- a string that is set in a table, and in each
+abbrev pub table_with : TextValue → TableValue → TableValue
+table_with new t = record t { strings = with_text new t.strings }
+
 abbrev pub value_with : TextValue → Value → Value
 value_with new v = record v { tables = map (table_with new) v.tables }
 

@@ -1,4 +1,4 @@
-//! Version information written whole, of records and without memory: the same bytes as `version_bytes` makes of the same value.
+//! Version information written whole, of records and without memory.
 
 ghost use Rattle.pe_version.specs.VersionRecords.{records_version};
 ghost use Rattle.pe_version.specs.VersionRefusals.{VersionReturns, VersionReturnsWritten, length_of, written};

@@ -1,15 +1,12 @@
 //! Why a block of version information is not written.
 
 ghost use Rattle.std.specs.Prelude.{◌≡◌};
-ghost use Rattle.pe_core.specs.declared.error.Error.TheVariants.{Memory};
 ghost use Rattle.pe_version.specs.declared.error.VersionError.TheVariants.{Image};
-
-use std::alloc::AllocError;
 
 /// Why a block can't be written.
 #[derive(Debug, Drop, thiserror::Error)]
 pub enum VersionError {
-    /// `WriteFit` if the buffer is too small; `Memory` if memory ran out.
+    /// `WriteFit` if the buffer is too small; `Short` if a range of a record does not lie in its array.
     #[error("{0}")]
     Image(pe_core::Error),
     /// The key has an odd number of bytes, or a code unit of zero.
@@ -29,14 +26,5 @@ impl From<pe_core::Error> for VersionError {
 
     fn from(error: pe_core::Error) -> VersionError {
         VersionError::Image(error)
-    }
-}
-
-// So that `?` returns an allocation failure as `Image` with `Memory`.
-impl From<AllocError> for VersionError {
-    ghost from_gives = { λ _ e. e ≡ Image (Memory record {}) };
-
-    fn from(error: AllocError) -> VersionError {
-        VersionError::Image(pe_core::Error::Memory(error))
     }
 }

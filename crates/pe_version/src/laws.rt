@@ -11,7 +11,6 @@ ghost use Rattle.pe_resource.specs.VersionFields.{VersionView, file_strings, val
 ghost use Rattle.pe_resource.specs.VersionStrings.{is_name, strings, text};
 ghost use Rattle.pe_resource.specs.declared.version.VersionName.{VersionName};
 ghost use Rattle.pe_resource.specs.declared.version.VsFixedFileInfo.{VsFixedFileInfo};
-ghost use Rattle.pe_version.specs.VersionReads.{value_read};
 ghost use Rattle.pe_version.specs.VersionRecords.{string_fits, table_fits, value_at, version_at};
 ghost use Rattle.pe_version.specs.declared.record.LanguageRecord.{LanguageRecord};
 ghost use Rattle.pe_version.specs.declared.record.StringRecord.{StringRecord};
@@ -52,13 +51,6 @@ pub fn one_text_is_set()
         text_named new.name (with_text new ss) ≡ Some new.text }
     ensures others { (name : List ℕ) (new : TextValue) (ss : List TextValue) → bytes_eq name new.name ≡ false →
         text_named name (with_text new ss) ≡ text_named name ss }
-{}
-
-/// Version information that is written is read as the value that was written: what is read, changed and written again keeps the
-/// rest.
-#[tactic(auto, using(crate::proofs::ValuesRead::value_is_read))]
-pub fn written_values_are_read()
-    ensures { (v : Value) (s : List ℕ) → NumbersFit v → version_of v ≡ Ok s → value_read s ≡ Ok (Some v) }
 {}
 
 /// `VersionInfo` of pe_resource, which reads the blocks one after the other, reads as its strings exactly the blocks of written version

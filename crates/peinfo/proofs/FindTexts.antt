@@ -1,7 +1,8 @@
 -- What lookup finds.
-use Rattle.std.proofs.Common.{◌≡◌, ℕ, List, [], Option, None, Ok, refl}
+use Rattle.std.proofs.Common.{◌≡◌, ℕ, List, [], Option, None, refl}
 use Rattle.pe_core.specs.Options.{default_options}
-use Rattle.pe_image.specs.Image.{ImageView, IsImage, exceptions_on}
+use Rattle.pe_image.specs.Image.{ImageView, exceptions_on}
+use Rattle.pe_image.specs.Unlisted.{IsUnlisted}
 use Rattle.pe_unwind.specs.FunctionTable.{Finds, StopsBetween, scan}
 use Rattle.pe_unwind.specs.Lookup.{StopsAfter}
 use Rattle.pe_unwind.specs.declared.function_table.RuntimeFunction.{RuntimeFunction}
@@ -16,5 +17,5 @@ pub nothing_found : (a : ℕ) → Finds [] a None
 unfolding scan
 nothing_found a = record { entry = tt; covers = tt; stops = nothing_stops a; scanned = λ _. refl }
 
-pub find_text : (b : List ℕ) (image : ImageView) (a : ℕ) (found : Option RuntimeFunction) (text : List ℕ) → IsImage b default_options (Ok image) → Finds (functions_of (exceptions_on 0x8664 image)) a found → text ≡ found_line found → IsFindText b a text
-find_text b image a found text given finds shown = record { image = image; given = given; found = found; finds = finds; shown = shown }
+pub find_text : (b : List ℕ) (x : ImageView) (a : ℕ) (found : Option RuntimeFunction) (text : List ℕ) → IsUnlisted b default_options x → Finds (functions_of (exceptions_on 0x8664 x)) a found → text ≡ found_line found → IsFindText b a text
+find_text b x a found text u finds shown = record { image = u.image; given = u.given; found = found; finds = rw u.same at finds; shown = shown }

@@ -6,6 +6,7 @@ pub mod Writing
 pub mod Engines
 pub mod Lines
 pub mod FunctionItems
+pub mod Unlisted
 pub mod FindTexts
 pub mod PlanTexts
 pub mod Numbers

@@ -49,7 +49,7 @@ fn text_of<A: Allocator + Copy + Drop>(
 ) -> pe_image::Result<Vec<u8, A>>
     ensures { ReturnsFindText bytes.now rva result }
 {
-    let image = PE::parse_without_libraries(alloc, bytes, &ParseOptions::default())?;
+    let image = PE::parse_without_lists(alloc, bytes, &ParseOptions::default())?;
     let found = found_in(image.x64_exceptions(), rva);
     let mut text = Vec::new(alloc);
     push_found(&mut text, found)?;

@@ -167,6 +167,7 @@ fn outcome_of<R: Eprint, W: io::Write>(
 
 /// The end of the message that an image has an error in this mode: the option `--permissive`, if permissive mode
 /// accepts it.
+#[tactic(auto, using(crate::proofs::Unlisted::advised))]
 fn advice_on<A: Allocator + Copy + Drop>(
     alloc: A,
     bytes: &[u8],
@@ -178,7 +179,7 @@ fn advice_on<A: Allocator + Copy + Drop>(
         return Ok("");
     }
     let opts = ParseOptions::default().with_parse_mode(ParseMode::Permissive);
-    match PE::parse_without_libraries(alloc, bytes, &opts) {
+    match PE::parse_without_lists(alloc, bytes, &opts) {
         Ok(_) => Ok("; --permissive lists the rest"),
         Err(Error::Memory(error)) => Err(error),
         Err(_) => Ok(""),

@@ -98,6 +98,7 @@ fn records_of<'a, A: Allocator>(
 }
 
 /// The line of the function that covers the RVA and those of its records, or the error of the image or of the plan.
+#[tactic(auto, using(crate::proofs::PlanTexts::planned))]
 fn text_of<A: Allocator + Copy + Drop>(
     alloc: A,
     bytes: &[u8],
@@ -105,7 +106,7 @@ fn text_of<A: Allocator + Copy + Drop>(
 ) -> pe_image::Result<Vec<u8, A>>
     ensures { ReturnsPlanText bytes.now rva result }
 {
-    let image = PE::parse_without_libraries(alloc, bytes, &ParseOptions::default())?;
+    let image = PE::parse_without_lists(alloc, bytes, &ParseOptions::default())?;
     let found = found_in(image.x64_exceptions(), rva);
     let records = records_of(alloc, &image.exception_data, &image.sections, found)?;
     let mut text = Vec::new(alloc);

@@ -59,6 +59,7 @@ fn text_of_image<A: Allocator + Copy + Drop>(
 }
 
 /// The whole text, or the error of the image.
+#[tactic(auto, using(crate::proofs::Unlisted::reported))]
 fn text_of<A: Allocator + Copy + Drop>(
     alloc: A,
     bytes: &[u8],
@@ -66,7 +67,7 @@ fn text_of<A: Allocator + Copy + Drop>(
 ) -> pe_image::Result<Vec<u8, A>>
     ensures { ReturnsReport bytes.now opts.now result }
 {
-    let image = PE::parse_without_libraries(alloc, bytes, opts)?;
+    let image = PE::parse_without_lists(alloc, bytes, opts)?;
     let text = text_of_image(alloc, &image)?;
     Ok(text)
 }

@@ -11,10 +11,11 @@ use std::alloc::Allocator;
 use std::io;
 
 /// The bytes of the image with its pieces written over them, or the error of reading or writing it.
+#[tactic(auto, using(crate::proofs::Unlisted::refused_write))]
 fn bytes_of<A: Allocator + Copy + Drop>(alloc: A, bytes: &[u8]) -> pe_image::Result<Vec<u8, A>>
     ensures { ReturnsRewritten bytes.now result }
 {
-    let image = PE::parse_without_libraries(alloc, bytes, &ParseOptions::default())?;
+    let image = PE::parse_without_lists(alloc, bytes, &ParseOptions::default())?;
     let mut copy = Vec::with_capacity(alloc, bytes.len())?;
     copy.extend_from_slice(bytes)?;
     image.write_into(&mut copy)?;

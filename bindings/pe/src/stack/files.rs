@@ -2,7 +2,8 @@
 //! below the folders that the user names. Each is known by the time stamp and the size in its headers; of several that have the
 //! same, as builds without a time stamp may, by its name.
 
-use crate::files::{below, start_of, whole};
+use crate::files::{below, headers_of, whole};
+use crate::streams::{complain, complaint};
 use pe_c::sys::DumpModule;
 use pe_c::{Image, Mode};
 use std::collections::BTreeMap;
@@ -15,12 +16,12 @@ type Key = (u32, u32);
 pub struct Known(BTreeMap<Key, Vec<PathBuf>>);
 
 impl Known {
-    /// Reads the start of each file. One that cannot be read, or is no image, is none of these.
+    /// Reads the headers of each file. One that is no image is none of these, nor is one that cannot be read, which is said.
     pub fn below(folders: &[PathBuf]) -> Known {
         let mut known: BTreeMap<Key, Vec<PathBuf>> = BTreeMap::new();
         for path in folders.iter().flat_map(|folder| below(folder)) {
-            let Ok(start) = start_of(&path) else { continue };
-            if let Ok(image) = Image::parse(&start, Mode::Permissive) {
+            let headers = headers_of(&path).unwrap_or_else(|error| unread(&path, &error));
+            if let Ok(image) = Image::parse(&headers, Mode::Permissive) {
                 let info = image.info();
                 known.entry((info.time_date_stamp, info.size_of_image)).or_default().push(path);
             }
@@ -37,18 +38,24 @@ impl Known {
         paths.iter().find(has_name).or(paths.first()).map(PathBuf::as_path)
     }
 
-    /// Reads the files of modules, each a module and its name, and each file once. One that cannot be read is left out.
+    /// Reads the files of modules, each a module and its name, and each file once. One that cannot be read is left out, which is said.
     pub fn read<'m>(&self, modules: impl Iterator<Item = (DumpModule, &'m str)>) -> Images<'_> {
         let mut images = Images { paths: BTreeMap::new(), contents: BTreeMap::new() };
         for (module, name) in modules {
             let key = (module.time_date_stamp, module.size_of_image);
             if let Some(path) = self.path_of(key, name) {
                 images.paths.insert(place_of(&module), path);
-                images.contents.entry(path).or_insert_with(|| whole(path).unwrap_or_default());
+                images.contents.entry(path).or_insert_with(|| whole(path).unwrap_or_else(|error| unread(path, &error)));
             }
         }
         images
     }
+}
+
+/// Says why a file cannot be read, in place of its bytes.
+fn unread(path: &Path, error: &std::io::Error) -> Vec<u8> {
+    complain(complaint(path, error));
+    Vec::new()
 }
 
 /// What tells the modules of a dump apart: where they are loaded, what they are, and where their name is.

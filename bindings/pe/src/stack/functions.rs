@@ -48,8 +48,8 @@ fn function_of(found: &FunctionName<'_>, texts: &mut Texts<'_>) -> Option<Functi
 }
 
 /// The function of a frame, by the frames that a PDB has there, the innermost first, of which the last is no inlined one. None where
-/// there are none, or no more texts are shown.
-pub fn function_of_pdb(found: &[SymbolFrame], at: u32, texts: &mut Texts<'_>) -> Option<Function> {
+/// there are none, or no more texts are shown. The address that is shown is so many bytes after the one that was looked up.
+pub fn function_of_pdb(found: &[SymbolFrame], after: u32, texts: &mut Texts<'_>) -> Option<Function> {
     let (own, inlined) = found.split_last()?;
     if !texts.takes(found.iter().map(size_of).sum()) {
         return None;
@@ -62,7 +62,7 @@ pub fn function_of_pdb(found: &[SymbolFrame], at: u32, texts: &mut Texts<'_>) ->
     Some(Function {
         name,
         raw_name,
-        offset: at.wrapping_sub(own.function_rva),
+        offset: own.offset.wrapping_add(after),
         source: source_of(own),
         is_nearest: false,
         line: line_of(own),

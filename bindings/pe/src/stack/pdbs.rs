@@ -23,8 +23,6 @@ const MOST: u64 = 2 << 30;
 const MOST_IN_ALL: u64 = 8 << 30;
 /// How many records of functions are followed to the one of the whole function.
 const MOST_CHAINED: usize = 32;
-/// What is said of a PDB whose symbols are not those of the image as it is.
-const MOVED: &str = "a tool moved the code of its image after it was linked (OMAP), which is not read";
 /// How many addresses are kept with what names them: those of a recursion come again and again.
 const KEPT: usize = 256;
 
@@ -67,12 +65,13 @@ pub fn put(
     texts: &mut Texts<'_>,
 ) -> ToldPdbs {
     let mut told = ToldPdbs::new();
-    let mut files = PdbFiles { folders, keys: BTreeMap::new(), left: MOST_IN_ALL };
+    let mut files = PdbFiles { folders, keys: BTreeMap::new(), left: MOST_IN_ALL, read: Vec::new() };
     for group in groups_of(frames, over, &mut told) {
         let (mut said, bytes) = files.find(&group);
         if let Some(bytes) = bytes {
             texts.add(bytes.len());
             said = name_frames(frames, (&group, over.1), &bytes, said, texts);
+            files.read = bytes;
         }
         told.extend(group.modules.iter().map(|it| (*it, said.clone())));
     }
@@ -146,9 +145,8 @@ fn name_frames(
         if is_own == Some(false) {
             continue;
         }
-        // The offset counts up to the address that is shown.
-        let shown = rva.wrapping_add(frame.has_called.into());
-        frame.function = function_of_pdb(found, shown, texts).map(|it| Function { is_nearest: is_own.is_none(), ..it });
+        let function = function_of_pdb(found, frame.has_called.into(), texts);
+        frame.function = function.map(|it| Function { is_nearest: is_own.is_none(), ..it });
         said.frames += usize::from(frame.function.is_some());
     }
     said.damaged = damaged_of(&symbolizer);
@@ -207,6 +205,8 @@ struct PdbFiles<'f> {
     keys: BTreeMap<PathBuf, Result<String, Refusal>>,
     /// How many bytes may still be read.
     left: u64,
+    /// The memory of a file that was read before.
+    read: Vec<u8>,
 }
 
 impl PdbFiles<'_> {
@@ -267,7 +267,7 @@ impl PdbFiles<'_> {
         self.left = self.left.checked_sub(size).ok_or_else(|| {
             not_read(format!("the PDB files of one dump that are read have at most {MOST_IN_ALL} bytes"))
         })?;
-        let bytes = files::whole(path).map_err(|error| not_read(error.to_string()))?;
+        let bytes = files::whole_in(path, std::mem::take(&mut self.read)).map_err(|error| not_read(error.to_string()))?;
         if breakpad::is_symbol_file(&bytes) {
             return self.symbol_file(path, bytes, wanted);
         }
@@ -275,7 +275,6 @@ impl PdbFiles<'_> {
         let found = parsed.as_ref().map(|it| it.key("").to_string()).map_err(Refusal::clone);
         self.keys.insert(path.to_path_buf(), found.clone());
         match (parsed, found) {
-            (Ok(pdb), _) if pdb.matches(key) && pdb.is_moved() => Err(not_read(MOVED.to_string())),
             (Ok(pdb), _) if pdb.matches(key) => Ok(bytes),
             (_, Ok(found)) => Err(another(&found)),
             (_, Err(refusal)) => Err(refused(&refusal)),

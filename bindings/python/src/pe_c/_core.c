@@ -1519,7 +1519,7 @@ static PyMethodDef methods[] = {
     WITH_SOME(arm64_unwind), WITH_SOME(version_blocks), WITH_SOME(elements), WITH_SOME(name_attributes), WITH_SOME(attributes),
     WITH_SOME(frames), WITH_SOME(arm64_frames), WITH_SOME(function_names), WITH_SOME(histogram), WITH_SOME(attach), WITH_SOME(edited),
     WITH_ONE(mapped),
-    WITHOUT(pdb_starts), WITH_SOME(pdb_is_of), WITH_SOME(pdb_stream), WITH_SOME(pdb_modules), WITH_SOME(pdb_named_stream),
+    WITHOUT(pdb_starts), WITH_SOME(pdb_is_of), WITH_SOME(pdb_stream), WITH_SOME(pdb_modules), WITH_SOME(pdb_named_stream), WITH_SOME(pdb_moved_rva),
     WITH_SOME(pdb_symbols), WITH_SOME(pdb_index), WITH_SOME(pdb_find), WITH_SOME(pdb_line_index), WITH_SOME(pdb_files),
     WITH_SOME(pdb_lines), WITH_SOME(pdb_find_line), WITHOUT(pdb_ids), WITH_SOME(pdb_inlined),
     {NULL, NULL, 0, NULL}};

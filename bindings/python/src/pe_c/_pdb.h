@@ -93,6 +93,18 @@ static PyObject *pdb_named_stream(Image *self, PyObject *arguments)
     return answer(rows.result == PE_C_DONE ? N(number) : NULL, &rows);
 }
 
+/* Where the code at an RVA is by an OMAP table. */
+static PyObject *pdb_moved_rva(Image *self, PyObject *arguments)
+{
+    unsigned int rva;
+    uint32_t moved = 0;
+    if (!PyArg_ParseTuple(arguments, "I", &rva))
+        return NULL;
+    OPEN_OWN
+    rows.result = pe_c_pdb_moved_rva(BYTES, rva, &moved);
+    return answer(rows.result == PE_C_DONE ? N(moved) : NULL, &rows);
+}
+
 /* ---- symbols. `sections` are the bytes of the stream with the section headers of the image */
 
 typedef struct {

@@ -19,7 +19,7 @@ if TYPE_CHECKING:
 INFO_STREAM, DBI_STREAM, ID_STREAM, NO_STREAM = 1, 3, 4, 0xFFFF
 # What an index has: public functions, or procedures that have code.
 PUBLICS, PROCEDURES = 0, 1
-MOVED = "a tool moved the code of the image after it was linked (OMAP): RVAs are those before that"
+MOVED = "a tool moved the code of the image after it was linked (OMAP): RVAs of symbols and lines are those before that"
 
 
 # Of each inlined function its name, file and line, and why its name and its line are refused; and what a call says besides.
@@ -227,9 +227,32 @@ class Pdb(Reader):
 
     @property
     def is_moved(self) -> bool:
-        """Whether a tool moved the code of the image after it was linked (OMAP). Then RVAs are those before that, and nothing here
-        maps them."""
-        return not self.info.dbi_result and self.info.omap_from_source != NO_STREAM
+        """Whether a tool moved the code of the image after it was linked (OMAP). Then RVAs of symbols and lines are those before that;
+        `find` and `frames` take those of the image."""
+        return not self.info.dbi_result and (self.info.omap_to_source, self.info.omap_from_source) != (NO_STREAM, NO_STREAM)
+
+    @property
+    def _omap(self) -> tuple[_core.Image, _core.Image] | Error | None:
+        """Where code was that a tool moved, and where it is."""
+        return self._once("OMAP", self._read_omap)
+
+    def _read_omap(self) -> tuple[_core.Image, _core.Image] | Error | None:
+        try:
+            to_source, from_source = self.info.omap_to_source, self.info.omap_from_source
+            return (_core_of(self.stream(to_source)), _core_of(self.stream(from_source))) if self.is_moved else None
+        except Error as error:
+            return error_of(error.number, "OMAP", self.path)
+
+    def _linked(self, rva: int) -> int | None:
+        """Where the code at an RVA of the image was when it was linked."""
+        omap = self._omap
+        return None if isinstance(omap, Error) or not 0 <= rva < 1 << 32 else rva if omap is None else omap[0].pdb_moved_rva(rva)[0]
+
+    def _start(self, rva: int, start: int, offset: int) -> int:
+        """Where a function starts in the image that started there when it was linked; where its start is gone, by the distance."""
+        omap = self._omap
+        found = start if omap is None or isinstance(omap, Error) else omap[1].pdb_moved_rva(start)[0]
+        return rva - offset & 0xFFFFFFFF if found is None else found
 
     # ---- streams
 
@@ -244,7 +267,8 @@ class Pdb(Reader):
     @property
     def _section_headers(self) -> bytes:
         self._check_dbi()
-        return self._once("section headers", lambda: self._stream_or_none(self.info.section_headers))
+        return self._once("section headers", lambda: self.stream(self.info.original_section_headers) if self.is_moved
+                          else self._stream_or_none(self.info.section_headers))
 
     @property
     def _names(self) -> tuple[bytes, int]:
@@ -357,20 +381,24 @@ class Pdb(Reader):
     def find(self, rva: int, is_return: bool = False) -> PdbFrame | None:
         """The function at an RVA, and its line: the procedure whose code has it, else the last public function before it. Of a return
         address the byte before it counts, as a call may be the last of its function. None where there is none."""
-        at, known = rva - is_return, self._functions
-        if not 0 <= at < 1 << 32:
+        at, known = self._linked(rva - is_return), self._functions
+        if at is None:
             return None
         found = None if isinstance(known, Error) else known.procedure(at)
         if found is not None and not isinstance(known, Error):
             symbol, module = found
             line = known.lines(module).find(at)
             there = (None, None, None) if line is None or line.line is None else (line.file, line.line, line.column)
-            return PdbFrame(symbol.name, symbol.rva or 0, rva - (symbol.rva or 0), "procedure", *there)
+            return self._frame(symbol, rva, at + is_return, "procedure", *there)
         publics = self._publics
         public = None if isinstance(publics, Error) else publics.find(at)
         if public is None or public.rva is None:
             return None
-        return PdbFrame(public.name, public.rva, rva - public.rva, "public", None, None, None)
+        return self._frame(public, rva, at + is_return, "public", None, None, None)
+
+    def _frame(self, symbol: PdbSymbol, rva: int, linked: int, source: str, *there: typing.Any) -> PdbFrame:
+        offset = linked - (symbol.rva or 0)
+        return PdbFrame(symbol.name, self._start(rva, symbol.rva or 0, offset), offset, source, *there)
 
     def frames(self, rva: int, is_return: bool = False) -> Part[PdbFrame]:
         """The functions at an RVA, the innermost first: those that are inlined there, 64 at most, and then what `find` returns. `error` says
@@ -379,7 +407,7 @@ class Pdb(Reader):
         own, known = self.find(rva, is_return), self._functions
         if own is None or own.source == "public" or isinstance(known, Error):
             return Part(() if own is None else (own,))
-        rows, number, is_limited = known.inlined(rva - is_return)
+        rows, number, is_limited = known.inlined(self._linked(rva - is_return) or 0)
         inlined = (PdbFrame(name, own.start, own.offset, own.source, file, line, None, True) for name, file, line, *_ in rows or ())
         return self._part_of(((*inlined, own), number, is_limited), f"inlined functions at 0x{rva:x}")
 
@@ -393,7 +421,7 @@ class Pdb(Reader):
         """What is damaged, a warning each; and that a tool moved the code. It reads the lines of all modules; of inlined functions it has
         what `frames` was refused so far."""
         found = [ImageWarning(WarningKind.SYMBOLS, "PDB", MOVED, None, self.path)] if self.is_moved else []
-        errors = [self.modules.error, self._publics if isinstance(self._publics, Error) else None]
+        errors = [self.modules.error, *(it if isinstance(it, Error) else None for it in (self._publics, self._omap))]
         known = self._functions
         if isinstance(known, _Functions):
             errors += self._module_errors(known)

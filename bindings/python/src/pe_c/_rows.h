@@ -2392,8 +2392,8 @@ static PyStructSequence_Field row_pdb_info_fields[] = {
     {"symbol_stream", "the stream of symbols: those that are public, and global ones"},
     {"section_headers", "the stream with the section headers of the image"},
     {"original_section_headers", "those before a tool moved the code of the image, by which symbols count then"},
-    {"omap_to_source", "where an RVA was before that; no call reads it"},
-    {"omap_from_source", "where an RVA of that is now; no call reads it"},
+    {"omap_to_source", "where an RVA was before that, for pe_c_pdb_moved_rva"},
+    {"omap_from_source", "where an RVA of that is now"},
     {NULL, NULL}};
 
 static PyObject *row_pdb_info(Image *self, Rows *rows, const pe_c_pdb_info *it)

@@ -13,7 +13,7 @@ from ._added import key_text
 from ._core import FunctionName, SymbolKey
 from ._functions import AnyFrame
 from ._part import Error, ImageWarning, WarningKind
-from ._pdb import MOVED, Pdb, PdbFrame
+from ._pdb import Pdb, PdbFrame
 
 AnyPath = typing.Union[str, "os.PathLike[str]"]
 AnyFolders = typing.Union[AnyPath, typing.Iterable[AnyPath]]
@@ -134,7 +134,7 @@ class PdbFiles:
         self._keys[path] = pdb.guid, pdb.age
         if not pdb.matches(wanted.key):
             return self._another(path, wanted)
-        return wanted.warning(WarningKind.SYMBOLS, MOVED, None, path) if pdb.is_moved else pdb
+        return pdb
 
     def _another(self, path: str, wanted: Wanted) -> ImageWarning:
         text = f"of another build: {key_text(*self._keys[path])}, and the module names {wanted.text}"

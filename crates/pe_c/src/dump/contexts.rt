@@ -7,10 +7,9 @@ ghost use Rattle.pe_c.specs.Dumps.{DumpHandsOut, dump_answer};
 
 use crate::arm64::frames::Arm64FrameRegisters;
 use crate::dump::hand_out_dump;
-use crate::dump::records::DumpException;
 use crate::stack::frames::{FrameRegisters, flat_registers};
 use pe_frame::Registers;
-use pe_minidump::{ContextArm64, ContextX64, Location, Result, Thread, located};
+use pe_minidump::{ContextArm64, ContextX64, Exception, Location, Result, Thread, located};
 
 /// The registers of a thread on x64 (`CONTEXT`).
 #[repr(C)]
@@ -157,7 +156,7 @@ pub extern "C" fn pe_c_dump_context_arm64(
     hand_out_dump(context_arm64_at(bytes, location), out)
 }
 
-fn thread_context_at(bytes: &[u8], thread: &Thread, raised: &DumpException) -> Result<X64Context>
+fn thread_context_at(bytes: &[u8], thread: &Thread, raised: &Exception) -> Result<X64Context>
     ensures { dump_answer result ≡ thread_context_at (context_x64_at bytes.now) thread.now raised.now }
 {
     if raised.thread_id == thread.thread_id {
@@ -177,7 +176,7 @@ fn thread_context_at(bytes: &[u8], thread: &Thread, raised: &DumpException) -> R
 pub extern "C" fn pe_c_dump_thread_context(
     bytes: &[u8],
     thread: &Thread,
-    raised: &DumpException,
+    raised: &Exception,
     out: &mut X64Context,
 ) -> u32
     ensures { DumpHandsOut result out.old out.new
@@ -189,7 +188,7 @@ pub extern "C" fn pe_c_dump_thread_context(
 fn thread_context_arm64_at(
     bytes: &[u8],
     thread: &Thread,
-    raised: &DumpException,
+    raised: &Exception,
 ) -> Result<Arm64Context>
     ensures { dump_answer result ≡ thread_context_at (context_arm64_at bytes.now) thread.now raised.now }
 {
@@ -208,7 +207,7 @@ fn thread_context_arm64_at(
 pub extern "C" fn pe_c_dump_thread_context_arm64(
     bytes: &[u8],
     thread: &Thread,
-    raised: &DumpException,
+    raised: &Exception,
     out: &mut Arm64Context,
 ) -> u32
     ensures { DumpHandsOut result out.old out.new

@@ -2,36 +2,14 @@
 
 ghost use Rattle.std.specs.Prelude.{◌≡◌};
 ghost use Rattle.pe_c.specs.Dumps.{DumpHandsOut, dump_answer};
-ghost use Rattle.pe_c.specs.DumpRecords.{exception_at, exception_reported, misc_at, misc_reported, system_at, system_reported};
+ghost use Rattle.pe_c.specs.DumpRecords.{exception_at, misc_at, misc_reported, system_at, system_reported};
 
 use crate::base::ranges::Range;
 use crate::dump::hand_out_dump;
 use pe_minidump::{
-    Exception, Location, MiscInfo, ProcessTimes, ProcessorPower, Result, SystemInfo, exception_of,
-    located, misc_of, system_of,
+    Exception, MiscInfo, ProcessTimes, ProcessorPower, Result, SystemInfo, exception_of, located,
+    misc_of, system_of,
 };
-
-/// The exception that a dump was written for (`MINIDUMP_EXCEPTION_STREAM`).
-#[repr(C)]
-#[derive(Clone, Copy)]
-pub struct DumpException {
-    /// The ID of the thread that raised it.
-    pub thread_id: u32,
-    /// The code, as `EXCEPTION_ACCESS_VIOLATION`, C0000005h.
-    pub exception_code: u32,
-    /// `EXCEPTION_NONCONTINUABLE`, 1, or 0.
-    pub exception_flags: u32,
-    /// How many elements of `exception_information` are valid, as the file says: it may be above 15.
-    pub number_parameters: u32,
-    /// The address, in the process, of another exception that it belongs to; 0 if there is none.
-    pub exception_record: u64,
-    /// The address of the instruction.
-    pub exception_address: u64,
-    /// The parameters. An access violation has two: 0 for a read, 1 for a write, 8 for execution, and the address.
-    pub exception_information: [u64; 15],
-    /// Where the context of the thread stands, as it was when the exception was raised.
-    pub thread_context: Location,
-}
 
 /// The system (`MINIDUMP_SYSTEM_INFO`).
 #[repr(C)]
@@ -81,36 +59,17 @@ pub struct DumpProcess {
     pub processor_power: ProcessorPower,
 }
 
-/// An exception as callers get it.
-fn exception_reported(exception: &Exception) -> DumpException
-    ensures { result ≡ exception_reported exception.now }
-{
-    let raised = exception.raised;
-    let exception_information = raised.exception_information;
-    DumpException {
-        thread_id: exception.thread_id,
-        exception_code: raised.exception_code,
-        exception_flags: raised.exception_flags,
-        number_parameters: raised.number_parameters,
-        exception_record: raised.exception_record,
-        exception_address: raised.exception_address,
-        exception_information,
-        thread_context: exception.thread_context,
-    }
-}
-
-fn exception_at(bytes: &[u8], stream: &Range) -> Result<DumpException>
+fn exception_at(bytes: &[u8], stream: &Range) -> Result<Exception>
     ensures { dump_answer result ≡ exception_at bytes.now stream.now }
 {
-    let exception = exception_of(located(bytes, stream.offset, stream.length)?)?;
-    Ok(exception_reported(&exception))
+    exception_of(located(bytes, stream.offset, stream.length)?)
 }
 
 /// Reads the exception (`ExceptionStream`). Its context is that of the crash, and counts before that of the thread.
 ///
 /// Errors: `DUMP_LOCATION` where the stream does not lie in the bytes; `SHORT` where it has fewer than 168 bytes.
 #[unsafe(no_mangle)]
-pub extern "C" fn pe_c_dump_exception(bytes: &[u8], stream: &Range, out: &mut DumpException) -> u32
+pub extern "C" fn pe_c_dump_exception(bytes: &[u8], stream: &Range, out: &mut Exception) -> u32
     ensures { DumpHandsOut result out.old out.new (exception_at bytes.now stream.now) }
 {
     hand_out_dump(exception_at(bytes, stream), out)

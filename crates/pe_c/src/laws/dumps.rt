@@ -24,7 +24,7 @@ ghost use Rattle.pe_c.specs.DumpContexts.{arm64_reported, context_arm64_at, cont
 ghost use Rattle.pe_c.specs.DumpImages.{fits};
 ghost use Rattle.pe_c.specs.DumpLaws.{IsStreamOf, as_reported, memory_range};
 ghost use Rattle.pe_c.specs.DumpMemory.{piece_reported};
-ghost use Rattle.pe_c.specs.DumpRecords.{exception_reported, module_reported};
+ghost use Rattle.pe_c.specs.DumpRecords.{module_reported};
 ghost use Rattle.pe_c.specs.DumpRuns.{range_in};
 ghost use Rattle.pe_c.specs.Dumps.{dump_stream_at};
 ghost use Rattle.pe_c.specs.FrameCalls.{HandsOutFrame};
@@ -58,10 +58,10 @@ pub fn pieces_of_dumps_are_inside()
 /// pe_stacks.
 pub fn contexts_of_threads_count()
     ensures x64 { (d : DumpView) (t : Thread) (e : Exception) → exception d ≡ Ok (Some e) →
-        thread_context_at (context_x64_at d.bytes) t (exception_reported e)
+        thread_context_at (context_x64_at d.bytes) t e
         ≡ as_reported x64_reported (thread_context context_x64 d t) }
     ensures arm64 { (d : DumpView) (t : Thread) (e : Exception) → exception d ≡ Ok (Some e) →
-        thread_context_at (context_arm64_at d.bytes) t (exception_reported e)
+        thread_context_at (context_arm64_at d.bytes) t e
         ≡ as_reported arm64_reported (thread_context context_arm64 d t) }
 {}
 

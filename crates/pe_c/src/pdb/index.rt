@@ -3,8 +3,9 @@
 
 ghost use Rattle.std.specs.Prelude.{◌≡◌};
 ghost use Rattle.pe_pdb.specs.Refusals.{PdbReturns};
+ghost use Rattle.pe_pdb.specs.Scans.{found_in};
 ghost use Rattle.pe_pdb.specs.SymbolIndexes.{PutsIndex};
-ghost use Rattle.pe_c.specs.PdbIndexes.{FindsAddress, FindsSymbol, HandsOutIndex, class_of, indexed, symbol_found, up_to};
+ghost use Rattle.pe_c.specs.PdbIndexes.{FindsAddress, FindsSymbol, HandsOutIndex, ReadsSymbol, class_of, indexed, symbol_found, symbol_with, up_to};
 ghost use Rattle.pe_c.specs.Pdbs.{pdb_answer};
 
 use crate::base::ranges::Range;
@@ -13,7 +14,7 @@ use crate::pdb::symbols::{PdbSymbol, symbol_reported};
 use crate::pdb::{hand_out_pdb, number_of_pdb, part_of};
 use pe_pdb::{
     Result, SectionHeaders, SymbolAddress, SymbolClass, SymbolRecord, covering_address,
-    nearest_address, put_symbol_index,
+    find_symbol, if_reaches, nearest_address, put_symbol_index,
 };
 
 /// The class with a number: 0 is that of public functions, any other that of procedures.
@@ -120,5 +121,48 @@ pub extern "C" fn pe_c_find_pdb_symbol(
     match found(class_of(kind), bytes, index, rva) {
         Some(address) => hand_out_pdb(symbol_at(bytes, sections, address.record_offset), out),
         None => NOTHING,
+    }
+}
+
+/// The symbol of an RVA, of the records in a range of the bytes.
+fn read_symbol(
+    class: SymbolClass,
+    bytes: &[u8],
+    symbols: &Range,
+    sections: &[u8],
+    rva: u32,
+) -> Result<Option<SymbolAddress>>
+    ensures { PdbReturns (λ o. o) result
+        (found_in (λ xs. symbol_with class xs bytes.now rva) (indexed class bytes.now symbols.now sections.now)) }
+{
+    let sections = SectionHeaders::parse(sections)?;
+    let records = up_to(bytes, symbols)?;
+    let nearest = find_symbol(class, records, symbols.offset as usize, &sections, rva)?;
+    match class {
+        SymbolClass::PublicFunctions => Ok(nearest),
+        SymbolClass::Procedures => Ok(if_reaches(bytes, rva, nearest)),
+    }
+}
+
+/// Finds the symbol of an RVA without an index, as `pe_c_find_pdb_symbol` by one that `pe_c_pdb_index` made of the same arguments. It reads
+/// all records once: for a few RVAs that takes less than to make an index.
+///
+/// Errors: those of `pe_c_pdb_index` but `ROOM`; then those of the record that is found.
+#[unsafe(no_mangle)]
+pub extern "C" fn pe_c_read_pdb_symbol(
+    kind: u32,
+    bytes: &[u8],
+    symbols: &Range,
+    sections: &[u8],
+    rva: u32,
+    out: &mut PdbSymbol,
+) -> u32
+    ensures { ReadsSymbol (class_of kind) bytes.now (indexed (class_of kind) bytes.now symbols.now sections.now) sections.now
+        rva result out.old out.new }
+{
+    match read_symbol(class_of(kind), bytes, symbols, sections, rva) {
+        Ok(Some(address)) => hand_out_pdb(symbol_at(bytes, sections, address.record_offset), out),
+        Ok(None) => NOTHING,
+        Err(error) => number_of_pdb(&error),
     }
 }

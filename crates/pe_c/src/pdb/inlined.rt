@@ -5,7 +5,6 @@
 ghost use Rattle.std.specs.Prelude.{◌≡◌, ◌+◌, ◌<◌, ◌≤◌, ◌^◌, IfOk, drop, length, map, take};
 ghost use Rattle.std.specs.Option.{option_map};
 ghost use Rattle.pe_pdb.specs.Ids.{types_view};
-ghost use Rattle.pe_pdb.specs.InlineStacks.{stack_view};
 ghost use Rattle.pe_pdb.specs.Refusals.{PdbReturns};
 ghost use Rattle.pe_pdb.specs.Symbols.{symbol_view};
 ghost use Rattle.pe_pdb.specs.Walks.{step_view};
@@ -19,8 +18,9 @@ use crate::pdb::modules::PdbModule;
 use crate::pdb::symbols::PdbSymbol;
 use crate::pdb::{number_of_pdb, part_of};
 use pe_pdb::{
-    DEBUG_S_INLINEELINES, FunctionId, InlineFrame, InlineRow, InlineStack, InlineeLine, LF_FUNC_ID,
-    LF_MFUNC_ID, LF_STRING_ID, Result, Subsection, SymbolRecord, TypeRecords, string_id,
+    DEBUG_S_INLINEELINES, FunctionId, InlineFrame, InlineRow, InlineeLine, LF_FUNC_ID, LF_MFUNC_ID,
+    LF_STRING_ID, MOST_INLINED, NO_INLINE_FRAME, Result, Subsection, SymbolRecord, TypeRecords,
+    inlined_at, string_id,
 };
 
 /// How many bytes of a function's record in the stream of ids come before its name.
@@ -267,17 +267,19 @@ fn put_inlined(
 }
 
 /// Those that have an RVA of a procedure.
-fn stack_at(
+fn stack_at<'r>(
     bytes: &[u8],
     module: &PdbModule,
     procedure: &PdbSymbol,
     rva: u32,
-) -> Result<InlineStack>
-    ensures { PdbReturns stack_view result (stack_at bytes.now module.now procedure.now rva) }
+    room: &'r mut [InlineFrame],
+) -> Result<&'r [InlineFrame]>
+    requires { length room.old ≡ 64 }
+    ensures { PdbReturns (λ f. f.now) result (stack_at bytes.now module.now procedure.now rva) }
 {
     let records = up_to(bytes, &module.symbols)?;
     let start = procedure.range.offset as usize;
-    InlineStack::new(records, start, rva.saturating_sub(procedure.rva))
+    inlined_at(records, start, rva.saturating_sub(procedure.rva), room)
 }
 
 /// Writes the inlined functions whose code is at an RVA to the start of `room`, the innermost first, each inlined in the one after it and
@@ -304,11 +306,11 @@ pub extern "C" fn pe_c_find_pdb_inlined(
     ensures { HandsOutInlined (inlined_functions bytes.now module.now procedure.now rva ids.now starts.now)
         result room.old room.new written.old written.new }
 {
-    let stack = match stack_at(bytes, module, procedure, rva) {
-        Ok(stack) => stack,
+    let mut inlined = [NO_INLINE_FRAME; MOST_INLINED];
+    let frames = match stack_at(bytes, module, procedure, rva, &mut inlined) {
+        Ok(frames) => frames,
         Err(error) => return number_of_pdb(&error),
     };
-    let frames = stack.frames();
     *written = frames.len() as u64;
     if frames.len() > room.len() {
         return ROOM;

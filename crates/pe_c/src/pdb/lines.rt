@@ -4,18 +4,21 @@
 //! https://llvm.org/docs/PDB/ModiStream.html
 
 ghost use Rattle.std.specs.Prelude.{◌≡◌, ◌≤◌, IfOk, IfSome, length};
-ghost use Rattle.pe_c.specs.PdbLines.{FindsLine, HandsOutLines, file_name, files_at, first_files, indexed_lines};
+ghost use Rattle.pe_c.specs.PdbLines.{FindsLine, HandsOutLines, ReadsLine, file_name, files_at, first_files, indexed_lines};
 ghost use Rattle.pe_c.specs.Pdbs.{PdbHandsOut, PdbHandsOutIf, pdb_answer};
+ghost use Rattle.pe_pdb.specs.Frames.{line_with};
 ghost use Rattle.pe_pdb.specs.LineIndexes.{PutsLineIndex};
 ghost use Rattle.pe_pdb.specs.Lines.{subsections};
 ghost use Rattle.pe_pdb.specs.Names.{named_stream};
+ghost use Rattle.pe_pdb.specs.Refusals.{PdbReturns};
+ghost use Rattle.pe_pdb.specs.Scans.{found_in};
 
 use crate::base::ranges::Range;
 use crate::base::results::{DONE, NOTHING, ROOM};
 use crate::pdb::{hand_out_pdb, hand_out_pdb_if, number_of_pdb, part_of};
 use pe_pdb::{
     CodeLine, DEBUG_S_FILECHKSMS, FileChecksum, LineEntry, Names, Result, SectionHeaders,
-    Subsection, line_in, named_stream, put_line_index,
+    Subsection, find_line, line_in, named_stream, put_line_index,
 };
 
 /// The size of what comes before the content of a subsection in bytes.
@@ -80,6 +83,39 @@ pub extern "C" fn pe_c_find_pdb_line(index: &[LineEntry], rva: u32, out: &mut Co
             DONE
         }
         None => NOTHING,
+    }
+}
+
+/// The line of an RVA, of the lines in a range of the stream of a module.
+fn read_line(bytes: &[u8], lines: &Range, sections: &[u8], rva: u32) -> Result<Option<CodeLine>>
+    ensures { PdbReturns (λ o. o) result
+        (found_in (λ xs. line_with xs rva) (indexed_lines bytes.now lines.now sections.now)) }
+{
+    let sections = SectionHeaders::parse(sections)?;
+    find_line(part_of(bytes, lines)?, &sections, rva)
+}
+
+/// Finds the line of an RVA without an index, as `pe_c_find_pdb_line` by one that `pe_c_pdb_lines` made of the same arguments. It reads all
+/// rows once: for a few RVAs that takes less than to make an index.
+///
+/// Errors: those of `pe_c_pdb_lines` but `ROOM`.
+#[unsafe(no_mangle)]
+pub extern "C" fn pe_c_read_pdb_line(
+    bytes: &[u8],
+    lines: &Range,
+    sections: &[u8],
+    rva: u32,
+    out: &mut CodeLine,
+) -> u32
+    ensures { ReadsLine (indexed_lines bytes.now lines.now sections.now) rva result out.old out.new }
+{
+    match read_line(bytes, lines, sections, rva) {
+        Ok(Some(line)) => {
+            *out = line;
+            DONE
+        }
+        Ok(None) => NOTHING,
+        Err(error) => number_of_pdb(&error),
     }
 }
 

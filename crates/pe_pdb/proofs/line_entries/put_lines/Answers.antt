@@ -1,15 +1,11 @@
-use Rattle.std.proofs.Common.{◌≡◌, ℕ, ◌+◌, ◌^◌, ◌<◌, length, List, [], ◌∷◌, Ok, Err, arith, rules, ap, sym, ◌∙◌, ltb, true}
-use Rattle.std.proofs.lemmas.Bool.Decides.{nat_tests}
+use Rattle.std.proofs.Common.{◌≡◌, ℕ, ◌+◌, length, [], ◌∷◌, Ok, Err, arith, rules, ap, sym, ◌∙◌}
 use Rattle.std.proofs.lemmas.Grind.{div_ceil_times}
-use Rattle.pe_pdb.specs.LineEntries.{gathered, lines_of_subsection, module_lines}
+use Rattle.pe_pdb.specs.LineEntries.{Writes, lines_of_subsection, module_lines}
 use Rattle.pe_pdb.specs.Lines.{subsection_view, subsections}
 use Rattle.pe_pdb.specs.Refusals.{pdb_kind_of}
-use Rattle.pe_pdb.proofs.LineEntries.{gathers_all, gathers_error, gathers_more, gathers_refused, no_entries}
+use Rattle.pe_pdb.proofs.LineEntries.{gathers_all, gathers_error, gathers_more, gathers_refused, lines_small, no_entries, writes_both}
 use Rattle.pe_pdb.proofs.LineWalks.{subsection_offset, subsections_later, subsections_more, subsections_none, subsections_refused}
 use Rattle.pe_pdb.proofs.line_entries.put_lines.Goals as goal
-
-lines_small : (sections b : List ℕ) → length b < 2 ^ 32 → module_lines sections b ≡ gathered (lines_of_subsection sections) (subsections b 0)
-lines_small sections b small = let t : ltb (length b) (2 ^ 32) ≡ true = grind (arith, nat_tests) in rw t
 
 pub returns-in_err-subsection-clause-puts : goal.returns-in_err-subsection-clause-puts
 returns-in_err-subsection-clause-puts c =
@@ -17,7 +13,7 @@ returns-in_err-subsection-clause-puts c =
     let s = c.args.sections.now.bytes.now in
     let refused : module_lines s b ≡ Err (pdb_kind_of c.in_err-subsection.field-0.0) =
     lines_small s b (omega arith)
-    ∙ gathers_error (lines_of_subsection s) (subsections b 0) (subsections b c.loop-next.next) _ 0 c.loop-next.count c.args.room.now c.loop-next.room c.loop-next.invariant.gathers
+    ∙ gathers_error (lines_of_subsection s) (subsections b 0) (subsections b c.loop-next.next) _ (λ ys. Writes ys 0 c.args.room.now c.loop-next.count c.loop-next.room) c.loop-next.invariant.gathers
     (subsections_refused b c.loop-next.next _ c.loop-next-test.true c.in_err-subsection.ensures.value) in
     search rules
 
@@ -28,7 +24,7 @@ returns-in_err-count-clause-puts c =
     let v = subsection_view c.in_ok-subsection.subsection in
     let refused : module_lines s b ≡ Err (pdb_kind_of c.in_err-count.field-0.0) =
     lines_small s b (omega arith)
-    ∙ gathers_refused (lines_of_subsection s) (subsections b 0) (subsections b c.loop-next.next) _ v _ 0 c.loop-next.count c.args.room.now c.loop-next.room c.loop-next.invariant.gathers
+    ∙ gathers_refused (lines_of_subsection s) (subsections b 0) (subsections b c.loop-next.next) _ v _ (λ ys. Writes ys 0 c.args.room.now c.loop-next.count c.loop-next.room) c.loop-next.invariant.gathers
     (subsections_more b c.loop-next.next v c.loop-next-test.true c.in_ok-subsection.ensures.value) c.in_err-count.ensures.writes in
     search rules
 
@@ -47,8 +43,9 @@ loop-next-preserved c =
     let w = c.in_ok-count.ensures.writes in
     record {
       gathers = gathers_more (lines_of_subsection s) (subsections b 0) (subsections b c.loop-next.next) (subsections b c.end-next.result) v w.0
-          0 c.loop-next.count c.in_ok-count.count c.args.room.now c.loop-next.room _ c.loop-next.invariant.gathers
-          (subsections_more b c.loop-next.next v c.loop-next-test.true c.in_ok-subsection.ensures.value ∙ ap (λ (n : ℕ). Ok v ∷ subsections b n) (sym c.end-next.ensures)) w.1 w.2;
+          (λ ys. Writes ys 0 c.args.room.now c.loop-next.count c.loop-next.room) (λ ys. Writes ys 0 c.args.room.now c.in_ok-count.count c.put_subsection.new.room) c.loop-next.invariant.gathers
+          (subsections_more b c.loop-next.next v c.loop-next-test.true c.in_ok-subsection.ensures.value ∙ ap (λ (n : ℕ). Ok v ∷ subsections b n) (sym c.end-next.ensures)) w.1
+          (λ xs sofar. writes_both xs w.0 0 c.loop-next.count c.in_ok-count.count c.args.room.now c.loop-next.room _ sofar w.2);
       few = omega (arith, at, times.0, c.end-next.ensures, c.in_ok-count.ensures.few, c.loop-next.invariant.few);
       near = omega (arith, times.1, c.end-next.ensures, c.in_ok-subsection.ensures.inside);
       same = c.in_ok-count.ensures.len ∙ c.loop-next.invariant.same;
@@ -60,6 +57,6 @@ returns-clause-puts c =
     let s = c.args.sections.now.bytes.now in
     let so = c.loop-next.invariant.gathers in (
       so.sofar,
-      lines_small s b (omega arith) ∙ gathers_all (lines_of_subsection s) (subsections b 0) (subsections b c.loop-next.next) 0 c.loop-next.count c.args.room.now c.loop-next.room so (subsections_none b c.loop-next.next (omega arith)),
-      so.writes [] (no_entries c.args.room.now),
+      lines_small s b (omega arith) ∙ gathers_all (lines_of_subsection s) (subsections b 0) (subsections b c.loop-next.next) (λ ys. Writes ys 0 c.args.room.now c.loop-next.count c.loop-next.room) so (subsections_none b c.loop-next.next (omega arith)),
+      so.holds [] (no_entries c.args.room.now),
     )

@@ -2,7 +2,7 @@ use Rattle.std.proofs.Common.{◌≡◌, length, Err, ap, ◌∙◌, arith, rule
 use Rattle.pe_pdb.specs.Refusals.{pdb_kind_of}
 use Rattle.pe_pdb.specs.SymbolEntries.{addresses, rva_by}
 use Rattle.pe_pdb.specs.Symbols.{symbol_view}
-use Rattle.pe_pdb.proofs.SymbolEntries.{addresses_small, entry_few, gathers_all, gathers_more, gathers_refused, length_put}
+use Rattle.pe_pdb.proofs.SymbolEntries.{Written, addresses_small, entry_few, gathers_all, gathers_more, gathers_refused, length_put, written_more}
 use Rattle.pe_pdb.proofs.RecordWalks.{symbol_offset}
 use Rattle.pe_pdb.proofs.symbol_entries.put_addresses.Goals as goal
 
@@ -12,7 +12,7 @@ returns-in_err-record-clause-puts c =
     let sections = c.args.sections.now.bytes.now in
     let small = addresses_small c.args.class b c.args.start sections (omega arith) in
     let refused : addresses c.args.class b c.args.start sections ≡ Err (pdb_kind_of c.in_err-record.field-0.0) =
-    small ∙ gathers_refused (rva_by c.args.class sections) b c.args.start c.loop-next.next c.loop-next.count c.loop-next.room _ c.loop-next.invariant.gathers c.loop-next-test.true c.in_err-record.ensures.value in
+    small ∙ gathers_refused (rva_by c.args.class sections) b c.args.start c.loop-next.next (Written c.loop-next.count c.loop-next.room) _ c.loop-next.invariant.gathers c.loop-next-test.true c.in_err-record.ensures.value in
     search rules
 
 pub loop-next-smaller : goal.loop-next-smaller
@@ -28,7 +28,9 @@ loop-next-preserved c =
     let at = symbol_offset b c.loop-next.next s c.in_ok-record.ensures.value in
     let few = entry_few c.rva_by-rva.result in
     record {
-      gathers = gathers_more r b c.args.start c.loop-next.next c.loop-next.count c.loop-next.room s c.end-next.result c.put_address-count.result c.put_address-count.new.room c.loop-next.invariant.gathers c.loop-next-test.true c.in_ok-record.ensures.value c.end-next.ensures (search rules) (search rules);
+      gathers = gathers_more r b c.args.start c.loop-next.next s c.end-next.result (Written c.loop-next.count c.loop-next.room) (Written c.put_address-count.result c.put_address-count.new.room)
+          c.loop-next.invariant.gathers c.loop-next-test.true c.in_ok-record.ensures.value c.end-next.ensures
+          (λ xs. written_more c.loop-next.count c.loop-next.room c.loop-next.next (r s) c.put_address-count.result c.put_address-count.new.room xs (search rules) (search rules));
       few = omega (arith, at, few, c.put_address-count.ensures.count, c.loop-next.invariant.few, c.end-next.ensures);
       same = ap length c.put_address-count.ensures.room ∙ length_put c.loop-next.room c.loop-next.count _ ∙ c.loop-next.invariant.same;
     }
@@ -39,7 +41,7 @@ returns-clause-puts c =
     let sections = c.args.sections.now.bytes.now in
     let so = c.loop-next.invariant.gathers in (
       so.sofar,
-      addresses_small c.args.class b c.args.start sections (omega arith) ∙ gathers_all (rva_by c.args.class sections) b c.args.start c.loop-next.next c.loop-next.count c.loop-next.room so (omega arith),
-      so.counted,
-      so.written,
+      addresses_small c.args.class b c.args.start sections (omega arith) ∙ gathers_all (rva_by c.args.class sections) b c.args.start c.loop-next.next (Written c.loop-next.count c.loop-next.room) so (omega arith),
+      so.holds.counted,
+      so.holds.written,
     )

@@ -16,10 +16,10 @@ returns-clause-found c = λ up entries same.
     let n = c.count_up_to-after.result in
     let cut = c.count_up_to-after.ensures.cut in
     let some : 0 < n = omega (arith, c.if-after-eq0.false) in (
-      c.get-address.result,
+      c.get.result,
       nearest_permuted entries xs x _ same (nearest_of xs x n up some cut.within
           (λ k d low lt. let h : rva_in (get_or xs k d) ≤ c.from.result = cut.before (rvas_rise xs up) k d low in omega (arith, h, c.from.ensures))
           (λ k d high lt. let h : c.from.result < rva_in (get_or xs k d) = cut.after (rvas_rise xs up) k d high lt in omega (arith, h, c.from.ensures))
-          c.get-address.result (λ d. sym (c.get-address.ensures.value d ∙ ap (λ r. get_or r.now (n - 1) d) c.count_up_to-after.ensures.kept))),
-      refl,
+          c.get.result (λ d. sym (c.get.ensures.value d ∙ ap (λ r. get_or r.now (n - 1) d) c.count_up_to-after.ensures.kept))),
+      c.symbol_address.ensures,
     )
