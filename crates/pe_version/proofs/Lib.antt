@@ -3,11 +3,9 @@ pub mod Keys
 pub mod Tests
 pub mod Calls
 pub mod VersionsRead
-pub mod OneText
 pub mod Making
 pub mod Flat
 pub mod Named
-pub mod Setting
 pub mod Measures
 pub mod Heads
 pub mod Records

@@ -4,7 +4,7 @@ use Rattle.std.specs.List.{find, flat_map}
 use Rattle.std.specs.Option.{option_map}
 use Rattle.std.specs.Str.{bytes_eq}
 use Rattle.pe_resource.specs.VersionStrings.{VersionString, is_name, text, up_to_four}
-use Rattle.pe_version.specs.VersionValues.{TableValue, TextValue, Value, root_block, strings_block, table_block, text_block, translation_block, variables_block, with_text}
+use Rattle.pe_version.specs.VersionValues.{TableValue, TextValue, Value, root_block, strings_block, table_block, text_block, translation_block, variables_block}
 use Rattle.pe_version.specs.WrittenBlocks.{BlockValue, block_length, type_number, value_length}
 
 -- a value with zeros up to a multiple of four, which `VersionInfo` takes for its end
@@ -36,17 +36,3 @@ texts_of v = flat_map (λ t. t.strings) v.tables
 
 abbrev pub text_with_name : List ℕ → List TextValue → Option (List ℕ)
 text_with_name name ss = option_map (λ s. s.text) (find (λ s. is_name name (text s.name)) ss)
-
--- ---- one string set
-
--- a string that is set in a table, and in each
-abbrev pub table_with : TextValue → TableValue → TableValue
-table_with new t = record t { strings = with_text new t.strings }
-
-abbrev pub value_with : TextValue → Value → Value
-value_with new v = record v { tables = map (table_with new) v.tables }
-
--- of these strings those whose name has this text have the bytes of the new one's name, and no others
-abbrev pub SameNames : List ℕ → TextValue → List TextValue → Type 0
-SameNames name new [] = Unit {0}
-SameNames name new (s ∷ ss) = (is_name name (text s.name) ≡ bytes_eq new.name s.name) × SameNames name new ss

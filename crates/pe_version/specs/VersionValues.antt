@@ -186,18 +186,3 @@ pub record NumbersFit (v : Value) : Type 0 where
   pub fixed : FixedFits v.fixed
   pub tables : TablesHavePairs v.tables
   pub translations : AllPairs v.translations
-
--- ---- one string set
-
--- the text of the first string with a name
-abbrev pub text_named : List ℕ → List TextValue → Option (List ℕ)
-text_named name [] = None
-text_named name (s ∷ ss) = if bytes_eq name s.name then Some s.text else text_named name ss
-
--- a string in the place of each of its name, or after all if there is none
-abbrev pub replaced : TextValue → List TextValue → List TextValue
-replaced new [] = []
-replaced new (s ∷ ss) = (if bytes_eq new.name s.name then new else s) ∷ replaced new ss
-
-abbrev pub with_text : TextValue → List TextValue → List TextValue
-with_text new ss = if is_some (text_named new.name ss) then replaced new ss else ss ++ new ∷ []

@@ -3,20 +3,19 @@
 ghost use Rattle.std.specs.Prelude.{◌≡◌, ◌++◌, List, ◌∷◌, Ok, Some, false, length, map, true, ℕ};
 ghost use Rattle.std.specs.List.{list_all};
 ghost use Rattle.std.specs.Option.{option_map};
-ghost use Rattle.std.specs.Str.{bytes_eq};
 ghost use Rattle.pe_resource.specs.VersionBlocks.{blocks, first_block};
 ghost use Rattle.pe_version.specs.VersionRefusals.{block_of};
 ghost use Rattle.pe_version.specs.WrittenBlocks.{AllFit, BlockValue, Fits, blocks_bytes, padded_block, read_block};
 ghost use Rattle.pe_resource.specs.VersionFields.{VersionView, file_strings, value_named, version_in, version_key};
-ghost use Rattle.pe_resource.specs.VersionStrings.{is_name, strings, text};
+ghost use Rattle.pe_resource.specs.VersionStrings.{strings};
 ghost use Rattle.pe_resource.specs.declared.version.VersionName.{VersionName};
 ghost use Rattle.pe_resource.specs.declared.version.VsFixedFileInfo.{VsFixedFileInfo};
 ghost use Rattle.pe_version.specs.VersionRecords.{string_fits, table_fits, value_at, version_at};
 ghost use Rattle.pe_version.specs.declared.record.LanguageRecord.{LanguageRecord};
 ghost use Rattle.pe_version.specs.declared.record.StringRecord.{StringRecord};
 ghost use Rattle.pe_version.specs.declared.record.TableRecord.{TableRecord};
-ghost use Rattle.pe_version.specs.VersionStrings.{SameNames, flat, flat_blocks, padded, text_with_name, texts_of, value_with};
-ghost use Rattle.pe_version.specs.VersionValues.{NumbersFit, TableValue, TextValue, Value, as_read, text_named, version_of, version_read, with_text};
+ghost use Rattle.pe_version.specs.VersionStrings.{flat, flat_blocks, padded, text_with_name, texts_of};
+ghost use Rattle.pe_version.specs.VersionValues.{NumbersFit, Value, as_read, version_of, version_read};
 
 /// pe_resource's walk reads a written block as it was given, and goes on with what follows it; blocks one after the other are
 /// read each as it was given.
@@ -43,16 +42,6 @@ pub fn written_versions_are_read()
         version_read s ≡ Ok (Some (as_read v)) }
 {}
 
-/// A string that is set among the strings of a table, by the definition `with_text`, is the text of its name there, and the texts of
-/// all other names are as before.
-#[tactic(auto, using(crate::proofs::OneText::set_is_read, crate::proofs::OneText::others_stay))]
-pub fn one_text_is_set()
-    ensures set { (new : TextValue) (ss : List TextValue) →
-        text_named new.name (with_text new ss) ≡ Some new.text }
-    ensures others { (name : List ℕ) (new : TextValue) (ss : List TextValue) → bytes_eq name new.name ≡ false →
-        text_named name (with_text new ss) ≡ text_named name ss }
-{}
-
 /// `VersionInfo` of pe_resource, which reads the blocks one after the other, reads as its strings exactly the blocks of written version
 /// information, each before those in it.
 #[tactic(auto, using(crate::proofs::Flat::strings_are))]
@@ -70,21 +59,6 @@ pub fn written_texts_are_found()
     ensures text { (v : Value) (s : List ℕ) (n : VersionName) (w : VersionView) → NumbersFit v → version_of v ≡ Ok s →
         version_in s ≡ Ok w → value_named n w.strings
         ≡ option_map padded (text_with_name (version_key n) (texts_of v)) }
-{}
-
-/// A string that is set in each table, by the definition `value_with`, and written is what `VersionInfo` finds by its name, with
-/// zeros up to a multiple of four; what it finds by all other names is as before.
-#[tactic(auto, using(crate::proofs::Setting::text_set, crate::proofs::Setting::others_kept))]
-pub fn set_texts_are_found()
-    ensures set { (v : Value) (s : List ℕ) (n : VersionName) (w : VersionView) (new : TextValue)
-        (t : TableValue) (ts : List TableValue) → NumbersFit v → v.tables ≡ t ∷ ts →
-        SameNames (version_key n) new t.strings → is_name (version_key n) (text new.name) ≡ true →
-        version_of (value_with new v) ≡ Ok s → version_in s ≡ Ok w →
-        value_named n w.strings ≡ Some (padded new.text) }
-    ensures others { (v : Value) (s u : List ℕ) (n : VersionName) (w x : VersionView)
-        (new : TextValue) → NumbersFit v → is_name (version_key n) (text new.name) ≡ false →
-        version_of v ≡ Ok s → version_in s ≡ Ok w → version_of (value_with new v) ≡ Ok u →
-        version_in u ≡ Ok x → value_named n x.strings ≡ value_named n w.strings }
 {}
 
 /// The test of records by their least bytes refuses nothing that would be written: of records whose ranges lie in their arrays it is
