@@ -1,8 +1,7 @@
 -- Version information as pe_resource's `VersionInfo` reads it: its blocks one after the other, as strings.
-use Rattle.std.specs.Prelude.{◌≡◌, ℕ, ◌-◌, List, [], ◌∷◌, ◌++◌, length, map, replicate, Option}
+use Rattle.std.specs.Prelude.{ℕ, ◌-◌, List, [], ◌∷◌, ◌++◌, length, map, replicate, Option}
 use Rattle.std.specs.List.{find, flat_map}
 use Rattle.std.specs.Option.{option_map}
-use Rattle.std.specs.Str.{bytes_eq}
 use Rattle.pe_resource.specs.VersionStrings.{VersionString, is_name, text, up_to_four}
 use Rattle.pe_version.specs.VersionValues.{TableValue, TextValue, Value, root_block, strings_block, table_block, text_block, translation_block, variables_block}
 use Rattle.pe_version.specs.WrittenBlocks.{BlockValue, block_length, type_number, value_length}

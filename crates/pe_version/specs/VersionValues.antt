@@ -1,9 +1,8 @@
 -- Version information as a value: the fixed file information, string tables by language and code page, and translations; the
 -- blocks that it is written as, and what pe_resource's walks read of it. (Microsoft: VS_VERSIONINFO, StringFileInfo,
 -- StringTable, String, VarFileInfo, Var.)
-use Rattle.std.specs.Prelude.{ℕ, ◌+◌, ◌/◌, ◌%◌, ◌^◌, ◌<◌, true, false, List, [], ◌∷◌, ◌++◌, codes, map, Option, Some, None, Result, Ok, Err, is_some, nat_lt, if◌then◌else◌}
+use Rattle.std.specs.Prelude.{ℕ, ◌+◌, ◌/◌, ◌%◌, ◌^◌, ◌<◌, true, false, List, [], ◌∷◌, ◌++◌, codes, map, Option, Some, None, Result, Ok, Err, nat_lt, if◌then◌else◌}
 use Rattle.std.specs.List.{flat_map}
-use Rattle.std.specs.Str.{bytes_eq}
 use Rattle.pe_core.specs.Bytes.{bytes_of}
 use Rattle.pe_core.specs.Refusals.{outcome, ◌>>=◌}
 use Rattle.pe_core.specs.Rows.{whole_entries}
