@@ -342,10 +342,13 @@ static PyObject *tuple_of(Rows *rows)
 
 static PyObject *triple(PyObject *value, const Rows *rows)
 {
-    unsigned long number = rows->result == PE_C_NOTHING ? PE_C_DONE : rows->result;
     if (!value && !PyErr_Occurred())
         value = Py_NewRef(Py_None);
-    return value ? Py_BuildValue("(NkN)", value, number, B(rows->budget->is_over)) : NULL;
+    PyObject *number = value ? N(rows->result == PE_C_NOTHING ? PE_C_DONE : rows->result) : NULL;
+    PyObject *found = number ? PyTuple_Pack(3, value, number, rows->budget->is_over ? Py_True : Py_False) : NULL;
+    Py_XDECREF(value);
+    Py_XDECREF(number);
+    return found;
 }
 
 /* The rows as a tuple. An error of an inner list is that of the list around it, which ends there, but in an exact image. There what
