@@ -666,14 +666,14 @@ pub(crate) fn find_function<'r>(
 #[inline(always)]
 pub(crate) fn all_codes<'r>(
     codes: &[u8],
-    form: sys::CodeForm,
+    form: &sys::CodeForm,
     room: &'r mut Room<sys::Code>,
 ) -> (&'r [sys::Code], Result<(), Refusal>) {
     let (to, length, mut count) = (room.as_mut_ptr().cast(), room.len(), MaybeUninit::uninit());
     // SAFETY: each pointer and the length after it are those of one slice or array; the form and the count are lent for the call, and
     // the library requires nothing else. The call writes the count, after an error too, and so many codes.
     unsafe {
-        let number = sys::pe_c_all_codes(codes.as_ptr(), codes.len(), &form, to, length, count.as_mut_ptr());
+        let number = sys::pe_c_all_codes(codes.as_ptr(), codes.len(), form, to, length, count.as_mut_ptr());
         let end = if number == sys::DONE { Ok(()) } else { Err(Refusal(number)) };
         (written(room, count.assume_init() as usize), end)
     }

@@ -282,9 +282,9 @@ fn fold_codes<B>(
     mut add: impl FnMut(B, error::Result<UnwindCode>) -> B,
 ) -> B {
     let mut room = raw::room::<_, MOST_CODES>();
-    let (codes, end) = raw::all_codes(bytes, form, &mut room);
+    let (codes, end) = raw::all_codes(bytes, &form, &mut room);
     if let Err(refusal) = end {
-        return fold_refused(codes, all, add, || refused_after(codes.len(), bytes, form, refusal));
+        return fold_refused(codes, all, add, || refused_after(codes.len(), bytes, &form, refusal));
     }
     for it in codes {
         all = add_code(it, all, &mut add);
@@ -309,8 +309,8 @@ fn fold_refused<B>(
 
 /// The error of the code after so many in these bytes.
 #[cold]
-fn refused_after(count: usize, bytes: &[u8], form: sys::CodeForm, refusal: Refusal) -> error::Error {
-    let mut walk = whole_walk(bytes, form);
+fn refused_after(count: usize, bytes: &[u8], form: &sys::CodeForm, refusal: Refusal) -> error::Error {
+    let mut walk = whole_walk(bytes, *form);
     let mut room = raw::room::<_, MOST_CODES>();
     // Of a list that is full the walk is after its last code; where it has none, it is at its start.
     let _ = room.get_mut(..count).map(|room| raw::list_codes(bytes, &mut walk, room).is_ok());
@@ -446,12 +446,6 @@ pub struct UnwindInfo<'a> {
     code_bytes: &'a [u8],
 }
 
-/// The function to which a record is chained, as few are. Out of line: nothing of it is moved for others.
-#[cold]
-fn chained_of(it: &sys::Record) -> RuntimeFunction {
-    it.chained.into()
-}
-
 impl<'a> UnwindInfo<'a> {
     /// The record at an offset. Errors: `Scroll` past the end; `Malformed` where it is truncated or of another version.
     pub fn parse(bytes: &'a [u8], offset: usize) -> error::Result<Self> {
@@ -470,23 +464,46 @@ impl<'a> UnwindInfo<'a> {
         }
     }
 
+    /// Each kind of record is returned by itself: put together of pieces, what a record lacks would be written too.
     #[inline(always)]
     fn of(bytes: &'a [u8], it: &sys::Record) -> error::Result<Self> {
         let code_bytes = raw::slice(bytes, it.codes.left)?;
+        if it.handler_kind == 0 {
+            if it.is_chained != 0 {
+                return Ok(Self::chained(it, code_bytes));
+            }
+            return Ok(Self::with(it, code_bytes, None, None));
+        }
+        let data = raw::slice(bytes, it.handler_data)?;
         let handler = match it.handler_kind {
-            0 => None,
-            1 => Some(UnwindHandler::ExceptionHandler(it.handler, raw::slice(bytes, it.handler_data)?)),
-            _ => Some(UnwindHandler::TerminationHandler(it.handler, raw::slice(bytes, it.handler_data)?)),
+            1 => UnwindHandler::ExceptionHandler(it.handler, data),
+            _ => UnwindHandler::TerminationHandler(it.handler, data),
         };
-        Ok(UnwindInfo {
+        Ok(Self::with(it, code_bytes, None, Some(handler)))
+    }
+
+    /// A chained record, as few are, which has no handler.
+    #[cold]
+    fn chained(it: &sys::Record, code_bytes: &'a [u8]) -> Self {
+        Self::with(it, code_bytes, Some(it.chained.into()), None)
+    }
+
+    #[inline(always)]
+    fn with(
+        it: &sys::Record,
+        code_bytes: &'a [u8],
+        chained_info: Option<RuntimeFunction>,
+        handler: Option<UnwindHandler<'a>>,
+    ) -> Self {
+        UnwindInfo {
             version: it.codes.version,
             size_of_prolog: it.size_of_prolog,
             frame_register: Register(it.codes.frame_register),
             frame_register_offset: it.frame_register_offset,
-            chained_info: if it.is_chained == 0 { None } else { Some(chained_of(it)) },
+            chained_info,
             handler,
             code_bytes,
-        })
+        }
     }
 
     /// The codes, in the order in which they are undone.

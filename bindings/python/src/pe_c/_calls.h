@@ -1,7 +1,6 @@
 /* The lists inside of rows, and the methods that are one call, or one walk. Written by tools/make_python of pe.h. */
 INNER(rich_entries, pe_c_rich_header_info, pe_c_range, it->entries, pe_c_rich_entry, pe_c_next_rich_entry(BYTES, it->key, &walk, &item), ROW_OF(rich_entry))
 INNER(pogo_entries, pe_c_pogo, pe_c_range, it->entries, pe_c_pogo_entry, pe_c_next_pogo_entry(BYTES, &walk, &item), ROW_OF(pogo_entry))
-INNER(unwind_codes, pe_c_record, pe_c_walk, it->codes, pe_c_code, pe_c_next_code(BYTES, &walk, &item), ROW_OF(code))
 INNER(arm64_scopes, pe_c_arm64_record, pe_c_range, it->scopes, pe_c_arm64_scope, pe_c_next_arm64_scope(BYTES, &walk, &item), ROW_OF(arm64_scope))
 INNER_OF(delayed_functions, pe_c_delay_import, pe_c_delayed_function_walk, {.functions = it->functions}, pe_c_delayed_function, pe_c_list_delayed_functions(VIEW, walk, runs, run_count, items, most, count), ROW_OF(delayed_function))
 INNER(relocations_of, pe_c_relocation_block, pe_c_range, it->entries, pe_c_relocation, pe_c_next_relocation(BYTES, it->page_rva, &walk, &item), ROW_OF(relocation))

@@ -309,10 +309,11 @@ static void takes_items(Rows *rows, Chunk *chunk, Listed listed, void *walk, siz
     UNLOCKED(rows->result, listed(self, walk, chunk->runs, 2 * most, chunk->items, most, &chunk->count));
 }
 
-/* Whether the list goes on by further items. */
+/* Whether the list goes on by further items. A call that left room has reached the end, or what is refused: the next one says which,
+ * and needs no more room. */
 static int next_items(Rows *rows, Chunk *chunk, size_t size, Listed listed, void *walk)
 {
-    if (goes_on(rows) && makes_room(rows, chunk, size)) {
+    if (goes_on(rows) && (chunk->count < chunk->most || makes_room(rows, chunk, size))) {
         takes_items(rows, chunk, listed, walk, chunk->most);
         if (rows->result == PE_C_DONE && chunk->count)
             return 1;
@@ -341,10 +342,13 @@ static PyObject *tuple_of(Rows *rows)
 
 static PyObject *triple(PyObject *value, const Rows *rows)
 {
-    unsigned long number = rows->result == PE_C_NOTHING ? PE_C_DONE : rows->result;
     if (!value && !PyErr_Occurred())
         value = Py_NewRef(Py_None);
-    return value ? Py_BuildValue("(NkN)", value, number, B(rows->budget->is_over)) : NULL;
+    PyObject *number = value ? N(rows->result == PE_C_NOTHING ? PE_C_DONE : rows->result) : NULL;
+    PyObject *found = number ? PyTuple_Pack(3, value, number, rows->budget->is_over ? Py_True : Py_False) : NULL;
+    Py_XDECREF(value);
+    Py_XDECREF(number);
+    return found;
 }
 
 /* The rows as a tuple. An error of an inner list is that of the list around it, which ends there, but in an exact image. There what
@@ -469,6 +473,23 @@ static PyObject *directories_of(Image *self, Rows *outer, const pe_c_directory *
     for (uint32_t i = 0; i < count && i < 16 && goes_on(&rows); i++)
         append(&rows, row_directory(self, &rows, &it[i]));
     return tuple_of(&rows);
+}
+
+/* All codes of a record, which one call lists: before an error those before it. */
+static PyObject *unwind_codes(Image *self, Rows *outer, const pe_c_record *it)
+{
+    enum { MOST_CODES = 255 };
+    pe_c_code codes[MOST_CODES];
+    pe_c_code_form form = {it->codes.version, it->codes.frame_register};
+    const uint8_t *start = (const uint8_t *)self->view.buf + it->codes.left.offset;
+    uint64_t count = 0;
+    Rows rows = rows_of(self, outer->budget);
+    uint32_t result = pe_c_all_codes(start, (size_t)it->codes.left.length, &form, codes, MOST_CODES, &count);
+    for (uint64_t i = 0; i < count && goes_on(&rows); i++)
+        append(&rows, row_code(self, &rows, &codes[i]));
+    if (goes_on(&rows))
+        rows.result = result;
+    return inside(outer, &rows);
 }
 
 /* All codes of a record: those of its prolog, and those of its epilogs after them. */
