@@ -330,6 +330,17 @@ class Stacks(unittest.TestCase):
         shutil.rmtree(os.path.join(self.folder, "crash.pdb"))
         self.put("crash.pdb", b"Microsoft C/C++ program database 2.00\r\n\x1aJG\0\0" + bytes(20))
         self.assertEqual((self.warned().kind, self.warned().error.kind), (WarningKind.DAMAGED, Kind.PDB20))
+        # What cannot be looked at may be a folder, and costs no other.
+        at = os.path.join(self.folder, "crash.pdb")
+        os.remove(at)
+        os.mkdir(at)
+        os.symlink(KEY, os.path.join(at, KEY))
+        self.assertEqual((self.warned().text, self.warned().path), ("Too many levels of symbolic links", os.path.join(at, KEY)))
+        shutil.rmtree(at)
+        os.symlink("cr", os.path.join(self.folder, "cr"))
+        self.assertEqual(self.warned().text, "Too many levels of symbolic links")
+        self.put("crash.pdb")
+        self.assertEqual(self.stack().frames[0].line, 8)
 
     def test_without_an_image(self):
         """The key is that of the dump. A frame that needs no unwind records is named all the same."""
