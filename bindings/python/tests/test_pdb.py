@@ -307,6 +307,14 @@ class Stacks(unittest.TestCase):
         with self.assertRaises(FileNotFoundError):
             self.stack(os.path.join(self.folder, "nowhere"))
 
+    def test_a_file_that_is_named_by_itself(self):
+        """It may be the PDB of another module, by its key. One that is no PDB is said."""
+        none = self.put("x/none.pdb", b"x" * 100)
+        self.assertEqual((self.warned(none).error.kind, self.warned(none).path), (Kind.PDB_MAGIC, none))
+        other = bytearray(made("PDB"))
+        other[other.index(bytes.fromhex("def6aac4f403f23c"))] ^= 1
+        self.assertTrue(self.warned(self.put("x/other.pdb", bytes(other))).text.startswith("not found"))
+
     def test_another_build(self):
         whole = bytearray(made("PDB"))
         at = whole.index(bytes.fromhex("def6aac4f403f23c"))

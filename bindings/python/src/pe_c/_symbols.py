@@ -119,8 +119,8 @@ class PdbFiles:
                 found = self._read(path, wanted)
                 if isinstance(found, Pdb):
                     return found, ()
-                # One that is named by itself is that of other modules.
-                if os.path.basename(path).lower() != wanted.name.lower():
+                # One that is named by itself, and has another key, is that of other modules.
+                if path in self._keys and os.path.basename(path).lower() != wanted.name.lower():
                     continue
                 said = found
             first = first or said
