@@ -16,6 +16,7 @@ import time
 import unittest
 from unittest import mock
 
+import hostile
 import pe_c
 import test_more
 from pe_c import Kind, _guards, _signer, _tables, scan
@@ -94,6 +95,12 @@ class Lines(Room):
         self.assertEqual([json.loads(it)["file"] for it in run("scan", "-j", "1", link)[0].decode().splitlines()],
                          [os.path.join(link, "a\tb.dll")])
         self.assertIn("the link leads to no file", run("scan", "-v", "-j", "1", self.room)[1])
+
+    def test_more_tables_of_version_strings_than_are_read(self):
+        for count, is_limited in ((4096, False), (4097, True)):
+            version = pe_c.Image(hostile.version_tables(count)).facts(has_hashes=False)["version"]
+            self.assertEqual((len(version["languages"]), version["languages_error"]), (4096, None))
+            self.assertIs(version["languages_is_limited"], is_limited)
 
     def test_statuses(self):
         path = os.path.join(self.room, "debug.bin")
