@@ -116,8 +116,8 @@ function overview(to, { headers, version, debug, clr }) {
   refused(to, 'Version information', version.fixed_error);
   refused(to, 'Version strings', version.strings_error ?? version.languages_error);
   refused(to, 'Manifest', version.manifest_error);
-  refused(to, 'Debug data', debug.entries_error ?? debug.pdb_error ?? debug.pdb20_error ?? debug.embedded_pdb_error ?? debug.pdb_checksum_error
-    ?? debug.repro_error ?? debug.extended_dll_characteristics_error);
+  refused(to, 'Debug data', debug.entries_error ?? debug.pdb_error ?? debug.pdb20_error ?? debug.embedded_pdb_error
+    ?? debug.pdb_checksum_error ?? debug.repro_error ?? debug.extended_dll_characteristics_error);
 }
 
 function hardening(to, it) {
