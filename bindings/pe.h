@@ -2032,8 +2032,8 @@ enum {
 enum {
     PE_C_END_BOUND = 0,             /* as many frames were returned as the caller wants */
     PE_C_END_BOTTOM = 1,            /* by records the last frame returns to 0, no frame is found there, and no frame is a guess.
-                                       The stack is whole, unless one by PE_C_WAY_RECORDS has not called: it may be that
-                                       its return address was overwritten */
+                                       By its records the stack is whole. A return address that was overwritten may have
+                                       led them astray, as where a frame by PE_C_WAY_RECORDS has not called */
     PE_C_END_NO_MODULE = 2,         /* the last instruction pointer is in no module, or in one without an image, and no
                                        return address is found */
     PE_C_END_NO_FUNCTION = 3,       /* no function covers the call in the last frame, and no return address is found */

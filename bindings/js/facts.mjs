@@ -390,16 +390,18 @@ function versionLeaves(image) {
   return list('leaves', image.list('resourceLeaves'), (it) => (count++ < LEAVES ? it : null)).leaves.filter(isVersion);
 }
 
-/** The string tables of a resource of version information. What is refused ends them. */
-function* stringTables(image, leaf) {
+/** The string tables of a resource of version information, and null where it has more than are `left`. What is refused ends them. */
+function* stringTables(image, leaf, left) {
   if (leaf.content_result !== constants.PE_C_DONE) throw memoryOf(image).error('pe_c_next_resource_leaf', leaf.content_result);
   const blocks = (walk) => image.items('pe_c_next_version_block', { ...walk }), own = languageOf(image, leaf.language);
   const [root] = blocks(leaf.content);
   for (const information of root ? blocks(root.children) : []) {
     if (image.utf16(information.key).toLowerCase() !== 'stringfileinfo') continue;
-    let count = 0;
     for (const table of blocks(information.children)) {
-      if (count++ === TABLES) break;
+      if (left-- === 0) {
+        yield null;
+        return;
+      }
       const strings = new Map(), isOwn = table.has_language && (table.language !== 0 || own.id === 0);
       for (const it of blocks(table.children)) {
         const key = image.utf16(it.key);
@@ -420,7 +422,7 @@ function* allStringTables(image, leaves) {
       yield null;
       return;
     }
-    for (const table of stringTables(image, leaf)) {
+    for (const table of stringTables(image, leaf, TABLES - count)) {
       count += 1;
       yield table;
     }

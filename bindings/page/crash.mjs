@@ -75,12 +75,23 @@ function framesOf(process, dump, thread, most, modules, said) {
   return { frames, end: ENDS[walk.end] };
 }
 
+/** Says what is damaged and costs frames, but refuses nothing: function tables, and memory that a truncated file lacks. */
+function sayDamage(said, dump, process, modules) {
+  (process?.damaged ?? []).forEach((error, i) => {
+    if (error) said.push(`function table of the module at 0x${modules[i].base_va.toString(16)}: ${error.message}; its whole entries serve`);
+  });
+  const pieces = attempt([], '', () => [...dump.list('pieces'), ...dump.fullPieces()]) ?? [];
+  const lost = pieces.reduce((sum, it) => sum + it.lost, 0n);
+  if (lost > 0n) said.push(`${lost} bytes more of memory are lost: the file is truncated`);
+}
+
 /** What is said of a minidump, the thread that crashed first. */
 export function dumpFacts(library, bytes) {
   const said = [], dump = library.openDump(bytes), runs = attempt(said, 'memory', () => dump.runs()) ?? [];
   const modules = modulesOf(library, dump, bytes, runs, said), raised = attempt(said, 'exception', () => dump.exception());
   const known = modules.map(({ bytes: image, size, base_va: base }) => (image ? { bytes: image, base, mode: MODE } : { size, base }));
   const process = attempt(said, 'memory', () => library.process({ modules: known, memory: bytes, pieces: runs }));
+  sayDamage(said, dump, process, modules);
   const ascending = [...modules].sort((one, other) => (one.base_va < other.base_va ? -1 : 1));
   // A frame costs a test of each module.
   const cost = 1 + Math.floor(modules.length / MODULES_A_FRAME);

@@ -116,7 +116,8 @@ function overview(to, { headers, version, debug, clr }) {
   refused(to, 'Version information', version.fixed_error);
   refused(to, 'Version strings', version.strings_error ?? version.languages_error);
   refused(to, 'Manifest', version.manifest_error);
-  refused(to, 'Debug data', debug.entries_error ?? debug.pdb_error ?? debug.pdb20_error ?? debug.embedded_pdb_error ?? debug.pdb_checksum_error);
+  refused(to, 'Debug data', debug.entries_error ?? debug.pdb_error ?? debug.pdb20_error ?? debug.embedded_pdb_error
+    ?? debug.pdb_checksum_error ?? debug.repro_error ?? debug.extended_dll_characteristics_error);
 }
 
 function hardening(to, it) {
@@ -194,7 +195,7 @@ function others(to, facts) {
     ['TLS callbacks', facts.tls?.callbacks, facts.tls_error ?? facts.tls?.callbacks_error, ['Virtual address'],
       (it) => [hex(it)], [0]],
     ['Base relocations', facts.relocations, facts.relocations_error, ['Page', 'Relocations'], (it) => [hex(it.page_rva),
-      it.types.map((one) => `${one.count} ${named(one.type)}`).join(', ')], [0]],
+      it.types.map((one) => `${one.count} ${named(one.type)}`).join(', ') + (it.error ? `; then refused: ${it.error.text}` : '')], [0]],
     ...guards(facts.load_config, facts.load_config_error),
     ['References of .NET', facts.clr?.metadata?.tables?.references, referencesError(facts),
       ['Assembly', 'Version', 'Culture', 'Public key token'], (it) => [shown(it), it.version, shown(it, 'culture'),
@@ -215,7 +216,7 @@ function show(to, facts) {
     return;
   }
   overview(to, facts);
-  if (!isRefused(facts)) add(to, 'p', 'No part is damaged.', 'faint accepted');
+  if (!isRefused(facts)) add(to, 'p', 'No part is refused.', 'faint accepted');
   cut(to, facts);
   hardening(to, facts.hardening);
   sections(to, facts.sections);
@@ -229,7 +230,7 @@ function show(to, facts) {
 // ---- what a minidump is
 
 const END_WORDS = {
-  bottom: 'the stack is whole', bound: 'there may be more frames',
+  bottom: 'the stack is whole by its records', bound: 'there may be more frames',
   zero: 'the last frame returns to 0, after a guess or without records: frames may be missing or wrong',
   'no-module': 'LOST: no module with an image has the address of the last frame',
   'no-function': 'LOST: no function covers the call in the last frame, and no return address is found',

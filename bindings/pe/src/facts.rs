@@ -835,6 +835,7 @@ impl<'a> Facts<'a> {
             ("load configuration", self.load_config.as_ref().and_then(Part::present).map(|it| it.guards.is_limited())),
             ("references", self.clr.as_ref().and_then(Part::present).map(clr::is_limited)),
             ("resources", self.resources.as_ref().and_then(Part::present).map(|it| it.is_limited)),
+            ("version strings", self.version.as_ref().and_then(|it| it.languages.present()).map(|it| it.is_limited)),
             ("symbols", self.symbols.as_ref().and_then(Part::present).map(|it| it.is_limited)),
         ];
         parts.into_iter().filter(|(_, is_limited)| *is_limited == Some(true)).map(|(part, _)| part).collect()

@@ -94,6 +94,16 @@ struct Found {
     is_below: bool,
 }
 
+/// A folder as it is walked. One that is named may be a link: it is followed, as those below it are not.
+fn walked(folder: &Path) -> PathBuf {
+    // With a slash at its end a path leads where the link does.
+    if folder.is_symlink() && folder.is_dir() {
+        folder.join("")
+    } else {
+        folder.to_path_buf()
+    }
+}
+
 /// The files below a folder, each folder's in the order of their names. Links to folders are not followed, and links
 /// that lead nowhere or in a circle, pipes and the like are left out. A folder that cannot be read is an item by itself, so that
 /// reading it tells why.
@@ -107,11 +117,21 @@ struct Skipped {
     count: Cell<usize>,
     shown: [Cell<usize>; OTHERS.len()],
     is_verbose: bool,
+    /// Whether links to folders are said where no count is in the end.
+    says_links: bool,
 }
 
 impl Skipped {
     fn new(is_verbose: bool) -> Skipped {
-        Skipped { count: Cell::new(0), shown: Default::default(), is_verbose }
+        Skipped { count: Cell::new(0), shown: Default::default(), is_verbose, says_links: false }
+    }
+
+    /// What is neither a file nor a folder of its own.
+    fn put_irregular(&self, path: &Path, is_folder: bool) {
+        if is_folder && self.says_links {
+            complain(complaint(path, "a link to a folder, which is not followed"));
+        }
+        self.put(path, "it is no regular file");
     }
 
     fn put(&self, path: &Path, why: &str) {
@@ -153,7 +173,7 @@ impl Iterator for Below<'_> {
             if !fs::symlink_metadata(&path).is_ok_and(|it| it.is_dir()) {
                 match fs::metadata(&path) {
                     Ok(it) if !it.is_file() => {
-                        self.skipped.put(&path, "it is no regular file");
+                        self.skipped.put_irregular(&path, it.is_dir());
                         continue;
                     }
                     Err(error) if is_lost(&error) => {
@@ -179,17 +199,25 @@ pub fn paths_in(folder: &Path) -> io::Result<Vec<PathBuf>> {
 fn found<'a>(named: &'a Files, skipped: &'a Skipped) -> impl Iterator<Item = Found> + 'a {
     named.files.iter().flat_map(move |path| {
         let is_below = named.walk.recursive && path.is_dir();
-        let waiting = if is_below { vec![path.clone()] } else { Vec::new() };
+        let waiting = if is_below { vec![walked(path)] } else { Vec::new() };
         let files = Below { waiting, skipped };
         let own = (!is_below).then(|| path.clone());
         own.into_iter().chain(files).map(move |path| Found { path, is_below })
     })
 }
 
-/// All files below a folder, or the file that is named, in the order of their names.
+/// All files below a folder, or the file that is named, in the order of their names. A link to a folder below it is said: nobody is
+/// told how many were skipped.
 pub fn below(folder: &Path) -> Vec<PathBuf> {
-    let skipped = Skipped::new(false);
-    Below { waiting: vec![folder.to_path_buf()], skipped: &skipped }.collect()
+    let skipped = Skipped { says_links: true, ..Skipped::new(false) };
+    Below { waiting: vec![walked(folder)], skipped: &skipped }.collect()
+}
+
+/// Says why a folder cannot be listed.
+pub fn say_unlisted(folder: &Path) {
+    if let Err(error) = paths_in(folder) {
+        complain(complaint(folder, error));
+    }
 }
 
 /// The first bytes of a file.

@@ -114,7 +114,7 @@ fn head(name: &str, html: &mut Html<'_>) {
 /// What is refused comes first, each with its reason, and the parts of which the page does not have all.
 fn warnings(refusals: &[(&'static str, &Refusal)], limited: &[&'static str], html: &mut Html<'_>) {
     if refusals.is_empty() {
-        html.markup("<p class=accepted>No part is damaged.</p>");
+        html.markup("<p class=accepted>No part is refused.</p>");
     }
     let counts = [(refusals.len(), "refused"), (limited.len(), "not shown whole")];
     let counts: Vec<String> =

@@ -392,10 +392,7 @@ fn find_word(word: &str, files: &Files, how: How, out: &mut dyn Write) -> io::Re
     let text = |facts: &Facts, _| {
         let found = find::matches_of(facts, word);
         is_found.fetch_or(!found.matches.is_empty(), Ordering::Relaxed);
-        match how.is_json {
-            true => json(&found).into(),
-            false => Said::apart(found.text(), facts),
-        }
+        Said::apart(if how.is_json { json(&found) } else { found.text() }, facts)
     };
     let worst = files::each(files, out, |path, bytes| shown(path, bytes, how.reading, &wanted, text))?;
     Ok(if is_found.load(Ordering::Relaxed) { worst } else { worst.max(Status::Refused) })
@@ -449,7 +446,7 @@ struct Said {
 }
 
 impl Said {
-    /// A text that does not have what is refused.
+    /// A text that says neither what is refused nor what is not whole.
     fn apart(text: String, facts: &Facts) -> Said {
         Said { head: String::new(), text, complaints: show::complaints(facts) }
     }

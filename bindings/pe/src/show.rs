@@ -152,6 +152,7 @@ fn exports_of(exports: &Exports, page: &mut Page) {
     page.heading(&format!("Exports{name}"));
     page.table(&tables::exports(exports));
     more(exports.is_limited, page);
+    exports.left_out().iter().for_each(|it| page.line(format_args!("  {it}")));
 }
 
 fn debug_of(debug: &Debug, page: &mut Page) {
@@ -182,7 +183,9 @@ fn version_of(version: &Version, page: &mut Page) {
     page.heading("Version");
     rows(tables::versions(version), page);
     if version.table_count() > 0 {
-        page.table(&tables::version_strings(version));
+        let strings = tables::version_strings(version);
+        page.table(&strings);
+        more(strings.is_limited, page);
     }
 }
 
@@ -254,12 +257,17 @@ fn symbols_of(symbols: &List<Symbol>, page: &mut Page) {
     more(symbols.is_limited, page);
 }
 
-/// What is refused, as lines for standard error.
+/// What is refused, and of which parts the image has more than is looked at, as lines for standard error.
 pub fn complaints(facts: &Facts) -> String {
     let file = escaped(&facts.file);
     let kind =
         facts.file_kind.filter(|_| facts.error.is_some()).map_or(String::new(), |kind| format!("; it is {kind}"));
-    facts.refusals().iter().map(|(part, refusal)| format!("pe: {file}: {part}: {refusal}{kind}\n")).collect()
+    let refused = facts.refusals().into_iter().map(|(part, refusal)| format!("pe: {file}: {part}: {refusal}{kind}\n"));
+    let limited =
+        facts.limited().into_iter().map(|part| format!("pe: {file}: {part}: not whole: the image has more\n"));
+    let exports = facts.exports.iter().filter_map(Part::present);
+    let left_out = exports.filter_map(|it| it.left_out()).map(|it| format!("pe: {file}: exports: {it}\n"));
+    refused.chain(limited).chain(left_out).collect()
 }
 
 /// Where a symbol server has the PDB of an image, and the image.

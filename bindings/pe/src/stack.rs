@@ -192,6 +192,7 @@ fn told_of(dump: &Dump<'_>, path: &Path, places: &Places, asked: Asked) -> Told 
         exception,
         first_frame_outside_windows: first.flatten(),
         threads,
+        thread_names_error: dump.thread_names().err().map(Refusal::from),
         unloaded_modules: unloaded_of(dump, &mut texts),
         modules: match loaded {
             Ok(_) if !matches!(dump.modules(), Ok(Some(_))) => Part::Absent,

@@ -205,7 +205,8 @@ fn tables_of(facts: &Facts, page: &mut Page) {
         let forwarders = exports.forwarders();
         let of_others = if forwarders > 0 { format!(", {forwarders} of them forwarders") } else { String::new() };
         let count = count_of(exports.entries.len(), exports.is_limited);
-        page.row("exports", format_args!("{count}{of_others}"));
+        let left_out = exports.left_out().map_or(String::new(), |it| format!("; {it}"));
+        page.row("exports", format_args!("{count}{of_others}{left_out}"));
     }
     if let Some(functions) = facts.functions.as_ref().and_then(Part::present) {
         page.row("functions", format_args!("{} with unwind data", functions.entries.len()));

@@ -276,7 +276,8 @@ pub fn imports(libraries: &List<Library>) -> Table {
 /// What the export directory says of the DLL.
 pub fn export_directory(exports: &Exports) -> Vec<Row> {
     let name = exports.name.iter().map(|name| ("name", name.to_string()));
-    name.chain([("ordinal base", exports.ordinal_base.to_string())]).collect()
+    let left_out = exports.left_out().map(|it| ("names", it));
+    name.chain([("ordinal base", exports.ordinal_base.to_string())]).chain(left_out).collect()
 }
 
 pub fn exports(exports: &Exports) -> Table {

@@ -1,8 +1,8 @@
 //! The commands that ask about images, or make new files of them, as they are run, over images that are made by hand.
 
+mod limited;
 #[path = "../../rust/tests/made/mod.rs"]
 mod made;
-
 mod running;
 
 use running::{json_of, put, run, utf16, version_block, Folder};
@@ -748,6 +748,49 @@ fn names_are_found_by_who_imports_or_exports_them() {
     let found: Value = serde_json::from_str(&out).unwrap();
     assert_eq!(found["matches"], json!([{"part": "exports", "dll": null, "name": "first", "ordinal": 6}]));
     assert_eq!(run(&["find", "nobody", &imports]), (String::new(), String::new(), 1));
+    // Of a DLL whose list is refused at its first entry no function is known.
+    let refused = folder.file("d.exe", &limited::refused_imports(1, 4));
+    let why = format!("pe: {refused}: imports: import name not NUL-terminated or not UTF-8 (IMPORT_NAME)\n");
+    assert_eq!(run(&["find", "A.DLL", &refused]), (format!("{refused}: imports a.dll\n"), why.clone(), 1));
+    let (out, error, status) = run(&["find", "--json", "a.dll", &refused]);
+    let found: Value = serde_json::from_str(&out).unwrap();
+    assert_eq!(found["matches"], json!([{"part": "imports", "dll": "a.dll", "name": null, "ordinal": null}]));
+    assert_eq!((error, status), (why, 1));
+}
+
+/// A name that is no text stands nowhere: that there is one is said, and that a word was looked for without it.
+#[test]
+fn names_of_exports_that_are_left_out_are_said() {
+    let folder = Folder::new("names-left-out");
+    let mut bytes = made::with_exports();
+    let said = |bytes: &[u8]| run(&["find", "nobody", &folder.file("a.dll", bytes)]);
+    assert_eq!(said(&bytes), (String::new(), String::new(), 1));
+    let at = bytes.windows(7).position(|it| it == b"second\0").unwrap();
+    bytes[at + 5] = 0xFF;
+    let why = "1 name left out: unmapped, not UTF-8, or of no ordinal that is used";
+    let (_, complaints, status) = said(&bytes);
+    let file = folder.0.join("a.dll").to_str().unwrap().to_string();
+    assert_eq!((complaints, status), (format!("pe: {file}: exports: {why}\n"), 1));
+    assert!(run(&[&file]).0.contains(&format!("; {why}\n")));
+    assert!(run(&["show", &file, "exports"]).0.ends_with(&format!("\n  {why}\n")));
+    assert!(run(&["report", &file, "-"]).0.contains(&format!("<dt>names</dt><dd>{why}</dd>")));
+}
+
+/// A list that is not whole is said beside what is for programs: a name that is not found may be in the rest.
+#[test]
+fn what_is_not_whole_is_said_where_names_are_looked_for_and_beside_tables() {
+    let folder = Folder::new("not-whole");
+    for (part, name, bytes) in limited::all() {
+        let file = folder.file(part, &bytes);
+        let said = format!("pe: {file}: {name}: not whole: the image has more\n");
+        assert_eq!(run(&["show", "--csv", &file, &part.replace('_', "-")]).1, said);
+        if ["imports", "delay_imports", "exports"].contains(&part) {
+            assert_eq!(run(&["find", "nobody", &file]), (String::new(), said.clone(), 1));
+            assert_eq!(run(&["find", "--json", "nobody", &file]).1, said);
+        }
+        let other = folder.file("other", &[&bytes[..], b"x"].concat());
+        assert!(run(&["diff", &file, &other]).1.starts_with(&said), "{part}");
+    }
 }
 
 #[test]
@@ -1077,6 +1120,34 @@ fn version_of(tables: &[(&str, &[(&str, &str)])]) -> Vec<u8> {
     let tables: Vec<Vec<u8>> = tables.iter().map(table).collect();
     let fixed = [0xFEEF_04BDu32.to_le_bytes().as_slice(), &[0; 48]].concat();
     version_block("VS_VERSION_INFO", &fixed, false, &[version_block("StringFileInfo", b"", true, &tables)])
+}
+
+/// Of all tables of version strings 4,096 are read: text, CSV and page say so where there are more.
+#[test]
+fn more_tables_of_version_strings_than_are_read_are_said() {
+    let folder = Folder::new("version-tables");
+    for (count, is_limited) in [(4096, false), (4097, true)] {
+        let none: &[(&str, &str)] = &[];
+        let file = folder.file("a.exe", &with_leaves(&[(16, 1, &version_of(&vec![("", none); count]))]));
+        let said: Value = serde_json::from_str(&run(&["--json", &file]).0).unwrap();
+        let version = &said["version"];
+        let tables = version["languages"].as_array().unwrap().len();
+        assert_eq!(
+            (tables, &version["languages_is_limited"], &said["error"]),
+            (4096, &json!(is_limited), &json!(null))
+        );
+        let (shown, _, status) = run(&["show", &file, "version"]);
+        assert_eq!((shown.ends_with("\n  and more\n"), status), (is_limited, 0));
+        let (_, complaints, status) = run(&["show", "--csv", &file, "version"]);
+        let wanted = if is_limited {
+            format!("pe: {file}: version strings: not whole: the image has more\n")
+        } else {
+            String::new()
+        };
+        assert_eq!((complaints, status), (wanted, 0));
+        assert_eq!(run(&["list", "--csv", &file]).0.ends_with(",version strings\n"), is_limited);
+        assert_eq!(run(&["report", &file, "-"]).0.contains("<b>version strings</b> not shown whole"), is_limited);
+    }
 }
 
 #[test]

@@ -124,7 +124,7 @@ fn a_dump_has_a_page_of_its_stacks() {
     let folder = Folder::new("report-dump");
     let (page, status) = page_of(&folder, &folder.file("a.dmp", &made::full_dump(made::X64)));
     assert_well_formed(&page);
-    assert_eq!((status, page.contains("No part is damaged.")), (0, true));
+    assert_eq!((status, page.contains("No part is refused.")), (0, true));
     assert!(page.contains("<title>a.dmp: pe</title>"));
     // One element a line, as `tests/golden/dump_page.txt` has it.
     let said = main_of(&page).replace("><", ">\n<") + "\n";
@@ -139,6 +139,24 @@ fn a_dump_has_a_page_of_its_stacks() {
     assert_eq!(status, 1);
 }
 
+/// What warns of a dump in text is on its page too: here COFF symbols past the end of an image, which name no frame.
+#[test]
+fn tables_of_names_that_are_refused_are_on_the_page_of_a_dump() {
+    let folder = Folder::new("report-names");
+    let mut image = made::with_functions();
+    // PointerToSymbolTable and NumberOfSymbols.
+    image[0x4C..0x54].copy_from_slice(&made::words(&[0x7000_0000, 1]));
+    let images = folder.0.join("images");
+    fs::create_dir(&images).unwrap();
+    fs::write(images.join("a.exe"), image).unwrap();
+    let dump = folder.file("a.dmp", &made::dump());
+    let words = [dump.as_str(), "--images", images.to_str().unwrap()];
+    let text = run(&[&["stack"], &words[..]].concat()).0;
+    assert!(text.contains("symbols of ?: ") && text.contains("; they name no frame"), "{text}");
+    let page = run(&[&["report", &dump, "-"], &words[1..]].concat()).0;
+    assert!(page.contains("<li><b>names of a module</b> ") && !page.contains("No part is refused."), "{page}");
+}
+
 #[test]
 fn a_page_shows_the_stacks_that_are_asked_for() {
     let folder = Folder::new("report-dump-images");
@@ -147,7 +165,7 @@ fn a_page_shows_the_stacks_that_are_asked_for() {
     let (page, _, status) = run(&["report", &dump, "-", "--images", folder.0.to_str().unwrap()]);
     assert_well_formed(&page);
     assert_eq!(status, 0);
-    assert!(page.contains("<p>the stack is whole</p>"), "{page}");
+    assert!(page.contains("<p>the stack is whole by its records</p>"), "{page}");
     assert!(page.contains(&format!("<td>{image}</td>")), "{page}");
     let (page, _, _) = run(&["report", &dump, "-", "--frames", "0"]);
     assert!(page.contains("<p>there may be more frames</p>") && !page.contains("<tr id=frame-"));
@@ -257,7 +275,7 @@ fn what_is_not_shown_whole_says_so_on_top_and_beside_its_table() {
         assert_well_formed(&page);
         assert_eq!(status, 0, "{part}");
         let (before, after) = page.split_once("<main>").unwrap();
-        assert!(before.contains("No part is damaged."), "{part}");
+        assert!(before.contains("No part is refused."), "{part}");
         let warning = format!(
             "<h2 id=warnings>1 not shown whole</h2><ul><li><b>{name}</b> not shown whole: the image has more</li></ul>"
         );

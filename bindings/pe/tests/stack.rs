@@ -110,7 +110,7 @@ fn a_stack_is_whole_only_without_a_guess() {
     // The return address is one of code that no call precedes: what records lead on to from there is no guess.
     let overwritten = [&[0, 0, 0, 0, 0xB0, call + 4], &outer[..]].concat();
     let cases: [Case; 9] = [
-        ("stack-whole", 12, 0x1010, &outer, json!([["top", false]]), "bottom", "the stack is whole"),
+        ("stack-whole", 12, 0x1010, &outer, json!([["top", false]]), "bottom", "the stack is whole by its records"),
         ("stack-zero", 12, 0x1050, &[0], json!([["top", false]]), "zero", "frames may be missing or wrong"),
         ("stack-data", 12, 0x1050, &[0x30], json!([["top", false]]), "no-return-address", "no executable code"),
         ("stack-scanned", 12, 0x1050, &scanned, json!([["top", false], ["scanned", true]]), "zero", "scanned, a guess"),
@@ -351,6 +351,115 @@ fn an_image_of_many_sections_is_found() {
     assert_eq!((&said["modules"][0]["image"], &said["modules"][0]["image_file"]), (&json!("file"), &json!(file)));
 }
 
+/// The stream of the names is shorter than one of them. The threads are there all the same.
+#[test]
+fn names_of_threads_that_are_refused_are_said() {
+    let mut bytes = made::full_dump(made::X64);
+    let entry = bytes.chunks_exact(4).position(|it| it == 24u32.to_le_bytes()).unwrap() * 4;
+    bytes[entry + 4..entry + 8].copy_from_slice(&15u32.to_le_bytes());
+    let (said, status) = said_of("stack-thread-names", &bytes, &[]);
+    assert_eq!((&said["threads"][0]["name"], &said["threads_error"], status), (&json!(null), &json!(null), 1));
+    assert_eq!(said["thread_names_error"]["name"], "DUMP_LIST_SIZE");
+    let folder = Folder::new("stack-thread-names-text");
+    assert!(run(&["stack", &folder.file("a.dmp", &bytes)]).0.contains("names of threads: "));
+}
+
+/// The program as a user who may not read all, in a folder with a mode for each path: root reads all.
+#[cfg(target_os = "linux")]
+fn run_as_nobody(folder: &Folder, modes: &[(&str, u32)], words: &[&str]) -> (String, String, i32) {
+    use std::os::unix::fs::{MetadataExt, PermissionsExt};
+    use std::os::unix::process::CommandExt;
+    const NOBODY: u32 = 65534;
+    let program = folder.0.join("pe");
+    fs::copy(env!("CARGO_BIN_EXE_pe"), &program).unwrap();
+    let set = |path: &std::path::Path, mode| fs::set_permissions(path, PermissionsExt::from_mode(mode)).unwrap();
+    set(&program, 0o755);
+    modes.iter().for_each(|(path, mode)| set(&folder.0.join(path), *mode));
+    let mut command = Command::new(&program);
+    if fs::metadata("/proc/self").unwrap().uid() == 0 {
+        command.uid(NOBODY).gid(NOBODY);
+    }
+    command.args(words).current_dir(&folder.0).env_remove("_NT_SYMBOL_PATH");
+    // A process that another test starts has the copy open for writing until it runs its own program (ETXTBSY).
+    let mut ran = command.output();
+    while ran.as_ref().is_err_and(|error| error.raw_os_error() == Some(26)) {
+        std::thread::sleep(std::time::Duration::from_millis(10));
+        ran = command.output();
+    }
+    let ran = ran.unwrap();
+    modes.iter().for_each(|(path, _)| set(&folder.0.join(path), 0o755));
+    let text = |bytes: Vec<u8>| String::from_utf8(bytes).unwrap();
+    (text(ran.stdout), text(ran.stderr), ran.status.code().unwrap())
+}
+
+/// Of a PDB in a folder that cannot be listed, or of which the entries cannot be looked at, nobody knows: it is not called missing.
+#[cfg(target_os = "linux")]
+#[test]
+fn folders_that_cannot_be_read_are_said() {
+    const KEY: &str = "497B72F6390A44FC878E5A2D63B6CC4B1";
+    let folder = Folder::new("stack-folders");
+    folder.file("a.dmp", &made::full_dump(made::X64));
+    let store = format!("store/a.pdb/{KEY}");
+    fs::create_dir_all(folder.0.join(&store)).unwrap();
+    folder.file(&format!("{store}/a.pdb"), b"");
+    fs::create_dir(folder.0.join("images")).unwrap();
+    let denied = "Permission denied (os error 13)";
+    for (path, mode) in [("store", 0), ("store/a.pdb", 0), (&store, 0), ("store", 0o444), ("store/a.pdb", 0o444)] {
+        let stack = ["stack", "--json", "a.dmp", "--symbols", "store"];
+        let said: Value = serde_json::from_str(&run_as_nobody(&folder, &[(path, mode)], &stack).0).unwrap();
+        let pdb = &said["modules"][0]["pdb"];
+        assert_eq!((&pdb["state"], &pdb["reason"]), (&json!("not-read"), &json!(denied)), "{path} {mode:o}");
+    }
+    for path in ["store", "store/a.pdb", &store] {
+        let key = ["key", "--missing", "a.dmp", "--symbols", "store"];
+        let (out, complaints, status) = run_as_nobody(&folder, &[(path, 0)], &key);
+        assert_eq!((complaints, status), (format!("pe: {path}: {denied}\n"), 0));
+        assert!(out.contains(&format!("a.pdb/{KEY}/a.pdb")), "{out}");
+    }
+    for command in [&["stack", "a.dmp"][..], &["key", "--missing", "a.dmp"]] {
+        let words = [command, &["--images", "images"]].concat();
+        assert_eq!(
+            run_as_nobody(&folder, &[("images", 0)], &words).1,
+            format!("pe: images: {denied}\n"),
+            "{command:?}"
+        );
+    }
+}
+
+/// A folder that is named may be a link. One to a folder below it is not followed, which is said.
+#[cfg(unix)]
+#[test]
+fn links_to_folders_are_followed_where_they_are_named() {
+    use std::os::unix::fs::symlink;
+    let folder = Folder::new("stack-links");
+    let (dump, images) = (folder.file("a.dmp", &made::full_dump(made::X64)), folder.0.join("images"));
+    fs::create_dir(&images).unwrap();
+    folder.file("images/a.exe", &made::with_functions());
+    let link = folder.0.join("link");
+    symlink(&images, &link).unwrap();
+    let named = link.to_str().unwrap();
+    assert_eq!(missing_in(&dump, &[("--images", named)]).len(), 1);
+    let (said, _) = said_of("stack-link", &made::full_dump(made::X64), &["--images", named]);
+    assert_eq!(
+        (&said["modules"][0]["image"], &said["modules"][0]["image_file"]),
+        (&json!("file"), &json!(format!("{named}/a.exe")))
+    );
+    assert!(run(&["-r", named]).0.starts_with(&format!("{named}/a.exe: ")));
+    fs::create_dir(folder.0.join("above")).unwrap();
+    symlink(&images, folder.0.join("above/link")).unwrap();
+    let above = folder.0.join("above").to_str().unwrap().to_string();
+    let said = format!("pe: {above}/link: a link to a folder, which is not followed\n");
+    for words in [["stack", &dump, "--images", &above], ["key", &dump, "--images", &above]] {
+        let more: &[&str] = if words[0] == "key" { &["--missing"] } else { &[] };
+        assert_eq!(run(&[&words[..], more].concat()).1, said, "{words:?}");
+    }
+    assert_eq!(run(&["key", "--missing", &dump, "--symbols", &above]).1, said);
+    assert_eq!(
+        run(&["-r", "-v", &above]).1,
+        format!("pe: {above}/link: skipped, it is no regular file\npe: 1 file is no image, and skipped\n")
+    );
+}
+
 /// A link to memory that is not there can be opened, and not read.
 #[cfg(target_os = "linux")]
 #[test]
@@ -360,7 +469,10 @@ fn a_file_of_images_that_cannot_be_read_is_said() {
     fs::create_dir(&images).unwrap();
     std::os::unix::fs::symlink("/proc/self/mem", images.join("a.dll")).unwrap();
     let (_, complaints, status) = run(&["stack", &dump, "--images", images.to_str().unwrap()]);
-    assert_eq!((complaints, status), (format!("pe: {}/a.dll: Input/output error (os error 5)\n", images.display()), LOST));
+    assert_eq!(
+        (complaints, status),
+        (format!("pe: {}/a.dll: Input/output error (os error 5)\n", images.display()), LOST)
+    );
 }
 
 /// Of all images 2^20 section headers are read. These share their memory.
@@ -752,9 +864,7 @@ fn no_path_of_a_dump_is_opened() {
         let Some(mut opened) = opened_in(&folder, &[&command[..], &["--images", "images"]].concat()) else { return };
         // The page is written to a temporary file first.
         opened.retain(|it| !it.starts_with(".pe-"));
-        // The start of an image is read first. A folder is listed for its images, and for what is laid out as on a symbol server.
-        let folders = if command[0] == "key" { 2 } else { 1 };
-        let wanted = [&["a.dmp"][..], &["images"].repeat(folders), &["images/other.exe"; 2]].concat();
-        assert_eq!(opened, wanted);
+        // The start of an image is read first. A folder is listed once.
+        assert_eq!(opened, ["a.dmp", "images", "images/other.exe", "images/other.exe"]);
     }
 }

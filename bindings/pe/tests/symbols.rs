@@ -216,6 +216,25 @@ fn what_is_no_pdb_that_is_read_is_told() {
     }
 }
 
+/// A file that is named by itself may be the PDB of another module, by its key. One that is no PDB, or cannot be read, is said.
+#[test]
+fn a_file_that_is_named_by_itself_is_no_other_modules_pdb_unless_it_says_so() {
+    let folder = folder("symbols-named");
+    let mut other = of_pieces(crash::PDB);
+    let guid = place_of(&other, &[0xDE, 0xF6, 0xAA, 0xC4, 0xF4, 0x03, 0xF2, 0x3C]);
+    other[guid] ^= 1;
+    put(&folder, "other.pdb", &other);
+    put(&folder, "none.pdb", &[b'x'; 100]);
+    for (file, state, error) in [("other.pdb", "missing", json!(null)), ("none.pdb", "refused", json!("PDB_MAGIC"))] {
+        let pdb = &stack_in(&folder, &["--symbols", file], None)["modules"][0]["pdb"];
+        assert_eq!((&pdb["state"], &pdb["error"]["name"]), (&json!(state), &error), "{pdb}");
+    }
+    // That of the module counts, whatever stands before it.
+    put(&folder, "mine.bin", &of_pieces(crash::PDB));
+    let said = stack_in(&folder, &["--symbols", "none.pdb", "--symbols", "mine.bin"], None);
+    assert_eq!(said["modules"][0]["pdb"]["state"], "read", "{said}");
+}
+
 /// The dump with another name of the PDB, of as many bytes at most.
 fn naming(name: &[u8]) -> Vec<u8> {
     let mut dump = of_pieces(crash::DUMP);

@@ -46,6 +46,26 @@ def unmapped(names):
     return bytes(data)
 
 
+def block_of(key, value, children):
+    """A block of version information."""
+    def padded(data):
+        return data + bytes(-len(data) % 4)
+    data = padded(struct.pack("<HHH", 0, len(value), 0) + key.encode("utf-16-le") + b"\0\0") + value
+    for it in children:
+        data = padded(data) + it
+    return struct.pack("<H", len(data)) + data[2:]
+
+
+def version_tables(count):
+    """A resource of version information with so many tables of strings, each without a name and a string."""
+    fixed = struct.pack("<I", 0xFEEF04BD) + bytes(48)
+    content = block_of("VS_VERSION_INFO", fixed, [block_of("StringFileInfo", b"", [block_of("", b"", [])] * count)])
+    tree = b"".join(struct.pack("<IIIIII", 0, 0, 0, 1 << 16, number, below)
+                    for number, below in ((16, 1 << 31 | 24), (1, 1 << 31 | 48), (0x409, 72)))
+    body = tree + struct.pack("<IIII", RVA + 88, len(content), 0, 0) + content
+    return image(body, {RESOURCE: (RVA, len(body))})
+
+
 def imports(libraries, names):
     """Libraries that share one list, whose imports share one name."""
     table = RVA + 20 * (libraries + 1)

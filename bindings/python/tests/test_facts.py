@@ -16,6 +16,7 @@ import time
 import unittest
 from unittest import mock
 
+import hostile
 import pe_c
 import test_more
 from pe_c import Kind, _guards, _signer, _tables, scan
@@ -75,6 +76,7 @@ class Lines(Room):
         shutil.copy(os.path.join(self.room, "debug.bin"), os.path.join(inner, "a\tb.dll"))
         os.symlink("nowhere", os.path.join(inner, "link"))
         os.symlink(self.room, os.path.join(inner, "loop"))
+        os.symlink("circle", os.path.join(inner, "circle"))
         os.mkfifo(os.path.join(inner, "pipe"))
         with open(os.path.join(inner, "text.txt"), "w") as file:
             file.write("MZ is no image")
@@ -86,7 +88,19 @@ class Lines(Room):
         self.assertEqual(run("scan", "-j", "3", self.room), one)
         self.assertEqual(run("-r", self.room), one)
         self.assertIn("no images, and skipped", one[1])
+        self.assertNotIn("symbolic links", one[1])
+        # A folder that is named may be a link, as one below it is not.
+        link = os.path.join(inner, "named")
+        os.symlink(inner, link)
+        self.assertEqual([json.loads(it)["file"] for it in run("scan", "-j", "1", link)[0].decode().splitlines()],
+                         [os.path.join(link, "a\tb.dll")])
         self.assertIn("the link leads to no file", run("scan", "-v", "-j", "1", self.room)[1])
+
+    def test_more_tables_of_version_strings_than_are_read(self):
+        for count, is_limited in ((4096, False), (4097, True)):
+            version = pe_c.Image(hostile.version_tables(count)).facts(has_hashes=False)["version"]
+            self.assertEqual((len(version["languages"]), version["languages_error"]), (4096, None))
+            self.assertIs(version["languages_is_limited"], is_limited)
 
     def test_statuses(self):
         path = os.path.join(self.room, "debug.bin")

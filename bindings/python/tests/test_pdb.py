@@ -307,6 +307,14 @@ class Stacks(unittest.TestCase):
         with self.assertRaises(FileNotFoundError):
             self.stack(os.path.join(self.folder, "nowhere"))
 
+    def test_a_file_that_is_named_by_itself(self):
+        """It may be the PDB of another module, by its key. One that is no PDB is said."""
+        none = self.put("x/none.pdb", b"x" * 100)
+        self.assertEqual((self.warned(none).error.kind, self.warned(none).path), (Kind.PDB_MAGIC, none))
+        other = bytearray(made("PDB"))
+        other[other.index(bytes.fromhex("def6aac4f403f23c"))] ^= 1
+        self.assertTrue(self.warned(self.put("x/other.pdb", bytes(other))).text.startswith("not found"))
+
     def test_another_build(self):
         whole = bytearray(made("PDB"))
         at = whole.index(bytes.fromhex("def6aac4f403f23c"))
@@ -330,6 +338,17 @@ class Stacks(unittest.TestCase):
         shutil.rmtree(os.path.join(self.folder, "crash.pdb"))
         self.put("crash.pdb", b"Microsoft C/C++ program database 2.00\r\n\x1aJG\0\0" + bytes(20))
         self.assertEqual((self.warned().kind, self.warned().error.kind), (WarningKind.DAMAGED, Kind.PDB20))
+        # What cannot be looked at may be a folder, and costs no other.
+        at = os.path.join(self.folder, "crash.pdb")
+        os.remove(at)
+        os.mkdir(at)
+        os.symlink(KEY, os.path.join(at, KEY))
+        self.assertEqual((self.warned().text, self.warned().path), ("Too many levels of symbolic links", os.path.join(at, KEY)))
+        shutil.rmtree(at)
+        os.symlink("cr", os.path.join(self.folder, "cr"))
+        self.assertEqual(self.warned().text, "Too many levels of symbolic links")
+        self.put("crash.pdb")
+        self.assertEqual(self.stack().frames[0].line, 8)
 
     def test_without_an_image(self):
         """The key is that of the dump. A frame that needs no unwind records is named all the same."""

@@ -291,6 +291,18 @@ class Values(unittest.TestCase):
         self.assertEqual([(it.kind, it.error.kind) for it in damaged.warnings],
                          [(pe_c.WarningKind.DAMAGED, Kind.DIRECTORY_BLOCK_SIZE)])
 
+    def test_a_damaged_record_of_the_debug_directory_is_a_warning(self):
+        def warned(kind, offset):
+            entry = struct.pack("<IIHHIIII", 0, 0, 0, 0, kind, 20, hostile.RVA + 28, offset)
+            image = pe_c.Image(hostile.image(entry + bytes(36), {6: (hostile.RVA, 28)}))
+            return [(it.part, it.error.kind) for it in image.warnings]
+        # VC features, and a POGO record that ends past the file.
+        self.assertEqual(warned(12, hostile.OFFSET + 28), [])
+        self.assertEqual(warned(12, 0x7000_0000) + warned(13, 0x7000_0000), [(it, Kind.SHORT) for it in ("vc_features", "pogo")])
+        # By a directory that is refused each of its records would be.
+        directory = pe_c.Image(hostile.image(bytes(64), {6: (0x7000_0000, 28)}))
+        self.assertEqual([it.part for it in directory.warnings], ["debug_entries", "symbol_key"])
+
     def test_texts_of_errors(self):
         self.assertEqual(str(pe_c.Error(2, "truncated", "headers", "a.dll")), "a.dll: headers: truncated")
         self.assertIs(Kind(12345), Kind.OTHER)

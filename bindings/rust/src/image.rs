@@ -80,7 +80,7 @@ macro_rules! errors {
 
 // Written by tools/make_errors, but for those of steps.
 errors! {
-    /// Out of memory. Only [`Image::parse`], [`Image::attach`] and [`Image::detach`] return it.
+    /// Out of memory. Calls that allocate what a file says return it, and name it.
     MEMORY = 1;
     /// Truncated.
     SHORT = 2;

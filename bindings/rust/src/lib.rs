@@ -57,8 +57,8 @@
 //!   whether it is there. A damaged one is an [`Error`]. An error in one part, a directory or a debug
 //!   record, does not affect another; of debug records that is proved over all bytes.
 //! - Every list is an iterator. After an `Err` item it returns `None`; [`VersionBlocks`] alone may go on after one.
-//! - No bytes, registers or memory make a call panic or loop forever. Of the methods of an [`Image`] only [`Image::parse`] and
-//!   a clone, both for the section headers and an index of them, [`Image::attach`] and [`Image::detach`] allocate.
+//! - No bytes, registers or memory make a call panic or loop forever. Iterators read many items at a time, into memory of their own.
+//!   What else allocates as much as a file says names [`Error::MEMORY`] among its errors, but for a clone.
 //! - Names that the library proves to be UTF-8 are `&str`: of DLLs, functions, forwarders, symbols, long names of sections. Others are
 //!   bytes, as the name of a PDB, whose code page nothing says.
 //! - Records to which fields may be added are `#[non_exhaustive]`: read them by their fields. For a test of your own make one by

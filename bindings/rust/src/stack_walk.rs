@@ -133,8 +133,8 @@ pub enum End {
     /// As many frames were returned as the caller wants.
     Bound,
     /// By its records the last frame returns to 0, as that does with which a thread starts, no frame is found there, and none of the
-    /// frames is a guess. The stack is whole, unless a frame by [`Way::Records`] has not called: its return address may have been
-    /// overwritten.
+    /// frames is a guess. By its records the stack is whole. A return address that was overwritten may have led them astray, as where a
+    /// frame by [`Way::Records`] has not called.
     Bottom,
     /// The instruction pointer of the last frame is in no module, or in one without an image, and no return address is found.
     NoModule,
@@ -272,7 +272,7 @@ const MOST_AT_ONCE: usize = 1024;
 /// executable section: [`Way::Scanned`] says which. In an image without a function table, or between its entries, the frame pointer
 /// comes before it where that leads to a return address: [`Way::FramePointer`]. From a module without an image, where no such word is found,
 /// the addresses of such modules are return addresses too: one to which the frame pointer leads, else the first of the words. Frames found so
-/// are guesses, as [`Frame::is_guess`] says, and the stack is whole only without any.
+/// are guesses, as [`Frame::is_guess`] says, and the stack is whole by its records only without any.
 ///
 /// On x64:
 ///

@@ -1,6 +1,6 @@
 //! The exports: all entries of the address table, each with its ordinal and its names.
 
-use super::{field, Budget, Name, Part, ENTRY};
+use super::{counted, field, Budget, Name, Part, ENTRY};
 use pe_c::{DirectoryIndex, Error, Image};
 use serde::Serialize;
 use std::iter;
@@ -15,6 +15,9 @@ pub struct Exports<'a> {
     pub entries: Vec<Export<'a>>,
     /// Whether there are more names or entries, and what they share is too long to be shown as often.
     pub is_limited: bool,
+    /// How many names stand in no entry: they are unmapped, not UTF-8, or lead to an ordinal that is not used. For text.
+    #[serde(skip)]
+    pub names_left_out: usize,
 }
 
 field!(Exports<'_>, "exports");
@@ -31,6 +34,13 @@ pub struct Export<'a> {
 impl Exports<'_> {
     pub fn forwarders(&self) -> usize {
         self.entries.iter().filter(|export| export.forwarder.is_some()).count()
+    }
+
+    /// Says how many names stand in no entry, if one does.
+    pub fn left_out(&self) -> Option<String> {
+        let names = counted(self.names_left_out, "name");
+        (self.names_left_out > 0)
+            .then(|| format!("{names} left out: unmapped, not UTF-8, or of no ordinal that is used"))
     }
 }
 
@@ -60,7 +70,10 @@ fn exports_of<'a>(image: &'a Image<'_>) -> Result<Option<Exports<'a>>, Error> {
     }
     let name = table.name().map(Name::of);
     let name_lower = name.and_then(|it| it.lower());
-    Ok(Some(Exports { name, name_lower, ordinal_base: table.ordinal_base(), entries, is_limited }))
+    let shown = entries.iter().map(|it| it.names.len()).sum();
+    let all = image.export_directory()?.map_or(0, |it| it.number_of_names as usize);
+    let names_left_out = if is_limited { 0 } else { all.saturating_sub(shown) };
+    Ok(Some(Exports { name, name_lower, ordinal_base: table.ordinal_base(), entries, is_limited, names_left_out }))
 }
 
 /// The names of exports in the order of their indexes, each with its index, and whether there are more.

@@ -58,7 +58,7 @@ entry!(StringTable, "languages");
 
 /// Languages that are shown before others: neutral, and English (US).
 const FIRST: [u16; 2] = [0, 0x409];
-/// How many tables of strings are read.
+/// How many tables of strings are read of all resources.
 const TABLES: usize = 4096;
 
 impl Version {
@@ -107,20 +107,24 @@ fn table_of(table: &VersionBlock<'_>, language: Label) -> Result<StringTable, Er
     })
 }
 
-/// Adds the tables in the blocks of a resource, of which the first is all of it.
-fn put_tables(blocks: VersionBlocks<'_>, language: &Label, to: &mut Vec<StringTable>) -> Result<(), Error> {
+/// Adds the tables in the blocks of a resource, of which the first is all of it, and returns whether there are more than are read.
+fn put_tables(blocks: VersionBlocks<'_>, language: &Label, to: &mut Vec<StringTable>) -> Result<bool, Error> {
     for root in blocks.take(1) {
         for information in root?.children() {
             let information = information?;
             if !information.key.to_string_lossy().eq_ignore_ascii_case("StringFileInfo") {
                 continue;
             }
-            for table in information.children().take(TABLES) {
-                to.push(table_of(&table?, language.clone())?);
+            for table in information.children() {
+                let table = table?;
+                if to.len() >= TABLES {
+                    return Ok(true);
+                }
+                to.push(table_of(&table, language.clone())?);
             }
         }
     }
-    Ok(())
+    Ok(false)
 }
 
 /// The tables of the resources of version information. What is refused ends the list.
@@ -135,9 +139,11 @@ fn tables_of<'a>(
             list.is_limited = true;
             break;
         }
-        let put = leaf.version_blocks().and_then(|it| put_tables(it, &named(leaf.language), &mut list.entries));
-        if let Err(error) = put {
-            list.error = Some(error.into());
+        match leaf.version_blocks().and_then(|it| put_tables(it, &named(leaf.language), &mut list.entries)) {
+            Ok(is_limited) => list.is_limited = is_limited,
+            Err(error) => list.error = Some(error.into()),
+        }
+        if list.is_limited || list.error.is_some() {
             break;
         }
     }

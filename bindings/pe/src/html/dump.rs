@@ -36,6 +36,7 @@ fn write_page(told: &Told, size: usize, out: &mut dyn Write) -> io::Result<()> {
     html.markup(" bytes</p><p class=path>").text(escaped(&told.origin.file)).markup("</p></header>");
     let mut refused = told.refusals();
     refused.extend(told.damaged_tables().map(|(_, it)| ("function table of a module", it)));
+    refused.extend(told.damaged_names().map(|(_, _, it)| ("names of a module", it)));
     refused.extend(told.damaged_pdbs().map(|(.., it)| ("PDB of a module", it)));
     warnings(&refused, &[], &mut html);
     filter(&mut html);

@@ -1,4 +1,4 @@
-//! What is asked first, on top of the page: what the image is, its version, whether it is signed, its checksum, its PDB and hashes,
+//! What is asked first, on top of the page: what the image is, its version, whether it has a signature, its checksum, its PDB and hashes,
 //! and how it is hardened.
 
 use super::markup::Html;
@@ -26,7 +26,7 @@ fn version_of(facts: &Facts) -> Vec<Row> {
     rows.into_iter().filter_map(|(label, value)| Some((label, value?, ""))).collect()
 }
 
-fn signed_of(facts: &Facts) -> Option<Row> {
+fn signature_of(facts: &Facts) -> Option<Row> {
     let is_signed = facts.hardening.as_ref()?.signed;
     let entries = facts.certificates.as_ref().map_or(&[][..], Part::entries);
     let signer = entries
@@ -34,15 +34,15 @@ fn signed_of(facts: &Facts) -> Option<Row> {
         .find_map(|it| it.signer.as_ref())
         .map_or(String::new(), |it| format!(" by {}", escaped(&it.to_string())));
     Some(match (is_signed, entries.len()) {
-        (true, 1) => ("signed", format!("yes{signer}, not verified"), ""),
-        (true, count) => ("signed", format!("yes{signer}, {count} certificates, not verified"), ""),
-        (false, _) => ("signed", "no".to_string(), ""),
+        (true, 1) => ("signature", format!("an entry{signer}, not verified"), ""),
+        (true, count) => ("signature", format!("{count} entries of certificates{signer}, not verified"), ""),
+        (false, _) => ("signature", "no entry".to_string(), ""),
     })
 }
 
 fn rows_of(facts: &Facts) -> Vec<Row> {
     let mut rows = version_of(facts);
-    rows.extend(signed_of(facts));
+    rows.extend(signature_of(facts));
     let Some(headers) = &facts.headers else { return rows };
     rows.push(("built", built(headers), ""));
     let class = if headers.checksum_state == Some("wrong") { "wrong" } else { "" };

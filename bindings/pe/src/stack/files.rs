@@ -16,10 +16,15 @@ type Key = (u32, u32);
 pub struct Known(BTreeMap<Key, Vec<PathBuf>>);
 
 impl Known {
-    /// Reads the headers of each file. One that is no image is none of these, nor is one that cannot be read, which is said.
+    /// Those of the files below folders.
     pub fn below(folders: &[PathBuf]) -> Known {
+        Known::of(folders.iter().flat_map(|folder| below(folder)))
+    }
+
+    /// Reads the headers of each file. One that is no image is none of these, nor is one that cannot be read, which is said.
+    pub fn of(paths: impl IntoIterator<Item = PathBuf>) -> Known {
         let mut known: BTreeMap<Key, Vec<PathBuf>> = BTreeMap::new();
-        for path in folders.iter().flat_map(|folder| below(folder)) {
+        for path in paths {
             let headers = headers_of(&path).unwrap_or_else(|error| unread(&path, &error));
             if let Ok(image) = Image::parse(&headers, Mode::Permissive) {
                 let info = image.info();

@@ -1,6 +1,6 @@
 //! `pe key --missing`: which images and PDB files of a minidump's modules are not found, as a symbol server spells them. An image
-//! is looked for as `pe stack` looks for it, and both in folders that are laid out as symbol servers are. The folders are listed, and
-//! what stands in the dump is compared with the lists: no path of it is opened.
+//! is looked for as `pe stack` looks for it, and both in folders that are laid out as symbol servers are. The folders are listed once,
+//! and what stands in the dump is compared with the lists: no path of it is opened.
 
 use super::told::Module;
 use super::{told, Asked, Known, Places, SymbolFolders};
@@ -31,14 +31,20 @@ pub struct Stores {
 }
 
 impl Stores {
+    /// A folder below them that cannot be listed is said: what stands in it counts as missing.
     pub fn below(images: &[PathBuf], symbols: &[PathBuf]) -> Stores {
-        let folders = images.iter().chain(symbols);
-        let paths =
-            folders.flat_map(|folder| files::below(folder).into_iter().filter_map(|it| store_path(&it, folder)));
-        Stores {
-            paths: paths.collect(),
-            places: Places { images: Known::below(images), symbols: SymbolFolders::none() },
+        let (mut paths, mut of_images) = (BTreeSet::new(), Vec::new());
+        for folder in images {
+            let below = files::below(folder);
+            paths.extend(below.iter().filter_map(|it| store_path(it, folder)));
+            of_images.extend(below);
         }
+        for folder in symbols {
+            let (folders, files): (Vec<_>, Vec<_>) = files::below(folder).into_iter().partition(|it| it.is_dir());
+            folders.iter().for_each(|it| files::say_unlisted(it));
+            paths.extend(files.iter().filter_map(|it| store_path(it, folder)));
+        }
+        Stores { paths, places: Places { images: Known::of(of_images), symbols: SymbolFolders::none() } }
     }
 
     fn has(&self, path: &str) -> bool {

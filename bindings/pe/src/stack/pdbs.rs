@@ -220,8 +220,8 @@ impl PdbFiles<'_> {
                 Some((path, why)) => ToldPdb { state: "not-read", file: file(path), reason: Some(why), ..told.clone() },
                 None => match self.read(candidate.path(), &group.key, &wanted) {
                     Ok(bytes) => return (ToldPdb { state: "read", file: file(candidate.path()), ..told }, Some(bytes)),
-                    // One that is named by itself is that of other modules.
-                    Err(_) if !candidate.has_name(group.name) => continue,
+                    // One that is named by itself, and has another key, is that of other modules.
+                    Err(why) if why.state == "another-build" && !candidate.has_name(group.name) => continue,
                     Err(why) => ToldPdb { file: file(candidate.path()), wanted_key: told.wanted_key.clone(), ..*why },
                 },
             };

@@ -10,6 +10,8 @@ use crate::files::paths_in;
 use std::cell::RefCell;
 use std::collections::BTreeMap;
 use std::env;
+use std::fs;
+use std::io::ErrorKind;
 use std::path::{Path, PathBuf};
 use std::rc::Rc;
 
@@ -131,8 +133,8 @@ impl SymbolFolders {
 
     /// The files NAME/KEY/NAME below a folder.
     fn by_key(&self, folder: &Path, (name, key): (&str, &str), found: &mut Vec<Candidate>) {
-        for of_name in self.named(folder, name, found).iter().filter(|it| it.is_dir()) {
-            for of_key in self.named(of_name, key, found).iter().filter(|it| it.is_dir()) {
+        for of_name in &self.named(folder, name, found) {
+            for of_key in &self.named(of_name, key, found) {
                 self.named(of_key, name, found);
                 found.extend(self.files(of_key, name).map(Candidate::File));
                 found.extend(self.files(of_key, &compressed(name)).map(Candidate::Compressed));
@@ -165,14 +167,16 @@ impl SymbolFolders {
         }
     }
 
-    /// What a folder has, which is listed once. A file has nothing.
+    /// What a folder has, which is listed once. A file has nothing, nor has a link that leads nowhere.
     fn listing(&self, folder: &Path) -> Listing {
         if let Some(listing) = self.listings.borrow().get(folder) {
             return listing.clone();
         }
-        let listed = match folder.is_dir() {
-            true => paths_in(folder).map(by_name).map_err(|error| error.to_string()),
-            false => Ok(BTreeMap::new()),
+        // What cannot be looked at may be a folder.
+        let listed = match fs::metadata(folder) {
+            Ok(it) if !it.is_dir() => Ok(BTreeMap::new()),
+            Err(error) if error.kind() == ErrorKind::NotFound => Ok(BTreeMap::new()),
+            it => it.and_then(|_| paths_in(folder)).map(by_name).map_err(|error| error.to_string()),
         };
         let listing = Rc::new(listed);
         self.listings.borrow_mut().insert(folder.to_path_buf(), listing.clone());

@@ -237,7 +237,7 @@ pub fn end_of(thread: &Thread) -> String {
         Some("bottom") if thread.frames.iter().any(is_after_no_call) => {
             "the last frame returns to 0, but no call precedes the address of a frame: an interrupt stopped it, or the stack was overwritten"
         }
-        Some("bottom") => "the stack is whole",
+        Some("bottom") => "the stack is whole by its records",
         Some("zero") => {
             "the last frame returns to 0, but a frame is a guess, or no records describe the last one: frames may be missing or wrong"
         }

@@ -44,6 +44,8 @@ pub struct Told {
     /// The crashed one first.
     #[serde(flatten)]
     pub threads: Part<List<Thread>>,
+    /// Why no thread has a name.
+    pub thread_names_error: Option<Refusal>,
     #[serde(flatten)]
     pub modules: Part<List<Module>>,
     #[serde(flatten)]
@@ -242,6 +244,7 @@ impl Told {
             exception: Part::Absent,
             first_frame_outside_windows: None,
             threads: Part::Absent,
+            thread_names_error: None,
             modules: Part::Absent,
             unloaded_modules: Part::Absent,
             memory: None,
@@ -263,6 +266,7 @@ impl Told {
         found.extend(registers.map(|it| ("registers of the crash", it)));
         found.extend(self.threads.list_refusal().map(|it| ("threads", it)));
         found.extend(threads.filter_map(|it| it.end_error.as_ref()).map(|it| ("registers of a thread", it)));
+        found.extend(self.thread_names_error.iter().map(|it| ("names of threads", it)));
         found.extend(self.modules.list_refusal().map(|it| ("modules", it)));
         found.extend(self.unloaded_modules.list_refusal().map(|it| ("unloaded modules", it)));
         found.extend(self.memory.iter().flat_map(|it| &it.errors).map(|it| ("memory", it)));

@@ -541,25 +541,27 @@ def strings_of(children: Triple) -> tuple[Facts, int]:
     return dict(sorted(strings.items())), number
 
 
-def tables_in(blocks: Triple, own: Facts, to: list[Facts]) -> int:
-    """Adds the string tables of a resource. Returns the first error."""
-    found, number, _ = blocks
+def tables_in(blocks: Triple, own: Facts, to: list[Facts]) -> tuple[int, bool]:
+    """Adds the string tables of a resource. Returns the first error, and whether there are more than are read."""
+    found, number, is_limited = blocks
     if not found:
-        return number
+        return number, is_limited
     informations, last, _ = found[0].children
     for information in informations or ():
         if text_to_zero(information.key).lower() != "stringfileinfo":
             continue
         tables, inner, _ = information.children
-        for table in (tables or ())[:TABLES]:
+        for table in tables or ():
+            if len(to) >= TABLES:
+                return 0, True
             strings, error = strings_of(table.children)
             if error:
-                return error
+                return error, is_limited
             is_own = table.language is not None and (table.language != 0 or own["id"] == 0)
             to.append({"language": language(table.language) if is_own else own, "code_page": table.code_page, "strings": strings})
         if inner:
-            return int(inner)
-    return int(last)
+            return int(inner), is_limited
+    return int(last), is_limited
 
 
 def languages(image: Exact) -> Facts:
@@ -574,7 +576,7 @@ def languages(image: Exact) -> Facts:
         if is_limited:
             break
         blocks = image.core.version_blocks(it.offset or 0, it.size) if not it.content_result else (None, it.content_result, False)
-        number, is_limited = tables_in(blocks, language(it.language), found), blocks[2]
+        number, is_limited = tables_in(blocks, language(it.language), found)
         if number or is_limited:
             break
     return rows("languages", (found, number, is_limited) if found or number else (None, 0, False), lambda it: it)

@@ -34,6 +34,8 @@ SECTOR = 512
 LISTS = ("sections", "imports", "exports", "delay_imports", "bound_imports", "debug_entries", "certificates", "resources", "relocations",
          "functions", "arm64_functions")
 RECORDS = ("symbol_key", "tls", "load_config", "clr_header", "clr_metadata")
+# Those of the debug directory, beside the symbol key.
+DEBUG_RECORDS = ("vc_features", "extended_dll_characteristics", "repro", "pogo", "embedded_pdb", "pdb_checksum")
 
 
 class Mode(enum.IntFlag):
@@ -553,7 +555,9 @@ class Image(Reader):
         def read() -> tuple[ImageWarning, ...]:
             errors = [part.error for part in (self._part(name) for name in LISTS) if part.error]
             errors += [error for it in self.versions for error in (it.fixed_error, it.strings_error, it.blocks.error) if error]
-            errors += [it for it in map(self._error_of, RECORDS) if it]
+            # By a directory that is refused each of its records is.
+            of_debug = () if self.debug_entries.error else DEBUG_RECORDS
+            errors += [it for it in map(self._error_of, (*RECORDS, *of_debug)) if it]
             found = [ImageWarning(WarningKind.DAMAGED, it.part, it.text, it, self.path) for it in errors]
             found += self._unmapped()
             found += [ImageWarning(WarningKind.LIMITED, it, "more entries than the file's bytes account for", None, self.path)

@@ -6,6 +6,7 @@ in upper or lower case."""
 from __future__ import annotations
 
 import os
+import stat
 import typing
 
 from . import _core
@@ -23,6 +24,14 @@ POINTER = "file.ptr"
 MOST, MOST_IN_ALL = 2 << 30, 8 << 30
 # How many records of functions are followed to the one of the whole function.
 MOST_CHAINED = 32
+
+
+def _is_folder(path: str) -> bool:
+    """Whether a path is that of a folder. Raises OSError where it cannot be looked at: it may be one."""
+    try:
+        return stat.S_ISDIR(os.stat(path).st_mode)
+    except FileNotFoundError:
+        return False
 
 
 class Folders:
@@ -43,7 +52,7 @@ class Folders:
         """What a folder has, by its names in lower case, which is listed once. A file has nothing."""
         if folder not in self._listings:
             found: dict[str, list[str]] = {}
-            for name in sorted(os.listdir(folder)) if os.path.isdir(folder) else ():
+            for name in sorted(os.listdir(folder)) if _is_folder(folder) else ():
                 found.setdefault(name.lower(), []).append(os.path.join(folder, name))
             self._listings[folder] = found
         return self._listings[folder]
@@ -51,7 +60,7 @@ class Folders:
     def _named(self, folder: str, name: str, is_folder: bool) -> list[str]:
         """What a folder has under a name, the same case first."""
         paths = self._listing(folder).get(name.lower(), [])
-        return sorted((it for it in paths if os.path.isdir(it) == is_folder), key=lambda it: os.path.basename(it) != name)
+        return sorted((it for it in paths if _is_folder(it) == is_folder), key=lambda it: os.path.basename(it) != name)
 
     def _by_key(self, folder: str, name: str, key: str) -> typing.Iterator[tuple[str, str]]:
         for of_name in self._named(folder, name, True):
@@ -62,18 +71,22 @@ class Folders:
                 yield from ((it, "leads to another file, which is not followed") for it in self._named(of_key, POINTER, False))
 
     def candidates(self, name: str, key: str) -> typing.Iterator[tuple[str, str]]:
-        """What stands where a PDB of this name and key is looked for, in order: paths, and why one is not read."""
+        """What stands where a PDB of this name and key is looked for, in order: paths, and why one is not read. A folder that cannot be
+        read is one of them, and costs what is in it alone."""
         for folder in self._folders:
-            if not os.path.isdir(folder):
-                yield folder, ""
-                continue
-            try:
-                yield from self._by_key(folder, name, key)
-                for tier in self._named(folder, name[:2], True):
-                    yield from self._by_key(tier, name, key)
-                yield from ((it, "") for it in self._named(folder, name, False))
-            except OSError as error:
-                yield error.filename or folder, error.strerror or str(error)
+            for layout in (self._by_key, self._in_tiers, self._by_name):
+                try:
+                    yield from layout(folder, name, key)
+                except OSError as error:
+                    yield error.filename or folder, error.strerror or str(error)
+
+    def _in_tiers(self, folder: str, name: str, key: str) -> typing.Iterator[tuple[str, str]]:
+        for tier in self._named(folder, name[:2], True):
+            yield from self._by_key(tier, name, key)
+
+    def _by_name(self, folder: str, name: str, _: str) -> typing.Iterator[tuple[str, str]]:
+        """What stands in the folder itself, or the file that is named in place of one."""
+        yield from ((it, "") for it in (self._named(folder, name, False) if _is_folder(folder) else [folder]))
 
 
 class Wanted:
@@ -106,8 +119,8 @@ class PdbFiles:
                 found = self._read(path, wanted)
                 if isinstance(found, Pdb):
                     return found, ()
-                # One that is named by itself is that of other modules.
-                if os.path.basename(path).lower() != wanted.name.lower():
+                # One that is named by itself, and has another key, is that of other modules.
+                if path in self._keys and os.path.basename(path).lower() != wanted.name.lower():
                     continue
                 said = found
             first = first or said

@@ -10,6 +10,7 @@ from __future__ import annotations
 
 import collections
 import concurrent.futures
+import errno
 import json
 import os
 import stat
@@ -62,9 +63,10 @@ class Said(typing.NamedTuple):
 
 
 def below(folder: str) -> typing.Iterator[File]:
-    """The files below a folder, each folder's in the order of their names. Links to folders are not followed. A folder that can't be
-    read is an item by itself, so that reading it says why."""
-    waiting = [os.fsencode(folder)]
+    """The files below a folder, each folder's in the order of their names. Links to folders are not followed, but for the folder that is
+    named. A folder that can't be read is an item by itself, so that reading it says why."""
+    # With a slash at its end a path leads where the link does.
+    waiting = [os.path.join(os.fsencode(folder), b"") if os.path.islink(folder) else os.fsencode(folder)]
     while waiting:
         path = waiting.pop()
         try:
@@ -119,7 +121,7 @@ def line_of(file: File, how: How = How()) -> Said:
             return skipped("it is no regular file")
         data = _content(file)
     except OSError as error:
-        if file.is_below and os.path.islink(file.path) and isinstance(error, FileNotFoundError):
+        if file.is_below and os.path.islink(file.path) and error.errno in (errno.ENOENT, errno.ELOOP):
             return skipped("the link leads to no file")
         why = error.strerror or str(error)
         hint = "; -r reads the files below it" if isinstance(error, IsADirectoryError) else ""
