@@ -114,6 +114,7 @@ pub fn guard_walks_return_the_list()
 
 /// What is read of an image as a loader lays it out, where an RVA is its own offset, is what is read of the file: the byte at each
 /// RVA that is mapped, and the bytes of each part whose RVAs are mapped one after the other, as those of a directory in one section.
+#[tactic(auto, using(crate::proofs::LoadedReads::byte_is, crate::proofs::LoadedReads::range_is))]
 pub fn loaded_images_are_read_as_files()
     ensures bytes { (to_offset : ℕ → Option ℕ) (b : List ℕ) (headers size rva p : ℕ) →
         rva < size → to_offset rva ≡ Some p →
@@ -125,6 +126,7 @@ pub fn loaded_images_are_read_as_files()
 {}
 
 /// Base relocations change the numbers that they name and no other byte, and a difference of 0 changes none.
+#[tactic(auto, using(crate::proofs::MovedWords::none_change, crate::proofs::MovedWords::others_stay))]
 pub fn relocations_change_their_words_alone()
     ensures others { (difference p : ℕ) (words : List Word) (b : List ℕ) →
         AllPassBy (length b) p words →
@@ -135,6 +137,7 @@ pub fn relocations_change_their_words_alone()
 
 /// What `relocate` makes of an image, by all blocks of a table and the relocation of the image base, is as long as it was and has
 /// the bytes that it had, but those of the numbers that these name.
+#[tactic(auto, using(crate::proofs::OtherBytes::others_kept, crate::proofs::OtherBytes::same_length))]
 pub fn relocated_images_keep_their_other_bytes()
     ensures long { (difference : ℕ) (base : Option BaseRelocation) (table b image : List ℕ) →
         relocated difference base table b ≡ Ok image → length image ≡ length b }
