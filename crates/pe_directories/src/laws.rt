@@ -65,6 +65,7 @@ pub fn va_tables_return_the_list()
 
 /// The items of a walk through metadata streams are those of its headers, as many as are counted. Every byte string has one
 /// list of them for each count.
+#[tactic(auto, using(crate::proofs::DrainedWalks::streams, crate::proofs::DrainedWalks::one_of_streams))]
 pub fn stream_walks_return_the_list()
     ensures streams { (s : ClrStreams) (xs : List (Result ClrStream DirectoryError)) →
         Drains ⟦<ClrStreams<'static> as Iterator>⟧.next_gives s xs →
@@ -94,6 +95,7 @@ pub fn delay_import_lists_are_of_whole_walks()
 
 /// The items of a walk through bound imports are the entries of its bytes up to one without a name. Every byte string has one
 /// list of them.
+#[tactic(auto, using(crate::proofs::DrainedWalks::bound_imports, crate::proofs::DrainedWalks::one_of_bound_imports))]
 pub fn bound_import_walks_return_the_list()
     ensures imports { (s : BoundImports) (xs : List (Result BoundImport DirectoryError)) →
         Drains ⟦<BoundImports<'static> as Iterator>⟧.next_gives s xs →
@@ -104,6 +106,7 @@ pub fn bound_import_walks_return_the_list()
 /// The items of a walk through a table of a load configuration are as many entries of its bytes as the load configuration says, or
 /// those before the bytes end and then an error. Every byte string has one list of them, for every number of entries and of bytes
 /// of flags.
+#[tactic(auto, using(crate::proofs::DrainedWalks::guarded, crate::proofs::DrainedWalks::one_of_guarded))]
 pub fn guard_walks_return_the_list()
     ensures entries { (s : GuardTable) (xs : List (Result GuardEntry DirectoryError)) →
         Drains ⟦<GuardTable<'static> as Iterator>⟧.next_gives s xs →
