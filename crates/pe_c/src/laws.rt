@@ -94,6 +94,7 @@ ghost use Rattle.pe_core.specs.declared.header.TheConstants.{COFF_MACHINE_X86_64
 /// For all bytes and options the results of the calls on an image, in the order and by the modes of `PE`, are exactly the
 /// fields of `PE::parse_with_opts` of pe_image, or its first error: what the calls return decides the image, and it is that.
 /// `IsImageOfCalls` names the calls of each field. No slice has more bytes than 2^63 - 1.
+#[tactic(auto, using(crate::proofs::OneImage::image_is_of_calls))]
 pub fn image_of_calls()
     ensures { (b : List ℕ) (o : ParseOptions) (r : Result ImageView Refusal) →
         AreBytes b → length b ≤ 2 ^ 63 → (IsImage b o r ↔ IsImageOfCalls b o r) }
@@ -106,6 +107,7 @@ pub fn image_of_calls()
 /// The libraries of such an image, which `HasLibraries` of pe_image says of `PE`, are exactly the names of the libraries that all
 /// steps of `pe_c_next_library` return, sorted by their bytes, each once: none where the options leave the imports out, or there is
 /// no import directory. The image and its sections are those that `pe_c_image` and `pe_c_sections` return.
+#[tactic(auto, using(crate::proofs::LibrariesOfCalls::libraries_are_of_calls))]
 pub fn libraries_of_calls()
     ensures { (b : List ℕ) (o : ParseOptions) (image : Image) (sections : List SectionTable)
         (x : ImageView) (libraries : List (List ℕ)) → AreBytes b → length b ≤ 2 ^ 63 →
@@ -173,6 +175,7 @@ pub fn plans_are_those_of_functions()
 
 /// A plan that `pe_c_plan_from` starts returns at most three times as many records as there are RVAs: so it comes to
 /// the root, or to an error.
+#[tactic(auto, using(crate::proofs::PlanEnds::plans_end))]
 pub fn plans_end()
     ensures { (b : List ℕ) (links : Result Table Refusal) (unwind : ℕ)
         (given : List UnwindRecord) (p : Plan) → AreBytes b → unwind < 2 ^ 32 →

@@ -307,6 +307,7 @@ pub fn read_record<M: RvaMap>(
 
 /// The file offset of an RVA by the first section, where that covers it, by the tests of `find_offset`. That is out of line; a caller
 /// who knows the section of its records passes it alone.
+#[tactic(auto, using(crate::proofs::EvenRecords::below_some, crate::proofs::EvenRecords::first_offset))]
 #[inline(always)]
 fn offset_by_first(sections: &[SectionTable], alignment: u32, rva: usize) -> Option<usize>
     requires { is_power_of_two alignment ≡ true }

@@ -13,3 +13,4 @@ pub mod Names
 pub mod OtherWalks
 pub mod RichHeaders
 pub mod SectionTexts
+pub mod DrainedWalks

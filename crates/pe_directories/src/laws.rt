@@ -65,6 +65,7 @@ pub fn va_tables_return_the_list()
 
 /// The items of a walk through metadata streams are those of its headers, as many as are counted. Every byte string has one
 /// list of them for each count.
+#[tactic(auto, using(crate::proofs::DrainedWalks::streams, crate::proofs::DrainedWalks::one_of_streams))]
 pub fn stream_walks_return_the_list()
     ensures streams { (s : ClrStreams) (xs : List (Result ClrStream DirectoryError)) →
         Drains ⟦<ClrStreams<'static> as Iterator>⟧.next_gives s xs →
@@ -94,6 +95,7 @@ pub fn delay_import_lists_are_of_whole_walks()
 
 /// The items of a walk through bound imports are the entries of its bytes up to one without a name. Every byte string has one
 /// list of them.
+#[tactic(auto, using(crate::proofs::DrainedWalks::bound_imports, crate::proofs::DrainedWalks::one_of_bound_imports))]
 pub fn bound_import_walks_return_the_list()
     ensures imports { (s : BoundImports) (xs : List (Result BoundImport DirectoryError)) →
         Drains ⟦<BoundImports<'static> as Iterator>⟧.next_gives s xs →
@@ -104,6 +106,7 @@ pub fn bound_import_walks_return_the_list()
 /// The items of a walk through a table of a load configuration are as many entries of its bytes as the load configuration says, or
 /// those before the bytes end and then an error. Every byte string has one list of them, for every number of entries and of bytes
 /// of flags.
+#[tactic(auto, using(crate::proofs::DrainedWalks::guarded, crate::proofs::DrainedWalks::one_of_guarded))]
 pub fn guard_walks_return_the_list()
     ensures entries { (s : GuardTable) (xs : List (Result GuardEntry DirectoryError)) →
         Drains ⟦<GuardTable<'static> as Iterator>⟧.next_gives s xs →
@@ -114,6 +117,7 @@ pub fn guard_walks_return_the_list()
 
 /// What is read of an image as a loader lays it out, where an RVA is its own offset, is what is read of the file: the byte at each
 /// RVA that is mapped, and the bytes of each part whose RVAs are mapped one after the other, as those of a directory in one section.
+#[tactic(auto, using(crate::proofs::LoadedReads::byte_is, crate::proofs::LoadedReads::range_is))]
 pub fn loaded_images_are_read_as_files()
     ensures bytes { (to_offset : ℕ → Option ℕ) (b : List ℕ) (headers size rva p : ℕ) →
         rva < size → to_offset rva ≡ Some p →
@@ -125,6 +129,7 @@ pub fn loaded_images_are_read_as_files()
 {}
 
 /// Base relocations change the numbers that they name and no other byte, and a difference of 0 changes none.
+#[tactic(auto, using(crate::proofs::MovedWords::none_change, crate::proofs::MovedWords::others_stay))]
 pub fn relocations_change_their_words_alone()
     ensures others { (difference p : ℕ) (words : List Word) (b : List ℕ) →
         AllPassBy (length b) p words →
@@ -135,6 +140,7 @@ pub fn relocations_change_their_words_alone()
 
 /// What `relocate` makes of an image, by all blocks of a table and the relocation of the image base, is as long as it was and has
 /// the bytes that it had, but those of the numbers that these name.
+#[tactic(auto, using(crate::proofs::OtherBytes::others_kept, crate::proofs::OtherBytes::same_length))]
 pub fn relocated_images_keep_their_other_bytes()
     ensures long { (difference : ℕ) (base : Option BaseRelocation) (table b image : List ℕ) →
         relocated difference base table b ≡ Ok image → length image ≡ length b }

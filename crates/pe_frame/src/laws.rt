@@ -57,6 +57,7 @@ pub fn one_result_of_steps_with_code()
 /// that pop a register which was pushed after the frame register was set, by `add` and by `lea`. Their prologs are those of frames. In the prolog
 /// there is no epilog, nor where a jump stays in the function; one to its start leaves it. A jump by a register alone stays; with
 /// REX.W it leaves, and so it does after a pop.
+#[tactic(auto, using(crate::proofs::Samples::chained, crate::proofs::Samples::chained_ready, crate::proofs::Samples::pushed, crate::proofs::Samples::framed, crate::proofs::Samples::framed_ready, crate::proofs::Samples::late, crate::proofs::Samples::late_ready), unfolding(pe_core::specs::Bytes::le, crate::specs::Epilogs::operand, crate::specs::Epilogs::add_at, crate::specs::Epilogs::lea_at, crate::specs::Epilogs::pop_at, crate::specs::Epilogs::popped_first, crate::specs::Epilogs::after_pops, crate::specs::Epilogs::jump_at, crate::specs::Epilogs::marked_jump, crate::specs::Epilogs::unmarked_jump, crate::specs::Epilogs::return_number, crate::specs::Epilogs::exit_at))]
 pub fn epilogs_are_there()
     ensures added { epilog_at (infos (pushed_part ∷ [])) 0x1000 0x1040
         (0x48 ∷ 0x83 ∷ 0xC4 ∷ 0x20 ∷ 0x5B ∷ 0xC3 ∷ []) ≡ Some (Add 32 ∷ Pop 3 ∷ Return 0 ∷ []) }
@@ -155,6 +156,7 @@ pub fn stacks_show_memory()
 
 /// Memory in pieces shows what a machine's memory has, in whatever order the pieces stand and however they overlap, as far as
 /// one of them has each byte. One piece is a stack.
+#[tactic(auto, using(crate::proofs::PiecesShow::one_piece, crate::proofs::PiecesShow::word_of_pieces))]
 pub fn pieces_show_memory()
     ensures shown { (pieces : List Stack) (a : ℕ) (memory : ℕ → ℕ) →
         ArePiecesOf memory pieces → ((i : ℕ) → i < 8 → have_byte (a + i) pieces ≡ true) →
@@ -165,6 +167,7 @@ pub fn pieces_show_memory()
 
 /// A list of pieces in some bytes shows what a machine's memory has in the same way. It is the memory of the pieces that it
 /// lists.
+#[tactic(auto, using(crate::proofs::ListsShow::word_of_its_pieces, crate::proofs::ListsShow::word_of_list))]
 pub fn memory_lists_show_memory()
     ensures shown { (bytes : List ℕ) (pieces : List MemoryPiece) (a : ℕ) (memory : ℕ → ℕ) →
         AreListed memory bytes pieces → ((i : ℕ) → i < 8 → list_byte (a + i) pieces ≡ true) →
@@ -188,6 +191,7 @@ pub fn searched_memory_is_listed()
 
 /// There are such frames: of a part in the body of a function, of one with a frame register, after its prolog and inside of
 /// it, of an interrupt, and inside of a prolog whose record of version 2 also says where epilogs are.
+#[tactic(auto, using(crate::proofs::Samples::chained, crate::proofs::Samples::framed, crate::proofs::Samples::begun, crate::proofs::Samples::interrupted, crate::proofs::Samples::told))]
 pub fn prologs_are_there()
     ensures chained { AreFrames (all_known (left None inner_part))
         (inner_part ∷ home_part ∷ []) None (registers_of (left None inner_part)) }

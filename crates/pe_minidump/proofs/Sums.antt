@@ -1,8 +1,6 @@
 -- Sums of the sizes of pieces, and the pieces that are left of a list.
 use Rattle.std.proofs.Common.{◌≡◌, ℕ, zero, suc, ◌+◌, ◌-◌, ◌/◌, ◌^◌, ◌<◌, ◌≤◌, List, [], ◌∷◌, map, length, refl, ap, subst, sym, ◌∙◌, arith}
 use Rattle.std.specs.List.{range_with_len}
-use Rattle.std.proofs.lemmas.List.{length-map}
-use Rattle.std.proofs.lemmas.List.FromFn.{length-range_with_len}
 use Rattle.pe_minidump.specs.Memory64.{pieces_from, piece64, size_of_first, size_of_piece}
 
 -- one piece more
@@ -36,10 +34,6 @@ pub pieces_none : (file ranges : List ℕ) (base i : ℕ) → length ranges / 16
 pieces_none file ranges base i h =
     let count : length ranges / 16 - i ≡ 0 = omega (arith, h) in
     ap (λ (m : ℕ). map (λ k. piece64 file ranges base k) (range_with_len i m)) count
-
-pub count_of_pieces : (file ranges : List ℕ) (base i : ℕ) → length (pieces_from file ranges base i) ≡ length ranges / 16 - i
-count_of_pieces file ranges base i =
-    length-map (range_with_len i (length ranges / 16 - i)) (λ k. piece64 file ranges base k) ∙ length-range_with_len i (length ranges / 16 - i)
 
 -- ---- offsets
 

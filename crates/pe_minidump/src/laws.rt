@@ -12,6 +12,7 @@ ghost use Rattle.pe_minidump.specs.declared.dump.DirectoryEntry.{DirectoryEntry}
 
 /// The stream of a kind is that of the first entry of the kind, also where others of the kind follow it. Where no entry is of a
 /// kind there is none.
+#[tactic(auto, using(crate::proofs::Streams::stream_of_first, crate::proofs::Streams::stream_of_none))]
 pub fn streams_are_first()
     ensures first { (d : DumpView) (i : ℕ) (e : DirectoryEntry) → entry_at d i ≡ Some e →
         ((j : ℕ) (f : DirectoryEntry) → j < i → entry_at d j ≡ Some f → (f.stream_type == e.stream_type) ≡ false) →
@@ -31,6 +32,7 @@ pub fn offsets_are_sums()
 
 /// The registers that are read of a context are its bytes: written one after the other they are the bytes from the offset of the
 /// first one on. XMM and vector registers are so where they were saved.
+#[tactic(auto, using(crate::proofs::Registers::arm64_spelled, crate::proofs::Registers::x64_spelled))]
 pub fn contexts_are_read()
     ensures x64 { (b : List ℕ) → AreBytes b → IfOk (context_x64 b) (AreX64 b) }
     ensures arm64 { (b : List ℕ) → AreBytes b → IfOk (context_arm64 b) (AreArm64 b) }
@@ -38,6 +40,7 @@ pub fn contexts_are_read()
 
 /// What an `AddressIndex` finds is the first range in the order of the list that has the address; where it finds none, none has it.
 /// So the module of an address is the first one that has it, and a byte of memory is that of the first piece that has it.
+#[tactic(auto, using(crate::proofs::IndexFirsts::index_found, crate::proofs::IndexFirsts::index_none))]
 pub fn index_is_list()
     ensures found { (ranges : List AddressRange) (x i : ℕ) → first_index 0 ranges x ≡ Some i → IsFirstWith x ranges i }
     ensures none { (ranges : List AddressRange) (x : ℕ) → first_index 0 ranges x ≡ None →

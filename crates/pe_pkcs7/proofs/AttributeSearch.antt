@@ -19,9 +19,6 @@ Elements = List (Result Element SignatureError)
 pub record SearchesOn (s : List ℕ) (number p q : ℕ) : Type 0 where
   pub on : (sought : Sought) → FindsAttribute s number q sought → FindsAttribute s number p sought
 
-pub starts : (s : List ℕ) (number p : ℕ) → SearchesOn s number p p
-starts s number p = record { on = λ sought f. f }
-
 abbrev Place : Type 0
 Place = List ℕ × ℕ
 

@@ -4,16 +4,13 @@ use Rattle.std.proofs.Math.Seq.{drop-cons, take-add}
 use Rattle.std.proofs.lemmas.Bool.Decides.{nat_tests}
 use Rattle.std.proofs.lemmas.List.{length-take-le, places, same_lists}
 use Rattle.std.specs.Prelude.{slice_index, ◌==◌, ◌&&◌}
-use Rattle.pe_core.specs.Bytes.{range, AreBytes}
+use Rattle.pe_core.specs.Bytes.{AreBytes}
 use Rattle.pe_pkcs7.specs.Der.{be, has_octets, is_end_of_contents, octets_after, content_length, is_longer, element_of, element_at}
 use Rattle.pe_pkcs7.specs.Encoding.{AreOfElement, octets, octets_needed, length_written, der, content_in, octets_in}
 use Rattle.pe_pkcs7.specs.declared.der.Element.{Element}
 use Rattle.pe_pkcs7.proofs.Reading.{parts}
 
 -- ---- bytes from an offset on
-
-pub range_is : (b : List ℕ) (p m : ℕ) → range b p m ≡ take m (drop p b)
-range_is b p m = ap (λ (k : ℕ). take k (drop p b)) (omega arith)
 
 pub later : (b : List ℕ) (p n : ℕ) → drop n (drop p b) ≡ drop (p + n) b
 later b p n = same_lists _ _ (grind (arith, places)) (λ j d lt. grind (arith, places))

@@ -22,6 +22,7 @@ use crate::name::NameAttributes;
 
 /// Nothing is taken from outside of the parent: an element that is read starts where it is looked for, and its content lies
 /// after it, in the bytes up to the end of the parent.
+#[tactic(auto, using(crate::proofs::Reading::within))]
 pub fn elements_lie_in_their_parent()
     ensures { (b : List ℕ) (p : ℕ) (x : Element) → element_at b p ≡ Ok x →
         (x.offset ≡ p) × (p < x.content) × (x.content ≤ x.end) × (x.end ≤ length b) }
@@ -48,6 +49,7 @@ pub fn written_elements_are_read()
 /// signed, are what DER writes for its tag and content. The octets that a signer signs are the octets of the attributes as they
 /// stand, under the tag 31h of a `SET` and not under `[0]`: tag, length and content (RFC 5652, 5.4). DER also sorts a `SET OF`,
 /// which is not tested. The content, which `messageDigest` covers, is neither the tag nor the length.
+#[tactic(auto, using(crate::proofs::Hashing::whole_of, crate::proofs::Hashing::with_other_tag))]
 pub fn hashed_octets_are_written_by_der()
     ensures whole { (b : List ℕ) (e q : ℕ) (x : Element) → AreBytes b → element_at (take e b) q ≡ Ok x →
         element_bytes b x ≡ der x.tag (content_bytes b x) }
@@ -70,6 +72,7 @@ pub fn walks_return_the_list()
 
 /// The attributes of a name are those of the grammar: of each relative distinguished name in the order of the name, of each of them
 /// its elements in their order, and nothing else. `b` are the bytes up to the end of the name, whose content starts at `p`.
+#[tactic(auto, using(crate::proofs::NameLists::is_name, crate::proofs::NameLists::of_the_grammar))]
 pub fn names_are_relative_distinguished_names()
     ensures { (b : List ℕ) (p : ℕ) (rdns : List (Result Element SignatureError))
         (all : List (Result NameAttribute SignatureError)) → Items first_element (b, p) rdns →

@@ -67,6 +67,7 @@ pub fn other_addresses_stay()
 
 /// The data of the resource directory of such an image, as mapped, are the section with the leaves that were given, and the
 /// leaves that pe_resource's walk finds in the image, with their contents by the section map, are these leaves.
+#[tactic(auto, using(crate::proofs::WrittenImages::directory_read, crate::proofs::WrittenTrees::leaves_found))]
 pub fn edited_leaves_are_read()
     ensures directory { (o : ParseOptions) (b : List ℕ) (h : HeaderView) (xs : List Leaf)
         (p : Place) (f : List ℕ) (w : OptionalHeaderView) → IsEditedInPlace b h xs p f →
@@ -111,6 +112,7 @@ pub fn edits_at_the_end_change_no_more()
 /// The headers of such an image are parsed: they are those of the image, but for the number of sections, the pointer to the
 /// COFF symbols, the sizes of initialized data and of the image, the entry of the resource directory, and the checksum, which
 /// is that of the file, or 0 where it was 0.
+#[tactic(auto, using(crate::proofs::RoomImages::headers_moved))]
 pub fn headers_of_edits_at_the_end_are_parsed()
     ensures { (mode : ParseMode) (b : List ℕ) (h : HeaderView) (xs : List Leaf) (m : Room)
         (f : List ℕ) → header_at b mode ≡ Ok h → IsEditedAtEnd b h xs m f →
@@ -118,6 +120,7 @@ pub fn headers_of_edits_at_the_end_are_parsed()
 {}
 
 /// The section headers of such an image are those of the image, but for that of the section, which may be one more.
+#[tactic(auto, using(crate::proofs::RoomImages::sections_moved))]
 pub fn sections_of_edits_at_the_end_are_parsed()
     ensures { (b : List ℕ) (h : HeaderView) (xs : List Leaf) (m : Room) (f : List ℕ) (i : ℕ) →
         IsEditedAtEnd b h xs m f → IsRoomRow h m i → section_headers f (headers_roomy m h)
@@ -126,6 +129,7 @@ pub fn sections_of_edits_at_the_end_are_parsed()
 
 /// By the section map of such an image every RVA outside of the section leads to the file offset that it led to in the image,
 /// and with the image's file alignment to the same byte, unless that is in the pointer of a debug entry.
+#[tactic(auto, using(crate::proofs::RoomImages::byte_moved, crate::proofs::RoomImages::map_moved))]
 pub fn other_addresses_stay_at_the_end()
     ensures map { (o : ParseOptions) (b : List ℕ) (h : HeaderView) (xs : List Leaf) (m : Room)
         (f : List ℕ) (alignment a : ℕ) → IsEditedAtEnd b h xs m f →
@@ -168,6 +172,7 @@ pub fn debug_data_are_found_again()
 
 /// The data of the resource directory of such an image, as mapped, are the section with the leaves that were given, and the
 /// leaves that pe_resource's walk finds in the image, with their contents by the section map, are these leaves.
+#[tactic(auto, using(crate::proofs::RoomImages::directory_moved, crate::proofs::RoomImages::leaves_moved))]
 pub fn leaves_at_the_end_are_read()
     ensures directory { (o : ParseOptions) (b : List ℕ) (h : HeaderView) (xs : List Leaf) (m : Room)
         (f : List ℕ) (w : OptionalHeaderView) → IsEditedAtEnd b h xs m f →

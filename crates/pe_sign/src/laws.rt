@@ -98,6 +98,7 @@ pub fn written_headers_are_parsed()
 /// By the headers that are parsed of what was written, the parts that a digest leaves out are those of the image with the
 /// certificate table that its entry names now, or without one. So `k` is a header as `attached_certificates_are_detached`
 /// asks for.
+#[tactic(auto, using(crate::proofs::WrittenHeaders::attached_parsed, crate::proofs::WrittenHeaders::detached_parsed))]
 pub fn parsed_headers_name_the_parts()
     ensures attached { (mode : ParseMode) (placement : Placement) (b : List ℕ) (h k : HeaderView)
         (certificate f : List ℕ) (l : LeftOut) → IsAttached mode placement b h certificate f l →
@@ -111,6 +112,7 @@ pub fn parsed_headers_name_the_parts()
 
 /// A signature stays valid for whoever parses what was written: by those headers the digest covers what it covered of the
 /// image, as bytes with the zeros that follow them.
+#[tactic(auto, using(crate::proofs::WrittenHeaders::attached_digest_parsed, crate::proofs::WrittenHeaders::detached_digest_parsed))]
 pub fn parsed_digests_stay()
     ensures attached { (mode : ParseMode) (placement : Placement) (b : List ℕ) (h k : HeaderView)
         (certificate f : List ℕ) (l : LeftOut) (c d : Covered) →
@@ -134,6 +136,7 @@ pub fn parsed_certificates_are_detached()
 /// What is attached can be detached, by the headers that are parsed of it, if the data directories end before the section
 /// table: `detach` does not refuse it, and leaves the image as it was, but for zeros at its end, the entry and the checksum;
 /// without any certificate that it had.
+#[tactic(auto, using(crate::proofs::DetachedAgain::is_detached))]
 pub fn attached_images_can_be_detached()
     ensures { (mode : ParseMode) (placement : Placement) (b : List ℕ) (h k : HeaderView)
         (certificate f : List ℕ) (l : LeftOut) → IsAttached mode placement b h certificate f l →

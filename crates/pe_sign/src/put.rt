@@ -45,6 +45,7 @@ fn set_entry(out: &mut [u8], left_out: &LeftOut, entry: DataDirectory)
 }
 
 /// Writes the checksum of the file that is the first `end` bytes of the buffer.
+#[tactic(auto, using(crate::proofs::Writes::checksum_set))]
 fn set_checksum(out: &mut [u8], end: usize, left_out: &LeftOut)
     requires inside { end ≤ length out.old }
     requires field { left_out.now.checksum.offset + 4 ≤ end }
@@ -57,6 +58,7 @@ fn set_checksum(out: &mut [u8], end: usize, left_out: &LeftOut)
 
 /// Writes the entry of the certificate directory and then the checksum into the file that is the first `end` bytes of
 /// the buffer.
+#[tactic(auto, using(crate::proofs::Writes::fields_set))]
 pub fn set_fields(out: &mut [u8], end: usize, left_out: &LeftOut, entry: DataDirectory)
     requires inside { end ≤ length out.old }
     requires field { left_out.now.checksum.offset + 4 ≤ end }

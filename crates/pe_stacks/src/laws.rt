@@ -31,6 +31,7 @@ ghost use Rattle.pe_stacks.specs.declared.names.FunctionStart.TheVariants.{NoTab
 ghost use Rattle.pe_stacks.specs.declared.names.NamedFunction.{NamedFunction};
 
 /// An image is taken only if its time stamp and its size are those of the module.
+#[tactic(auto, using(crate::proofs::Headline::fits))]
 pub fn images_match()
     ensures { (b : List ℕ) (opts : ParseOptions) (m : Module) (i : ModuleImageView) →
         image_of b opts m ≡ Ok (Some i) → Fits b opts m }
@@ -38,6 +39,7 @@ pub fn images_match()
 
 /// The bytes of a dump's memory from an address on, of which the image of a module is made, are each that of the first piece of the
 /// dump that has its address: what the dump has no byte of is never read as zeros.
+#[tactic(auto, using(crate::proofs::RunBytes::byte_of_memory))]
 pub fn loaded_bytes_are_memory()
     ensures { (file : List ℕ) (pieces runs : List MemoryPiece) (x n k : ℕ) →
         AreRuns pieces runs → are_inside file pieces ≡ true → x + k < 2 ^ 64 → k < length (bytes_at file runs x n) →
@@ -46,6 +48,7 @@ pub fn loaded_bytes_are_memory()
 
 /// The memory of a full dump is that of its list, where the dump has no other list: then the walks of its threads are over these
 /// pieces alone.
+#[tactic(auto, using(crate::proofs::FullMemory::only_list))]
 pub fn full_memory_is_its_list()
     ensures { (d : DumpView) (l : Listed64) → memory_list d ≡ Ok None → read_stream memory64_of d 9 ≡ Ok (Some l) →
         pieces_of d ≡ listed_all d.bytes l }
@@ -53,6 +56,7 @@ pub fn full_memory_is_its_list()
 
 /// The byte of such a list at an address is that of the first piece for which the file has one there. It stands in the file after the
 /// bytes of all pieces before it. Where the file has one for no piece there is none.
+#[tactic(auto, using(crate::proofs::FullMemory::sums_found, crate::proofs::FullMemory::sums_none))]
 pub fn full_memory_is_sums()
     ensures found { (file : List ℕ) (l : Listed64) (x i : ℕ) → IsFirst64 file l x i →
         listed_byte file (listed_all file l) x ≡ Some (slice_index file (offset64 l i + (x - start64 l i))) }
@@ -96,6 +100,7 @@ pub fn exceptions_come_first()
 
 /// Where the function table has a function at an RVA, what names the RVA starts in that function, at or before the RVA, and an export
 /// starts with the function. A name that is only the nearest one is of an image without a function table.
+#[tactic(auto, using(crate::proofs::NearestNames::inside, crate::proofs::NearestNames::only_nearest))]
 pub fn names_stay_in_their_function()
     ensures inside { (symbols exports : List ℕ) (start rva : ℕ) (n : NamedFunction) → start ≤ rva →
         Names symbols exports (Starts start) rva (Some n) →

@@ -81,7 +81,7 @@ fn refusal_text(number: u32) -> &'static str
 }
 
 /// The text of the number of a result that is no error of pe_core.
-#[tactic(auto, unfolding(crate::specs::Texts::other_text))]
+#[tactic(auto, using(crate::proofs::LastText::other_text_past), unfolding(crate::specs::Texts::other_text))]
 fn other_text(number: u32) -> &'static str
     requires { NOTHING ≤ number }
     ensures { result.now ≡ other_text number }
@@ -100,7 +100,7 @@ fn other_text(number: u32) -> &'static str
 }
 
 /// The text of an error of signing, by its number from `SIGNING` on. `tools/make_errors` writes the arms.
-#[tactic(auto, unfolding(crate::specs::Texts::sign_text))]
+#[tactic(auto, using(crate::proofs::LastText::sign_text_past), unfolding(crate::specs::Texts::sign_text))]
 fn sign_text(number: u32) -> &'static str
     ensures { result.now ≡ sign_text number }
 {
@@ -149,7 +149,7 @@ fn tree_text(number: u32) -> &'static str
 }
 
 /// The text of an error of resources that are written, by its number from `EDITS` on. `tools/make_errors` writes the arms.
-#[tactic(auto, unfolding(crate::specs::Texts::edit_text))]
+#[tactic(auto, using(crate::proofs::LastText::edit_text_past), unfolding(crate::specs::Texts::edit_text))]
 fn edit_text(number: u32) -> &'static str
     ensures { result.now ≡ edit_text number }
 {
@@ -183,7 +183,7 @@ fn edit_text(number: u32) -> &'static str
 }
 
 /// The text of an error of a signature, by its number from `SIGNATURES` on. `tools/make_errors` writes the arms.
-#[tactic(auto, unfolding(crate::specs::Texts::signature_text))]
+#[tactic(auto, using(crate::proofs::LastText::signature_text_past), unfolding(crate::specs::Texts::signature_text))]
 fn signature_text(number: u32) -> &'static str
     ensures { result.now ≡ signature_text number }
 {
@@ -206,7 +206,7 @@ fn signature_text(number: u32) -> &'static str
 }
 
 /// The text of an error of a minidump, by its number from `DUMPS` on. `tools/make_errors` writes the arms.
-#[tactic(auto, unfolding(crate::specs::Texts::dump_text))]
+#[tactic(auto, using(crate::proofs::LastText::dump_text_past), unfolding(crate::specs::Texts::dump_text))]
 fn dump_text(number: u32) -> &'static str
     ensures { result.now ≡ dump_text number }
 {

@@ -294,6 +294,7 @@ fn put_sections(bytes: &[u8], offset: usize, count: usize, room: &mut [SectionTa
 
 /// Writes so many section headers, which start at a file offset, to the start of `room`, and returns `DONE`. Errors: `ROOM`
 /// where `room` has fewer entries; `SHORT`.
+#[tactic(auto, using(crate::proofs::Rooms::no_sections))]
 pub fn sections_into(bytes: &[u8], offset: usize, count: usize, room: &mut [SectionTable]) -> u32
     ensures { PutsSectionsAt bytes.now offset count result room.old room.new }
 {

@@ -122,6 +122,7 @@ fn put_sections(bytes: &[u8], fixup: u32, count: usize, room: &mut [SectionTable
 ///
 /// Errors: `ROOM` where `room` has fewer entries than the image has sections; `SHORT` where the section headers are
 /// truncated.
+#[tactic(auto, using(crate::proofs::Rooms::no_te_sections))]
 #[unsafe(no_mangle)]
 pub extern "C" fn pe_c_te_sections(bytes: &[u8], te: &TeImage, room: &mut [SectionTable]) -> u32
     ensures { PutsTeSections bytes.now te.now result room.old room.new }

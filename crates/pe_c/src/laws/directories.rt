@@ -32,6 +32,7 @@ pub fn ranges_of_metadata_are_its_parts()
 {}
 
 /// The ranges of the stream that stands first in a walk lie in the bytes, and are its name and its part of the metadata.
+#[tactic(auto, using(crate::proofs::DirectoryParts::name_of_stream_stands, crate::proofs::DirectoryParts::content_stands))]
 pub fn ranges_of_streams_are_their_parts()
     ensures name { (b : List ℕ) (w : MetadataStreams) (s : Stream) (left : ℕ × List ℕ) →
         first_stream_in b w ≡ Some (Ok (s, left)) → IsRange b (stream_reported w s).name s.name }
@@ -54,6 +55,7 @@ pub fn ranges_of_delay_imports_are_their_names()
 
 /// Where RVAs are mapped by the sections of the image, steps over delay imports return what pe_directories defines, or the same
 /// refusal: the name of a DLL, the table of what is imported of it, and what a number of the table imports.
+#[tactic(auto, using(crate::proofs::DelayAddresses::same_dll, crate::proofs::DelayAddresses::same_function, crate::proofs::DelayAddresses::same_table))]
 pub fn delay_imports_are_those_of_the_image()
     ensures dll { (b : List ℕ) (image : Image) (sections : List SectionTable) (e : DelayImport) →
         dll_range (map_of_image image sections) b image e

@@ -56,6 +56,7 @@ pub fn pieces_of_dumps_are_inside()
 
 /// Where `pe_c_dump_exception` returns the exception of a dump, the registers that a thread has by it are those that count by
 /// pe_stacks.
+#[tactic(auto, using(crate::proofs::DumpStacks::counts))]
 pub fn contexts_of_threads_count()
     ensures x64 { (d : DumpView) (t : Thread) (e : Exception) → exception d ≡ Ok (Some e) →
         thread_context_at (context_x64_at d.bytes) t e
@@ -66,6 +67,7 @@ pub fn contexts_of_threads_count()
 {}
 
 /// `pe_c_is_image_of` says of an image and a module what `is_image_of` of pe_stacks says of its headers and the module.
+#[tactic(auto, using(crate::proofs::DumpStacks::image_fits))]
 pub fn images_of_modules_are_those_of_stacks()
     ensures { (mode : ℕ) (h : HeaderView) (m : Module) →
         fits (image_info_of mode h) (module_reported m) ≡ is_image_of h m }
@@ -73,6 +75,7 @@ pub fn images_of_modules_are_those_of_stacks()
 
 /// The bytes at what `pe_c_memory_ranges` finds are those from the address on, as pe_stacks takes the images of modules from the
 /// memory of a dump.
+#[tactic(auto, using(crate::proofs::DumpStacks::range_bytes))]
 pub fn memory_ranges_are_bytes()
     ensures { (memory : List ℕ) (pieces : List MemoryPiece) (r : Range) →
         range memory (range_in pieces r).offset (range_in pieces r).length ≡ bytes_at memory pieces r.offset r.length }

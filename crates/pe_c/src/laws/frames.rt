@@ -43,6 +43,7 @@ pub fn steps_map_as_walks()
 /// Calls of `pe_c_next_frame` return, in turn, exactly the frames of a walk as pe_frame defines it, over the memory and the
 /// modules that are passed, at most as many as were asked for; the walk is then over for the reason for which that walk is,
 /// whose numbers it has (`x64`). So do calls of `pe_c_next_arm64_frame` (`arm64`).
+#[tactic(auto, using(crate::proofs::FrameRuns::whole, crate::proofs::WalkFrames::keep_walks, crate::proofs::Arm64WalkFrames::keep_walks))]
 pub fn walks_give_the_frames()
     ensures x64 { (p : Process) (w last : StackWalk) (frames : List StackFrame) →
         IsOpen stack_walks w → ReturnsFrames Calls stack_walks p w frames last →
@@ -87,6 +88,7 @@ pub fn marks_change_nothing()
 /// the frames of a walk over the memory of these pieces, and then nothing: also where the first call sets the mark, and the later
 /// ones search the pieces. The function table of each module lies in its bytes, and each piece in the memory (`x64`). So do calls of
 /// `pe_c_next_arm64_frame` (`arm64`).
+#[tactic(auto, using(crate::proofs::CallWalks::whole_by_calls, crate::proofs::MarkedWalks::unmarked, crate::proofs::WalkFrames::keep_marks, crate::proofs::WalkFrames::keep_walks, crate::proofs::Arm64WalkFrames::keep_walks, crate::proofs::Arm64WalkFrames::keep_marks))]
 pub fn calls_give_the_frames()
     ensures x64 { (views : List ModuleView) (memory : List ℕ) (pieces : List MemoryPiece) (w last : StackWalk) (frames : List StackFrame) →
         list_all has_table views ≡ true → are_inside memory pieces ≡ true →

@@ -12,6 +12,7 @@ ghost use Rattle.pe_c.specs.declared.base.view.View.{View};
 /// `pe_c_sections` return of the same bytes in the same mode, `pe_c_write_certificates`, `pe_c_write_image` and `pe_c_write_whole`
 /// write what `PE::write_certificates`, `write_into` and `write_whole` of that image write, with the same number or error; and the last
 /// two need the lengths that `PE::written_len` and `whole_len` return.
+#[tactic(auto, using(crate::proofs::ImageWriters::certificates_is, crate::proofs::ImageWriters::image_is, crate::proofs::ImageWriters::image_length_is, crate::proofs::ImageWriters::whole_is, crate::proofs::ImageWriters::whole_length_is))]
 pub fn images_are_written_as_by_pe()
     ensures certificates { (b old : List ℕ) (o : ParseOptions) (x : ImageView) (v : View) →
         o.parse_attribute_certificates ≡ true → IsImage b o (Ok x) → IsViewOf b (mode_of o) v →

@@ -27,6 +27,7 @@ ghost use Rattle.pe_c.specs.declared.base.view.View.{View};
 /// whose definition takes a map returns what it returns without the index. The section of an RVA and the bytes from it on are the
 /// same too. Each of these clauses is a field of `IsIndexOf`, said of the view. A view without entries counts as one that has an index:
 /// so these laws lead from the contract of any call to what is defined over all sections.
+#[tactic(auto, using(crate::proofs::IndexMaps::without_entries))]
 pub fn indexes_change_nothing()
     ensures without { (v : View) → v.index.now ≡ [] → HasIndex v }
     ensures maps { (v : View) → HasIndex v →
@@ -41,6 +42,7 @@ pub fn indexes_change_nothing()
 /// Of such a view the calls for directories return what they return without the index: where the table of a directory is, and what
 /// is read at the RVA of the directory. (The definitions of exports and imports take a map.)
 
+#[tactic(auto, using(crate::proofs::IndexedCalls::clr_headers, crate::proofs::IndexedCalls::debug_entries, crate::proofs::IndexedCalls::fields, crate::proofs::IndexedCalls::first_entries, crate::proofs::IndexedCalls::functions, crate::proofs::IndexedCalls::leaves, crate::proofs::IndexedCalls::load_configs, crate::proofs::IndexedCalls::relocations, crate::proofs::IndexedCalls::roots, crate::proofs::IndexedCalls::tables, crate::proofs::IndexedCalls::tls, crate::proofs::IndexedCalls::trees))]
 pub fn directories_are_those_of_all_sections()
     ensures tables { (i : ℕ) → SameByIndex (table_at i) i }
     ensures relocations { (difference : ℕ) (old : List ℕ) →
@@ -62,6 +64,7 @@ pub fn directories_are_those_of_all_sections()
 /// The same of calls that map more than the RVA of a directory: the callbacks of TLS, the metadata of a CLR header, the tables of the
 /// load configuration, the content of a resource, and why a directory is refused.
 
+#[tactic(auto, using(crate::proofs::IndexedCalls::callbacks, crate::proofs::IndexedCalls::contents, crate::proofs::IndexedCalls::guard_tables, crate::proofs::IndexedCalls::metadata, crate::proofs::IndexedCalls::refusals))]
 pub fn parts_are_those_of_all_sections()
     ensures callbacks { (tls : TlsDirectory) →
         SameByAny (λ b image may_map. callbacks_at b image may_map tls) }

@@ -24,6 +24,7 @@ ghost use Rattle.pe_c.specs.declared.base.view.View.{View};
 /// A walk keeps no section at its start, and what changes no offset after each step (`StepsKept`, `KeepsOn`), whatever the sections are.
 /// Such a walk maps RVAs as its view does: so each step returns what the laws of walks, of lists and of failures say of the view's map.
 /// A number past the last section is as none.
+#[tactic(auto, using(crate::proofs::KeptSections::none_past_the_last, crate::proofs::KeptSections::same_map))]
 pub fn kept_sections_change_nothing()
     ensures none { (v : View) → ChangeNothing v no_sections }
     ensures maps { (v : View) (k : KeptSections) → ChangeNothing v k → map_kept v k ≡ map_of v }
@@ -32,6 +33,7 @@ pub fn kept_sections_change_nothing()
 {}
 
 /// So the steps of a whole walk, one after the other, return the items that the laws of walks say for where it stands.
+#[tactic(auto, using(crate::proofs::KeptWalks::returns_too))]
 pub fn walks_return_as_they_keep()
     ensures exports { ReturnsAsItKeeps (λ (w : ExportWalk). w.exports) (λ w. w.kept)
         (λ v m. StepsExports m v.bytes.now) }

@@ -51,7 +51,7 @@ ghost use Rattle.pe_c.specs.declared.resources.leaves.ResourceLeaves.{ResourceLe
 
 /// A walk over TLS callbacks returns the numbers of its table up to the first zero, and `SHORT` where the bytes end before that.
 /// The range without bytes at offset 0 stands for a walk that is over.
-#[tactic(auto, using(crate::proofs::NumberLists::callbacks_in_turn))]
+#[tactic(auto, using(crate::proofs::NumberLists::callbacks_in_turn, crate::proofs::NumberLists::callbacks_of_image, crate::proofs::NumberLists::callbacks_outside))]
 pub fn walks_give_the_callbacks()
     ensures of_image { (b : List ℕ) (image : Image) (sections : List SectionTable)
         (tls : TlsDirectory) (walk : Range) (table : List ℕ)
@@ -152,6 +152,7 @@ pub fn walks_give_the_delay_imports()
 /// library that the walk over libraries has left, what the walk over its imports returns: each import with the name and the index
 /// of its library, up to the first error of either walk. So the walk that starts with all libraries returns the
 /// imports of all.
+#[tactic(auto, using(crate::proofs::LibraryImportRuns::all_in_turn, crate::proofs::LibraryImportRuns::from_first))]
 pub fn walks_give_all_imports()
     ensures from_first { (offset : ℕ → Option ℕ) (w : ℕ) (b : List ℕ) (libraries : List (Result Library Refusal))
         (imports : Library → List (Result Import Refusal)) (start : Libraries) →
@@ -172,6 +173,7 @@ pub fn walks_give_all_imports()
 /// A walk over the functions of all delay-loaded DLLs returns what the walk over the functions of its DLL has left, and then, for
 /// each DLL that the walk over DLLs has left, what the walk over its functions returns: each function with the name and the index
 /// of its DLL, up to the first error of either walk. So the walk that starts with all DLLs returns those of all.
+#[tactic(auto, using(crate::proofs::LibraryFunctionRuns::all_in_turn, crate::proofs::LibraryFunctionRuns::from_first))]
 pub fn walks_give_all_delayed_functions()
     ensures from_first { (offset : ℕ → Option ℕ) (b : List ℕ) (image : Image)
         (libraries : List (Result DelayLibrary DirectoryRefusal))

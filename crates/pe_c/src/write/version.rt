@@ -92,6 +92,7 @@ pub extern "C" fn pe_c_write_block(
 }
 
 /// The length of version information.
+#[tactic(auto, using(crate::proofs::ResourceEdits::version_length_refused))]
 fn version_length(value: &VersionRecords) -> Result<u64, u32>
     ensures { NumberReturns
         (λ n. n) result (length_numbered (version_numbered (records_version value.now))) }

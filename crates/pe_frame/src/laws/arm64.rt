@@ -78,6 +78,7 @@ pub fn arm64_places_leave_their_codes()
 
 /// What packed unwind data leave to be undone: in the prolog the codes of the instructions that have run, in the epilog of a
 /// function and at its return those of the epilog that have not.
+#[tactic(auto, using(crate::proofs::Arm64Packed::left_prolog, crate::proofs::Arm64Packed::left_epilog))]
 pub fn packed_places_leave_their_codes()
     ensures prolog { (d place : ℕ) → place < prolog_length (packed_codes d) →
         packed_left d place ≡ ran_arm64 place (packed_codes d) }
@@ -101,6 +102,7 @@ pub fn packed_entries_are_their_codes()
 
 /// There are such frames: of a function with a frame chain, after its prolog and inside of it; of one that signs its
 /// return address and stores three pairs of registers; and of one with packed unwind data.
+#[tactic(auto, using(crate::proofs::Arm64Samples::chained_codes, crate::proofs::Arm64Samples::signed_codes, crate::proofs::Arm64Samples::chained, crate::proofs::Arm64Samples::begun, crate::proofs::Arm64Samples::signed, crate::proofs::Arm64Samples::packed_codes_are, crate::proofs::Arm64Samples::packed))]
 pub fn arm64_prologs_are_there()
     ensures chained_codes { CodesThen AreOver chained_bytes chained_part.codes }
     ensures signed_codes { CodesThen AreOver signed_bytes signed_part.codes }

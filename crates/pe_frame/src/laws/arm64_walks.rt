@@ -36,6 +36,7 @@ pub fn arm64_walks_return_the_frames<M: Memory + 'static>()
 /// There is a walk from each state over modules whose bytes are numbers below 256 (`exists`), whatever their function tables are: the
 /// frames from the state on, and why it is over after them. Where the tables are sorted there is one alone, up to the numbers in a
 /// refusal (`one`).
+#[tactic(auto, using(crate::proofs::Arm64Walks::one_caller, crate::proofs::FrameWalks::one_walk, crate::proofs::FrameWalks::some_walk, crate::proofs::SomeArm64Walk::some_caller))]
 pub fn one_result_of_arm64_walks()
     ensures exists { (w : FrameWalk Process Arm64StackFrame) →
         AreModulesOfBytes (w.process).modules →
@@ -49,6 +50,7 @@ pub fn one_result_of_arm64_walks()
 
 /// A frame that is found by an unwind record is the step from the one before it (`records`), and so is one that is found by
 /// packed unwind data (`packed`).
+#[tactic(auto, using(crate::proofs::Arm64Found::frame_is_step, crate::proofs::Arm64Found::frame_is_packed_step))]
 pub fn arm64_frames_are_steps()
     ensures records { (p : Process) (m : Module) (f : Arm64RuntimeFunction)
         (s t : Arm64StackFrame) (i : Arm64InfoView) →
@@ -63,6 +65,7 @@ pub fn arm64_frames_are_steps()
 /// Where the frame pointer leads to a record (`frame_pointers_lead_to_records`) from a frame in code without unwind data, the caller is
 /// the one that the record says, as a guess (`followed`), also in a module without a function table or an image (`without_table`).
 /// Where a leaf function would return to a caller, or there is no record, it is as without frame pointers (`leaf`, `none`).
+#[tactic(auto, using(crate::proofs::Arm64Found::chain_followed, crate::proofs::Arm64Found::chain_without_table, crate::proofs::Arm64Found::no_chain, crate::proofs::Arm64Found::no_record))]
 pub fn arm64_frame_pointers_lead_to_records()
     ensures followed { (memory : ℕ → Option ℕ) (modules : List Module) (guess : Bool) (s : Arm64StackFrame) (r : FrameRecord) →
         (not s.has_called && is_leaf_return modules s.registers) ≡ false →
@@ -84,6 +87,7 @@ pub fn arm64_frame_pointers_lead_to_records()
 
 /// Each frame says whether it has called, by its way and the bytes before its instruction pointer (`called`). From a frame that has
 /// called only records lead on, or words of the stack: the caller of a leaf function is found from one that has not (`led`).
+#[tactic(auto, using(crate::proofs::Arm64Found::says_whether, crate::proofs::Arm64Found::led_on))]
 pub fn arm64_frames_say_whether_they_called()
     ensures called { (p : Process) (s t : Arm64StackFrame) →
         Calls p s (Ok t) → t.has_called ≡ has_called p.modules t.way (t.registers).pc }
@@ -114,6 +118,7 @@ pub fn arm64_frames_say_whether_they_are_guesses()
 {}
 
 /// From a frame that has called to one that is found by records the stack pointer rises, so that such frames do not go round.
+#[tactic(auto, using(crate::proofs::Arm64Found::rises_after_calls))]
 pub fn arm64_frames_that_called_rise()
     ensures { (p : Process) (s t : Arm64StackFrame) →
         Calls p s (Ok t) → s.has_called ≡ true →
@@ -124,6 +129,7 @@ pub fn arm64_frames_that_called_rise()
 /// to which records led (`records`) or packed unwind data (`packed`), from a frame that is no guess, and no frame is found from that
 /// caller's registers. A frame that no unwind data describe is never the bottom: in no function of a module (`leaf`), or in no module
 /// (`outside`).
+#[tactic(auto, using(crate::proofs::Arm64Found::code_at_bottom, crate::proofs::Arm64Found::outside_at_bottom, crate::proofs::Arm64Found::packed_at_bottom, crate::proofs::Arm64Found::records_at_bottom, crate::proofs::Arm64Found::whole_is_sure))]
 pub fn arm64_bottoms_are_returns_to_0()
     ensures records { (p : Process) (m : Module) (f : Arm64RuntimeFunction)
         (s : Arm64StackFrame) (i : Arm64InfoView) →

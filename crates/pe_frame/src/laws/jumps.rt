@@ -14,6 +14,7 @@ ghost use Rattle.pe_frame.specs.Undoing.{stack_pointer};
 /// that ran it up to the jump is there in a frame of that function and its parts: a step in the image then returns the caller of
 /// that frame. It is the same caller at the jump and at its target, since a jump changes no other register. The instructions
 /// before the jump have not lowered the stack pointer, as `add` and pops never do.
+#[tactic(auto, using(crate::proofs::Jumps::followed))]
 pub fn jumps_are_followed()
     ensures { (s : ImageStep) (plan : List UnwindInfoView) (offset : ℕ) (rest : List Instruction)
         (p : Part) (parts : List Part) (g h : Registers) →

@@ -9,6 +9,7 @@ ghost use Rattle.pe_frame.specs.SectionSearch.{memory_size, section_start};
 
 /// Where the sections are in ascending order and do not overlap in memory, as in a valid image, to ask the section that halving finds
 /// of an RVA is to ask all of them.
+#[tactic(auto, using(crate::proofs::SectionsAsked::all_asked))]
 pub fn sections_in_order_are_all_asked()
     ensures { (sections : List SectionTable) (rva : ℕ) →
         AreAscending section_start memory_size sections →

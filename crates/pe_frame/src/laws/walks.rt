@@ -66,6 +66,7 @@ pub fn frames_are_steps()
 {}
 
 /// Without code there is no epilog: a frame that has called is left by its records alone.
+#[tactic(auto, using(crate::proofs::NoCode::no_epilog))]
 pub fn no_code_is_no_epilog()
     ensures { (plan : List UnwindInfoView) (start rva : ℕ) → epilog_at plan start rva [] ≡ None }
 {}
@@ -73,6 +74,7 @@ pub fn no_code_is_no_epilog()
 /// A scan finds the first word that is a return address into executable code (`first`), of the 128 words from an address on. Where
 /// it finds none, none of them is (`none`). Which words are says `code_return` of each machine, and from a module whose image is not at
 /// hand `record_return`.
+#[tactic(auto, using(crate::proofs::Scans::first_found, crate::proofs::Scans::none_found))]
 pub fn scans_find_the_first()
     ensures first { (memory returns : ℕ → Option ℕ) (start a w : ℕ) →
         first_return most_words memory returns start ≡ Some (a, w) →
@@ -85,6 +87,7 @@ pub fn scans_find_the_first()
 /// A scan for calls that lead somewhere, as into the code without records in which a frame is, finds the one that leads highest, and of
 /// several that lead there the first, of the 128 words from an address on (`highest`). Where it finds none, no such call ends at one
 /// of them (`none`).
+#[tactic(auto, using(crate::proofs::Scans::highest_found, crate::proofs::Scans::none_called))]
 pub fn scans_find_the_call_that_leads_highest()
     ensures highest { (memory targets : ℕ → Option ℕ) (start : ℕ) (c : FoundCall) →
         highest_call most_words memory targets start ≡ Some c →
@@ -97,6 +100,7 @@ pub fn scans_find_the_call_that_leads_highest()
 /// What a leaf function returns to in a module whose image is not at hand, so that no bytes say whether a call ends there, is its
 /// caller before any that a scan would find, as a guess: from code of a module that no records describe (`leaf`), and from code in no
 /// module (`outside`).
+#[tactic(auto, using(crate::proofs::Found::leaf_first, crate::proofs::Found::outside_first))]
 pub fn callers_without_images_come_before_scans()
     ensures leaf { (memory : ℕ → Option ℕ) (modules : List Module) (guess : Bool) (s : StackFrame) (u : Registers) →
         s.has_called ≡ false → popped memory s.registers ≡ Ok u →
@@ -112,6 +116,7 @@ pub fn callers_without_images_come_before_scans()
 /// the stack pointer, and the frame pointer of the caller is higher or 0 (`found`, `there`). From a frame in code of an image without
 /// records the caller is then the one that the record says, as a guess (`followed`). Where a leaf function would return to a caller,
 /// or there is no record, it is as without frame pointers (`leaf`, `none`).
+#[tactic(auto, using(crate::proofs::FrameRecords::record_found, crate::proofs::FrameRecords::record_there, crate::proofs::Found::chain_followed, crate::proofs::Found::no_chain, crate::proofs::Found::no_record))]
 pub fn frame_pointers_lead_to_records()
     ensures found { (memory returns : ℕ → Option ℕ) (stack pointer : ℕ) (c : FrameRecord) →
         frame_record memory returns stack pointer ≡ Some c →
@@ -135,6 +140,7 @@ pub fn frame_pointers_lead_to_records()
 
 /// Each frame says whether it has called, by its way and the bytes before its instruction pointer (`called`). From a frame that has
 /// called only records lead on, or words of the stack: the caller of a leaf function is found from one that has not (`led`).
+#[tactic(auto, using(crate::proofs::Found::says_whether, crate::proofs::Found::led_on))]
 pub fn frames_say_whether_they_called()
     ensures called { (p : Process) (s t : StackFrame) →
         Calls p s (Ok t) → t.has_called ≡ has_called p.modules t.way (t.registers).rip }

@@ -1,5 +1,0 @@
-use Rattle.pe_frame.proofs.Found.{says_whether, led_on}
-use Rattle.pe_frame.proofs.laws.walks.frames_say_whether_they_called.Goals as goal
-
-pub returns : goal.returns
-returns c = record { called = says_whether; led = led_on }
