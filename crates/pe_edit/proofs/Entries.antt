@@ -46,9 +46,6 @@ pub record Measured (level : Level) (xs : List Leaf) (sum : Measure) (start : �
   pub some : sum.named ≤ sum.entries
   pub small : sum.names_size ≤ 131074 * start
 
-pub nothing_measured : (level : Level) (xs : List Leaf) → Measured level xs (record { entries = 0; named = 0; names_size = 0 }) 0
-nothing_measured level xs = record { inside = omega arith; entries = omega arith; named = omega arith; names_size = omega arith; few = omega arith; some = omega arith; small = omega arith }
-
 pub small_name : (k : Key) → NameFits k → name_size k ≤ 131074
 small_name (Id n) f = omega arith
 small_name (Name u) f = omega (arith, f.1)

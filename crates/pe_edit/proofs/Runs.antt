@@ -138,9 +138,6 @@ pub record Counts {X : Type 0} (alike : X → X → Bool) (xs : List X) (n : ℕ
   pub inside : n ≤ length xs
   pub left : run_length alike xs ≡ n - 1 + run_length alike (drop (n - 1) xs)
 
-pub counts_one : {X : Type 0} (alike : X → X → Bool) (xs : List X) → 0 < length xs → Counts alike xs 1
-counts_one alike xs h = record { some = omega arith; inside = omega (arith, h); left = omega arith }
-
 pub counts_more : {X : Type 0} (alike : X → X → Bool) (xs : List X) (n : ℕ) (d : X) → n < length xs → alike (get_or xs (n - 1) d) (get_or xs n d) ≡ true → Counts alike xs n → Counts alike xs (n + 1)
 counts_more {X} alike xs n d h e c =
     let rest : drop n xs ≡ get_or xs n d ∷ drop (n + 1) xs = drop_more xs n d h in
@@ -174,10 +171,6 @@ unfolding run_length
 run_inside alike [] = omega arith
 run_inside alike (x ∷ []) = omega arith
 run_inside alike (x ∷ y ∷ ys) = inside_by (alike x y) (run_length alike (y ∷ ys)) (length (y ∷ ys)) (run_inside alike (y ∷ ys))
-
-pub run_some : {X : Type 0} (alike : X → X → Bool) (xs : List X) → 0 < length xs → 0 < run_length alike xs
-run_some alike [] h = absurd (omega (arith, h))
-run_some alike (x ∷ xs) h = some_length alike x xs
 
 pub each_drop : {X : Type 0} (P : X → Type 0) (n : ℕ) (xs : List X) → Each P xs → Each P (drop n xs)
 each_drop P zero xs e = e

@@ -72,7 +72,7 @@ pub fn padded_length(n: usize) -> usize
 }
 
 /// Where contents end that start at an RVA, if that is below 2^32.
-#[tactic(auto, using(crate::proofs::Tests::more_end, crate::proofs::Tests::no_more, crate::proofs::Tests::end_is, crate::proofs::Tests::no_end, crate::proofs::Tests::end_too_large))]
+#[tactic(auto, using(crate::proofs::Tests::more_end, crate::proofs::Tests::no_more, crate::proofs::Tests::end_is, crate::proofs::Tests::no_end, crate::proofs::Tests::end_too_large, crate::proofs::Tests::content_too_large))]
 pub fn contents_end(start: usize, leaves: &Leaves<'_>) -> Option<usize>
     ensures { result ≡ end_below start (leaf_views leaves.now) }
 {

@@ -65,6 +65,7 @@ impl Level {
     }
 
     /// How many of the first leaves share an entry.
+    #[tactic(auto, using(crate::proofs::RunsAt::run_all, crate::proofs::RunsAt::run_end, crate::proofs::RunsAt::run_more))]
     fn first_run(self, leaves: &Leaves<'_>) -> usize
         requires { 0 < length (leaf_views leaves.now) }
         ensures { result ≡ run_length (alike self) (leaf_views leaves.now) }
@@ -78,6 +79,7 @@ impl Level {
     }
 
     /// The leaves from an index on that share an entry.
+    #[tactic(auto, using(crate::proofs::RunsAt::is_run_at, crate::proofs::RunsAt::run_within))]
     pub fn run_from<'a>(self, leaves: &Leaves<'a>, start: usize) -> Leaves<'a>
         requires { start < length (leaf_views leaves.now) }
         ensures { IsRunAt self (leaf_views leaves.now) start (leaf_views result) }

@@ -70,7 +70,7 @@ pub fn set_data_entries(out: &mut [u8], at: usize, leaves: &Leaves<'_>, first: u
 }
 
 /// Writes a name: the number of its code units, and they; of an id nothing. Returns where it ends.
-#[tactic(auto, using(crate::proofs::Contents::name_parts, crate::proofs::Contents::no_name))]
+#[tactic(auto, using(crate::proofs::Contents::name_parts, crate::proofs::Contents::no_name, crate::proofs::Contents::named_length))]
 fn set_name(out: &mut [u8], at: usize, key: ResourceKey<'_>) -> usize
     requires room { at + length (name_bytes (key_view key)) ≤ length out.old }
     requires fits { NameFits (key_view key) }

@@ -118,6 +118,7 @@ fn set_section(out: &mut [u8], layout: Layout, leaves: &Leaves<'_>, rva: u32)
 
 /// The length of the section that `write_section` writes with these arguments. Errors: those of `write_section`, but for
 /// the buffer's.
+#[tactic(auto, using(crate::proofs::Results::length_returned))]
 pub fn section_len(leaves: &Leaves<'_>, rva: u32) -> Result<usize, EditError>
     ensures { EditReturns result (length_of (section_of rva (leaf_views leaves.now))) }
 {
@@ -136,6 +137,7 @@ pub fn section_len(leaves: &Leaves<'_>, rva: u32) -> Result<usize, EditError>
 /// - `TablesTooLarge` if directories, data entries and names have 2^31 bytes or more;
 /// - `TooLarge` if the section ends at the RVA 2^32 or after it;
 /// - `Image` with `WriteFit` if the section does not fit into `out`.
+#[tactic(auto, using(crate::proofs::Results::accepted_by, crate::proofs::Results::written_done, crate::proofs::Results::written_short))]
 pub fn write_section(leaves: &Leaves<'_>, rva: u32, out: &mut [u8]) -> Result<usize, EditError>
     ensures { EditReturnsWritten result
         (written (section_of rva (leaf_views leaves.now)) out.old) out.old out.new }

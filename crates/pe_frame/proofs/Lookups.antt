@@ -29,10 +29,6 @@ found_at p (x ∷ xs) (suc i) d lt none this =
     let first : p x ≡ false = none 0 (omega arith) in
     rw first (found_at p xs i d (omega (arith, lt)) (λ k h. none (suc k) (omega (arith, h))) this)
 
-passes : {X : Type 0} (p : X → Bool) (y x : X) (t : Bool) (rest : Option X) → p y ≡ t → (rest ≡ Some x → p x ≡ true) → cond t (Some y) rest ≡ Some x → p x ≡ true
-passes {X} p y x true rest h more e = let same : y ≡ x = cc e in subst (λ (z : X). p z ≡ true) same h
-passes p y x false rest h more e = more e
-
 all_by : {X : Type 0} (q : X → Bool) (y x : X) (t : Bool) (rest : Option X) → q y ≡ true → (rest ≡ Some x → q x ≡ true) → cond t (Some y) rest ≡ Some x → q x ≡ true
 all_by {X} q y x true rest h more e = let same : y ≡ x = cc e in subst (λ (z : X). q z ≡ true) same h
 all_by q y x false rest h more e = more e

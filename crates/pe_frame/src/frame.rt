@@ -160,6 +160,7 @@ fn caller<M: Memory>(
 
 /// What is left of an epilog where a function stopped. In the prolog there is none. Callers have no code, which is tested first:
 /// that test is inlined, and the search is not.
+#[tactic(auto, using(crate::proofs::NoCode::no_epilog_of))]
 #[inline(always)]
 pub(crate) fn epilog_at<'c>(plan: FunctionPlan<'_, '_>, stopped: Stopped<'c>) -> Option<Tail<'c>>
     ensures { option_map instructions_of result ≡ epilog_at

@@ -53,6 +53,7 @@ impl<'a> StackPieces<'a> {
 impl<'a> KnownBytes for StackPieces<'a> {
     ghost byte = { λ s. byte_in s.pieces.now };
 
+    #[tactic(auto, using(pe_core::proofs::Map::found_passes))]
     fn byte_at(&self, address: u64) -> Option<u8> {
         match self.piece_at(address) {
             Some(piece) => byte_of(piece, address),

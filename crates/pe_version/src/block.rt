@@ -123,6 +123,7 @@ pub fn type_number(is_text: bool) -> u16
 }
 
 /// Writes the block at the start of the buffer, without the zeros after it.
+#[tactic(auto, using(crate::proofs::Calls::block_set_by))]
 fn set_block(out: &mut [u8], block: &NewBlock<'_>, parts: Parts)
     requires parts { parts ≡ parts_of (block_view block.now) }
     requires fits { Fits (block_view block.now) }

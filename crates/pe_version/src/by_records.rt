@@ -10,6 +10,7 @@ use crate::record::{VersionRecords, require_records};
 use pe_core::require_room;
 
 /// The length of what `write_version` writes of these records. Errors: those of `write_version`, but for the buffer's.
+#[tactic(auto, using(crate::proofs::Measures::returns_by, crate::proofs::Records::fit_is, crate::proofs::Records::unfit_refused))]
 pub fn version_len(value: &VersionRecords<'_>) -> Result<usize, VersionError>
     ensures { VersionReturns result (length_of (records_version value.now)) }
 {

@@ -46,6 +46,7 @@ pub fn key_of(pair: Translation) -> [u8; 16]
 }
 
 /// The numbers of the fixed file information, in their order.
+#[tactic(auto, unfolding(crate::specs::VersionValues::fixed_bytes))]
 pub fn numbers_of(fixed: &VsFixedFileInfo) -> [u32; 13]
     ensures { flat_map (bytes_of 4) result ≡ fixed_bytes fixed.now }
 {
