@@ -85,13 +85,13 @@ def run(words):
 
 @contextlib.contextmanager
 def program_of(command, name, kept=None, *flags):
-    """The path of the program in Rattle of the folder NAME here, built by tools/build_damaged with flags: with checks at run time,
+    """The path of the program in Rattle of the folder NAME here, built by tools/build_program with flags: with checks at run time,
     and not proved. It is the file that is to be kept, where it is built if it is not there yet, or one for this run."""
     with tempfile.TemporaryDirectory() as folder:
         program = os.path.abspath(kept or os.path.join(folder, name))
         if not os.path.exists(program):
             print(f"{command}: building {name}, which takes two minutes", file=sys.stderr)
-            subprocess.run([f"{HERE}/build_damaged", *flags, "--program", f"{HERE}/{name}", program], check=True)
+            subprocess.run([f"{HERE}/build_program", *flags, f"{HERE}/{name}", program], check=True)
         yield program
 
 
