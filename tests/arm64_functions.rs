@@ -1,8 +1,8 @@
 //! The ARM64 function table: its entries, what is packed in them, and lookup.
 
 use crate::images::{arm64_function, directory_at, reason_in, short, short_in};
-use pe_core::{CountedTable, Error, ParseOptions, Reason, SectionMap};
-use pe_unwind::{Arm64RuntimeFunction, Arm64RuntimeFunctionIterator, ExceptionData, search_arm64};
+use pe_core::{Error, ParseOptions, Reason, SectionMap};
+use pe_unwind::{Arm64RuntimeFunction, Arm64RuntimeFunctionIterator, ExceptionData};
 use std::alloc::{AllocError, Global};
 use std::test::Fail;
 
@@ -194,26 +194,6 @@ fn finds_as_the_search_does(rt: HostRuntime) -> Result<(), Fail> {
         let data = table_at(&bytes, 0, 24)?;
         let found = data.find_function_arm64(rva, &[], &flat())?;
         assert_eq!(rt; found, want, "at {rva:#x}");
-    }
-    Ok(())
-}
-
-/// A table of 100,000 entries: 17 binary digits.
-#[test]
-fn searches_in_few_reads(rt: HostRuntime) -> Result<(), Fail> {
-    let mut entries = Vec::new(rt.alloc());
-    for i in 0..100_000u32 {
-        entries.push(entry(16 * i, 0x11))?;
-    }
-    let bytes = table_of(rt.alloc(), &entries)?;
-    let sections = SectionMap::new(&[], 0x200, &flat());
-    let mut table = CountedTable::new(&bytes);
-    for i in (0..100_000u32).step_by(997) {
-        let before = table.reads();
-        let found = search_arm64(&mut table, 16 * i + 5, &bytes, &sections)?;
-        assert_eq!(rt; found, Some(entry(16 * i, 0x11)));
-        let reads = table.reads() - before;
-        assert!(rt; 0 < reads && reads <= 17, "{reads} at {i}");
     }
     Ok(())
 }

@@ -2,7 +2,6 @@
 
 use crate::images::{image, with_byte};
 use crate::sections::section;
-use linked_list_allocator::LocalHeap;
 use pe_core::{
     DataDirectory, Error, Export, ExportAddress, ExportAddresses, ExportData, MappedBytes,
     ParseOptions, Reason, SectionTable, lies_in,
@@ -202,37 +201,6 @@ fn refuses_directories(rt: HostRuntime) -> Result<(), Fail> {
             Error::Malformed(Reason::Unmapped(0x30C0))
         )
     );
-    Ok(())
-}
-
-/// Each request is refused until a heap has room for all of them.
-#[test]
-fn each_request_refused(rt: HostRuntime) -> Result<(), Fail> {
-    let bytes = exporting(rt.alloc(), 0x410)?;
-    let sections = one_section();
-    let opts = ParseOptions::default();
-    let data = ExportData::parse(&bytes, DIRECTORY, &sections, ALIGNMENT)?;
-    let mut refused = 0u32;
-    let mut given = false;
-    for size in [
-        0, 16, 32, 48, 64, 96, 128, 160, 192, 256, 320, 512, 1024, 4096,
-    ] {
-        let heap = LocalHeap::new(rt.alloc(), size)?;
-        match Export::parse_with_opts(&heap, &bytes, &data, &sections, ALIGNMENT, &opts) {
-            Ok(exports) => {
-                assert_eq!(rt; exports.len(), 1, "with {size} bytes");
-                given = true;
-            }
-            Err(refusal) => {
-                assert!(rt;
-                    !given && matches!(refusal, Error::Memory(_)),
-                    "with {size} bytes"
-                );
-                refused = refused.wrapping_add(1);
-            }
-        }
-    }
-    assert!(rt; given && refused > 2);
     Ok(())
 }
 

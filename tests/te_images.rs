@@ -1,7 +1,6 @@
 //! The headers of TE images.
 
 use crate::images::{image, with_byte};
-use linked_list_allocator::LocalHeap;
 use pe_core::{Error, Reason, TeHeader};
 use std::test::Fail;
 
@@ -28,18 +27,5 @@ fn reads_a_header_without_a_stub(rt: HostRuntime) -> Result<(), Fail> {
     let bytes = with_byte(bytes, 1, 0x5B);
     // shows: pe_core/src/header.rt parse BadMagic
     assert!(rt; matches!(TeHeader::parse(&bytes), Err(Error::BadMagic(0x5B56))));
-    Ok(())
-}
-
-#[test]
-fn answers_want_of_memory_for_sections(rt: HostRuntime) -> Result<(), Fail> {
-    let bytes = image(
-        rt.alloc(),
-        80,
-        &[(0, &[0x56, 0x5A, 0x64, 0x86, 1, 0x0A, 0x28, 0])],
-    )?;
-    let header = TeHeader::parse(&bytes)?;
-    let heap = LocalHeap::new(rt.alloc(), 0)?;
-    assert!(rt; matches!(header.sections(&heap, &bytes), Err(Error::Memory(_))));
     Ok(())
 }

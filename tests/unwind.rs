@@ -3,7 +3,7 @@
 use crate::images::{
     directory_at, function_at, reason_in, short, short_in, with_byte, with_functions,
 };
-use pe_core::{CountedTable, DataDirectory, Error, Header, ParseOptions, Reason};
+use pe_core::{DataDirectory, Error, Header, ParseOptions, Reason};
 use pe_unwind::{
     ExceptionData, Register, RuntimeFunction, RuntimeFunctionIterator, ScopeTableIterator,
     UnwindCode, UnwindCodeIterator, UnwindInfo, UnwindOperation, search,
@@ -66,25 +66,6 @@ fn finds_the_last_of_equal_starts(rt: HostRuntime) -> Result<(), Fail> {
         reason_in(data.get_function(3)),
         Some(Reason::FunctionIndex(3))
     );
-    Ok(())
-}
-
-#[test]
-fn searches_in_few_reads(rt: HostRuntime) -> Result<(), Fail> {
-    let mut entries = Vec::new(rt.alloc());
-    for i in 0..1000u32 {
-        entries.push(entry(16 * i, 16 * i + 16, 0))?;
-    }
-    let bytes = table_of(rt.alloc(), &entries)?;
-    let mut table = CountedTable::new(&bytes);
-    for i in 0..1000u32 {
-        let before = table.reads();
-        let found = search(&mut table, 16 * i + 5);
-        assert_eq!(rt; found, Some(entry(16 * i, 16 * i + 16, 0)));
-        let reads = table.reads() - before;
-        assert!(rt; 0 < reads && reads <= 10, "{reads} at {i}");
-    }
-    assert_eq!(rt; table.len(), 12000);
     Ok(())
 }
 
