@@ -114,6 +114,7 @@ class Image:
         self.base = self.number("<Q", place + 24) if wide else 0
         self.rows = place + (112 if wide else 96)
         self.row_count = self.number("<I", self.rows - 4) if optional else 0
+        self.size, self.headers = self.numbers("<II", place + 56) if optional else (0, 0)
         self.sections = [self.numbers("<IIII", place + optional + 40 * i + 8) for i in range(count)]
 
     def numbers(self, form, place):
