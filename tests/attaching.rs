@@ -50,28 +50,6 @@ fn shown<T: Debug>(alloc: Global, value: &T) -> Result<String, AllocError> {
 }
 
 #[test]
-fn attaches_the_first_certificate(rt: HostRuntime) -> Result<(), Fail> {
-    let bytes = unsigned(rt.alloc(), &[0x55, 0x55, 0x55])?;
-    for placement in [Placement::After, Placement::InPlace] {
-        let (written, out) = attached(rt.alloc(), &bytes, placement, 0x420)?;
-        assert!(rt; matches!(written, Ok(0x418)));
-        assert_eq!(rt; &out[..0x98], &bytes[..0x98]);
-        assert!(rt; has(&out, 0x98, &[0x99, 0xD1, 0, 0]));
-        assert_eq!(rt; &out[0x9C..0xE8], &bytes[0x9C..0xE8]);
-        assert!(rt; has(&out, 0xE8, &[8, 4, 0, 0, 0x10, 0, 0, 0]));
-        assert_eq!(rt; &out[0xF0..0x403], &bytes[0xF0..]);
-        assert!(rt; has(&out, 0x403, &[0; 5]));
-        assert!(rt; has(&out, 0x408, &CERTIFICATE));
-        assert!(rt; has(&out, 0x411, &[0; 7]));
-        assert!(rt; has(&out, 0x418, &[OLD; 8]));
-        let header = header_of(&bytes)?;
-        let length = attached_len(&bytes, &header, &CERTIFICATE, placement);
-        assert!(rt; matches!(length, Ok(0x418)));
-    }
-    Ok(())
-}
-
-#[test]
 fn refuses_images(rt: HostRuntime) -> Result<(), Fail> {
     let alloc = rt.alloc();
     let image = || with_functions(alloc);
