@@ -3,8 +3,8 @@
 use crate::images::{image, with_byte};
 use crate::sections::section;
 use pe_core::{
-    DataDirectory, Error, Export, ExportAddress, ExportAddresses, ExportData, MappedBytes,
-    ParseOptions, Reason, SectionTable, lies_in,
+    DataDirectory, Error, Export, ExportAddress, ExportAddresses, ExportData, ParseOptions, Reason,
+    SectionTable, lies_in,
 };
 use std::alloc::{AllocError, Global};
 use std::process::Abort;
@@ -308,50 +308,6 @@ fn exports_by_index(rt: HostRuntime) -> Result<(), Fail> {
         ..exports
     };
     assert!(rt; none.is_empty() && none.at(0).is_none() && none.iter().next().is_none());
-    Ok(())
-}
-
-#[test]
-fn texts_of_forwarders_and_names(rt: HostRuntime) -> Result<(), Fail> {
-    let bytes = forwarding(rt.alloc())?;
-    let sections = one_section();
-    let opts = ParseOptions::default();
-    let image = MappedBytes::new(&bytes, &sections, ALIGNMENT, &opts);
-    let data = ExportData::parse(&bytes, WIDE, &sections, ALIGNMENT)?;
-    let exports = ExportAddresses::new(&data, WIDE);
-    for (rva, want) in [
-        (0x1090, Some("a.dll")),
-        (0x1092, Some("dll")),
-        (0x105F, None),
-        (0x10DF, Some("")),
-        (0x10E0, None),
-        (0x1020, None),
-    ] {
-        assert_eq!(rt; exports.forwarder(rva, &image), want, "at {rva:#x}");
-    }
-    let short = MappedBytes::new(&bytes[..0x295], &sections, ALIGNMENT, &opts);
-    assert_eq!(rt; exports.forwarder(0x1090, &short), None);
-    for (index, want) in [
-        (0, Some(("f", 0))),
-        (1, Some(("f", 5))),
-        (2, None),
-        (usize::MAX, None),
-    ] {
-        let found = exports.name_at(index, &image);
-        assert_eq!(rt; found.map(|it| (it.name, it.index)), want, "at {index}");
-    }
-    let short = ExportAddresses {
-        ordinals: &data.ordinals[..3],
-        ..exports
-    };
-    assert!(rt; short.name_at(0, &image).is_some() && short.name_at(1, &image).is_none());
-    let unmapped = with_byte(bytes, 0x2B1, 0x30);
-    let data = ExportData::parse(&unmapped, WIDE, &sections, ALIGNMENT)?;
-    assert!(rt;
-        ExportAddresses::new(&data, WIDE)
-            .name_at(0, &MappedBytes::new(&unmapped, &sections, ALIGNMENT, &opts))
-            .is_none()
-    );
     Ok(())
 }
 

@@ -3,8 +3,8 @@
 use crate::exports::one_section;
 use crate::images::{directory_at, image, reason_in, short, short_in, with_byte};
 use pe_core::{
-    DataDirectory, Error, Import, ImportData, ImportDirectoryEntry, MappedBytes, ParseOptions,
-    Reason, Result, SectionIndex, lookup_number, lookup_size, lookups_at,
+    DataDirectory, Error, Import, ImportData, MappedBytes, ParseOptions, Reason, Result,
+    SectionIndex,
 };
 use std::alloc::{AllocError, Allocator, Global};
 use std::process::Abort;
@@ -116,29 +116,6 @@ fn lists_pe32_imports(rt: HostRuntime) -> std::result::Result<(), Fail> {
             (None, "a.dll", 0x1234, 0x10C4),
         ],
     );
-    Ok(())
-}
-
-/// A record and its list, each read by itself.
-#[test]
-fn reads_one_record(rt: HostRuntime) -> std::result::Result<(), Fail> {
-    let bytes = importing(rt.alloc(), 0x410)?;
-    let entry = ImportDirectoryEntry::parse(&bytes, 0x260)?;
-    assert_eq!(rt; entry.name_rva, 0x1090);
-    assert_eq!(rt; entry.address_table_rva, 0x10C0);
-    assert_eq!(rt; entry.lookups_rva(), 0x10A0);
-    assert!(rt; !entry.is_last());
-    assert!(rt; ImportDirectoryEntry::parse(&bytes, 0x274)?.is_last());
-    assert_eq!(rt;
-        short_in(ImportDirectoryEntry::parse(&bytes, 0x3FD)),
-        short(0x3FD, 20)
-    );
-    let list = lookups_at(&bytes, 0x2A0, true)?;
-    let found = (list.len(), lookup_size(true), lookup_size(false));
-    assert_eq!(rt; found, (16, 8, 4));
-    assert_eq!(rt; lookup_number(list, 0, true), 0x8000_0000_0000_0005);
-    assert_eq!(rt; lookup_number(list, 8, true), 0x10D0);
-    assert_eq!(rt; lookup_number(list, 4, false), 0x8000_0000);
     Ok(())
 }
 
