@@ -239,32 +239,12 @@ fn texts_of_sign_errors(rt: HostRuntime) -> Result<(), Fail> {
     let alloc = rt.alloc();
     let texts = [
         (
-            SignError::Image(Error::Malformed(Reason::NoOptionalHeader)),
-            "image has no optional header",
-        ),
-        (
             SignError::NoDirectory(4),
             "no certificate directory: the optional header has 4 data directories",
         ),
         (
             SignError::TableNotLast(0x408),
             "certificate table ends at file offset 0x408, before the end of the file",
-        ),
-        (
-            SignError::Headers(0x16F),
-            "headers end after file offset 0x16f, where the certificates start or the file ends",
-        ),
-        (
-            SignError::Section(2),
-            "data of section 2 ends after the start of the certificates, or after the end of the file",
-        ),
-        (
-            SignError::TableOffset(0x401),
-            "certificate table at file offset 0x401 is not aligned to 8 bytes",
-        ),
-        (
-            SignError::TooLarge,
-            "image with the certificate has 2^32 bytes or more",
         ),
     ];
     for (error, text) in &texts {
