@@ -48,7 +48,6 @@ mod signatures;
 mod signing;
 mod stacks;
 mod symbols;
-mod te_images;
 mod unwind;
 mod version_blocks;
 mod version_written;

@@ -37,9 +37,11 @@ fn te_image_without_sections(rt: HostRuntime) -> Result<(), Fail> {
     let short = te_refusal(rt.alloc(), front)?;
     assert!(rt; matches!(short, Error::Short { at: 0, needed: 40 }));
     let bytes = with_byte(bytes, 6, 0x27);
+    // shows: pe_core/src/header.rt rva_offset TeSize
     let stripped = te_refusal(rt.alloc(), &bytes)?;
     assert!(rt; matches!(stripped, Error::Malformed(Reason::TeSize(39))));
     let bytes = with_byte(bytes, 1, 0x5B);
+    // shows: pe_core/src/header.rt parse BadMagic
     let magic = te_refusal(rt.alloc(), &bytes)?;
     assert!(rt; matches!(magic, Error::BadMagic(0x5B56)));
     Ok(())
