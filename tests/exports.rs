@@ -85,19 +85,6 @@ fn exports_what_has_no_offset(rt: HostRuntime) -> Result<(), Fail> {
     check_exports(&rt, rt.alloc(), &bytes, &[("f", 0x3020, None)])
 }
 
-/// A table without entries may have any address.
-#[test]
-fn tables_without_entries(rt: HostRuntime) -> Result<(), Fail> {
-    let mut bytes = exporting(rt.alloc(), 0x410)?;
-    for offset in [0x278, 0x281, 0x285] {
-        bytes = with_byte(bytes, offset, 0);
-    }
-    let data = ExportData::parse(&bytes, DIRECTORY, &one_section(), ALIGNMENT)?;
-    assert!(rt; data.names.is_empty() && data.ordinals.is_empty());
-    assert_eq!(rt; data.addresses.len(), 4);
-    check_exports(&rt, rt.alloc(), &bytes, &[])
-}
-
 /// Whether the image has a name, with these bytes at these offsets.
 fn is_named(alloc: Global, len: usize, parts: &[(usize, u8)]) -> Result<bool, Fail> {
     let mut bytes = exporting(alloc, len)?;
