@@ -4,9 +4,7 @@
 use crate::frames::bytes_of;
 use crate::images::{arm64_function, stack_at};
 use pe_core::{Error, Reason};
-use pe_frame::{
-    Arm64Registers, FrameError, Stack, step_arm64, step_arm64_packed, step_out_arm64,
-};
+use pe_frame::{Arm64Registers, FrameError, Stack, step_arm64, step_arm64_packed, step_out_arm64};
 use pe_unwind::{Arm64RuntimeFunction, Arm64UnwindInfo};
 use std::alloc::{AllocError, Global};
 use std::fmt::{Debug, Display};
