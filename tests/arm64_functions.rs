@@ -1,8 +1,8 @@
 //! The ARM64 function table: its entries, what is packed in them, and lookup.
 
 use crate::images::{arm64_function, directory_at, reason_in, short, short_in};
-use pe_core::{CountedTable, Error, ParseOptions, Reason, SectionMap};
-use pe_unwind::{Arm64RuntimeFunction, Arm64RuntimeFunctionIterator, ExceptionData, search_arm64};
+use pe_core::{Error, ParseOptions, Reason};
+use pe_unwind::{Arm64RuntimeFunction, Arm64RuntimeFunctionIterator, ExceptionData};
 use std::alloc::{AllocError, Global};
 use std::test::Fail;
 
@@ -94,89 +94,6 @@ fn table_of(alloc: Global, entries: &[Arm64RuntimeFunction]) -> Result<Vec<u8>, 
     Ok(bytes)
 }
 
-/// A function of 4 words, packed; one of 6 words, whose record at the offset 32 has version 3; a fragment of 8 words,
-/// packed; and one of 4 words at the end of the address space.
-const FUNCTIONS: [Arm64RuntimeFunction; 4] = [
-    Arm64RuntimeFunction {
-        begin_address: 0x1000,
-        unwind_data: 0x11,
-    },
-    Arm64RuntimeFunction {
-        begin_address: 0x1020,
-        unwind_data: 32,
-    },
-    Arm64RuntimeFunction {
-        begin_address: 0x1040,
-        unwind_data: 0x22,
-    },
-    Arm64RuntimeFunction {
-        begin_address: 0xFFFF_FFF0,
-        unwind_data: 0x11,
-    },
-];
-
-#[test]
-fn finds_the_function_that_covers_an_address(rt: HostRuntime) -> Result<(), Fail> {
-    let mut bytes = table_of(rt.alloc(), &FUNCTIONS)?;
-    bytes.extend_from_slice(&u32::to_le_bytes(0x000C_0006))?;
-    let data = table_at(&bytes, 0, 32)?;
-    for (rva, want) in [
-        (0, None),
-        (0x0FFF, None),
-        (0x1000, Some(0)),
-        (0x100F, Some(0)),
-        (0x1010, None),
-        (0x101F, None),
-        (0x1020, Some(1)),
-        (0x1037, Some(1)),
-        (0x1038, None),
-        (0x1040, Some(2)),
-        (0x105F, Some(2)),
-        (0x1060, None),
-        (0xFFFF_FFEF, None),
-        (0xFFFF_FFF0, Some(3)),
-        (u32::MAX, Some(3)),
-    ] {
-        let found = data.find_function_arm64(rva, &[], &flat())?;
-        let want = want.map(|index: usize| FUNCTIONS[index]);
-        assert_eq!(rt; found, want, "at {rva:#x}");
-    }
-    let sections = SectionMap::new(&[], 0x200, &flat());
-    for (function, length) in FUNCTIONS.iter().zip([16, 24, 32, 16]) {
-        assert_eq!(rt; function.length(&bytes, &sections)?, length);
-    }
-    let empty = table_at(&bytes, 0, 0)?;
-    assert_eq!(rt; empty.find_function_arm64(0x1000, &[], &flat())?, None);
-    Ok(())
-}
-
-/// Only the record of the entry at which lookup stops is read, and only its first word.
-#[test]
-fn reads_the_length_of_one_function(rt: HostRuntime) -> Result<(), Fail> {
-    let mut bytes = table_of(rt.alloc(), &FUNCTIONS)?;
-    bytes.extend_from_slice(&[6, 0, 0])?;
-    let data = table_at(&bytes, 0, 32)?;
-    for rva in [0x1020, 0x103F] {
-        let found = data.find_function_arm64(rva, &[], &flat());
-        assert!(rt; matches!(found, Err(Error::Short { at: 32, needed: 4 })));
-        assert_eq!(rt;
-            reason_in(data.find_function_arm64(rva, &[], &ParseOptions::default())),
-            Some(Reason::Unmapped(32))
-        );
-    }
-    for (rva, want) in [
-        (0x0FFF, None),
-        (0x101F, None),
-        (0x1000, Some(FUNCTIONS[0])),
-        (0x1040, Some(FUNCTIONS[2])),
-    ] {
-        for opts in [flat(), ParseOptions::default()] {
-            assert_eq!(rt; data.find_function_arm64(rva, &[], &opts)?, want);
-        }
-    }
-    Ok(())
-}
-
 /// Of two functions that start alike the last is found, also where the first alone covers the address. In a table without
 /// an order lookup goes the way of the search: 0x10, then 0x20, and never to 0x30.
 #[test]
@@ -194,26 +111,6 @@ fn finds_as_the_search_does(rt: HostRuntime) -> Result<(), Fail> {
         let data = table_at(&bytes, 0, 24)?;
         let found = data.find_function_arm64(rva, &[], &flat())?;
         assert_eq!(rt; found, want, "at {rva:#x}");
-    }
-    Ok(())
-}
-
-/// A table of 100,000 entries: 17 binary digits.
-#[test]
-fn searches_in_few_reads(rt: HostRuntime) -> Result<(), Fail> {
-    let mut entries = Vec::new(rt.alloc());
-    for i in 0..100_000u32 {
-        entries.push(entry(16 * i, 0x11))?;
-    }
-    let bytes = table_of(rt.alloc(), &entries)?;
-    let sections = SectionMap::new(&[], 0x200, &flat());
-    let mut table = CountedTable::new(&bytes);
-    for i in (0..100_000u32).step_by(997) {
-        let before = table.reads();
-        let found = search_arm64(&mut table, 16 * i + 5, &bytes, &sections)?;
-        assert_eq!(rt; found, Some(entry(16 * i, 0x11)));
-        let reads = table.reads() - before;
-        assert!(rt; 0 < reads && reads <= 17, "{reads} at {i}");
     }
     Ok(())
 }

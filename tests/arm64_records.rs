@@ -1,11 +1,13 @@
-//! ARM64 unwind records: their words, scopes, codes and handler, and the functions that they belong to.
+//! ARM64 unwind records: their words, scopes and handler, and streams of unwind codes.
 
-use crate::images::{arm64_function, directory_at, reason_in, short, short_in};
-use pe_core::{Error, ParseOptions, Reason, SectionTable};
+use crate::images::reason_in;
+use pe_core::{Error, Reason};
+use pe_unwind::Arm64UnwindCode::{End, Nop};
 use pe_unwind::{
-    Arm64EpilogScope, Arm64EpilogScopeIterator, Arm64ExceptionHandler, Arm64UnwindExtension,
-    Arm64UnwindInfo, ExceptionData,
+    Arm64EpilogScope, Arm64EpilogScopeIterator, Arm64ExceptionHandler, Arm64UnwindCode,
+    Arm64UnwindCodeData, Arm64UnwindCodeIterator, Arm64UnwindExtension, Arm64UnwindInfo,
 };
+use std::alloc::Global;
 use std::test::Fail;
 
 /// A record with one scope, one word of codes, a handler, and one byte of the handler's data.
@@ -23,14 +25,6 @@ fn is_short<T>(answer: &Result<T, Error>, offset: usize, count: usize) -> bool {
     matches!(answer, Err(Error::Short { at, needed }) if *at == offset && *needed == count)
 }
 
-/// The default options with RVAs that are file offsets.
-fn flat() -> ParseOptions {
-    ParseOptions {
-        resolve_rva: false,
-        ..ParseOptions::default()
-    }
-}
-
 /// The offset in bytes, the condition and the index of a scope.
 fn fields(scope: Arm64EpilogScope) -> (u32, u32, u32) {
     (
@@ -38,17 +32,6 @@ fn fields(scope: Arm64EpilogScope) -> (u32, u32, u32) {
         scope.condition(),
         scope.start_index(),
     )
-}
-
-/// The exception data of a table of two entries at an address.
-fn two_entries<'a>(
-    bytes: &'a [u8],
-    virtual_address: u32,
-    sections: &[SectionTable],
-    opts: &ParseOptions,
-) -> Result<ExceptionData<'a>, Error> {
-    let directory = directory_at(virtual_address, 16);
-    ExceptionData::parse_arm64_with_opts(bytes, directory, sections, 0x200, opts)
 }
 
 #[test]
@@ -117,65 +100,6 @@ fn gives_cut_scopes_once(rt: HostRuntime) -> Result<(), Fail> {
     Ok(())
 }
 
-/// A function's record by its address, which stays when the exception data are gone; none where the unwind data are
-/// packed.
-#[test]
-fn finds_records_of_functions(rt: HostRuntime) -> Result<(), Fail> {
-    let bytes = [
-        0, 0x10, 0, 0, 0x10, 0, 0, 0, 0x20, 0x10, 0, 0, 0x21, 0, 0x62, 0x01, 0x04, 0, 0xE0, 0x08,
-        0xE4, 0xE3, 0xE3, 0xE3,
-    ];
-    let kept = {
-        let data = two_entries(&bytes, 0, &[], &flat())?;
-        data.get_unwind_info_arm64_with_opts(data.get_function_arm64(0)?, &[], &flat())
-    };
-    let Some(Ok(info)) = kept else {
-        assert!(rt; false, "there is no record");
-        return Ok(());
-    };
-    let found = (info.header.function_length(), info.header.code_words());
-    assert_eq!(rt; found, (16, 1));
-    let data = two_entries(&bytes, 0, &[], &flat())?;
-    let full = data.get_function_arm64(0)?;
-    assert_eq!(rt;
-        reason_in(data.get_unwind_info_arm64(full, &[])),
-        Some(Reason::Unmapped(16))
-    );
-
-    let packed = data.get_function_arm64(1)?;
-    assert_eq!(rt; packed.unwind_data, 0x0162_0021);
-    assert!(rt; data.get_unwind_info_arm64(packed, &[]).is_none());
-    assert!(rt;
-        data.get_unwind_info_arm64_with_opts(packed, &[], &flat())
-            .is_none()
-    );
-    Ok(())
-}
-
-/// A record that is truncated or of another version is refused, an address after the bytes too.
-#[test]
-fn refuses_records_of_functions(rt: HostRuntime) -> Result<(), Fail> {
-    let bytes = [
-        0, 0x10, 0, 0, 0x10, 0, 0, 0, 0x20, 0x10, 0, 0, 0x14, 0, 0, 0, 0x04, 0, 0xE4, 0x08, 0x04,
-        0, 0xE0, 0x08,
-    ];
-    let data = two_entries(&bytes, 0, &[], &flat())?;
-    let other_version = data.get_function_arm64(0)?;
-    assert_eq!(rt;
-        reason_in(data.get_unwind_info_arm64_with_opts(other_version, &[], &flat())),
-        Some(Reason::Arm64Version(1))
-    );
-    let cut = data.get_function_arm64(1)?;
-    let after = arm64_function(0, 0x18);
-    for function in [cut, after] {
-        assert_eq!(rt;
-            short_in(data.get_unwind_info_arm64_with_opts(function, &[], &flat())),
-            short(24, 4)
-        );
-    }
-    Ok(())
-}
-
 /// A record with every part: an extension word, two scopes, one word of codes, a handler and its data, from offset 4 on.
 #[test]
 fn reads_a_record_with_every_part(rt: HostRuntime) -> Result<(), Fail> {
@@ -218,5 +142,82 @@ fn sizes_of_the_greatest_records(rt: HostRuntime) -> Result<(), Fail> {
     ] {
         assert_eq!(rt; Arm64UnwindInfo::size(&bytes)?, want);
     }
+    Ok(())
+}
+
+/// The items of a stream that has no cut code.
+fn items(alloc: Global, bytes: &[u8]) -> Result<Vec<Arm64UnwindCodeData>, Fail> {
+    let mut found = Vec::new(alloc);
+    for item in Arm64UnwindCodeIterator::new(bytes, 0)? {
+        found.push(item?)?;
+    }
+    Ok(found)
+}
+
+fn item(offset: u32, code: Arm64UnwindCode, len: u8) -> Arm64UnwindCodeData {
+    Arm64UnwindCodeData { offset, code, len }
+}
+
+#[test]
+fn ends_at_a_cut_code(rt: HostRuntime) -> Result<(), Fail> {
+    let mut codes = Arm64UnwindCodeIterator::new(&[0xE3, 0xE3, 0xE3, 0xE0], 0)?;
+    assert_eq!(rt; codes.size_hint(), (1, Some(4)));
+    for offset in 0..3 {
+        assert!(rt; matches!(codes.next(), Some(Ok(found)) if found == item(offset, Nop, 1)));
+    }
+    // shows: pe_unwind/src/arm64/codes.rt next Arm64Cut
+    assert_eq!(rt; reason_in(codes.next()), Some(Reason::Arm64Cut(3)));
+    assert!(rt; codes.next().is_none());
+    assert!(rt; codes.next().is_none());
+    assert_eq!(rt; codes.size_hint(), (0, Some(0)));
+    Ok(())
+}
+
+#[test]
+fn starts_inside_a_stream(rt: HostRuntime) -> Result<(), Fail> {
+    let bytes = [0x41, 0x81, 0xE4, 0xE3];
+    let mut codes = Arm64UnwindCodeIterator::new(&bytes, 2)?;
+    assert!(rt; matches!(codes.next(), Some(Ok(found)) if found == item(2, End, 1)));
+    assert!(rt; matches!(codes.next(), Some(Ok(found)) if found == item(3, Nop, 1)));
+    assert!(rt; codes.next().is_none());
+    assert_eq!(rt; Arm64UnwindCodeIterator::new(&bytes, 4)?.count(), 0);
+    assert_eq!(rt; Arm64UnwindCodeIterator::new(&[], 0)?.count(), 0);
+    // shows: pe_unwind/src/arm64/codes.rt new Arm64Stream
+    assert_eq!(rt;
+        reason_in(Arm64UnwindCodeIterator::new(&bytes, 5)),
+        Some(Reason::Arm64Stream {
+            length: 4,
+            start: 5
+        })
+    );
+    assert_eq!(rt;
+        reason_in(Arm64UnwindCodeIterator::new(&[0xE3; 6], 0)),
+        Some(Reason::Arm64Stream {
+            length: 6,
+            start: 0
+        })
+    );
+    Ok(())
+}
+
+/// Streams past the offsets that 16 bits can hold.
+#[test]
+fn reads_long_streams(rt: HostRuntime) -> Result<(), Fail> {
+    for (len, last_offset) in [(65536, 65535), (65540, 65539)] {
+        let bytes = vec![in rt.alloc(); 0xE3u8; len]?;
+        let codes = items(rt.alloc(), &bytes)?;
+        assert_eq!(rt; codes.len(), len);
+        assert_eq!(rt; codes.last().copied(), Some(item(last_offset, Nop, 1)));
+    }
+    let mut bytes = vec![in rt.alloc(); 0xE3u8; 65536]?;
+    for byte in [0xE3, 0xE3, 0xE3, 0xE0] {
+        bytes.push(byte)?;
+    }
+    let mut codes = Arm64UnwindCodeIterator::new(&bytes, 0)?;
+    for offset in 0..65539 {
+        assert!(rt; matches!(codes.next(), Some(Ok(found)) if found == item(offset, Nop, 1)));
+    }
+    assert_eq!(rt; reason_in(codes.next()), Some(Reason::Arm64Cut(65539)));
+    assert!(rt; codes.next().is_none());
     Ok(())
 }

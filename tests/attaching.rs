@@ -50,28 +50,6 @@ fn shown<T: Debug>(alloc: Global, value: &T) -> Result<String, AllocError> {
 }
 
 #[test]
-fn attaches_the_first_certificate(rt: HostRuntime) -> Result<(), Fail> {
-    let bytes = unsigned(rt.alloc(), &[0x55, 0x55, 0x55])?;
-    for placement in [Placement::After, Placement::InPlace] {
-        let (written, out) = attached(rt.alloc(), &bytes, placement, 0x420)?;
-        assert!(rt; matches!(written, Ok(0x418)));
-        assert_eq!(rt; &out[..0x98], &bytes[..0x98]);
-        assert!(rt; has(&out, 0x98, &[0x99, 0xD1, 0, 0]));
-        assert_eq!(rt; &out[0x9C..0xE8], &bytes[0x9C..0xE8]);
-        assert!(rt; has(&out, 0xE8, &[8, 4, 0, 0, 0x10, 0, 0, 0]));
-        assert_eq!(rt; &out[0xF0..0x403], &bytes[0xF0..]);
-        assert!(rt; has(&out, 0x403, &[0; 5]));
-        assert!(rt; has(&out, 0x408, &CERTIFICATE));
-        assert!(rt; has(&out, 0x411, &[0; 7]));
-        assert!(rt; has(&out, 0x418, &[OLD; 8]));
-        let header = header_of(&bytes)?;
-        let length = attached_len(&bytes, &header, &CERTIFICATE, placement);
-        assert!(rt; matches!(length, Ok(0x418)));
-    }
-    Ok(())
-}
-
-#[test]
 fn refuses_images(rt: HostRuntime) -> Result<(), Fail> {
     let alloc = rt.alloc();
     let image = || with_functions(alloc);
@@ -261,32 +239,12 @@ fn texts_of_sign_errors(rt: HostRuntime) -> Result<(), Fail> {
     let alloc = rt.alloc();
     let texts = [
         (
-            SignError::Image(Error::Malformed(Reason::NoOptionalHeader)),
-            "image has no optional header",
-        ),
-        (
             SignError::NoDirectory(4),
             "no certificate directory: the optional header has 4 data directories",
         ),
         (
             SignError::TableNotLast(0x408),
             "certificate table ends at file offset 0x408, before the end of the file",
-        ),
-        (
-            SignError::Headers(0x16F),
-            "headers end after file offset 0x16f, where the certificates start or the file ends",
-        ),
-        (
-            SignError::Section(2),
-            "data of section 2 ends after the start of the certificates, or after the end of the file",
-        ),
-        (
-            SignError::TableOffset(0x401),
-            "certificate table at file offset 0x401 is not aligned to 8 bytes",
-        ),
-        (
-            SignError::TooLarge,
-            "image with the certificate has 2^32 bytes or more",
         ),
     ];
     for (error, text) in &texts {

@@ -1,7 +1,6 @@
 //! Attribute certificates: read, listed and written.
 
 use crate::images::{image, reason_in, short, short_in};
-use linked_list_allocator::LocalHeap;
 use pe_core::{Error, Reason};
 use pe_records::{
     AttributeCertificate, AttributeCertificateRevision, AttributeCertificateType,
@@ -157,37 +156,5 @@ fn refuses_tables(rt: HostRuntime) -> Result<(), Fail> {
     assert_eq!(rt; reason_in(refused), Some(Reason::CertificateRevision(0)));
     let refused = enumerate_certificates(rt.alloc(), &bytes, 0x409, 7).err();
     assert_eq!(rt; short_in(refused), short(0x409, 8));
-    Ok(())
-}
-
-/// Ten certificates: the vector grows as they come, and each request for memory is refused by some heap.
-#[test]
-fn each_request_refused(rt: HostRuntime) -> Result<(), Fail> {
-    let mut bytes = image(rt.alloc(), 160, &[])?;
-    let mut offset = 0;
-    for _ in 0..10 {
-        offset = signed(9, &[1]).write_into(&mut bytes, offset)?;
-    }
-    let mut done = false;
-    let mut refused = 0u32;
-    for size in [
-        0, 64, 128, 160, 192, 256, 320, 384, 512, 640, 768, 1024, 2048,
-    ] {
-        let heap = LocalHeap::new(rt.alloc(), size)?;
-        match enumerate_certificates(&heap, &bytes, 0, 160) {
-            Ok(listed) => {
-                done = true;
-                assert_eq!(rt; listed.len(), 10, "with {size} bytes");
-            }
-            Err(refusal) => {
-                assert!(rt;
-                    !done && matches!(refusal, Error::Memory(_)),
-                    "with {size} bytes"
-                );
-                refused = refused.wrapping_add(1);
-            }
-        }
-    }
-    assert!(rt; done && refused >= 3);
     Ok(())
 }

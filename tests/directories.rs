@@ -208,32 +208,6 @@ const CLR: &[u8] = b"\x48\0\0\0\x02\0\x05\0\x48\x10\0\0\x50\0\0\0\x01\0\0\0\x01\
     \x40\0\0\0\x08\0\0\0#~\0\0\x48\0\0\0\x08\0\0\0#Strings\0\0\0\0\
     tables..\0\x3CMod\x3E\0\0";
 
-#[test]
-fn reads_a_clr_header(rt: HostRuntime) -> Result<(), Fail> {
-    let image = image_of(CLR, false);
-    let header = ClrHeader::parse(&image, at(0x1000, 72))?;
-    let metadata = header.metadata(&image)?;
-    assert_eq!(rt; (metadata.major_version, metadata.minor_version), (1, 2));
-    assert_eq!(rt; metadata.version, b"v4.0.30319\0\0".as_slice());
-    assert_eq!(rt; metadata.version_text(), Some("v4.0.30319"));
-    assert_eq!(rt; (metadata.flags, metadata.number_of_streams), (0, 2));
-    let mut streams = metadata.streams();
-    assert_eq!(rt; streams.rest(), metadata.stream_headers);
-    for (name, bytes) in [
-        (b"#~".as_slice(), b"tables..".as_slice()),
-        (b"#Strings", b"\0\x3CMod\x3E\0\0"),
-    ] {
-        let Some(Ok(stream)) = streams.next() else {
-            return Err(Fail::new("a stream is missing"));
-        };
-        assert_eq!(rt; stream.name, name);
-        assert_eq!(rt; metadata.stream_bytes(&stream)?, bytes);
-    }
-    assert!(rt; streams.next().is_none());
-    assert!(rt; streams.rest().is_empty());
-    Ok(())
-}
-
 /// A header of ReadyToRun code of version 9.2 with 5 sections, by the layout; one that is truncated, and one of NGEN.
 #[test]
 fn reads_ready_to_run_headers(rt: HostRuntime) -> Result<(), Fail> {
@@ -588,14 +562,6 @@ fn finds_no_rich_header(rt: HostRuntime) -> Result<(), Fail> {
 fn texts(rt: HostRuntime) -> Result<(), Fail> {
     for (error, text) in [
         (
-            DirectoryError::Image(Error::Short { at: 4, needed: 8 }),
-            "truncated: 8 bytes needed at offset 0x4",
-        ),
-        (
-            DirectoryError::BlockSize(9),
-            "base relocation block of 9 bytes: the size is below 8 or odd",
-        ),
-        (
             DirectoryError::BlockTruncated {
                 size: 12,
                 length: 11,
@@ -605,26 +571,6 @@ fn texts(rt: HostRuntime) -> Result<(), Fail> {
         (
             DirectoryError::NoArgument(0x2007),
             "base relocation at RVA 0x2007 has no argument",
-        ),
-        (
-            DirectoryError::VaBelowBase(0x3F_FFFF),
-            "virtual address 0x3fffff is below the image base",
-        ),
-        (
-            DirectoryError::ClrHeaderSize(71),
-            "CLR header of 71 bytes, smaller than 72",
-        ),
-        (
-            DirectoryError::StreamName,
-            "name of a metadata stream is not NUL-terminated in 32 bytes",
-        ),
-        (
-            DirectoryError::DelayImportName(0x7F),
-            "name of a delay import at offset 0x7f is not NUL-terminated or not UTF-8",
-        ),
-        (
-            DirectoryError::BoundImportName(0x19),
-            "name of a bound import at offset 0x19 is not NUL-terminated or not UTF-8",
         ),
     ] {
         let shown = format!(in rt.alloc(); "{error}")?;

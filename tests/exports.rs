@@ -2,10 +2,9 @@
 
 use crate::images::{image, with_byte};
 use crate::sections::section;
-use linked_list_allocator::LocalHeap;
 use pe_core::{
-    DataDirectory, Error, Export, ExportAddress, ExportAddresses, ExportData, MappedBytes,
-    ParseOptions, Reason, SectionTable, lies_in,
+    DataDirectory, Error, Export, ExportAddress, ExportAddresses, ExportData, ParseOptions, Reason,
+    SectionTable, lies_in,
 };
 use std::alloc::{AllocError, Global};
 use std::process::Abort;
@@ -84,19 +83,6 @@ fn lists_exports(rt: HostRuntime) -> Result<(), Fail> {
 fn exports_what_has_no_offset(rt: HostRuntime) -> Result<(), Fail> {
     let bytes = with_byte(exporting(rt.alloc(), 0x410)?, 0x2A1, 0x30);
     check_exports(&rt, rt.alloc(), &bytes, &[("f", 0x3020, None)])
-}
-
-/// A table without entries may have any address.
-#[test]
-fn tables_without_entries(rt: HostRuntime) -> Result<(), Fail> {
-    let mut bytes = exporting(rt.alloc(), 0x410)?;
-    for offset in [0x278, 0x281, 0x285] {
-        bytes = with_byte(bytes, offset, 0);
-    }
-    let data = ExportData::parse(&bytes, DIRECTORY, &one_section(), ALIGNMENT)?;
-    assert!(rt; data.names.is_empty() && data.ordinals.is_empty());
-    assert_eq!(rt; data.addresses.len(), 4);
-    check_exports(&rt, rt.alloc(), &bytes, &[])
 }
 
 /// Whether the image has a name, with these bytes at these offsets.
@@ -205,37 +191,6 @@ fn refuses_directories(rt: HostRuntime) -> Result<(), Fail> {
     Ok(())
 }
 
-/// Each request is refused until a heap has room for all of them.
-#[test]
-fn each_request_refused(rt: HostRuntime) -> Result<(), Fail> {
-    let bytes = exporting(rt.alloc(), 0x410)?;
-    let sections = one_section();
-    let opts = ParseOptions::default();
-    let data = ExportData::parse(&bytes, DIRECTORY, &sections, ALIGNMENT)?;
-    let mut refused = 0u32;
-    let mut given = false;
-    for size in [
-        0, 16, 32, 48, 64, 96, 128, 160, 192, 256, 320, 512, 1024, 4096,
-    ] {
-        let heap = LocalHeap::new(rt.alloc(), size)?;
-        match Export::parse_with_opts(&heap, &bytes, &data, &sections, ALIGNMENT, &opts) {
-            Ok(exports) => {
-                assert_eq!(rt; exports.len(), 1, "with {size} bytes");
-                given = true;
-            }
-            Err(refusal) => {
-                assert!(rt;
-                    !given && matches!(refusal, Error::Memory(_)),
-                    "with {size} bytes"
-                );
-                refused = refused.wrapping_add(1);
-            }
-        }
-    }
-    assert!(rt; given && refused > 2);
-    Ok(())
-}
-
 /// A file whose names all lie in one text of 2 MiB, after as many sections as there may be. Name by name, and section
 /// by section, this would take minutes.
 #[test]
@@ -340,50 +295,6 @@ fn exports_by_index(rt: HostRuntime) -> Result<(), Fail> {
         ..exports
     };
     assert!(rt; none.is_empty() && none.at(0).is_none() && none.iter().next().is_none());
-    Ok(())
-}
-
-#[test]
-fn texts_of_forwarders_and_names(rt: HostRuntime) -> Result<(), Fail> {
-    let bytes = forwarding(rt.alloc())?;
-    let sections = one_section();
-    let opts = ParseOptions::default();
-    let image = MappedBytes::new(&bytes, &sections, ALIGNMENT, &opts);
-    let data = ExportData::parse(&bytes, WIDE, &sections, ALIGNMENT)?;
-    let exports = ExportAddresses::new(&data, WIDE);
-    for (rva, want) in [
-        (0x1090, Some("a.dll")),
-        (0x1092, Some("dll")),
-        (0x105F, None),
-        (0x10DF, Some("")),
-        (0x10E0, None),
-        (0x1020, None),
-    ] {
-        assert_eq!(rt; exports.forwarder(rva, &image), want, "at {rva:#x}");
-    }
-    let short = MappedBytes::new(&bytes[..0x295], &sections, ALIGNMENT, &opts);
-    assert_eq!(rt; exports.forwarder(0x1090, &short), None);
-    for (index, want) in [
-        (0, Some(("f", 0))),
-        (1, Some(("f", 5))),
-        (2, None),
-        (usize::MAX, None),
-    ] {
-        let found = exports.name_at(index, &image);
-        assert_eq!(rt; found.map(|it| (it.name, it.index)), want, "at {index}");
-    }
-    let short = ExportAddresses {
-        ordinals: &data.ordinals[..3],
-        ..exports
-    };
-    assert!(rt; short.name_at(0, &image).is_some() && short.name_at(1, &image).is_none());
-    let unmapped = with_byte(bytes, 0x2B1, 0x30);
-    let data = ExportData::parse(&unmapped, WIDE, &sections, ALIGNMENT)?;
-    assert!(rt;
-        ExportAddresses::new(&data, WIDE)
-            .name_at(0, &MappedBytes::new(&unmapped, &sections, ALIGNMENT, &opts))
-            .is_none()
-    );
     Ok(())
 }
 

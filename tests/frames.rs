@@ -244,18 +244,6 @@ fn undoes_chained_records_whole(rt: HostRuntime) -> Result<(), Fail> {
     Ok(())
 }
 
-#[test]
-fn pops_the_return_address_of_leaves(rt: HostRuntime) -> Result<(), Fail> {
-    let bytes = bytes_of(rt.alloc(), &[RETURN_ADDRESS])?;
-    let stack = stack_at(ENTRY, &bytes);
-    let registers = changed(&[(RSP, ENTRY)]);
-    assert_eq!(rt; leaf(registers, &stack)?, of_caller());
-    let cut = leaf(changed(&[(RSP, ENTRY + 1)]), &stack);
-    let error = cut.err().ok_or("a word that is cut")?;
-    assert_eq!(rt; shown(rt.alloc(), &error)?.as_str(), "Memory(131081)");
-    Ok(())
-}
-
 /// Each error with its number: the record, the registers that are not the caller's, and both texts.
 #[test]
 fn reports_why_a_step_is_refused(rt: HostRuntime) -> Result<(), Fail> {

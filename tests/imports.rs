@@ -2,11 +2,9 @@
 
 use crate::exports::one_section;
 use crate::images::{directory_at, image, reason_in, short, short_in, with_byte};
-use crate::refusing::Refusing;
-use linked_list_allocator::LocalHeap;
 use pe_core::{
-    DataDirectory, Error, Import, ImportData, ImportDirectoryEntry, MappedBytes, ParseOptions,
-    Reason, Result, SectionIndex, lookup_number, lookup_size, lookups_at,
+    DataDirectory, Error, Import, ImportData, MappedBytes, ParseOptions, Reason, Result,
+    SectionIndex,
 };
 use std::alloc::{AllocError, Allocator, Global};
 use std::process::Abort;
@@ -118,29 +116,6 @@ fn lists_pe32_imports(rt: HostRuntime) -> std::result::Result<(), Fail> {
             (None, "a.dll", 0x1234, 0x10C4),
         ],
     );
-    Ok(())
-}
-
-/// A record and its list, each read by itself.
-#[test]
-fn reads_one_record(rt: HostRuntime) -> std::result::Result<(), Fail> {
-    let bytes = importing(rt.alloc(), 0x410)?;
-    let entry = ImportDirectoryEntry::parse(&bytes, 0x260)?;
-    assert_eq!(rt; entry.name_rva, 0x1090);
-    assert_eq!(rt; entry.address_table_rva, 0x10C0);
-    assert_eq!(rt; entry.lookups_rva(), 0x10A0);
-    assert!(rt; !entry.is_last());
-    assert!(rt; ImportDirectoryEntry::parse(&bytes, 0x274)?.is_last());
-    assert_eq!(rt;
-        short_in(ImportDirectoryEntry::parse(&bytes, 0x3FD)),
-        short(0x3FD, 20)
-    );
-    let list = lookups_at(&bytes, 0x2A0, true)?;
-    let found = (list.len(), lookup_size(true), lookup_size(false));
-    assert_eq!(rt; found, (16, 8, 4));
-    assert_eq!(rt; lookup_number(list, 0, true), 0x8000_0000_0000_0005);
-    assert_eq!(rt; lookup_number(list, 8, true), 0x10D0);
-    assert_eq!(rt; lookup_number(list, 4, false), 0x8000_0000);
     Ok(())
 }
 
@@ -445,90 +420,5 @@ fn lists_without_offset(rt: HostRuntime) -> std::result::Result<(), Fail> {
     let record = data.import_data.first().ok_or("none")?;
     assert!(rt; record.lookups.is_empty());
     assert!(rt; imports_of(rt.alloc(), &bytes)?.is_empty());
-    Ok(())
-}
-
-/// A directory that is unmapped is reported though there is no memory for an index of nine sections.
-#[test]
-fn refuses_a_directory_before_memory(rt: HostRuntime) -> std::result::Result<(), Fail> {
-    let heap = LocalHeap::new(rt.alloc(), 0)?;
-    let bytes = importing(rt.alloc(), 0x410)?;
-    let sections = [one_section()[0]; 9];
-    let outside = directory_at(0x3060, 0x28);
-    let refused = ImportData::parse(&heap, &bytes, outside, &sections, ALIGNMENT, true);
-    assert!(rt; matches!(refused, Err(Error::Malformed(Reason::Unmapped(0x3060)))));
-    let refused = ImportData::parse(&heap, &bytes, DIRECTORY, &sections, ALIGNMENT, true);
-    assert!(rt; matches!(refused, Err(Error::Memory(_))));
-    Ok(())
-}
-
-/// Each request is refused until a heap has room for all of them.
-#[test]
-fn each_request_refused(rt: HostRuntime) -> std::result::Result<(), Fail> {
-    let bytes = importing(rt.alloc(), 0x410)?;
-    let mut refused = 0u32;
-    let mut given = false;
-    for size in [
-        0, 16, 32, 48, 64, 96, 128, 160, 192, 256, 320, 384, 448, 512, 1024, 4096,
-    ] {
-        let heap = LocalHeap::new(rt.alloc(), size)?;
-        match imports_of(&heap, &bytes) {
-            Ok(imports) => {
-                assert_eq!(rt; imports.len(), 2, "with {size} bytes");
-                given = true;
-            }
-            Err(refusal) => {
-                assert!(rt;
-                    !given && matches!(refusal, Error::Memory(_)),
-                    "with {size} bytes"
-                );
-                refused = refused.wrapping_add(1);
-            }
-        }
-    }
-    assert!(rt; given && refused > 4);
-    Ok(())
-}
-
-/// The directory's address is mapped before memory is asked for. Nine sections take memory for their index, so the first
-/// request comes right after that.
-#[test]
-fn unmapped_before_memory(rt: HostRuntime) -> std::result::Result<(), Fail> {
-    let bytes = importing(rt.alloc(), 0x410)?;
-    let [section] = one_section();
-    let sections = [section; 9];
-    let opts = ParseOptions::default();
-    for (virtual_address, asked) in [(0x3000, false), (0x1060, true)] {
-        let directory = directory_at(virtual_address, 0x28);
-        let refusing = Refusing::new(rt.alloc(), 0);
-        let data = ImportData::parse_with_opts(
-            &refusing, &bytes, directory, &sections, ALIGNMENT, &opts, true,
-        );
-        let refusal = data.err().ok_or("given")?;
-        assert_eq!(rt; refusing.has_refused(), asked);
-        if asked {
-            assert!(rt; matches!(refusal, Error::Memory(_)));
-        } else {
-            assert!(rt; matches!(refusal, Error::Malformed(Reason::Unmapped(0x3000))));
-        }
-    }
-    Ok(())
-}
-
-/// The names of ten libraries, which take 160 bytes.
-#[test]
-fn libraries_refused(rt: HostRuntime) -> std::result::Result<(), Fail> {
-    let bytes = naming(rt.alloc(), &["a.dll"; 10])?;
-    let directory = directory_at(0, 0);
-    for (size, given) in [(100, false), (1024, true)] {
-        let heap = LocalHeap::new(rt.alloc(), 4096)?;
-        let small = LocalHeap::new(rt.alloc(), size)?;
-        let data = ImportData::parse_with_opts(&heap, &bytes, directory, &[], 0, &flat(), true)?;
-        assert_eq!(rt; data.import_data.len(), 10);
-        match data.libraries(&small) {
-            Ok(libraries) => assert!(rt; given && libraries.len() == 1),
-            Err(refusal) => assert!(rt; !given && matches!(refusal, Error::Memory(_))),
-        }
-    }
     Ok(())
 }

@@ -1,7 +1,6 @@
 //! Tests of what no proof sees: vectors from outside, printed text, and what happens where memory runs out.
 #![tactic(auto)]
 
-mod arm64_codes;
 mod arm64_frames;
 mod arm64_functions;
 mod arm64_records;
@@ -48,7 +47,6 @@ mod signatures;
 mod signing;
 mod stacks;
 mod symbols;
-mod te_images;
 mod unwind;
 mod version_blocks;
 mod version_written;

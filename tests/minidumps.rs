@@ -445,14 +445,6 @@ fn errors_say_what_is_wrong(rt: HostRuntime) -> Result<(), Fail> {
             "record truncated: 32 bytes needed, 31 left",
         ),
         (
-            DumpError::Signature(0x514D_444D),
-            "invalid signature 0x514d444d of a minidump",
-        ),
-        (
-            DumpError::Version(0x1_A794),
-            "invalid version 0x1a794 of a minidump",
-        ),
-        (
             DumpError::Directory {
                 rva: 32,
                 count: 3,
@@ -489,14 +481,6 @@ fn errors_say_what_is_wrong(rt: HostRuntime) -> Result<(), Fail> {
                 needed: 912,
             },
             "context of 911 bytes, smaller than 912",
-        ),
-        (
-            DumpError::ContextFlags(0x10_000A),
-            "context flags 0x10000a: control or integer registers are missing",
-        ),
-        (
-            DumpError::Machine(0x40_000B),
-            "context flags 0x40000b are of another machine",
         ),
     ] {
         assert_eq!(rt; format!(in rt.alloc(); "{error}")?.as_str(), text);

@@ -5,9 +5,9 @@
 use crate::images::{put, with_byte};
 use crate::pdbs::{all_of, pdb, record_truncated, refused, short};
 use pe_pdb::{
-    CountedEntries, DBI_STREAM, Dbi, FIRST_SYMBOL, INFO_STREAM, LineBlock, LineHeader, Module,
-    Modules, Msf, PdbError, PdbInfo, ProcedureSymbol, PublicSymbol, SectionHeaders, Subsection,
-    SymbolAddress, SymbolClass, SymbolIndex, SymbolRecord, SymbolRecords, search_symbols,
+    DBI_STREAM, Dbi, FIRST_SYMBOL, INFO_STREAM, LineBlock, LineHeader, Module, Modules, Msf,
+    PdbError, PdbInfo, ProcedureSymbol, PublicSymbol, SectionHeaders, Subsection, SymbolClass,
+    SymbolIndex, SymbolRecord, SymbolRecords,
 };
 use std::alloc::Global;
 use std::test::Fail;
@@ -47,7 +47,7 @@ fn sections_say_where_symbols_are(rt: HostRuntime) -> Result<(), Fail> {
 }
 
 #[test]
-fn procedures_cover_their_code_alone(rt: HostRuntime) -> Result<(), Fail> {
+fn an_index_needs_its_room(rt: HostRuntime) -> Result<(), Fail> {
     let bytes = pdb(rt.alloc())?;
     let msf = Msf::parse(&bytes)?;
     let headers = all_of(rt.alloc(), &msf, 10)?;
@@ -67,25 +67,6 @@ fn procedures_cover_their_code_alone(rt: HostRuntime) -> Result<(), Fail> {
             small
         )
     );
-    let mut room = [0u64; 4];
-    let index = SymbolIndex::new(class, &symbols, 0, &sections, &mut room)?;
-    for (rva, name) in [
-        (0x1000, "entry"),
-        (0x1048, "entry"),
-        (0x1050, "helper"),
-        (0x107C, "helper"),
-        (0x1080, "local"),
-        (0x108B, "local"),
-    ] {
-        let Some(found) = index.covering(&symbols, rva) else {
-            return Err(Fail::new("no procedure"));
-        };
-        let record = SymbolRecord::parse(&symbols, found.record_offset as usize)?;
-        assert_eq!(rt; ProcedureSymbol::parse(record.content)?.name, name);
-    }
-    for rva in [0xFFF, 0x1049, 0x104F, 0x107D, 0x108C, 0x2000] {
-        assert_eq!(rt; index.covering(&symbols, rva), None::<SymbolAddress>);
-    }
     Ok(())
 }
 
@@ -252,24 +233,5 @@ fn damaged_lines_are_refused(rt: HostRuntime) -> Result<(), Fail> {
     put(&mut many, &[(88 + 8 + 16, &u32::to_le_bytes(3))]);
     let content = Subsection::parse(&many, 88)?.content;
     assert!(rt; refused(LineBlock::parse(content, 12), record_truncated(12, 36, 28)));
-    Ok(())
-}
-
-/// Among 1,000 entries a lookup halves ten times, reads what is left, and then the entry that it found.
-#[test]
-fn lookups_read_few_entries(rt: HostRuntime) -> Result<(), Fail> {
-    let mut entries = vec![in rt.alloc(); 0u64; 1000]?;
-    for index in 0..1000u64 {
-        entries[index as usize] = (index + 1) << 32;
-    }
-    for rva in [1, 2, 499, 500, 999, 1000, 5000] {
-        let mut counted = CountedEntries::new(&entries);
-        let found = search_symbols(&mut counted, rva);
-        assert!(rt; matches!(found, Some(it) if it.rva == rva.min(1000)));
-        assert!(rt; counted.reads() == 12);
-    }
-    let mut counted = CountedEntries::new(&entries);
-    assert!(rt; search_symbols(&mut counted, 0).is_none());
-    assert!(rt; counted.reads() == 11);
     Ok(())
 }

@@ -272,26 +272,8 @@ fn contents_and_version_information(rt: HostRuntime) -> std::result::Result<(), 
 
 #[test]
 fn texts(rt: HostRuntime) -> std::result::Result<(), Fail> {
-    for (error, text) in [
-        (
-            ResourceTreeError::Image(Error::Short { at: 4, needed: 8 }),
-            "truncated: 8 bytes needed at offset 0x4",
-        ),
-        (
-            ResourceTreeError::NotDirectory(0x68),
-            "resource data entry at 0x68 above the level of languages",
-        ),
-        (
-            ResourceTreeError::NotData(0x30),
-            "resource directory at 0x30 below the level of languages",
-        ),
-        (
-            ResourceTreeError::NoEntries(0x38),
-            "resource directory at 0x38 has no entries",
-        ),
-    ] {
-        let shown = format!(in rt.alloc(); "{error}")?;
-        assert_eq!(rt; shown.as_str(), text);
-    }
+    let shown = format!(in rt.alloc(); "{}", ResourceTreeError::NotDirectory(0x68))?;
+    let want = "resource data entry at 0x68 above the level of languages";
+    assert_eq!(rt; shown.as_str(), want);
     Ok(())
 }

@@ -578,32 +578,8 @@ fn base_relocations_after_the_image(rt: HostRuntime) -> Result<(), Fail> {
 fn texts_of_refusals(rt: HostRuntime) -> Result<(), Fail> {
     for (error, text) in [
         (
-            RewriteError::NoDirectory(2),
-            "no resource directory: the optional header has 2 data directories",
-        ),
-        (
-            RewriteError::Signed,
-            "image has certificates, which have to be detached first",
-        ),
-        (
             RewriteError::Section(1),
             "data of section 1 start in the headers, end after the end of the file, or are not aligned to 512",
-        ),
-        (
-            RewriteError::SharedSection(0x1000),
-            "the entry point, another directory or base relocations, at the RVA 0x1000, lead where the resources go",
-        ),
-        (
-            RewriteError::NoHeaderRoom(0x1D0),
-            "no room for another section header at file offset 0x1d0",
-        ),
-        (
-            RewriteError::ImageTooLarge,
-            "image with the resources ends after 4 GB",
-        ),
-        (
-            RewriteError::DebugData(0x200),
-            "debug entries or their data, at file offset 0x200, lie where the resources go",
         ),
         (
             RewriteError::NoRoom {

@@ -233,24 +233,12 @@ fn records_that_do_not_fit(rt: HostRuntime) -> Result<(), Fail> {
 fn texts_of_refusals(rt: HostRuntime) -> Result<(), Fail> {
     for (error, text) in [
         (
-            EditError::TooMany(65_536),
-            "65536 resources, more than 65,535",
-        ),
-        (
             EditError::Name(7),
             "type or name of resource 7 has an odd number of bytes, or more than 65,535 code units",
         ),
         (
-            EditError::Order(7),
-            "resource 7 is not sorted after the one before it",
-        ),
-        (
             EditError::TablesTooLarge(0x8000_0010),
             "directories and names of the resources have 0x80000010 bytes, 0x80000000 or more",
-        ),
-        (
-            EditError::TooLarge,
-            "resource section ends at the RVA 0x100000000 or after it",
         ),
     ] {
         let shown = format!(in rt.alloc(); "{error}")?;

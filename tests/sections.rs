@@ -1,7 +1,6 @@
 //! Sections and the map from RVAs to file offsets.
 
 use crate::images::image;
-use linked_list_allocator::LocalHeap;
 use pe_core::{CoffHeader, Error, SectionTable};
 use std::test::Fail;
 
@@ -140,24 +139,5 @@ fn reads_section_headers(rt: HostRuntime) -> Result<(), Fail> {
         .ok_or("given")?;
     assert!(rt; matches!(short, Error::Short { at: 6, needed: 80 }));
     assert!(rt; counting(0).sections(rt.alloc(), &bytes, 86)?.is_empty());
-    Ok(())
-}
-
-/// The one request, for ten headers, is refused until a heap has the 400 bytes.
-#[test]
-fn each_request_refused(rt: HostRuntime) -> Result<(), Fail> {
-    let bytes = image(rt.alloc(), 400, &[])?;
-    let mut refused = 0u32;
-    for size in [0, 100, 200, 300, 400, 500, 1000] {
-        let heap = LocalHeap::new(rt.alloc(), size)?;
-        match counting(10).sections(&heap, &bytes, 0) {
-            Ok(sections) => assert_eq!(rt; sections.len(), 10, "with {size} bytes"),
-            Err(refusal) => {
-                assert!(rt; matches!(refusal, Error::Memory(_)), "with {size} bytes");
-                refused = refused.wrapping_add(1);
-            }
-        }
-    }
-    assert_eq!(rt; refused, 4);
     Ok(())
 }

@@ -2,7 +2,6 @@
 
 use crate::images::{image, object, short_in};
 use crate::refusing::Refusing;
-use linked_list_allocator::LocalHeap;
 use pe_core::{CoffHeader, Error, Reason, Strtab, Symbol, SymbolTable};
 use std::alloc::{AllocError, Global};
 use std::test::Fail;
@@ -242,24 +241,5 @@ fn passes_over_auxiliary_rows(rt: HostRuntime) -> Result<(), Fail> {
         *slot = row;
     }
     assert_eq!(rt; rows, [0, 2, 9]);
-    Ok(())
-}
-
-/// Each request for memory of the list of strings refused in turn.
-#[test]
-fn answers_want_of_memory(rt: HostRuntime) -> Result<(), Fail> {
-    let strings = Strtab {
-        bytes: b"\x08\0\0\0a\0b\0",
-    };
-    let mut refused = 0u32;
-    for size in [0usize, 16, 32, 64, 128, 256] {
-        let heap = LocalHeap::new(rt.alloc(), size)?;
-        match strings.to_vec(&heap) {
-            Ok(all) => assert_eq!(rt; all.len(), 2),
-            Err(Error::Memory(_)) => refused = refused.wrapping_add(1),
-            Err(_) => return Err(Fail::new("another refusal than out of memory")),
-        }
-    }
-    assert!(rt; refused > 0 && refused < 6);
     Ok(())
 }

@@ -3,10 +3,10 @@
 use crate::images::{
     directory_at, function_at, reason_in, short, short_in, with_byte, with_functions,
 };
-use pe_core::{CountedTable, DataDirectory, Error, Header, ParseOptions, Reason};
+use pe_core::{DataDirectory, Error, Header, ParseOptions, Reason};
 use pe_unwind::{
     ExceptionData, Register, RuntimeFunction, RuntimeFunctionIterator, ScopeTableIterator,
-    UnwindCode, UnwindCodeIterator, UnwindInfo, UnwindOperation, search,
+    UnwindCode, UnwindCodeIterator, UnwindInfo, search,
 };
 use std::alloc::{AllocError, Global};
 use std::test::Fail;
@@ -66,25 +66,6 @@ fn finds_the_last_of_equal_starts(rt: HostRuntime) -> Result<(), Fail> {
         reason_in(data.get_function(3)),
         Some(Reason::FunctionIndex(3))
     );
-    Ok(())
-}
-
-#[test]
-fn searches_in_few_reads(rt: HostRuntime) -> Result<(), Fail> {
-    let mut entries = Vec::new(rt.alloc());
-    for i in 0..1000u32 {
-        entries.push(entry(16 * i, 16 * i + 16, 0))?;
-    }
-    let bytes = table_of(rt.alloc(), &entries)?;
-    let mut table = CountedTable::new(&bytes);
-    for i in 0..1000u32 {
-        let before = table.reads();
-        let found = search(&mut table, 16 * i + 5);
-        assert_eq!(rt; found, Some(entry(16 * i, 16 * i + 16, 0)));
-        let reads = table.reads() - before;
-        assert!(rt; 0 < reads && reads <= 10, "{reads} at {i}");
-    }
-    assert_eq!(rt; table.len(), 12000);
     Ok(())
 }
 
@@ -310,33 +291,6 @@ const FUNCTIONS: DataDirectory = DataDirectory {
     virtual_address: 0x1000,
     size: 0x18,
 };
-
-#[test]
-fn unwinds_at_an_address_of_an_image(rt: HostRuntime) -> Result<(), Fail> {
-    let bytes = with_functions(rt.alloc())?;
-    let opts = ParseOptions::default();
-    let header = Header::parse_with_opts(&bytes, &opts)?;
-    let sections = header.coff_header.sections(rt.alloc(), &bytes, 0x148)?;
-    let data = ExceptionData::parse(&bytes, FUNCTIONS, &sections, 0x200)?;
-    let Some(info) = data.unwind_at(0x1025, &sections, &opts)? else {
-        return Err(Fail::new("no function"));
-    };
-    let mut operations = Vec::new(rt.alloc());
-    for code in &info {
-        operations.push(code?.operation)?;
-    }
-    assert!(rt;
-        operations.as_slice()
-            == [
-                UnwindOperation::Alloc(40),
-                UnwindOperation::PushNonVolatile(Register(5)),
-            ]
-            .as_slice()
-    );
-    assert!(rt; data.unwind_at(0x1010, &sections, &opts)?.is_none());
-
-    Ok(())
-}
 
 /// The raw data end at 0x400 in the file, which goblin rounds up to the file alignment: by one of 4096 the record at 0x720 lies in
 /// the section.

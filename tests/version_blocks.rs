@@ -407,29 +407,13 @@ fn of_a_leaf(rt: HostRuntime) -> std::result::Result<(), Fail> {
 #[test]
 fn texts(rt: HostRuntime) -> std::result::Result<(), Fail> {
     let alloc = rt.alloc();
-    for (error, text) in [
-        (
-            VersionBlockError::Image(Error::Short { at: 0, needed: 6 }),
-            "truncated: 6 bytes needed at offset 0x0",
-        ),
-        (
-            VersionBlockError::BelowHead(5),
-            "version block of 5 bytes, smaller than 6",
-        ),
-        (
-            VersionBlockError::PastEnd {
-                length: 33,
-                left: 32,
-            },
-            "version block truncated: 33 bytes needed, 32 left",
-        ),
-        (
-            VersionBlockError::KeyEnd(16),
-            "key of a version block is not NUL-terminated in its 16 bytes",
-        ),
-    ] {
-        assert_eq!(rt; format!(in alloc; "{error}")?.as_str(), text);
-    }
+    let error = VersionBlockError::PastEnd {
+        length: 33,
+        left: 32,
+    };
+    let text = format!(in alloc; "{error}")?;
+    let want = "version block truncated: 33 bytes needed, 32 left";
+    assert_eq!(rt; text.as_str(), want);
     let bytes = [14, 0, 1, 0, 0, 0, 0x41, 0, 0, 0, 0, 0, 7, 0];
     let block = root(&bytes)?;
     assert_eq!(rt;

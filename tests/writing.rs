@@ -1,8 +1,6 @@
 //! Images, sections and certificates as they are written.
 
-use crate::images::{
-    headers_alone, image, pointer_below_64, put, reason_in, with_functions, with_part,
-};
+use crate::images::{image, pointer_below_64, put, reason_in, with_functions, with_part};
 use crate::whole_images::in_mode;
 use pe_image::{CertificateList, Error, PE, ParseMode, Reason};
 use std::alloc::{AllocError, Global};
@@ -75,46 +73,6 @@ fn is_image_but_for(written: &[u8], image: &[u8], old: u8, ranges: &[(usize, usi
             .any(|(start, end)| *start <= offset && offset < *end);
         Some(byte) == if stays { Some(&old) } else { image.get(offset) }
     })
-}
-
-#[test]
-fn writes_an_image_again(rt: HostRuntime) -> Result<(), Fail> {
-    let alloc = rt.alloc();
-    let bytes = with_functions(alloc)?;
-    let pe = PE::parse(alloc, &bytes)?;
-    let mut written = buffer(alloc, SIZE, 0)?;
-    assert_eq!(rt; pe.write_into(&mut written)?, 0x410);
-    assert!(rt; written.as_slice() == bytes.as_slice());
-    let fit = Reason::WriteFit {
-        end: 0x410,
-        length: 0x40F,
-    };
-    is_refused(&rt, alloc, &pe, Writer::Image, 0x40F, fit)
-}
-
-/// Bytes that no piece covers stay: after the section table, and after the certificate.
-#[test]
-fn leaves_what_no_piece_covers(rt: HostRuntime) -> Result<(), Fail> {
-    let alloc = rt.alloc();
-    let bytes = with_functions(alloc)?;
-    let pe = PE::parse(alloc, &bytes)?;
-    let mut written = buffer(alloc, 0x420, 0x55)?;
-    assert_eq!(rt; pe.write_into(&mut written)?, 0x410);
-    let ranges = [(0x170, 0x200), (0x410, 0x420)];
-    assert!(rt; is_image_but_for(&written, &bytes, 0x55, &ranges));
-    Ok(())
-}
-
-#[test]
-fn writes_zeros_after_a_section(rt: HostRuntime) -> Result<(), Fail> {
-    let alloc = rt.alloc();
-    let bytes = with_part(with_functions(alloc)?, 0x158, &[0xF0, 1, 0, 0]);
-    let pe = PE::parse(alloc, &bytes)?;
-    let mut written = buffer(alloc, SIZE, 0x55)?;
-    assert_eq!(rt; pe.write_into(&mut written)?, 0x410);
-    // The image has zeros from 0x3F0 to 0x3FF itself.
-    assert!(rt; is_image_but_for(&written, &bytes, 0x55, &[(0x170, 0x200)]));
-    Ok(())
 }
 
 /// Two sections that are equal may share their bytes, and unequal ones may not.
@@ -222,19 +180,6 @@ fn reports_the_sections(rt: HostRuntime) -> Result<(), Fail> {
             is_refused(&rt, alloc, &pe, writer, SIZE, reason)?;
         }
     }
-    Ok(())
-}
-
-/// What is left out needs no room: certificates of a table that is refused.
-#[test]
-fn writes_without_certificates(rt: HostRuntime) -> Result<(), Fail> {
-    let alloc = rt.alloc();
-    let bytes = with_part(with_functions(alloc)?, 0xE8, &[0xFF; 8]);
-    let pe = PE::parse_with_opts(alloc, &bytes, &in_mode(ParseMode::Permissive))?;
-    let mut written = buffer(alloc, 0x400, 0x55)?;
-    assert_eq!(rt; pe.write_into(&mut written)?, 0x400);
-    assert!(rt; is_image_but_for(&written, &bytes, 0x55, &[(0x170, 0x200)]));
-    assert_eq!(rt; pe.write_certificates(&mut [])?, 0);
     Ok(())
 }
 
@@ -346,24 +291,6 @@ fn writes_equal_sections_over_their_headers(rt: HostRuntime) -> Result<(), Fail>
     Ok(())
 }
 
-#[test]
-fn writes_certificates_alone(rt: HostRuntime) -> Result<(), Fail> {
-    let alloc = rt.alloc();
-    let bytes = with_functions(alloc)?;
-    let pe = PE::parse(alloc, &bytes)?;
-    let mut written = buffer(alloc, SIZE, 0x55)?;
-    assert_eq!(rt; pe.write_certificates(&mut written)?, 0x410);
-    assert!(rt; is_image_but_for(&written, &bytes, 0x55, &[(0, 0x400)]));
-    let headers = headers_alone(alloc)?;
-    let pe = PE::parse(alloc, &headers)?;
-    assert_eq!(rt; pe.write_certificates(&mut [])?, 0);
-    let mut written = buffer(alloc, 0x200, 0)?;
-    // Without sections the answer is where their table starts.
-    assert_eq!(rt; pe.write_into(&mut written)?, 0x180);
-    assert!(rt; written.as_slice() == headers.as_slice());
-    Ok(())
-}
-
 /// How many bytes the writers need, by the layout: the certificate ends at 0x410, the section with its zeros at 0x400 and
 /// its data at 0x3F0; five bytes follow the certificate.
 #[test]
@@ -383,23 +310,6 @@ fn returns_how_many_bytes_are_needed(rt: HostRuntime) -> Result<(), Fail> {
     pe.header.coff_header.pointer_to_symbol_table = 7;
     assert_eq!(rt; reason_in(pe.written_len()), Some(Reason::WriteSymbols(7)));
     assert_eq!(rt; pe.whole_len()?, 0x415);
-    Ok(())
-}
-
-/// What is changed in the value is what is written, and the written image reads as the changed one.
-#[test]
-fn writes_what_was_changed(rt: HostRuntime) -> Result<(), Fail> {
-    let alloc = rt.alloc();
-    let bytes = with_functions(alloc)?;
-    let mut pe = PE::parse(alloc, &bytes)?;
-    pe.header.coff_header.time_date_stamp = 0x1122_3344;
-    let mut written = image(alloc, SIZE, &[])?;
-    assert_eq!(rt; pe.write_into(&mut written)?, 0x410);
-    let changed = with_part(with_functions(alloc)?, 0x48, &[0x44, 0x33, 0x22, 0x11]);
-    assert!(rt; written.as_slice() == changed.as_slice());
-    let again = PE::parse(alloc, &written)?;
-    assert!(rt; again.header == pe.header);
-    assert_eq!(rt; again.certificates.len(), 1);
     Ok(())
 }
 

@@ -1,6 +1,5 @@
-"""Reads by Python's struct, for compare_pe, what pefile and llvm-readobj do not read, or not whole: what debug records have, all fields and
-tables of load configurations, delay imports, CLR headers, the checksum of the Rich header, COFF symbols, the tree of resources with
-all version strings, and TE images. Each function returns what the JSON of `pe` says of the same, in the same terms."""
+"""Reads by Python's struct, for compare_pe, what pefile and llvm-readobj do not read, or not whole: what debug records have, all fields of
+load configurations, the checksum of the Rich header, COFF symbols, the tree of resources with all version strings, and TE images. Each function returns what the JSON of `pe` says of the same, in the same terms."""
 
 import hashlib
 import re
@@ -8,7 +7,7 @@ import struct
 
 from comparing import Image, Unread
 
-RESOURCES, CONFIG, DELAYED, CLR, VERSION = 2, 10, 13, 14, 16
+RESOURCES, CONFIG, VERSION = 2, 10, 16
 FEATURES, POGO, REPRO, EMBEDDED, CHECKSUM, CHARACTERISTICS = 12, 13, 16, 17, 19, 20
 POGO_SIGNATURES = {0x4C544347: "LTCG", 0x50475500: "PGU"}
 MACHINES = 0x14C, 0x8664, 0x1C0, 0x1C4, 0xAA64, 0xEBC
@@ -27,9 +26,6 @@ LOAD_CONFIG = """
     I HotPatchTableOffset I Reserved3 P EnclaveConfigurationPointer P VolatileMetadataPointer P GuardEHContinuationTable
     P GuardEHContinuationCount P GuardXFGCheckFunctionPointer P GuardXFGDispatchFunctionPointer
     P GuardXFGTableDispatchFunctionPointer P CastGuardOsDeterminedFailureMode P GuardMemcpyFunctionPointer""".split()
-# The tables of a load configuration, and what the names of their fields start with.
-GUARDS = {"se_handlers": "SEHandler", "guarded_functions": "GuardCFFunction", "guarded_iat_entries": "GuardAddressTakenIatEntry",
-          "long_jump_targets": "GuardLongJumpTarget", "eh_continuations": "GuardEHContinuation"}
 # Of 32 bits these two stand in the other order.
 EXCHANGED = {"ProcessAffinityMask": "ProcessHeapFlags", "ProcessHeapFlags": "ProcessAffinityMask"}
 
@@ -38,10 +34,6 @@ def numbers(form, data):
     if len(data) < struct.calcsize(form):
         raise Unread("Short")
     return struct.unpack_from(form, data)
-
-
-def text_at(image, place):
-    return image.bytes[place:image.bytes.index(b"\0", place)].decode("utf-8", "surrogateescape")
 
 
 # Debug records.
@@ -124,67 +116,8 @@ def load_config(image):
     return found
 
 
-def guard_tables(image):
-    """The tables that it leads to, those that are in the file: each RVA with the first byte of its flags, or None."""
-    config, base, found = load_config(image), base_of(image), {}
-    for name, start in GUARDS.items():
-        table, count = config.get(f"{start}Table"), config.get(f"{start}Count")
-        flags = 0 if name == "se_handlers" else config.get("GuardFlags", 0) >> 28
-        if not table or not count:
-            continue
-        try:
-            place, end = image.place_of(table - base), image.place_of(table - base + count * (4 + flags) - 1) + 1
-        except Unread:
-            continue
-        if end == place + count * (4 + flags) and end <= len(image.bytes):
-            rows = (image.bytes[at:at + 4 + flags] for at in range(place, end, 4 + flags))
-            found[name] = [(numbers("<I", row)[0], row[4] if flags else None) for row in rows]
-    return found
-
-
-def delay_imports(image):
-    """The libraries, each with its functions: the name or None, and the hint or the ordinal; and the stamp of each."""
-    address, wide = image.directory(DELAYED)[0], is_wide(image)
-    place, form, high = image.place_of(address) if address else 0, *(("<Q", 1 << 63) if wide else ("<I", 1 << 31))
-    libraries, stamps = [], []
-    while place and image.number("<I", place + 4):
-        row = image.numbers("<IIIIIIII", place)
-        less, functions = 0 if row[0] % 2 else base_of(image), []
-        at = image.place_of(row[4] - less)
-        while number := image.number(form, at):
-            named = None if number >= high else image.place_of(number - less)
-            functions.append((None, number % 65536) if named is None else (text_at(image, named + 2), image.number("<H", named)))
-            at += struct.calcsize(form)
-        libraries.append((text_at(image, image.place_of(row[1] - less)), functions))
-        stamps.append(row[7])
-        place += 32
-    return libraries, stamps
-
-
-def base_of(image):
-    optional = image.number("<I", 0x3C) + 24
-    return image.number("<Q", optional + 24) if is_wide(image) else image.number("<I", optional + 28)
-
-
 def is_wide(image):
     return image.number("<H", image.number("<I", 0x3C) + 24) == 0x20B
-
-
-def clr_of(image):
-    """The CLR header, the version text of the metadata and the streams."""
-    address = image.directory(CLR)[0]
-    if not address:
-        return {}
-    size, major, minor, metadata, length, flags, token = image.numbers("<IHHIIII", image.place_of(address))
-    place = image.place_of(metadata)
-    count = image.number("<I", place + 12)
-    version = image.bytes[place + 16:place + 16 + count].split(b"\0")[0].decode("utf-8", "surrogateescape")
-    at, streams = place + 20 + count, []
-    for _ in range(image.number("<H", place + 18 + count)):
-        name = text_at(image, at + 8)
-        streams.append((name, *image.numbers("<II", at)))
-        at += 8 + (len(name) + 4) // 4 * 4
-    return {"header": (size, f"{major}.{minor}", flags, token, (metadata, length)), "version": version, "streams": streams}
 
 
 def rotated(word, count):
@@ -389,10 +322,7 @@ def read(kind, data, path):
         machine, count, stamp, place, number = struct.unpack_from("<HHIII", data)
         return {"symbols": symbols_of(data, place, number), "object header": (machine, stamp, count, place, number)}
     image = Image(path)
-    ways = {"all of the load configuration": load_config,
-            "tables of the load configuration": guard_tables, "delay imports": lambda it: delay_imports(it)[0],
-            "stamps of delay imports": lambda it: delay_imports(it)[1], "CLR header": clr_of,
-            "Rich checksum": rich_checksum, "symbols": symbols_of_image, "resources": lambda it: list(Resources(it).leaves()),
+    ways = {"all of the load configuration": load_config, "Rich checksum": rich_checksum, "symbols": symbols_of_image, "resources": lambda it: list(Resources(it).leaves()),
             "all version strings": lambda it: Resources(it).tables(),
             "all fixed file information": lambda it: Resources(it).fixed(),
             "hashes of the file": lambda it: [hashlib.new(name, data).hexdigest() for name in ("md5", "sha1", "sha256")]}

@@ -1,5 +1,5 @@
 """What the commands of this folder that compare with other readers share: finding files, running and building programs, reading
-the headers of an image and what llvm-readobj prints, and the rows of files and their counts."""
+the headers of an image and what llvm-readobj prints, counts of cases, and the rows of files and their counts."""
 
 import collections
 import contextlib
@@ -10,6 +10,8 @@ import struct
 import subprocess
 import sys
 import tempfile
+
+from limits import Failed
 
 HERE = os.path.dirname(os.path.realpath(__file__))
 TOP = os.path.dirname(HERE)
@@ -85,13 +87,13 @@ def run(words):
 
 @contextlib.contextmanager
 def program_of(command, name, kept=None, *flags):
-    """The path of the program in Rattle of the folder NAME here, built by tools/build_damaged with flags: with checks at run time,
+    """The path of the program in Rattle of the folder NAME here, built by tools/build_program with flags: with checks at run time,
     and not proved. It is the file that is to be kept, where it is built if it is not there yet, or one for this run."""
     with tempfile.TemporaryDirectory() as folder:
         program = os.path.abspath(kept or os.path.join(folder, name))
         if not os.path.exists(program):
             print(f"{command}: building {name}, which takes two minutes", file=sys.stderr)
-            subprocess.run([f"{HERE}/build_damaged", *flags, "--program", f"{HERE}/{name}", program], check=True)
+            subprocess.run([f"{HERE}/build_program", *flags, f"{HERE}/{name}", program], check=True)
         yield program
 
 
@@ -112,6 +114,7 @@ class Image:
         self.base = self.number("<Q", place + 24) if wide else 0
         self.rows = place + (112 if wide else 96)
         self.row_count = self.number("<I", self.rows - 4) if optional else 0
+        self.size, self.headers = self.numbers("<II", place + 56) if optional else (0, 0)
         self.sections = [self.numbers("<IIII", place + optional + 40 * i + 8) for i in range(count)]
 
     def numbers(self, form, place):
@@ -202,7 +205,52 @@ def value(members, name):
     return None if text is None else int(re.search(r"(0x[0-9A-Fa-f]+|\d+)\)?$", text)[1], 0)
 
 
-# Rows.
+# Counts and rows.
+
+
+class Counts:
+    """Cases that passed and failed, of which so many are printed, each up to so many characters."""
+
+    def __init__(self, shown=1 << 30, length=1 << 30):
+        self.passed = self.failed = 0
+        self.shown, self.length = shown, length
+
+    def expect(self, name, is_so, why=""):
+        """Counts a case, and prints one that failed. Returns whether it passed."""
+        self.passed, self.failed = self.passed + bool(is_so), self.failed + (not is_so)
+        if not is_so and self.failed <= self.shown:
+            print(f"failed: {name}{': ' if why else ''}{why}".rstrip()[:self.length], flush=True)
+        return bool(is_so)
+
+    def tried(self, name, action):
+        """Counts an action that raises Failed where it fails. Returns its result, or None."""
+        try:
+            result = action()
+        except Failed as why:
+            self.expect(name, False, str(why))
+            return None
+        self.expect(name, True)
+        return result
+
+    def take(self, name, action):
+        """Takes the counts of a program that the action runs, whose last line is 'N passed, M failed', and prints its other
+        lines."""
+        try:
+            done = action()
+        except Failed as why:
+            self.expect(name, False, str(why))
+            return
+        *lines, last = [it for it in done.stdout.split("\n") if it] or [""]
+        found = re.fullmatch(r"(\d+) passed, (\d+) failed", last)
+        print("".join(f"{it}\n" for it in (lines if found else [*lines, last, done.stderr]) if it), end="", flush=True)
+        passed, failed = (int(found[1]), int(found[2])) if found else (0, 1)
+        self.passed, self.failed = self.passed + passed, self.failed + failed
+        self.expect(f"{name} ends well", done.returncode == 0 or failed, f"status {done.returncode}")
+
+    def end(self):
+        """Prints the counts, and returns the status."""
+        print(f"{self.passed} passed, {self.failed} failed")
+        return 1 if self.failed else 0
 
 
 def compare_all(row_of, paths, hidden=()):

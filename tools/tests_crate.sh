@@ -68,7 +68,7 @@ copy_of_test() {
 }
 
 # The crates' sources and one more crate, a program that stands in a folder of tools as files NAME.rs, and has the folder's
-# name. Its main file may name tests/refusing.rs.
+# name.
 copy_with_program() {
   local folder=$1 program=$2 name part sources
   name=$(basename "$program")
@@ -78,9 +78,6 @@ copy_with_program() {
   for part in "$program"/*.rs; do
     cp "$part" "$sources/$(basename "$part" .rs).rt"
   done
-  if grep -qx 'mod refusing;' "$program/main.rs"; then
-    cp tests/refusing.rs "$sources/refusing.rt"
-  fi
   {
     cat crates.txt
     echo

@@ -1,55 +1,10 @@
-"""What try_targets, try_js and try_page share: counts of cases, images that are made, and damaged copies of images."""
+"""What try_targets, try_js and try_page share: images that are made, and damaged copies of images."""
 
 import glob
 import os
 import random
-import re
 
-from targets import BINDINGS, Failed, run
-
-
-class Counts:
-    """Cases that passed and failed."""
-
-    def __init__(self):
-        self.passed = self.failed = 0
-
-    def expect(self, name, is_so, why=""):
-        """Counts a case, and prints one that failed. Returns whether it passed."""
-        self.passed, self.failed = self.passed + bool(is_so), self.failed + (not is_so)
-        if not is_so:
-            print(f"failed: {name}{': ' if why else ''}{why}".rstrip(), flush=True)
-        return bool(is_so)
-
-    def tried(self, name, action):
-        """Counts an action that raises Failed where it fails. Returns its result, or None."""
-        try:
-            result = action()
-        except Failed as why:
-            self.expect(name, False, str(why))
-            return None
-        self.expect(name, True)
-        return result
-
-    def take(self, name, action):
-        """Takes the counts of a program that the action runs, whose last line is 'N passed, M failed', and prints its other
-        lines."""
-        try:
-            done = action()
-        except Failed as why:
-            self.expect(name, False, str(why))
-            return
-        *lines, last = [it for it in done.stdout.split("\n") if it] or [""]
-        found = re.fullmatch(r"(\d+) passed, (\d+) failed", last)
-        print("".join(f"{it}\n" for it in (lines if found else [*lines, last, done.stderr]) if it), end="", flush=True)
-        passed, failed = (int(found[1]), int(found[2])) if found else (0, 1)
-        self.passed, self.failed = self.passed + passed, self.failed + failed
-        self.expect(f"{name} ends well", done.returncode == 0 or failed, f"status {done.returncode}")
-
-    def end(self):
-        """Prints the counts, and returns the status."""
-        print(f"{self.passed} passed, {self.failed} failed")
-        return 1 if self.failed else 0
+from targets import BINDINGS, run
 
 
 def made_images(room):

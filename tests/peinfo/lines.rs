@@ -2,8 +2,6 @@
 
 pub const HEADERS_LINE: &[u8] = b"image 64 entry 00001020 base 0000000140000000\n";
 
-pub const IMAGE_LINE: &[u8] = b"image 64 entry 00001000 base 0000000140000000\n";
-
 pub const DEBUG_LINES: &[u8] = b"image 64 entry 00001000 base 0000000140000000\n\
 debug 16 0 00000000 00000000\n";
 
