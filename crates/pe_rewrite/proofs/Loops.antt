@@ -1,5 +1,5 @@
 -- What the loops over sections and directories have found.
-use Rattle.std.proofs.Common.{◌≡◌, ℕ, ◌<◌, ◌≤◌, ◌≢◌, ◌==◌, ◌&&◌, Bool, true, false, List, length, Some, Ok, Err, refl, ap, sym, ◌∙◌, arith}
+use Rattle.std.proofs.Common.{◌≡◌, ℕ, ◌<◌, ◌≤◌, ◌==◌, ◌&&◌, Bool, true, false, List, length, Some, Ok, Err, refl, ap, sym, ◌∙◌, arith}
 use Rattle.std.specs.List.{list_all, position_or_len}
 use Rattle.std.proofs.lemmas.Bool.Decides.{nat_tests}
 use Rattle.std.proofs.lemmas.List.Sums.{position_or_len_is}
@@ -47,9 +47,6 @@ pub index_found_at : (b : List ℕ) (h : HeaderView) (rva i : ℕ) (s : SectionT
 index_found_at b h rva i s some lt none is at =
     let same : (section_header b h i).virtual_address ≡ rva = ap (λ (x : SectionTable). x.virtual_address) (sym is) ∙ at in
     index_found b h rva i some lt none (grind (arith, nat_tests, same))
-
-pub other_start : (b : List ℕ) (h : HeaderView) (rva i : ℕ) (s : SectionTable) → s ≡ section_header b h i → s.virtual_address ≢ rva → ((section_header b h i).virtual_address == rva) ≡ false
-other_start b h rva i s is other = ap (λ (x : SectionTable). x.virtual_address == rva) (sym is) ∙ grind (arith, nat_tests, other)
 
 -- ---- what is not apart, not last, or not alone
 

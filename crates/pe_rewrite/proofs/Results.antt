@@ -15,9 +15,6 @@ first_ok (Err e) f y h = absurd cc
 pub then_is : {A B R : Type 0} (r : Result A R) (f : A → Result B R) (x : A) → r ≡ Ok x → (r >>= f) ≡ f x
 then_is r f x h = ap (λ k. k >>= f) h
 
-pub then_refused : {A B R : Type 0} (r : Result A R) (f : A → Result B R) (e : R) → r ≡ Err e → (r >>= f) ≡ Err e
-then_refused r f e h = ap (λ k. k >>= f) h
-
 -- ---- tests
 
 pub passed : {Y R : Type 0} (t : Bool) (r : R) (rest : Result Y R) (y : Y) → (if t then rest else Err r) ≡ Ok y → (t ≡ true) × (rest ≡ Ok y)
@@ -40,9 +37,6 @@ second_of false b h = absurd cc
 
 pub length_value : (file : Result (List ℕ) RewriteRefusal) (f : List ℕ) (n : ℕ) → file ≡ Ok f → length f ≡ n → edited_length file ≡ Ok n
 length_value file f n e same = ap (λ (x : Result (List ℕ) RewriteRefusal). edited_length x) e ∙ ap (λ k. Ok k) same
-
-pub written_refused : (file : Result (List ℕ) RewriteRefusal) (old : List ℕ) (r : RewriteRefusal) → file ≡ Err r → written file old ≡ Err r
-written_refused file old r e = ap (λ (x : Result (List ℕ) RewriteRefusal). written x old) e
 
 too_small : (t : Bool) (r : Refusal) (x : ℕ × List ℕ) → outcome {Y = Unit {0}} ((t, WriteFit) ∷ []) tt ≡ Err r → outcome ((t, Image WriteFit) ∷ []) x ≡ Err (Image r)
 too_small true r x h = absurd cc

@@ -1,5 +1,5 @@
 -- The section headers of an image whose resources changed, and the section map by them.
-use Rattle.std.proofs.Common.{◌≡◌, ℕ, ◌+◌, ◌*◌, ◌^◌, ◌<◌, ◌≤◌, ◌≢◌, ◌==◌, ◌&&◌, ◌||◌, Bool, true, false, List, length, get_or, set, max, Option, Some, None, refl, ap, sym, ◌∙◌, ⊎_elim, arith}
+use Rattle.std.proofs.Common.{◌≡◌, ℕ, ◌+◌, ◌*◌, ◌^◌, ◌<◌, ◌≤◌, ◌≢◌, ◌==◌, ◌&&◌, ◌||◌, Bool, true, false, List, length, get_or, set, Option, Some, None, refl, ap, sym, ◌∙◌, ⊎_elim, arith}
 use Rattle.std.specs.Prelude.{nat_le, nat_lt, if◌then◌else◌}
 use Rattle.std.specs.Int.{is_power_of_two}
 use Rattle.std.specs.List.{list_all}
@@ -78,9 +78,6 @@ other_row b h xs p i k d lt other =
     let inside : q + 40 ≤ length b = omega (arith, lt, d.lies.raw, d.lies.end) in
     row_resized f b q (omega (arith, size, inside)) inside (λ j from to out. row_byte b h xs p i j d (omega (arith, from)) (omega (arith, to, lt)) (apart j from to))
     ∙ resized_same (le f (q + 8) 4) (section_table b q) (number_stays f b (q + 8) (λ j from to. row_byte b h xs p i j d (omega (arith, from)) (omega (arith, to, lt)) (apart j (omega (arith, from)) (omega (arith, to)))))
-
-small_grown : (m n : ℕ) → m < 256 ^ 4 → n < 256 ^ 4 → max m n < 256 ^ 4
-small_grown m n h i = omega arith
 
 -- that of the resource section has its size in memory
 pub own_row : (b : List ℕ) (h : HeaderView) (xs : List Leaf) (p : Place) (i : ℕ) → p.section.virtual_size < 2 ^ 32 → IsEdited b h xs p i → section_header (edited_file h p xs b) h i ≡ resized (grown_size p) p.section

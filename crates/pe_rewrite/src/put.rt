@@ -34,6 +34,7 @@ const VIRTUAL_SIZE: usize = 8;
 const SIZE: usize = 4;
 
 /// Writes the section with these leaves, which fills the buffer.
+#[tactic(auto, using(crate::proofs::Writes::never_refused, crate::proofs::Writes::whole_written))]
 fn set_section(out: &mut [u8], leaves: &Leaves<'_>, rva: u32)
     requires made { section_of rva (leaf_views leaves.now) ≡ Ok (section rva (leaf_views leaves.now)) }
     requires room { length (section rva (leaf_views leaves.now)) ≡ length out.old }
@@ -58,6 +59,7 @@ fn set_section_at(out: &mut [u8], offset: usize, size: usize, leaves: &Leaves<'_
 }
 
 /// Writes the resources, of `size` bytes, over the data of their section, and zeros after them.
+#[tactic(auto, using(crate::proofs::Writes::filled_set))]
 fn set_resources(out: &mut [u8], header: SectionTable, size: usize, leaves: &Leaves<'_>)
     requires made { section_of header.virtual_address (leaf_views leaves.now)
         ≡ Ok (section header.virtual_address (leaf_views leaves.now)) }
@@ -113,6 +115,7 @@ fn set_over(out: &mut [u8], size: usize, header: &Header<'_>, place: Place, leav
 }
 
 /// Writes the image with these leaves in place at the start of the buffer.
+#[tactic(auto, using(crate::proofs::Writes::inside_of, crate::proofs::Writes::over_set))]
 pub fn set_edited(
     out: &mut [u8],
     bytes: &[u8],
@@ -162,6 +165,7 @@ fn set_apart(out: &mut [u8], bytes: &[u8], end: usize, more: usize)
 }
 
 /// Writes the pointers of the debug entries, as they are when the data have moved.
+#[tactic(auto, using(crate::proofs::Pointers::no_pointers, crate::proofs::Pointers::one_length, crate::proofs::Pointers::one_pointer))]
 fn set_pointers(out: &mut [u8], bytes: &[u8], room: &Room)
     requires more { room.now.more < 2 ^ 33 }
     requires inside { 0 < room.now.debug.count →
@@ -178,6 +182,7 @@ fn set_pointers(out: &mut [u8], bytes: &[u8], room: &Room)
 }
 
 /// Writes the fields of the headers that change, and the header of the section.
+#[tactic(auto, using(crate::proofs::RoomWrites::fields_set))]
 fn set_fields(out: &mut [u8], header: &Header<'_>, room: &Room)
     requires lies { FieldsLie (header_view header.now) room.now (length out.old) }
     ensures { out.new ≡ changed (room_changes (header_view header.now).dos_header.pe_pointer room.now) out.old }
@@ -240,6 +245,7 @@ fn set_cut(out: &mut [u8], bytes: &[u8], start: usize, less: usize)
 
 /// Writes zeros for the entry of the resource directory at an offset, and the checksum, into the file of `size` bytes at the start
 /// of the buffer.
+#[tactic(auto, using(crate::proofs::Removed::cleared_set))]
 fn set_cleared(out: &mut [u8], size: usize, header: &Header<'_>, entry: usize)
     requires sum { (header_view header.now).dos_header.pe_pointer + 92 ≤ size }
     requires entry { entry + 8 ≤ size }
@@ -265,6 +271,7 @@ pub fn set_gone(out: &mut [u8], bytes: &[u8], header: &Header<'_>, room: &Room)
 }
 
 /// Writes the image with zeros in the place of its resources.
+#[tactic(auto, using(crate::proofs::Removed::cleared_over, crate::proofs::Removed::emptied_set, crate::proofs::Removed::length_emptied))]
 pub fn set_emptied(out: &mut [u8], bytes: &[u8], header: &Header<'_>, place: &Place)
     requires sum { (header_view header.now).dos_header.pe_pointer + 92 ≤ length bytes.now }
     requires entry { place.now.entry + 8 ≤ length bytes.now }
@@ -284,6 +291,7 @@ pub fn set_emptied(out: &mut [u8], bytes: &[u8], header: &Header<'_>, place: &Pl
 }
 
 /// Writes the image without the entry of its resource directory, which is at this offset.
+#[tactic(auto, using(crate::proofs::Removed::cleared_over))]
 pub fn set_kept(out: &mut [u8], bytes: &[u8], header: &Header<'_>, entry: usize)
     requires sum { (header_view header.now).dos_header.pe_pointer + 92 ≤ length bytes.now }
     requires entry { entry + 8 ≤ length bytes.now }

@@ -443,6 +443,7 @@ fn room_at(header: &Header<'_>, target: &Target, size: usize, last: &LastSection
 
 /// The room that the section makes for resources of `size` bytes, if it can be made. Errors, in order: `NoHeaderRoom`,
 /// `ImageTooLarge`, `Section`, `SharedSection`, `Symbols`, `Overlap`, `DebugData`.
+#[tactic(auto, using(crate::proofs::Roomy::count_small))]
 fn room_with(
     bytes: &[u8],
     header: &Header<'_>,
