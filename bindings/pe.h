@@ -309,6 +309,7 @@
  *   pe_c_is_pdb_of                  Returns PE_C_DONE where a PDB is that of an image with this key
  *   pe_c_pdb_starts                 Writes to the start of `room` where the directory lists the blocks of each stream
  *   pe_c_pdb_stream                 Copies the stream with a number to the start of `room`. `starts` is what ..
+ *   pe_c_pdb_stream_range           Returns the range of the file that has the bytes of the stream with a number in their ..
  *   pe_c_list_pdb_modules           Lists the modules, and moves the walk past them
  *   pe_c_list_pdb_symbols           Lists the records of symbols, and moves the walk past them
  *   pe_c_pdb_index                  Makes an index of the symbols of a kind, PE_C_PDB_PUBLICS or PE_C_PDB_PROCEDURES, by ..
@@ -4435,6 +4436,13 @@ uint32_t pe_c_pdb_starts(const uint8_t *bytes, size_t length, uint64_t *room, si
  * all listed; PE_C_PDB_BLOCK; PE_C_ROOM. */
 uint32_t pe_c_pdb_stream(const uint8_t *bytes, size_t length, const uint64_t *starts, size_t number_of_starts, uint32_t index,
                          uint8_t *room, size_t room_length, uint64_t *written) PE_C_RESULT(8);
+
+/* Returns the range of the file that has the bytes of the stream with a number in their order, so that no copy of them is needed:
+ * PE_C_NOTHING where its blocks do not follow one another, as they do in what most linkers write. It reads the directory alone,
+ * and no block of the stream: of a file that is read in parts the others may be missing. `starts` is as for pe_c_pdb_stream.
+ * Errors: those of pe_c_pdb_stream but PE_C_ROOM. */
+uint32_t pe_c_pdb_stream_range(const uint8_t *bytes, size_t length, const uint64_t *starts, size_t number_of_starts, uint32_t index,
+                               pe_c_range *out) PE_C_RESULT(6);
 
 /* Lists the modules, and moves the walk past them. `bytes` are those of the DBI stream, stream 3; the walk starts as
  * pdb->modules.

@@ -1032,6 +1032,7 @@ test('a PDB, its streams, modules and symbols', () => {
     const room = new Uint8Array(1160);
     return room.subarray(0, Number(pdb.call('pe_c_pdb_stream', { starts, index, room })));
   };
+  assert.deepEqual(pdb.call('pe_c_pdb_stream_range', { starts, index: 3 }), { offset: 53248n, length: 717n });
   const dbi = library.file(stream(3)), symbols = library.file(stream(info.symbol_stream)), sections = stream(info.section_headers);
   const modules = listed(dbi, 'pe_c_list_pdb_modules', { walk: info.modules });
   assert.deepEqual(modules.map((it) => [dbi.utf8(it.name), it.stream]), [['a.obj', 11], ['b.obj', 12], ['* Linker *', 13]]);

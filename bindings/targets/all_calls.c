@@ -1105,6 +1105,8 @@ static size_t stream_of(const struct file *file, const uint64_t *starts, size_t 
     uint64_t written = 0;
     uint32_t result = TARGET_CALL(pe_c_pdb_stream)(BYTES, starts, count, index, room, STREAM, &written);
     note(number_of_pe_c_pdb_stream, result, &written, sizeof written);
+    pe_c_range range = PE_C_EMPTY;
+    CALL(pe_c_pdb_stream_range, range, BYTES, starts, count, index, &range);
     if (result != PE_C_DONE)
         return 0;
     add_bytes(room, (size_t)written);

@@ -19,7 +19,9 @@ use crate::pdb::lines::{
 use crate::pdb::modules::{PdbModule, pe_c_list_pdb_modules};
 use crate::pdb::omap::pe_c_pdb_moved_rva;
 use crate::pdb::symbols::{PdbSymbol, pe_c_list_pdb_symbols};
-use crate::pdb::{Pdb, pe_c_is_pdb_of, pe_c_pdb, pe_c_pdb_starts, pe_c_pdb_stream};
+use crate::pdb::{
+    Pdb, pe_c_is_pdb_of, pe_c_pdb, pe_c_pdb_starts, pe_c_pdb_stream, pe_c_pdb_stream_range,
+};
 use pe_images::{image, put};
 use pe_pdb::{CodeLine, LineEntry};
 use std::alloc::{AllocError, Global};
@@ -278,6 +280,43 @@ fn streams_are_copied_block_by_block(rt: HostRuntime) -> Result<(), Fail> {
     let found = pe_c_pdb_stream(&moved, &starts, 4, &mut room, &mut written);
     assert_eq!(rt; found, PDB_BLOCK);
     assert_eq!(rt; (written, room), (9, [7; 1159]));
+    Ok(())
+}
+
+/// The blocks of lld-link's streams follow one another. In the other file those of a stream stand the other way around.
+#[test]
+fn streams_have_ranges_where_their_blocks_follow_one_another(rt: HostRuntime) -> Result<(), Fail> {
+    let bytes = pdb(rt.alloc())?;
+    let moved = scattered(rt.alloc(), &bytes)?;
+    let mut starts = [0u64; 16];
+    let mut written = 0;
+    assert_eq!(rt; pe_c_pdb_starts(&bytes, &mut starts, &mut written), DONE);
+    for index in 0..16 {
+        let own = stream(rt.alloc(), &bytes, index)?;
+        for starts in [&starts[..], &[]] {
+            let mut place = range(9, 9);
+            let found = pe_c_pdb_stream_range(&bytes, starts, index, &mut place);
+            assert_eq!(rt; found, DONE);
+            let [offset, length] = of_range(place);
+            assert_eq!(rt; length, SIZES[index as usize]);
+            assert_eq!(rt;
+                &bytes[offset as usize..(offset + length) as usize],
+                &own[..]
+            );
+        }
+        let mut place = range(9, 9);
+        let found = pe_c_pdb_stream_range(&moved, &[], index, &mut place);
+        let has_one = SIZES[index as usize] <= 512;
+        assert_eq!(rt; found, if has_one { DONE } else { NOTHING });
+        assert_eq!(rt; of_range(place) != [9, 9], has_one);
+    }
+    let mut place = range(9, 9);
+    let found = pe_c_pdb_stream_range(&bytes, &starts, 3, &mut place);
+    assert_eq!(rt; found, DONE);
+    assert_eq!(rt; of_range(place), [53248, 717]);
+    let found = pe_c_pdb_stream_range(&bytes, &starts, 16, &mut place);
+    assert_eq!(rt; found, PDB_NO_STREAM);
+    assert_eq!(rt; of_range(place), [53248, 717]);
     Ok(())
 }
 

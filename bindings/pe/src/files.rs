@@ -247,21 +247,26 @@ fn progress(is_recursive: bool) -> Progress {
 /// As `fs::read`, into large pages. `-` is standard input. A pipe or a device by another name is refused, since it may never
 /// end, or do something when it is read.
 pub fn whole(path: &Path) -> io::Result<Vec<u8>> {
-    whole_in(path, Vec::new())
-}
-
-/// The same in the memory of what was read before.
-pub fn whole_in(path: &Path, mut bytes: Vec<u8>) -> io::Result<Vec<u8>> {
-    bytes.clear();
     if path == Path::new("-") {
+        let mut bytes = Vec::new();
         io::stdin().lock().read_to_end(&mut bytes)?;
         return Ok(bytes);
     }
+    whole_of(&opened(path)?, Vec::new())
+}
+
+/// A file that is no pipe or device.
+pub fn opened(path: &Path) -> io::Result<File> {
     let is_regular = fs::metadata(path)?;
     if !is_regular.is_file() && !is_regular.is_dir() {
         return Err(io::Error::new(io::ErrorKind::InvalidInput, "it is no regular file; - reads standard input"));
     }
-    let mut file = File::open(path)?;
+    File::open(path)
+}
+
+/// All bytes of a file from where it is on, in the memory of what was read before.
+pub fn whole_of(mut file: &File, mut bytes: Vec<u8>) -> io::Result<Vec<u8>> {
+    bytes.clear();
     bytes.try_reserve_exact(usize::try_from(file.metadata()?.len()).unwrap_or_default())?;
     ask_for_large_pages(&mut bytes);
     file.read_to_end(&mut bytes)?;

@@ -40,7 +40,8 @@ pub struct Damaged {
     pub error: Refusal,
 }
 
-/// What stands in place of a module where the names of source files, or of inlined functions, are refused.
+/// What stands in place of a module where public symbols, the names of source files, or those of inlined functions, are refused.
+const PUBLICS: &str = "public symbols";
 const FILES: &str = "names of source files";
 const INLINED: &str = "names of inlined functions";
 
@@ -48,11 +49,15 @@ const INLINED: &str = "names of inlined functions";
 pub fn damaged_of(symbolizer: &Symbolizer<'_>) -> Vec<Damaged> {
     let damaged = symbolizer.damaged().into_iter();
     let damaged = damaged.map(|it| Damaged { module: it.name, has_names: it.has_names, error: it.error.into() });
-    let names = [(FILES, symbolizer.names_error()), (INLINED, symbolizer.ids_error())];
-    let of = |(module, error): (&str, Option<Error>)| {
-        Some(Damaged { module: module.to_string(), has_names: true, error: error?.into() })
+    let parts = [
+        (PUBLICS, false, symbolizer.publics_error()),
+        (FILES, true, symbolizer.names_error()),
+        (INLINED, true, symbolizer.ids_error()),
+    ];
+    let of = |(module, has_names, error): (&str, bool, Option<Error>)| {
+        Some(Damaged { module: module.to_string(), has_names, error: error?.into() })
     };
-    damaged.chain(names.into_iter().filter_map(of)).collect()
+    damaged.chain(parts.into_iter().filter_map(of)).collect()
 }
 
 /// What is said of a PDB. What it does not say, or is not asked for, is null.

@@ -10,6 +10,7 @@ mod functions;
 pub mod missing;
 mod modules;
 mod outside;
+mod parts;
 mod pdbs;
 mod symbols;
 pub mod text;

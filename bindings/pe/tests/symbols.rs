@@ -91,6 +91,56 @@ fn frames_have_the_functions_and_lines_of_the_sources() {
     assert!(text.contains("generated\\else.inc:900  leaf\n"), "{text}");
 }
 
+/// A PDB with the same streams in blocks of 512 bytes. Those of the streams that are `turned` stand from the last to the first.
+fn in_small_blocks(bytes: &[u8], is_turned: impl Fn(u32) -> bool) -> Vec<u8> {
+    const BLOCK: usize = 512;
+    let pdb = pe_c::Pdb::parse(bytes).unwrap();
+    let streams: Vec<Vec<u8>> = (0..pdb.info().number_of_streams).map(|it| pdb.stream(it).unwrap()).collect();
+    let mut directory = vec![streams.len() as u32];
+    directory.extend(streams.iter().map(|it| it.len() as u32));
+    let count: usize = streams.iter().map(|it| it.len().div_ceil(BLOCK)).sum();
+    let blocks = (4 * (directory.len() + count)).div_ceil(BLOCK);
+    let mut file = vec![0; BLOCK * (4 + blocks)];
+    for (number, stream) in (0..).zip(&streams) {
+        let (first, own) = (file.len() / BLOCK, stream.len().div_ceil(BLOCK));
+        file.resize(file.len() + BLOCK * own, 0);
+        for (index, part) in stream.chunks(BLOCK).enumerate() {
+            let block = first + if is_turned(number) { own - 1 - index } else { index };
+            file[BLOCK * block..][..part.len()].copy_from_slice(part);
+            directory.push(block as u32);
+        }
+    }
+    let numbers = [BLOCK, 1, file.len() / BLOCK, 4 * directory.len(), 0, 3];
+    let bytes_of = |it: Vec<u32>| it.into_iter().flat_map(u32::to_le_bytes).collect::<Vec<u8>>();
+    let put = |file: &mut [u8], at: usize, bytes: &[u8]| file[at..at + bytes.len()].copy_from_slice(bytes);
+    put(&mut file, 0, &bytes[..32]);
+    put(&mut file, 32, &bytes_of(numbers.map(|it| it as u32).to_vec()));
+    put(&mut file, 3 * BLOCK, &bytes_of((4..4 + blocks as u32).collect()));
+    put(&mut file, 4 * BLOCK, &bytes_of(directory));
+    file
+}
+
+/// Of a PDB the parts are read that are needed, where the blocks of each stream follow one another; else all of it.
+#[test]
+fn streams_in_any_blocks_name_frames() {
+    let pdb = of_pieces(crash::PDB);
+    let headers = u32::from(pe_c::Pdb::parse(&pdb).unwrap().info().section_headers);
+    let turned: [&dyn Fn(u32) -> bool; 4] = [&|_| false, &|it| ![1, 3, headers].contains(&it), &|it| it == 3, &|_| true];
+    for (index, is_turned) in turned.into_iter().enumerate() {
+        let folder = folder(&format!("symbols-blocks-{index}"));
+        put(&folder, "syms/crash.pdb", &in_small_blocks(&pdb, is_turned));
+        let said = stack_in(&folder, &["--symbols", "syms"], None);
+        let own: Vec<Value> = functions_of(&said).iter().map(|it| json!([line_of(it), it["inlined"][0]["name"]])).collect();
+        let wanted = [
+            json!([["reads", "crash.cpp", 8], "geo::load"]),
+            json!([["middle", "generated\\else.inc", 900], null]),
+            json!([["app::outer<int>", "crash.cpp", 25], "app::through"]),
+            json!([["entry", "crash.cpp", 31], null]),
+        ];
+        assert_eq!(own, wanted, "{index}");
+    }
+}
+
 /// By the procedures of `llvm-pdbutil dump -symbols`, and the offsets of the frames.
 #[test]
 fn frames_have_the_functions_of_a_pdb() {

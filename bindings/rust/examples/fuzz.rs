@@ -171,6 +171,9 @@ fn pdb_of_lies(bytes: &[u8], random: &mut Random, number: u64) {
         let (some, count, to) = (starts.as_ptr(), few as usize % 4, room.as_mut_ptr());
         let result = sys::pe_c_pdb_stream(at, length, some, count, few % 20, to, room.len(), &mut written);
         assert!(result == sys::DONE || room == [0x77; 600]);
+        let mut range = sys::Range::default();
+        let _ = sys::pe_c_pdb_stream_range(at, length, some, count, few % 20, &mut range);
+        assert!(range.of(bytes).is_some());
     }
     let sections = &bytes[..length.min(few as usize % 400) / 40 * 40];
     symbols_of_lies(bytes, sections, random, number);

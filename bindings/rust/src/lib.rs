@@ -191,7 +191,7 @@ pub use guard_tables::{GuardEntries, GuardEntry, GuardTable};
 pub use image::{DirectoryIndex, Error, Image, Layout, Mode};
 pub use imports::{AllImports, Import, Imports, Libraries, Library, LibraryImport};
 pub use load_config::{LoadConfig, LoadConfigField};
-pub use pdb::{Omap, Pdb, PdbModule, PdbSymbol};
+pub use pdb::{Omap, Pdb, PdbModule, PdbReader, PdbSymbol};
 pub use pdb_lines::{PdbLine, PdbLines, SourceNames};
 pub use relocations::{Relocation, RelocationBlock, RelocationBlocks, Relocations};
 pub use resource_edit::{ResourceContent, ResourceEditor, ResourceKey, ResourcePlace};

@@ -2,7 +2,8 @@
 //! scattered over blocks of the file: one says which PDB it is, one what the linker knows of the image, one has the symbols that all
 //! objects see, and each module, an object that was linked, has one with its own. See [LLVM's pages](https://llvm.org/docs/PDB/).
 //!
-//! A stream is copied when it is read. Each is read alone: one that is damaged is an error of what is read of it.
+//! What most linkers write has the blocks of each stream one after the other: such a stream is read where it is in the file, and any other
+//! one is copied first. Each is read alone: one that is damaged is an error of what is read of it.
 //! [`Symbolizer`](crate::Symbolizer) names the function of an RVA.
 
 use crate::coff::room_for;
@@ -10,6 +11,7 @@ use crate::debug::SymbolKey;
 use crate::image::{bytes_of, returned, text_of, Error};
 use crate::symbol_server::Guid;
 use crate::sys::{self, PdbInfo, PdbModuleRange, Range};
+use alloc::borrow::Cow;
 use alloc::string::String;
 use alloc::vec::Vec;
 use core::fmt;
@@ -50,7 +52,25 @@ pub struct Pdb<'a> {
     bytes: &'a [u8],
     info: PdbInfo,
     starts: Vec<u64>,
-    sections: Result<Vec<u8>, Error>,
+    sections: Result<Cow<'a, [u8]>, Error>,
+    reader: Option<&'a dyn PdbReader>,
+}
+
+/// What reads the file of a PDB that is not in memory whole: see [`Pdb::with_reader`].
+pub trait PdbReader: Sync {
+    /// The bytes of a range of the file.
+    ///
+    /// # Errors
+    ///
+    /// Any, as [`Error::SHORT`] where they cannot be read: that of what is read of their stream.
+    fn part(&self, range: core::ops::Range<usize>) -> Result<Vec<u8>, Error>;
+
+    /// All bytes of the file: they are asked for where the blocks of a stream do not follow one another.
+    ///
+    /// # Errors
+    ///
+    /// As those of a part.
+    fn whole(&self) -> Result<&[u8], Error>;
 }
 
 impl fmt::Debug for Pdb<'_> {
@@ -155,6 +175,26 @@ impl Omap {
     }
 }
 
+/// A copy of a stream.
+fn copy_of_stream(bytes: &[u8], starts: &[u64], number: u32) -> Result<Vec<u8>, Error> {
+    // SAFETY: the pointers and lengths are those of slices; the room overlaps none of them, and all are lent for the call.
+    filled(0, |room, length, written| unsafe {
+        let (at, size) = (bytes.as_ptr(), bytes.len());
+        sys::pe_c_pdb_stream(at, size, starts.as_ptr(), starts.len(), number, room, length, written)
+    })
+}
+
+/// Where a stream is in the file, if its blocks follow one another.
+fn range_of_stream(bytes: &[u8], starts: &[u64], number: u32) -> Result<Option<Range>, Error> {
+    let mut range = Range::default();
+    // SAFETY: as above, and the range is lent for the call.
+    let result = unsafe {
+        let (at, size) = (bytes.as_ptr(), bytes.len());
+        sys::pe_c_pdb_stream_range(at, size, starts.as_ptr(), starts.len(), number, &mut range)
+    };
+    returned(result, range)
+}
+
 fn moved(table: &[u8], rva: u32) -> Option<u32> {
     let mut found = 0;
     // SAFETY: the pointer and the length are those of one slice; the number is lent for the call.
@@ -186,18 +226,54 @@ impl<'a> Pdb<'a> {
             let (room, entries) = (starts.as_mut_ptr(), starts.len());
             sys::pe_c_pdb_starts(bytes.as_ptr(), bytes.len(), room, entries, &mut written)
         })?;
-        let mut pdb = Pdb { bytes, info, starts, sections: Ok(Vec::new()) };
+        let mut pdb = Pdb { bytes, info, starts, sections: Ok(Cow::default()), reader: None };
         // Symbols of code that was moved count in the headers of before, and in no others.
         pdb.sections = pdb.dbi().and_then(|()| match pdb.is_moved() {
-            true => pdb.stream(info.original_section_headers.into()),
+            true => pdb.stream_bytes(info.original_section_headers.into()),
             false => pdb.stream_or_none(info.section_headers),
         });
         Ok(pdb)
     }
 
+    /// The same PDB, of whose file the bytes have the directory, the streams 1 and 3 and that of the section headers: other streams are
+    /// read by this. So of a large file the parts are read that are needed. [`Pdb::stream_range`] says where streams are.
+    #[must_use]
+    pub fn with_reader(self, reader: &'a dyn PdbReader) -> Self {
+        Pdb { reader: Some(reader), ..self }
+    }
+
+    /// Where the bytes of the stream with a number are in a file, in their order. `None` where its blocks do not follow one another. It
+    /// reads the directory, and no block of the stream.
+    ///
+    /// # Errors
+    ///
+    /// Those of [`Pdb::stream`], and of the directory [`Pdb::parse`].
+    pub fn stream_range(bytes: &[u8], number: u32) -> Result<Option<core::ops::Range<usize>>, Error> {
+        let found = range_of_stream(bytes, &[], number)?;
+        Ok(found.map(|it| it.offset as usize..(it.offset + it.length) as usize))
+    }
+
+    /// What reads a stream, if it is not one of those that the bytes of a PDB always have.
+    fn reader_of(&self, number: u32) -> Option<&'a dyn PdbReader> {
+        self.reader.filter(|_| ![INFO_STREAM, DBI_STREAM].contains(&number))
+    }
+
+    /// The bytes of a stream: those of the file where its blocks follow one another, else a copy.
+    pub(crate) fn stream_bytes(&self, number: u32) -> Result<Cow<'a, [u8]>, Error> {
+        let range = range_of_stream(self.bytes, &self.starts, number)?;
+        match (self.reader_of(number), range) {
+            (Some(reader), Some(it)) => {
+                reader.part(it.offset as usize..(it.offset + it.length) as usize).map(Cow::Owned)
+            }
+            (Some(reader), None) => copy_of_stream(reader.whole()?, &self.starts, number).map(Cow::Owned),
+            (None, Some(it)) => it.of(self.bytes).map(Cow::Borrowed).ok_or(Error::SHORT),
+            (None, None) => copy_of_stream(self.bytes, &self.starts, number).map(Cow::Owned),
+        }
+    }
+
     /// The bytes of a stream, none without it.
-    fn stream_or_none(&self, number: u16) -> Result<Vec<u8>, Error> {
-        stream_number(number).map_or(Ok(Vec::new()), |number| self.stream(number.into()))
+    fn stream_or_none(&self, number: u16) -> Result<Cow<'a, [u8]>, Error> {
+        stream_number(number).map_or(Ok(Cow::default()), |number| self.stream_bytes(number.into()))
     }
 
     /// The bytes of the file.
@@ -242,7 +318,7 @@ impl<'a> Pdb<'a> {
     /// Whether it was linked with /DEBUG:FASTLINK: then symbols and lines are in the objects, and it has hardly more than the public
     /// symbols. A feature of the info stream says so, after the names of streams. `false` where that stream is damaged.
     pub fn is_fastlink(&self) -> bool {
-        let info = self.stream(INFO_STREAM).unwrap_or_default();
+        let info = self.stream_bytes(INFO_STREAM).unwrap_or_default();
         features_of(&info).is_some_and(|features| features.take_while(|it| *it != VC110).any(|it| it == FASTLINK))
     }
 
@@ -264,17 +340,15 @@ impl<'a> Pdb<'a> {
     ///
     /// [`Error::PDB_NO_STREAM`]; [`Error::PDB_STREAM_SIZE`]; [`Error::PDB_DIRECTORY`]; [`Error::PDB_BLOCK`]; [`Error::MEMORY`].
     pub fn stream(&self, number: u32) -> Result<Vec<u8>, Error> {
-        let (bytes, starts) = (self.bytes, &self.starts);
-        // SAFETY: the pointers and lengths are those of slices; the room overlaps none of them, and all are lent for the call.
-        filled(0, |room, length, written| unsafe {
-            let (at, size) = (bytes.as_ptr(), bytes.len());
-            sys::pe_c_pdb_stream(at, size, starts.as_ptr(), starts.len(), number, room, length, written)
-        })
+        match self.reader_of(number) {
+            Some(_) => self.stream_bytes(number).map(Cow::into_owned),
+            None => copy_of_stream(self.bytes, &self.starts, number),
+        }
     }
 
     /// Which RVAs are of which module, in the order of the section contributions.
     pub(crate) fn module_ranges(&self) -> Result<Vec<PdbModuleRange>, Error> {
-        let (dbi, sections) = (self.stream(DBI_STREAM)?, self.section_headers()?);
+        let (dbi, sections) = (self.stream_bytes(DBI_STREAM)?, self.section_headers()?);
         // SAFETY: as above.
         filled(0, |room, entries, written| unsafe {
             let (headers, size, contributions) = (sections.as_ptr(), sections.len(), &self.info.contributions);
@@ -289,7 +363,7 @@ impl<'a> Pdb<'a> {
     /// Those of [`Pdb::dbi`]; [`Error::SHORT`], [`Error::PDB_NAME`]; [`Error::MEMORY`].
     pub fn modules(&self) -> Result<Vec<PdbModule>, Error> {
         self.dbi()?;
-        let dbi = self.stream(DBI_STREAM)?;
+        let dbi = self.stream_bytes(DBI_STREAM)?;
         let mut modules = Vec::new();
         let mut walk = self.info.modules;
         let mut entries = room_for(AT_ONCE, sys::PdbModule::default())?;
@@ -315,21 +389,23 @@ impl<'a> Pdb<'a> {
     }
 
     /// The stream of symbols that all objects see, no bytes without one.
-    pub(crate) fn symbol_stream(&self) -> Result<Vec<u8>, Error> {
+    pub(crate) fn symbol_stream(&self) -> Result<Cow<'a, [u8]>, Error> {
         self.dbi()?;
         self.stream_or_none(self.info.symbol_stream)
     }
 
-    /// The stream with the names of all source files, no bytes without one.
-    pub(crate) fn file_names(&self) -> Result<Vec<u8>, Error> {
-        let (info, name, mut number) = (self.stream(INFO_STREAM)?, b"/names", 0);
+    /// The number of the stream with the names of all source files.
+    pub(crate) fn names_stream(&self) -> Result<Option<u32>, Error> {
+        let (info, name, mut number) = (self.stream_bytes(INFO_STREAM)?, b"/names", 0);
         // SAFETY: the pointers and lengths are those of slices; the number is lent for the call.
         let result =
             unsafe { sys::pe_c_pdb_named_stream(info.as_ptr(), info.len(), name.as_ptr(), name.len(), &mut number) };
-        match returned(result, number)? {
-            Some(number) => self.stream(number),
-            None => Ok(Vec::new()),
-        }
+        returned(result, number)
+    }
+
+    /// Its bytes, none without one.
+    pub(crate) fn file_names(&self) -> Result<Cow<'a, [u8]>, Error> {
+        self.names_stream()?.map_or(Ok(Cow::default()), |number| self.stream_bytes(number))
     }
 
     /// The public symbols, in the order of their records.
@@ -344,7 +420,7 @@ impl<'a> Pdb<'a> {
         self.symbols(&bytes, all, &[S_PUB32])
     }
 
-    /// The procedures of a module, in the order of their records. None of a module without a stream. Each call copies that stream, and
+    /// The procedures of a module, in the order of their records. None of a module without a stream. Each call reads that stream, and
     /// modules of a hostile PDB may all have one that is as long as the file.
     ///
     /// # Errors
@@ -352,7 +428,7 @@ impl<'a> Pdb<'a> {
     /// Those of [`Pdb::publics`]; [`Error::SHORT`] where its symbols end past its stream.
     pub fn procedures(&self, module: &PdbModule) -> Result<Vec<PdbSymbol>, Error> {
         let Some(stream) = module.stream else { return Ok(Vec::new()) };
-        let bytes = self.stream(stream.into())?;
+        let bytes = self.stream_bytes(stream.into())?;
         self.symbols(&bytes, module.symbols, &PROCEDURE_KINDS)
     }
 

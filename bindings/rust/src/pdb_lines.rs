@@ -63,10 +63,10 @@ impl Pdb<'_> {
     ///
     /// Those of [`Pdb::stream`]; [`Error::SHORT`], [`Error::PDB_RECORD_TRUNCATED`] of the table of named streams.
     pub fn source_names(&self) -> Result<SourceNames, Error> {
-        self.file_names().map(SourceNames)
+        self.names_stream()?.map_or(Ok(Vec::new()), |number| self.stream(number)).map(SourceNames)
     }
 
-    /// The lines of a module, none of one without a stream. Each call copies that stream.
+    /// The lines of a module, none of one without a stream. Each call reads that stream.
     ///
     /// # Errors
     ///
@@ -74,7 +74,7 @@ impl Pdb<'_> {
     /// [`Error::PDB_RECORD_TRUNCATED`]; [`Error::MEMORY`].
     pub fn lines(&self, module: &PdbModule, names: &SourceNames) -> Result<PdbLines, Error> {
         let Some(stream) = module.stream else { return Ok(PdbLines::default()) };
-        let (bytes, range, sections) = (self.stream(stream.into())?, module.lines(), self.section_headers()?);
+        let (bytes, range, sections) = (self.stream_bytes(stream.into())?, module.lines(), self.section_headers()?);
         let mut files = Range::default();
         // SAFETY: the pointers and lengths are those of slices; the records are lent for the call.
         returned(unsafe { sys::pe_c_pdb_files(bytes.as_ptr(), bytes.len(), &range, &mut files) }, ())?;

@@ -1,10 +1,11 @@
 //! Names and lines of the functions at RVAs, by a PDB. A module is read when an RVA in it is asked for first. For the first few RVAs of a
 //! module its procedures and lines are read each time; then they are sorted, and each RVA is looked up by halves. The functions that are inlined there are read of the records of the procedure. A function
-//! without debug information is in no module: the public symbols name it, if the linker wrote them.
+//! without debug information is in no module: the public symbols name it, if the linker wrote them; they are read when one is needed first.
 
 use crate::image::{returned, text_of, Error};
 use crate::pdb::{count_in, filled, Omap, Pdb, PdbModule, PROCEDURES, PUBLICS, ROW};
 use crate::sys::{self, PdbInlined, PdbLine, PdbLineEntry as LineEntry, PdbModuleRange, Range};
+use alloc::borrow::Cow;
 use alloc::collections::BTreeMap;
 use alloc::string::String;
 use alloc::vec::Vec;
@@ -69,9 +70,9 @@ struct Lookup<T> {
 }
 
 /// The symbols of a kind, in a range of these bytes.
-struct Symbols {
+struct Symbols<'p> {
     kind: u32,
-    bytes: Vec<u8>,
+    bytes: Cow<'p, [u8]>,
     range: Range,
     lookup: Lookup<u64>,
 }
@@ -84,8 +85,8 @@ struct Lines {
 }
 
 /// What is read of a module: its procedures, and its lines, which may be refused alone.
-struct Read {
-    symbols: Symbols,
+struct Read<'p> {
+    symbols: Symbols<'p>,
     lines: Lines,
     /// Why the inlined functions of an RVA are refused, or the name or the line of one, of the first that was asked for.
     inlined_error: Cell<Option<Error>>,
@@ -94,14 +95,14 @@ struct Read {
 }
 
 /// A module, which is read when an RVA in it is asked for.
-struct Module {
+struct Module<'p> {
     module: PdbModule,
-    read: OnceCell<Result<Read, Error>>,
+    read: OnceCell<Result<Read<'p>, Error>>,
 }
 
 /// The stream of ids, and where its records start.
-struct Ids {
-    bytes: Vec<u8>,
+struct Ids<'p> {
+    bytes: Cow<'p, [u8]>,
     starts: Vec<u64>,
 }
 
@@ -121,17 +122,17 @@ pub struct Symbolizer<'p> {
     pdb: &'p Pdb<'p>,
     omap: Option<Omap>,
     sections: &'p [u8],
-    publics: Symbols,
-    modules: Vec<Module>,
+    publics: OnceCell<Result<Symbols<'p>, Error>>,
+    modules: Vec<Module<'p>>,
     /// Which RVAs are of which module, in ascending order. `None` where the section contributions do not say it.
     ranges: Option<Vec<PdbModuleRange>>,
     /// Else the starts of all procedures, each with the last of the modules that have one there.
     starts: OnceCell<Vec<(u32, usize)>>,
     /// How many more bytes of streams may be kept.
     left: Cell<usize>,
-    ids: OnceCell<Result<Ids, Error>>,
+    ids: OnceCell<Result<Ids<'p>, Error>>,
     /// The names of all source files.
-    names: Result<Vec<u8>, Error>,
+    names: Result<Cow<'p, [u8]>, Error>,
 }
 
 impl fmt::Debug for Symbolizer<'_> {
@@ -172,9 +173,9 @@ impl<T> Lookup<T> {
     }
 }
 
-impl Symbols {
+impl<'p> Symbols<'p> {
     /// The symbols of a kind in a range of these bytes.
-    fn of(kind: u32, bytes: Vec<u8>, range: Range) -> Symbols {
+    fn of(kind: u32, bytes: Cow<'p, [u8]>, range: Range) -> Symbols<'p> {
         Symbols { kind, bytes, range, lookup: Lookup::new() }
     }
 
@@ -265,7 +266,7 @@ impl Lines {
     }
 }
 
-impl Read {
+impl Read<'_> {
     /// The name of a source file. What is not UTF-8 is U+FFFD.
     fn file(&self, file: u32, names: &[u8]) -> Option<String> {
         let found = *self.files.borrow_mut().entry(file).or_insert_with(|| self.file_name(file, names));
@@ -294,7 +295,7 @@ impl Read {
         &self,
         module: &sys::PdbModule,
         (procedure, rva): (&sys::PdbSymbol, u32),
-        ids: Option<&Ids>,
+        ids: Option<&Ids<'_>>,
         room: &mut [PdbInlined],
     ) -> (u32, usize) {
         let (bytes, mut written) = (&self.symbols.bytes, 0);
@@ -320,9 +321,9 @@ impl Read {
     }
 }
 
-impl Ids {
-    fn of(pdb: &Pdb<'_>) -> Result<Ids, Error> {
-        let bytes = pdb.stream(ID_STREAM)?;
+impl<'p> Ids<'p> {
+    fn of(pdb: &'p Pdb<'p>) -> Result<Ids<'p>, Error> {
+        let bytes = pdb.stream_bytes(ID_STREAM)?;
         // SAFETY: as above.
         let starts = filled(bytes.len() / ID, |room, entries, written| unsafe {
             sys::pe_c_pdb_ids(bytes.as_ptr(), bytes.len(), room, entries, written)
@@ -339,29 +340,25 @@ impl Ids {
 }
 
 impl Pdb<'_> {
-    /// Reads what names RVAs: the public functions, the modules, and which RVAs are of which; the procedures and lines of a module when an
-    /// RVA of it is asked for first. Where the section contributions do not say whose an RVA is, all modules are read then.
+    /// Reads what names RVAs: the modules, and which RVAs are of which; the procedures and lines of a module when an RVA of it is asked for
+    /// first, and the public functions when no procedure has an RVA. Where the section contributions do not say whose an RVA is, all modules
+    /// are read then.
     ///
     /// A module that is refused costs its own names alone: [`Symbolizer::damaged`] has it. So does one whose stream, with those of the
-    /// modules that were read before it, has more bytes than the file: no linker writes a block for two.
+    /// modules that were read before it, has more bytes than the file: no linker writes a block for two. Of public symbols that are refused
+    /// [`Symbolizer::publics_error`] says so.
     ///
     /// # Errors
     ///
-    /// Those of [`Pdb::omap`], of [`Pdb::modules`], of the streams of symbols and section headers, and [`Error::MEMORY`].
+    /// Those of [`Pdb::omap`], of [`Pdb::modules`], of the stream of section headers, and [`Error::MEMORY`].
     pub fn symbolizer(&self) -> Result<Symbolizer<'_>, Error> {
         let sections = self.section_headers()?;
-        let bytes = self.symbol_stream()?;
-        let all = Range { offset: 0, length: bytes.len() as u64 };
-        let publics = Symbols::of(PUBLICS, bytes, all);
-        // Whether a record is refused: what is found is of no account.
-        publics.find(sections, 0);
-        publics.lookup.refused.get().map_or(Ok(()), Err)?;
         let modules = self.modules()?.into_iter().map(|module| Module { module, read: OnceCell::new() });
         Ok(Symbolizer {
             pdb: self,
             omap: self.omap()?,
             sections,
-            publics,
+            publics: OnceCell::new(),
             modules: modules.collect(),
             ranges: self.module_ranges().ok().and_then(ascending),
             starts: OnceCell::new(),
@@ -380,17 +377,20 @@ fn ascending(mut ranges: Vec<PdbModuleRange>) -> Option<Vec<PdbModuleRange>> {
     (are_apart && !ranges.is_empty()).then_some(ranges)
 }
 
-impl Symbolizer<'_> {
+impl<'p> Symbolizer<'p> {
     /// What a module has, which is read once. `None` where it has no debug information, or is refused.
-    fn read<'s>(&'s self, module: &'s Module) -> Option<&'s Read> {
+    fn read<'s>(&'s self, module: &'s Module<'p>) -> Option<&'s Read<'p>> {
         let stream = module.module.stream?;
         module.read.get_or_init(|| self.read_stream(stream, &module.module)).as_ref().ok()
     }
 
-    fn read_stream(&self, stream: u16, module: &PdbModule) -> Result<Read, Error> {
-        // Once there are too many bytes no stream is copied: of a hostile file each module may have a long one.
-        let bytes =
-            if self.left.get() > 0 { self.pdb.stream(stream.into())? } else { return Err(Error::PDB_STREAM_SIZE) };
+    fn read_stream(&self, stream: u16, module: &PdbModule) -> Result<Read<'p>, Error> {
+        // Once there are too many bytes no stream is read: of a hostile file each module may have a long one.
+        let bytes = if self.left.get() > 0 {
+            self.pdb.stream_bytes(stream.into())?
+        } else {
+            return Err(Error::PDB_STREAM_SIZE);
+        };
         let rest = self.left.get().checked_sub(bytes.len());
         self.left.set(rest.unwrap_or_default());
         rest.ok_or(Error::PDB_STREAM_SIZE)?;
@@ -400,7 +400,7 @@ impl Symbolizer<'_> {
     }
 
     /// The module that has an RVA: by the section contributions, else by the procedures of all modules.
-    fn module_at(&self, rva: u32) -> Option<&Module> {
+    fn module_at(&self, rva: u32) -> Option<&Module<'p>> {
         let Some(ranges) = &self.ranges else {
             let starts = self.starts.get_or_init(|| self.all_starts());
             let after = starts.partition_point(|it| it.0 <= rva);
@@ -423,6 +423,12 @@ impl Symbolizer<'_> {
         starts
     }
 
+    /// Why no public symbol names a function, if one was needed and they are refused.
+    pub fn publics_error(&self) -> Option<Error> {
+        let read = self.publics.get()?;
+        read.as_ref().map_or_else(|error| Some(*error), |it| it.lookup.refused.get())
+    }
+
     /// Why no source file has a name, if the stream with their names is refused.
     pub fn names_error(&self) -> Option<Error> {
         self.names.as_ref().err().copied()
@@ -435,7 +441,7 @@ impl Symbolizer<'_> {
 
     /// The modules that were read so far and are refused, or whose lines or inlined functions are.
     pub fn damaged(&self) -> Vec<DamagedModule> {
-        let errors = |read: &Result<Read, Error>| match read {
+        let errors = |read: &Result<Read<'_>, Error>| match read {
             Err(error) => [Some((*error, false)), None],
             Ok(it) => match it.symbols.lookup.refused.get() {
                 Some(error) => [Some((error, false)), None],
@@ -487,20 +493,20 @@ impl Symbolizer<'_> {
         Some(frames)
     }
 
-    fn file(&self, read: &Read, file: u32) -> Option<String> {
+    fn file(&self, read: &Read<'_>, file: u32) -> Option<String> {
         read.file(file, self.names.as_ref().ok()?)
     }
 
     /// The functions that are inlined at an RVA of a procedure, the innermost first.
     fn inlined(
         &self,
-        read: &Read,
+        read: &Read<'_>,
         module: &PdbModule,
         procedure: &sys::PdbSymbol,
         rva: u32,
     ) -> Result<Vec<PdbInlined>, Error> {
         let module = sys::PdbModule { symbols: module.symbols(), lines: module.lines(), ..sys::PdbModule::default() };
-        let find = |ids: Option<&Ids>, room: &mut [PdbInlined]| read.inlined(&module, (procedure, rva), ids, room);
+        let find = |ids: Option<&Ids<'_>>, room: &mut [PdbInlined]| read.inlined(&module, (procedure, rva), ids, room);
         // Most RVAs have none: the ids are read when one has.
         if find(None, &mut []).0 == sys::DONE {
             return Ok(Vec::new());
@@ -512,7 +518,7 @@ impl Symbolizer<'_> {
     }
 
     /// The frame of an inlined function, in the procedure of another frame.
-    fn inlined_frame(&self, read: &Read, inlined: &PdbInlined, own: &SymbolFrame) -> SymbolFrame {
+    fn inlined_frame(&self, read: &Read<'_>, inlined: &PdbInlined, own: &SymbolFrame) -> SymbolFrame {
         let refused = |number| (![sys::DONE, sys::NOTHING].contains(&number)).then(|| Error::with_number(number));
         // Without ids no function has a name, which is said once.
         let ids = self.ids.get().and_then(|it| it.as_ref().ok());
@@ -529,7 +535,14 @@ impl Symbolizer<'_> {
     }
 
     fn public(&self, rva: u32) -> Option<SymbolFrame> {
-        let found = self.publics.find(self.sections, rva)?;
-        Some(SymbolFrame { is_public: true, ..self.publics.frame(&found, rva)? })
+        let publics = self.publics.get_or_init(|| self.read_publics()).as_ref().ok()?;
+        let found = publics.find(self.sections, rva)?;
+        Some(SymbolFrame { is_public: true, ..publics.frame(&found, rva)? })
+    }
+
+    fn read_publics(&self) -> Result<Symbols<'p>, Error> {
+        let bytes = self.pdb.symbol_stream()?;
+        let all = Range { offset: 0, length: bytes.len() as u64 };
+        Ok(Symbols::of(PUBLICS, bytes, all))
     }
 }

@@ -4909,6 +4909,21 @@ extern "C" {
         room_length: usize,
         written: *mut u64,
     ) -> u32;
+    /// Returns the range of the file that has the bytes of the stream with a number in their order, so that no copy of
+    /// them is needed: [`NOTHING`] where its blocks do not follow one another, as they do in what most linkers write.
+    ///
+    /// It reads the directory alone, and no block of the stream: of a file that is read in parts the others may be
+    /// missing. `starts` is as for [`pe_c_pdb_stream`].
+    ///
+    /// Errors: those of [`pe_c_pdb_stream`] but [`ROOM`].
+    pub fn pe_c_pdb_stream_range(
+        bytes: *const u8,
+        length: usize,
+        starts: *const u64,
+        number_of_starts: usize,
+        index: u32,
+        out: *mut Range,
+    ) -> u32;
     /// Lists the modules, and moves the walk past them.
     ///
     /// `bytes` are those of the DBI stream, stream 3; the walk starts as `pdb->modules`.

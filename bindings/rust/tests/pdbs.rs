@@ -1,7 +1,7 @@
 //! Program databases: the PDB that lld-link wrote for the repository's tests, by what llvm-pdbutil 14.0.6 prints of it.
 
 use super::made;
-use pe_c::{Error, Guid, Pdb, SymbolFrame, SymbolKey};
+use pe_c::{Error, Guid, Pdb, PdbReader, SymbolFrame, SymbolKey};
 
 const GUID: Guid = Guid(*b"\xE4\x54\xD9\x94\x4D\x79\x23\xF2\x4C\x4C\x44\x20\x50\x44\x42\x2E");
 
@@ -185,6 +185,70 @@ fn a_damaged_module_costs_its_names_alone() {
     let [damaged] = &symbolizer.damaged()[..] else { panic!("{:?}", symbolizer.damaged()) };
     assert_eq!((damaged.name.as_str(), damaged.error), ("b.obj", Error::PDB_RECORD_SIZE));
     assert!(!damaged.has_names);
+}
+
+/// Public symbols are read where no procedure has an RVA.
+#[test]
+fn damaged_public_symbols_cost_themselves_alone() {
+    let mut bytes = made::pdb();
+    let number = Pdb::parse(&bytes).unwrap().info().symbol_stream;
+    let at = Pdb::stream_range(&bytes, number.into()).unwrap().unwrap().start;
+    // The first record has a size of 1.
+    bytes[at..at + 2].copy_from_slice(&[1, 0]);
+    let pdb = Pdb::parse(&bytes).unwrap();
+    let symbolizer = pdb.symbolizer().unwrap();
+    assert_eq!(named(&symbolizer.frames(0x1048)), [("entry", 0x1000, 0x48, false)]);
+    assert_eq!(symbolizer.publics_error(), None);
+    assert_eq!(symbolizer.frames(0x104F), []);
+    assert_eq!((symbolizer.publics_error(), symbolizer.damaged()), (Some(Error::PDB_RECORD_SIZE), vec![]));
+}
+
+/// A file that is read in parts, and where those start that were read. Only what is scattered is read whole.
+struct Parts {
+    whole: Vec<u8>,
+    read: std::sync::Mutex<Vec<usize>>,
+}
+
+impl PdbReader for Parts {
+    fn part(&self, range: std::ops::Range<usize>) -> Result<Vec<u8>, Error> {
+        self.read.lock().unwrap().push(range.start);
+        Ok(self.whole[range].to_vec())
+    }
+
+    fn whole(&self) -> Result<&[u8], Error> {
+        panic!("no stream is scattered")
+    }
+}
+
+/// Of a file in parts the streams are read that are needed, and no others.
+#[test]
+fn a_file_is_read_in_parts() {
+    for whole in [made::pdb_inlined(), made::pdb()] {
+        let pdb = Pdb::parse(&whole).unwrap();
+        let (info, mut bytes, mut starts) = (*pdb.info(), whole.clone(), Vec::new());
+        for number in 0..info.number_of_streams {
+            let range = Pdb::stream_range(&whole, number).unwrap().unwrap();
+            assert_eq!(pdb.stream(number).unwrap(), &whole[range.clone()]);
+            starts.push(range.start);
+            if ![1, 3, info.section_headers.into()].contains(&number) {
+                bytes[range].fill(0);
+            }
+        }
+        let reader = Parts { whole: whole.clone(), read: Default::default() };
+        let in_parts = Pdb::parse(&bytes).unwrap().with_reader(&reader);
+        let (symbolizer, wanted) = (in_parts.symbolizer().unwrap(), pdb.symbolizer().unwrap());
+        assert_eq!(symbolizer.frames(0x1004), wanted.frames(0x1004));
+        let read = |number: u32| reader.read.lock().unwrap().contains(&starts[number as usize]);
+        let publics = info.symbol_stream.into();
+        // The names of source files, and the module of the RVA.
+        let count = reader.read.lock().unwrap().len();
+        assert_eq!((count, read(4), read(publics)), (2, false, false));
+        for rva in 0xFF8..0x1090 {
+            assert_eq!(symbolizer.frames(rva), wanted.frames(rva), "{rva:#x}");
+        }
+        assert!(read(publics));
+        assert_eq!((in_parts.modules(), in_parts.publics()), (pdb.modules(), pdb.publics()));
+    }
 }
 
 #[test]

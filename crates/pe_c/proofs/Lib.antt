@@ -15,6 +15,7 @@ pub mod GuardLists
 pub mod Utf16Texts
 pub mod StreamLists
 pub mod PdbStreams
+pub mod PdbRanges
 pub mod PdbFrames
 pub mod PdbReadings
 pub mod ListStarts

@@ -1,5 +1,6 @@
 -- What calls return of program databases. A refusal is the number of the error.
 use Rattle.std.specs.Prelude.{◌≡◌, ◌⊎◌, ℕ, ◌+◌, ◌==◌, Bool, true, false, List, [], ◌∷◌, ◌++◌, drop, length, min, nat_le, slice_get, Option, Some, None, Result, Ok, Err}
+use Rattle.std.specs.Option.{option_map}
 use Rattle.pe_core.specs.Bytes.{range, holds}
 use Rattle.pe_core.specs.Refusals.{◌>>=◌, outcome}
 use Rattle.pe_core.specs.Rows.{each}
@@ -7,13 +8,13 @@ use Rattle.pe_pdb.specs.Dbi.{dbi_header_of, debug_start, debug_stream}
 use Rattle.pe_pdb.specs.Info.{info_of}
 use Rattle.pe_pdb.specs.Msf.{MsfView, msf_of, superblock_of}
 use Rattle.pe_pdb.specs.Refusals.{PdbRefusal, Short, Pdb20, PortablePdb, Magic, BlockSize, FileSize, BlockMap, Block, Directory, NoStream, StreamSize, Outside, InfoVersion, DbiSignature, DbiVersion, DbiParts, SectionHeaders, RecordSize, RecordTruncated, Name, ModuleSymbols, ModuleSignature, NamesSignature, ContributionsVersion, ContributionsSize, Annotation, InlineDepth, SymbolsSize, Room, pdb_kind_of}
-use Rattle.pe_pdb.specs.Streams.{StreamView, list_start, stream_bytes, stream_from, stream_of, streams}
+use Rattle.pe_pdb.specs.Streams.{StreamView, contiguous_of, list_start, stream_bytes, stream_from, stream_of, streams}
 use Rattle.pe_pdb.specs.declared.dbi.DbiHeader.{DbiHeader}
 use Rattle.pe_pdb.specs.declared.dbi.TheConstants.{NO_STREAM}
 use Rattle.pe_pdb.specs.declared.error.PdbError.{PdbError}
 use Rattle.pe_pdb.specs.declared.info.PdbInfo.{PdbInfo}
 use Rattle.pe_pdb.specs.declared.msf.SuperBlock.{SuperBlock}
-use Rattle.pe_c.specs.Ranges.{no_bytes}
+use Rattle.pe_c.specs.Ranges.{no_bytes, range_of}
 use Rattle.pe_c.specs.WrittenFiles.{numbered}
 use Rattle.pe_c.specs.declared.debug.records.SymbolKey.{SymbolKey}
 use Rattle.pe_c.specs.declared.pdb.DbiStreams.{DbiStreams}
@@ -187,6 +188,10 @@ stream_at b starts i = msf_of b >>= λ m. stream_by m i (slice_get starts i)
 -- its bytes, or the number of the refusal
 abbrev pub stream_numbered : List ℕ → List ℕ → ℕ → Result (List ℕ) ℕ
 stream_numbered b starts i = numbered pdb_number (stream_at b starts i) >>= λ s. Ok (stream_bytes s)
+
+-- the range of the file that has its bytes in their order, if its blocks follow one another
+abbrev pub stream_range : List ℕ → List ℕ → ℕ → Result (Option Range) PdbRefusal
+stream_range b starts i = stream_at b starts i >>= λ s. Ok (option_map range_of (contiguous_of s))
 
 -- ---- the PDB of an image
 

@@ -17,10 +17,10 @@ ghost use Rattle.pe_pdb.specs.Msf.{msf_view};
 ghost use Rattle.pe_pdb.specs.Refusals.{PdbReturns, pdb_kind_of};
 ghost use Rattle.pe_pdb.specs.Streams.{stream_view};
 ghost use Rattle.pe_c.specs.Lists.{by_number};
-ghost use Rattle.pe_c.specs.Pdbs.{HandsOutStarts, IsPdbOf, Matches, PdbHandsOut, PdbHandsOutIf, dbi_in, dbi_streams, head_of, info_in, part_of, pdb_answer, pdb_at, pdb_number, pdb_reported, stream_at, stream_numbered, with_dbi};
+ghost use Rattle.pe_c.specs.Pdbs.{HandsOutStarts, IsPdbOf, Matches, PdbHandsOut, PdbHandsOutIf, dbi_in, dbi_streams, head_of, info_in, part_of, pdb_answer, pdb_at, pdb_number, pdb_reported, stream_at, stream_numbered, stream_range, with_dbi};
 ghost use Rattle.pe_c.specs.WrittenFiles.{HandsOutFile};
 
-use crate::base::ranges::{NO_BYTES, Range};
+use crate::base::ranges::{NO_BYTES, Range, some_range};
 use crate::base::results::{DONE, NOTHING, ROOM};
 use crate::debug::records::SymbolKey;
 use pe_core::slice_at;
@@ -388,6 +388,31 @@ pub extern "C" fn pe_c_pdb_stream(
         }
         Err(error) => number_of_pdb(&error),
     }
+}
+
+/// The range of the file that has a stream, if its blocks follow one another.
+fn stream_range(bytes: &[u8], starts: &[u64], index: u32) -> Result<Option<Range>>
+    ensures { pdb_answer result ≡ stream_range bytes.now starts.now index }
+{
+    let stream = stream_at(bytes, starts, index)?;
+    Ok(some_range(stream.contiguous()))
+}
+
+/// Returns the range of the file that has the bytes of the stream with an index in their order, so that no copy of them is needed.
+/// `NOTHING` where its blocks do not follow one another, as they do in what most linkers write. `starts` is as for `pe_c_pdb_stream`. It
+/// reads the directory alone, and no block of the stream.
+///
+/// Errors: those of `pe_c_pdb_stream` but `ROOM`.
+#[unsafe(no_mangle)]
+pub extern "C" fn pe_c_pdb_stream_range(
+    bytes: &[u8],
+    starts: &[u64],
+    index: u32,
+    out: &mut Range,
+) -> u32
+    ensures { PdbHandsOutIf result out.old out.new (stream_range bytes.now starts.now index) }
+{
+    hand_out_pdb_if(stream_range(bytes, starts, index), out)
 }
 
 /// Whether a PDB is that of an image with a key.

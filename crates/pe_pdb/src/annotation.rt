@@ -67,7 +67,12 @@ fn number_at(bytes: &[u8], offset: usize) -> Result<(u32, usize)>
     if offset >= bytes.len() {
         return Err(PdbError::Annotation(offset));
     }
-    let size = number_size(read_u8(bytes, offset));
+    let first = read_u8(bytes, offset);
+    // Most numbers have one byte.
+    if first < 0x80 {
+        return Ok((u32::from(first), offset + 1));
+    }
+    let size = number_size(first);
     if size == 0 || bytes.len() - offset < size {
         return Err(PdbError::Annotation(offset));
     }

@@ -1,16 +1,16 @@
 //! The PDB files of a dump's modules: which is found where, whether it is that of the module, and what it names. A PDB is that of
 //! a module if its GUID and its age are those that the module names; no name is read of another one.
 //!
-//! One that is damaged costs its names, and no frame. Each file is read once, and one at a time is in memory. A symbol file of Breakpad is
-//! one that names the key in its first line.
+//! One that is damaged costs its names, and no frame. Of each file the parts are read that name frames, and one at a time is in memory. A
+//! symbol file of Breakpad is one that names the key in its first line.
 
 use super::breakpad::{self, SymbolFile};
 use super::functions::{function_of_pdb, function_of_symbol_file};
+use super::parts::{Memory, PdbFile};
 use super::symbols::SymbolFolders;
 use super::told::{Frame, Function};
 use super::{modules, Loaded, Texts};
 use crate::facts::Refusal;
-use crate::files;
 use crate::pdb::{damaged_of, Damaged};
 use pe_c::{Dump, Image, Pdb, SymbolKey};
 use serde::Serialize;
@@ -65,13 +65,13 @@ pub fn put(
     texts: &mut Texts<'_>,
 ) -> ToldPdbs {
     let mut told = ToldPdbs::new();
-    let mut files = PdbFiles { folders, keys: BTreeMap::new(), left: MOST_IN_ALL, read: Vec::new() };
+    let mut files = PdbFiles { folders, keys: BTreeMap::new(), left: MOST_IN_ALL, memory: Memory::default() };
     for group in groups_of(frames, over, &mut told) {
-        let (mut said, bytes) = files.find(&group);
-        if let Some(bytes) = bytes {
-            texts.add(bytes.len());
-            said = name_frames(frames, (&group, over.1), &bytes, said, texts);
-            files.read = bytes;
+        let (mut said, file) = files.find(&group);
+        if let Some(file) = file {
+            texts.add(file.bytes().len());
+            said = name_frames(frames, (&group, over.1), &file, said, texts);
+            files.memory = file.into_memory();
         }
         told.extend(group.modules.iter().map(|it| (*it, said.clone())));
     }
@@ -111,17 +111,18 @@ fn groups_of<'k>(frames: &[&mut Frame], over: (&Dump<'k>, &Loaded<'k>), told: &m
 fn name_frames(
     frames: &mut [&mut Frame],
     of: (&Group<'_>, &Loaded<'_>),
-    bytes: &[u8],
+    file: &PdbFile,
     said: ToldPdb,
     texts: &mut Texts<'_>,
 ) -> ToldPdb {
     let (group, loaded) = of;
-    if breakpad::is_symbol_file(bytes) {
-        return name_by_symbol_file(frames, of, bytes, said, texts);
+    if breakpad::is_symbol_file(file.bytes()) {
+        return name_by_symbol_file(frames, of, file.bytes(), said, texts);
     }
     let refused = |error: pe_c::Error| ToldPdb { state: "refused", error: Some(error.into()), ..said.clone() };
-    let pdb = match Pdb::parse(bytes) {
-        Ok(pdb) => pdb,
+    let pdb = match Pdb::parse(file.bytes()) {
+        Ok(pdb) if file.is_whole() => pdb,
+        Ok(pdb) => pdb.with_reader(file),
         Err(error) => return refused(error),
     };
     let symbolizer = match pdb.symbolizer() {
@@ -205,13 +206,13 @@ struct PdbFiles<'f> {
     keys: BTreeMap<PathBuf, Result<String, Refusal>>,
     /// How many bytes may still be read.
     left: u64,
-    /// The memory of a file that was read before.
-    read: Vec<u8>,
+    /// That of a file that was read before.
+    memory: Memory,
 }
 
 impl PdbFiles<'_> {
     /// The PDB of modules, and what is reported of it: of several files that are none, the first.
-    fn find(&mut self, group: &Group<'_>) -> (ToldPdb, Option<Vec<u8>>) {
+    fn find(&mut self, group: &Group<'_>) -> (ToldPdb, Option<PdbFile>) {
         let wanted = group.key.to_string();
         let mut told = ToldPdb { state: "missing", wanted_key: Some(wanted.clone()), ..ToldPdb::default() };
         for candidate in self.folders.candidates(group.name, &wanted) {
@@ -219,7 +220,7 @@ impl PdbFiles<'_> {
             let said = match candidate.problem() {
                 Some((path, why)) => ToldPdb { state: "not-read", file: file(path), reason: Some(why), ..told.clone() },
                 None => match self.read(candidate.path(), &group.key, &wanted) {
-                    Ok(bytes) => return (ToldPdb { state: "read", file: file(candidate.path()), ..told }, Some(bytes)),
+                    Ok(found) => return (ToldPdb { state: "read", file: file(candidate.path()), ..told }, Some(found)),
                     // One that is named by itself, and has another key, is that of other modules.
                     Err(why) if why.state == "another-build" && !candidate.has_name(group.name) => continue,
                     Err(why) => ToldPdb { file: file(candidate.path()), wanted_key: told.wanted_key.clone(), ..*why },
@@ -232,23 +233,24 @@ impl PdbFiles<'_> {
         (told, None)
     }
 
-    /// The bytes of a symbol file with this key, or why they are not read.
-    fn symbol_file(&mut self, path: &Path, bytes: Vec<u8>, wanted: &str) -> Result<Vec<u8>, Box<ToldPdb>> {
+    /// A symbol file with this key, or why it is not read.
+    fn symbol_file(&mut self, path: &Path, file: PdbFile, wanted: &str) -> Result<PdbFile, Box<ToldPdb>> {
         let not_read = |why: String| Box::new(ToldPdb { state: "not-read", reason: Some(why), ..ToldPdb::default() });
+        let bytes = file.bytes();
         if bytes.len() as u64 > breakpad::MOST {
             let (size, most) = (bytes.len(), breakpad::MOST);
             return Err(not_read(format!("it has {size} bytes; of a symbol file at most {most} are read")));
         }
-        let key = breakpad::key_of(&bytes).map_err(|why| not_read(why.to_string()))?.to_uppercase();
+        let key = breakpad::key_of(bytes).map_err(|why| not_read(why.to_string()))?.to_uppercase();
         self.keys.insert(path.to_path_buf(), Ok(key.clone()));
         match key == wanted {
-            true => Ok(bytes),
+            true => Ok(file),
             false => Err(Box::new(ToldPdb { state: "another-build", found_key: Some(key), ..ToldPdb::default() })),
         }
     }
 
-    /// The bytes of a PDB with this key, or why they are not read, or no PDB with it.
-    fn read(&mut self, path: &Path, key: &SymbolKey<'_>, wanted: &str) -> Result<Vec<u8>, Box<ToldPdb>> {
+    /// The PDB with this key, or why it is not read, or none with it.
+    fn read(&mut self, path: &Path, key: &SymbolKey<'_>, wanted: &str) -> Result<PdbFile, Box<ToldPdb>> {
         let not_read = |why: String| Box::new(ToldPdb { state: "not-read", reason: Some(why), ..ToldPdb::default() });
         let another = |found: &str| {
             Box::new(ToldPdb { state: "another-build", found_key: Some(found.into()), ..ToldPdb::default() })
@@ -267,15 +269,16 @@ impl PdbFiles<'_> {
         self.left = self.left.checked_sub(size).ok_or_else(|| {
             not_read(format!("the PDB files of one dump that are read have at most {MOST_IN_ALL} bytes"))
         })?;
-        let bytes = files::whole_in(path, std::mem::take(&mut self.read)).map_err(|error| not_read(error.to_string()))?;
-        if breakpad::is_symbol_file(&bytes) {
-            return self.symbol_file(path, bytes, wanted);
+        let memory = std::mem::take(&mut self.memory);
+        let file = PdbFile::open(path, memory).map_err(|error| not_read(error.to_string()))?;
+        if breakpad::is_symbol_file(file.bytes()) {
+            return self.symbol_file(path, file, wanted);
         }
-        let parsed = Pdb::parse(&bytes).and_then(|it| it.dbi().map(|()| it)).map_err(Refusal::from);
+        let parsed = Pdb::parse(file.bytes()).and_then(|it| it.dbi().map(|()| it)).map_err(Refusal::from);
         let found = parsed.as_ref().map(|it| it.key("").to_string()).map_err(Refusal::clone);
         self.keys.insert(path.to_path_buf(), found.clone());
         match (parsed, found) {
-            (Ok(pdb), _) if pdb.matches(key) => Ok(bytes),
+            (Ok(pdb), _) if pdb.matches(key) => Ok(file),
             (_, Ok(found)) => Err(another(&found)),
             (_, Err(refusal)) => Err(refused(&refusal)),
         }

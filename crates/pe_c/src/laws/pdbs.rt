@@ -1,7 +1,8 @@
 //! Laws of program databases: what is damaged in one costs itself alone.
 
-ghost use Rattle.std.specs.Prelude.{◌≡◌, ℕ, List, Ok, Result};
+ghost use Rattle.std.specs.Prelude.{◌≡◌, ℕ, List, Ok, Result, Some};
 ghost use Rattle.std.specs.List.Sorted.{IsNonDecreasing, IsNonDecreasingBy, IsPermutation};
+ghost use Rattle.pe_core.specs.Bytes.{range};
 ghost use Rattle.pe_pdb.specs.LineIndexes.{AreEntries};
 ghost use Rattle.pe_pdb.specs.LineKeys.{line_key};
 ghost use Rattle.pe_pdb.specs.Refusals.{PdbRefusal};
@@ -11,6 +12,7 @@ ghost use Rattle.pe_pdb.specs.declared.symbol_entries.SymbolClass.{SymbolClass};
 ghost use Rattle.pe_c.specs.PdbIndexes.{FindsSymbol, ReadsSymbol, indexed};
 ghost use Rattle.pe_c.specs.PdbInlined.{inlined_functions};
 ghost use Rattle.pe_c.specs.PdbLines.{FindsLine, ReadsLine, indexed_lines};
+ghost use Rattle.pe_c.specs.Pdbs.{stream_numbered, stream_range};
 ghost use Rattle.pe_c.specs.PdbFrames.{all_named, all_placed, with_lines};
 ghost use Rattle.pe_c.specs.declared.pdb.inlined.PdbInlined.{PdbInlined};
 ghost use Rattle.pe_c.specs.declared.pdb.modules.PdbModule.{PdbModule};
@@ -25,6 +27,12 @@ pub fn frames_of_module_alone()
         all_placed (inlined_functions b m s rva ids starts) ≡ all_placed (inlined_functions b m s rva other_ids other_starts) }
     ensures names { (b : List ℕ) (m : PdbModule) (s : PdbSymbol) (rva : ℕ) (ids starts : List ℕ) (lines : Range) →
         all_named (inlined_functions b m s rva ids starts) ≡ all_named (inlined_functions b (with_lines m lines) s rva ids starts) }
+{}
+
+/// Where `pe_c_pdb_stream_range` returns a range of the file, its bytes are those that `pe_c_pdb_stream` copies.
+pub fn stream_range_is_stream()
+    ensures { (b starts : List ℕ) (index : ℕ) (r : Range) →
+        stream_range b starts index ≡ Ok (Some r) → stream_numbered b starts index ≡ Ok (range b r.offset r.length) }
 {}
 
 /// By an index that `pe_c_pdb_index` or `pe_c_pdb_lines` made a lookup returns what the call without one returns: what a call without one
