@@ -208,6 +208,15 @@ const CLR: &[u8] = b"\x48\0\0\0\x02\0\x05\0\x48\x10\0\0\x50\0\0\0\x01\0\0\0\x01\
     \x40\0\0\0\x08\0\0\0#~\0\0\x48\0\0\0\x08\0\0\0#Strings\0\0\0\0\
     tables..\0\x3CMod\x3E\0\0";
 
+#[test]
+fn reads_the_version_of_metadata(rt: HostRuntime) -> Result<(), Fail> {
+    let image = image_of(CLR, false);
+    let header = ClrHeader::parse(&image, at(0x1000, 72))?;
+    let metadata = header.metadata(&image)?;
+    assert_eq!(rt; metadata.version_text(), Some("v4.0.30319"));
+    Ok(())
+}
+
 /// A header of ReadyToRun code of version 9.2 with 5 sections, by the layout; one that is truncated, and one of NGEN.
 #[test]
 fn reads_ready_to_run_headers(rt: HostRuntime) -> Result<(), Fail> {

@@ -3,8 +3,8 @@
 use crate::images::{image, with_byte};
 use crate::sections::section;
 use pe_core::{
-    DataDirectory, Error, Export, ExportAddress, ExportAddresses, ExportData, ParseOptions, Reason,
-    SectionTable, lies_in,
+    DataDirectory, Error, Export, ExportAddress, ExportAddresses, ExportData, MappedBytes,
+    ParseOptions, Reason, SectionTable, lies_in,
 };
 use std::alloc::{AllocError, Global};
 use std::process::Abort;
@@ -295,6 +295,25 @@ fn exports_by_index(rt: HostRuntime) -> Result<(), Fail> {
         ..exports
     };
     assert!(rt; none.is_empty() && none.at(0).is_none() && none.iter().next().is_none());
+    Ok(())
+}
+
+#[test]
+fn forwarders_have_texts(rt: HostRuntime) -> Result<(), Fail> {
+    let bytes = forwarding(rt.alloc())?;
+    let sections = one_section();
+    let opts = ParseOptions::default();
+    let image = MappedBytes::new(&bytes, &sections, ALIGNMENT, &opts);
+    let data = ExportData::parse(&bytes, WIDE, &sections, ALIGNMENT)?;
+    let exports = ExportAddresses::new(&data, WIDE);
+    for (rva, want) in [
+        (0x1090, Some("a.dll")),
+        (0x105F, None),
+        (0x10DF, Some("")),
+        (0x10E0, None),
+    ] {
+        assert_eq!(rt; exports.forwarder(rva, &image), want, "at {rva:#x}");
+    }
     Ok(())
 }
 

@@ -113,6 +113,20 @@ fn ranges_are_those_of_the_slices(rt: HostRuntime) -> Result<(), Fail> {
 }
 
 #[test]
+fn fills_up_an_unsigned_image(rt: HostRuntime) -> Result<(), Fail> {
+    for (extra, zeros) in [(0, 0), (1, 7), (5, 3), (8, 0)] {
+        let mut longer = with_functions(rt.alloc())?;
+        put(&mut longer, &[(0xE8, &[0, 0, 0, 0, 0, 0, 0, 0])]);
+        for _ in 0..extra {
+            longer.push(0x55)?;
+        }
+        let header = Header::parse_with_opts(&longer, &ParseOptions::default())?;
+        assert_eq!(rt; authenticode_ranges(&longer, &header)?.zeros, zeros);
+    }
+    Ok(())
+}
+
+#[test]
 fn digests_need_an_optional_header(rt: HostRuntime) -> Result<(), Fail> {
     // The size of the optional header is at 0x54.
     let bytes = with_byte(with_functions(rt.alloc())?, 0x54, 0);
