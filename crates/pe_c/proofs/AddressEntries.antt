@@ -117,8 +117,3 @@ entries offset b g d t i x there e =
 pub named_forwarders : (offset : ℕ → Option ℕ) (b : List ℕ) (d : ExportDataView) (t : AddressTable) (i : ℕ) (x : Export) → reported_entry offset b t.directory d i ≡ Some x →
     x.is_forwarder ≡ (exported_with offset b (address_with (addresses_in t d.addresses) x.index x.rva)).is_forwarder
 named_forwarders offset b d t i x e = of_entry (λ y. y.is_forwarder ≡ one_if (lies_in t.directory y.rva)) offset b t.directory d i x (λ p k r name h. refl) e
-
-pub named_texts : (offset : ℕ → Option ℕ) (b : List ℕ) (d : ExportDataView) (t : AddressTable) (i : ℕ) (x : Export) → reported_entry offset b t.directory d i ≡ Some x →
-    x.forwarder ≡ (exported_with offset b (address_with (addresses_in t d.addresses) x.index x.rva)).forwarder
-named_texts offset b d t i x e =
-    of_entry (λ y. y.forwarder ≡ or_no_bytes (if lies_in t.directory y.rva then text_range offset b y.rva else None)) offset b t.directory d i x (λ p k r name h. refl) e

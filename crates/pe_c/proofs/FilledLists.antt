@@ -26,18 +26,6 @@ pub ends_list : {W X : Type 0} (Steps : W → Result (Option X) ℕ → W → Ty
 ends_list {X = X} Steps w u v entries initial n inside kept t stops =
     (take n entries, (u, t, stops), sym (length-take-le n entries inside), sym (take-append-drop n entries) ∙ ap (λ (xs : List X). take n entries ++ xs) kept)
 
-pub ends_at_end : {W X : Type 0} (Steps : W → Result (Option X) ℕ → W → Type 0) (w u v : W) (entries initial : List X) (n : ℕ) → n < length entries → length entries ≡ length initial → drop n entries ≡ drop n initial →
-    Takes Steps w (take n entries) u → Steps u (Ok None) v → PutsList Steps w v initial entries (Ok n)
-ends_at_end Steps w u v entries initial n room same kept t s =
-    let size = length-take-le n entries (omega (arith, room)) in
-    ends_list Steps w u v entries initial n (omega (arith, room)) kept t (inr (inl (omega (arith, size, room, same), s)))
-
-pub ends_before_error : {W X : Type 0} (Steps : W → Result (Option X) ℕ → W → Type 0) (w u next : W) (entries initial : List X) (n e : ℕ) → 0 < n → n < length entries → length entries ≡ length initial → drop n entries ≡ drop n initial →
-    Takes Steps w (take n entries) u → Steps u (Err e) next → PutsList Steps w u initial entries (Ok n)
-ends_before_error Steps w u next entries initial n e some room same kept t s =
-    let size = length-take-le n entries (omega (arith, room)) in
-    ends_list Steps w u u entries initial n (omega (arith, room)) kept t (inr (inr (omega (arith, size, some), omega (arith, size, room, same), refl, (e, next, s))))
-
 -- ---- what a call hands out
 
 pub hands_out_if : {W X : Type 0} (Steps : W → Result (Option X) ℕ → W → Type 0) (empty : Bool) (w v : W) (old new : List X) (before n : ℕ) → false ≡ empty →

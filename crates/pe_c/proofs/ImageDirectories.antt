@@ -111,11 +111,6 @@ by_machine b d sections unit o true arm64 h = table_in 12 b d sections unit o h
 by_machine b d sections unit o false true h = table_in 8 b d sections unit o h
 by_machine b d sections unit o false false h = tt
 
--- options that calls do not read make no difference
-plain_table : (width : ℕ) (b : List ℕ) (d : DataDirectory) (sections : List SectionTable) (unit : ℕ) (o : ParseOptions) → exception_at width b d sections unit (plain o) ≡ exception_at width b d sections unit o
-unfolding exception_at
-plain_table width b d sections unit o = refl
-
 -- the two calls, where the image says this
 abbrev tables_of : List ℕ → ℕ → DataDirectory → List SectionTable → ℕ → ParseOptions → Result (Option Range) Refusal
 tables_of b machine d sections unit o =

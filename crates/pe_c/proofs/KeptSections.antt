@@ -157,10 +157,6 @@ one_more v old n keeps is_alone h x = by_number (map_of_image v.image.now (numbe
   by_number (Some p) e = by_first v new x p e ∙ sym (ap (λ (s : List SectionTable). map_of_image v.image.now s x) (all_sections v.sections.now v.index.now x (sym no_index)) ∙ is_alone.maps x p e)
   by_number None e = by_old (map_of_image v.image.now (numbered v.sections.now old.first) x) e refl
 
--- a walk that keeps none maps as its view does
-pub none_kept : (v : View) → map_kept v record { first = 0; second = 0 } ≡ map_of v
-none_kept v = refl
-
 -- what changes no offset is the map of the view
 pub same_map : (v : View) (k : KeptSections) → ChangeNothing v k → map_kept v k ≡ map_of v
 same_map v k h = fun_ext h

@@ -7,14 +7,14 @@ use Rattle.pe_core.specs.Bytes.{holds, le, range}
 use Rattle.pe_core.specs.Refusals.{Refusal, Short}
 use Rattle.pe_core.specs.declared.section_table.SectionTable.{SectionTable}
 use Rattle.pe_resource.proofs.LeafPositions.{last_position}
-use Rattle.pe_resource.specs.LeafPositions.{leaves_at, position_after}
+use Rattle.pe_resource.specs.LeafPositions.{leaves_at}
 use Rattle.pe_resource.specs.Leaves.{TreeRefusal, name_units}
 use Rattle.pe_resource.specs.ResourceEntries.{has_name, name_offset}
 use Rattle.pe_resource.specs.declared.entry.ResourceEntry.{ResourceEntry}
 use Rattle.pe_resource.specs.declared.leaf_position.LeafPosition.{LeafPosition}
 use Rattle.pe_resource.specs.declared.leaves.ResourceLeaf as trees
 use Rattle.pe_c.proofs.LeftBytes.{there}
-use Rattle.pe_c.specs.ResourceLeaves.{IsNameOf, StartsTree, StepsLeaves, after_item, first_item, item_reported, items_left, leaf_reported, leaves_walk, name_reported, no_leaves, position_of, walk_after, walk_at}
+use Rattle.pe_c.specs.ResourceLeaves.{IsNameOf, StartsTree, StepsLeaves, after_item, first_item, item_reported, items_left, leaf_reported, leaves_walk, name_reported, no_leaves, position_of, walk_after}
 use Rattle.pe_c.specs.Ranges.{bytes_at}
 use Rattle.pe_c.specs.Runs.{IsOver, ReturnsItems, read_items}
 use Rattle.pe_c.specs.declared.headers.image.Image as images
@@ -60,14 +60,7 @@ ends_over b offset w e = ap (walk_after w (bytes_at b w.tree)) e ∙ ends_by w (
 pub refuses_over : (b : List ℕ) (offset : ℕ → Option ℕ) (w : ResourceLeaves) (r : TreeRefusal) → first_item (items_left b offset w) ≡ Err r → leaves_walk b offset w ≡ no_leaves
 refuses_over b offset w r e = ap (walk_after w (bytes_at b w.tree)) e ∙ refuses_by w (bytes_at b w.tree) r
 
-pub goes_on : (b : List ℕ) (offset : ℕ → Option ℕ) (w : ResourceLeaves) (d : List ℕ) (y : ResourceLeaf) → bytes_at b w.tree ≡ Ok d → first_item (items_left b offset w) ≡ Ok (Some y) →
-    leaves_walk b offset w ≡ walk_at w.tree (position_after d (position_of w))
-goes_on b offset w d y e f = ap (walk_after w (bytes_at b w.tree)) f ∙ ap (λ (r : Result (List ℕ) Refusal). walk_after w r (Ok (Some y))) e
-
 -- ---- whole walks
-
-abbrev Item : Type 0
-Item = Result ResourceLeaf TreeRefusal
 
 over_is_over : (b : List ℕ) (offset : ℕ → Option ℕ) → IsOver (StepsLeaves b offset) no_leaves
 over_is_over b offset answer next s =

@@ -127,9 +127,3 @@ module _ {W F : Type 0} (Calls : Process → F → Result F WalkEnd → Type 0) 
   pub without_mark : (old new : W) → HandsOutNext Calls m p number (m.marked old) new → IsLike (λ other. HandsOutNext Calls m p number old other) new
   without_mark old new h =
       down_by (m.remaining old) old new (subst (λ (n : ℕ). HandsOutBy Calls m n p number (m.marked old) new) (keep.left old) h)
-
-  pub by_either : (b c : Bool) (old new : W) → HandsOutNext Calls m p number (marked_if m b old) new → IsLike (λ other. HandsOutNext Calls m p number (marked_if m c old) other) new
-  by_either true true old new h = (new, h, refl)
-  by_either false false old new h = (new, h, refl)
-  by_either true false old new h = without_mark old new h
-  by_either false true old new h = (m.marked new, with_mark old new h, keep.twice new)

@@ -1,6 +1,6 @@
 -- Files that calls write to a room: what a call returns after an attempt, and after it has asked for the length.
-use Rattle.std.proofs.Common.{◌≡◌, ℕ, Bool, true, false, List, [], ◌∷◌, length, Result, Ok, Err, refl, ap, sym, subst, arith, if◌then◌else◌}
-use Rattle.std.specs.Prelude.{nat_le, ◌==◌}
+use Rattle.std.proofs.Common.{◌≡◌, ℕ, Bool, true, false, List, [], ◌∷◌, length, Result, Ok, Err, refl, sym, subst, arith, if◌then◌else◌}
+use Rattle.std.specs.Prelude.{nat_le}
 use Rattle.std.proofs.lemmas.Bool.Decides.{nat_tests}
 use Rattle.pe_core.specs.Bytes.{splice}
 use Rattle.pe_c.specs.WrittenFiles.{HandsOutFile, HandsOutLength, NumberReturns, PutsFileIf, length_numbered, written_numbered}
@@ -9,17 +9,6 @@ use Rattle.pe_c.specs.WrittenFiles.{HandsOutFile, HandsOutLength, NumberReturns,
 returned : (given defined : Result ℕ ℕ) → NumberReturns (λ n. n) given defined → given ≡ defined
 returned (Ok n) defined h = sym h
 returned (Err e) defined h = sym h
-
-done_by : (fits : Bool) (f old new : List ℕ) (n : ℕ) → ◌≡◌ {A = Result (ℕ × List ℕ) ℕ} (if fits then Ok (length f, splice old 0 f) else Err 37) (Ok (n, new)) → PutsFileIf fits f 0 old new × (n ≡ length f)
-done_by true f old new n h =
-    let same : ◌≡◌ {A = ℕ × List ℕ} (length f, splice old 0 f) (n, new) = cc in
-    ((refl, sym (ap (λ (p : ℕ × List ℕ). p.1) same)), sym (ap (λ (p : ℕ × List ℕ). p.0) same))
-done_by false f old new n h = absurd cc
-
--- a file that is written
-pub file_done : (file : Result (List ℕ) ℕ) (out n : ℕ) (old new : List ℕ) → written_numbered file old ≡ Ok (n, new) → HandsOutFile 0 out n old new file
-file_done (Ok f) out n old new h = done_by (nat_le (length f) (length old)) f old new n h
-file_done (Err e) out n old new h = absurd cc
 
 short_by : (fits : Bool) (f old new : List ℕ) (number e : ℕ) → ◌≡◌ {A = Result (ℕ × List ℕ) ℕ} (if fits then Ok (length f, splice old 0 f) else Err 37) (Err e) → new ≡ old → number ≡ (if fits then 0 else 101) → PutsFileIf fits f number old new
 short_by true f old new number e h same n = absurd cc
@@ -38,15 +27,6 @@ file_short file given number out after e old new h same r l =
 pub file_short_after : (file : Result (List ℕ) ℕ) (given : Result ℕ ℕ) (number out after e : ℕ) (old new : List ℕ) → written_numbered file old ≡ Err e → new ≡ old → NumberReturns (λ n. n) given (length_numbered file) → HandsOutLength number out after (length new) given → HandsOutFile number out after old new file
 file_short_after file given number out after e old new h same r l =
     file_short file given number out after e old new h same r (subst (λ (room : List ℕ). HandsOutLength number out after (length room) given) same l)
-
-other_by : (fits : Bool) (f old : List ℕ) (e : ℕ) → ◌≡◌ {A = Result (ℕ × List ℕ) ℕ} (if fits then Ok (length f, splice old 0 f) else Err 37) (Err e) → e ≡ 37
-other_by true f old e h = absurd cc
-other_by false f old e h = cc
-
--- one that another refusal keeps from being written
-pub file_refused : (file : Result (List ℕ) ℕ) (e out : ℕ) (old new : List ℕ) → written_numbered file old ≡ Err e → new ≡ old → (e == 37) ≡ false → HandsOutFile e out out old new file
-file_refused (Ok f) e out old new h same n = (let is : e ≡ 37 = other_by (nat_le (length f) (length old)) f old e h in absurd (grind (arith, nat_tests)))
-file_refused (Err q) e out old new h same n = (cc, refl, same)
 
 nothing : (f : List ℕ) → length f ≡ 0 → [] ≡ splice [] 0 f
 unfolding splice
