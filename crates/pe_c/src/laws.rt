@@ -94,7 +94,6 @@ ghost use Rattle.pe_core.specs.declared.header.TheConstants.{COFF_MACHINE_X86_64
 /// For all bytes and options the results of the calls on an image, in the order and by the modes of `PE`, are exactly the
 /// fields of `PE::parse_with_opts` of pe_image, or its first error: what the calls return decides the image, and it is that.
 /// `IsImageOfCalls` names the calls of each field. No slice has more bytes than 2^63 - 1.
-#[tactic(auto, using(crate::proofs::OneImage::image_is_of_calls))]
 pub fn image_of_calls()
     ensures { (b : List ℕ) (o : ParseOptions) (r : Result ImageView Refusal) →
         AreBytes b → length b ≤ 2 ^ 63 → (IsImage b o r ↔ IsImageOfCalls b o r) }
