@@ -12,7 +12,11 @@ that nothing else counts as proved by its place; and for windows-x64 linux.a, th
 
 One proof serves all. The kit keeps what it checked of a crate in the crate's out/incremental, whatever the target: the
 first target that is built proves what has changed, and for each further one the kit says in its log that it checked no
-module, `modules loaded=N checked=0`, which stands in PROOF too."""
+module, `modules loaded=N checked=0`, which stands in PROOF too.
+
+`rt lib` proves all crates below anew that it has not built itself in this folder or another one. Where `rt ci` has proved them, as the gate
+does, its libraries serve too: with OVER_CI among the words `rt ci` runs first, which takes what it keeps, and then the kit's compiler
+proves pe_c over these libraries and makes the archive, with the flags that `rt lib` gives it."""
 
 import contextlib
 import hashlib
@@ -27,6 +31,7 @@ import header_files
 from header import TOP, Header
 from limits import SECONDS, Failed, limited
 from needs import GROUPS, MINGW, missing
+from rooms import Crate, read_lines
 from retarget import Compiler, compiled, edited
 
 BINDINGS = os.path.join(TOP, "bindings")
@@ -41,6 +46,7 @@ OTHERS = [it for it in TRIPLES if it != "linux-x64"]
 SHIPPED = {"linux-x64": ["libpe_c.a"], "linux-arm64": ["libpe_c.a"], "wasm": ["pe_c.wasm", "pe_c64.wasm"]}
 # For every x86-64 processor.
 CPU = ["--cpu", "x86-64"]
+OVER_CI = "--over-ci"
 # From nothing, on a busy machine.
 SECONDS_TO_PROVE = 6 * 3600
 # What the module uses beside a memory of 64 bits; engines have had it since 2021.
@@ -111,15 +117,28 @@ def run_loud(words, seconds, **more):
         os.close(heard)
 
 
+def over_ci(rt, words):
+    """Has `rt ci` prove what it does not keep. Returns the command that makes the archive over the libraries that it leaves."""
+    kit, processors = os.path.dirname(os.path.dirname(rt)), str(len(os.sched_getaffinity(0)))
+    said = run_loud([find_rt(), "ci"], SECONDS_TO_PROVE, cwd=TOP, env={**os.environ, "RT_JOBS": processors})
+    if not re.search(r"^\d+ passed, 0 failed$", said, re.M):
+        raise Failed(f"rt ci: not all crates are proved: {said[-2000:]}")
+    own = Crate(TOP, "pe_c", read_lines(TOP)).words(kit)[1:]
+    jobs = [] if "--jobs" in words else ["--jobs", processors]
+    kept = ["--incremental", os.path.join(CRATE, "out", "incremental"), "--toolchain", f"{kit}/toolchain"]
+    return [f"{kit}/bin/rattle", "build", *own, *jobs, *kept, "-o", BUILT, *(it for it in words if it != OVER_CI)]
+
+
 def archive_of_kit(rt, out, words):
-    """Proves what has changed of the crates, and writes the archive by `rt lib`. The archive for Linux on x86-64
+    """Proves what has changed of the crates, and writes the archive, by `rt lib` or over `rt ci`. The archive for Linux on x86-64
     stays as it is, unless it is the one that is written. Returns the lines of the log that say what was proved, and how much of it in
     this run."""
     kept = f"{BUILT}.kept"
     if os.path.exists(BUILT):
         os.replace(BUILT, kept)
     try:
-        said = run_loud([rt, "lib", *words], SECONDS_TO_PROVE, cwd=CRATE)
+        command = over_ci(rt, words) if OVER_CI in words else [rt, "lib", *words]
+        said = run_loud(command, SECONDS_TO_PROVE, cwd=CRATE)
         proofs = re.findall(r"^logic=proved .*", said, re.M)
         if not proofs:
             raise Failed(f"no proof of pe_c: {said[-2000:]}")
