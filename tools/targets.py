@@ -15,8 +15,8 @@ first target that is built proves what has changed, and for each further one the
 module, `modules loaded=N checked=0`, which stands in PROOF too.
 
 `rt lib` proves all crates below anew that it has not built itself in this folder or another one. Where `rt ci` has proved them, as the gate
-does, its libraries serve too: with OVER_CI among the words `rt ci` runs first, which takes what it keeps, and then the kit's compiler
-proves pe_c over these libraries and makes the archive, with the flags that `rt lib` gives it."""
+does, its libraries serve too: with OVER_CI among the words `rt ci` runs first, which takes what it keeps and removes what else was
+built, and then the kit's compiler proves pe_c over these libraries and makes the archive, with the flags that `rt lib` gives it."""
 
 import contextlib
 import hashlib
@@ -33,6 +33,7 @@ from limits import SECONDS, Failed, limited
 from needs import GROUPS, MINGW, missing
 from rooms import Crate, read_lines
 from retarget import Compiler, compiled, edited
+from verdicts import files_of, sum_of
 
 BINDINGS = os.path.join(TOP, "bindings")
 SOURCES = os.path.join(BINDINGS, "targets")
@@ -117,14 +118,30 @@ def run_loud(words, seconds, **more):
         os.close(heard)
 
 
-def over_ci(rt, words):
-    """Has `rt ci` prove what it does not keep. Returns the command that makes the archive over the libraries that it leaves."""
-    kit, processors = os.path.dirname(os.path.dirname(rt)), str(len(os.sched_getaffinity(0)))
+def prove_by_ci():
+    """Has `rt ci` prove what it does not keep, unless the libraries that it left are those of the crates as they are. It empties out/."""
+    crate, mark = Crate(TOP, "pe_c", read_lines(TOP)), os.path.join(CRATE, "out", "over-ci")
+    sources = [files_of(os.path.join(TOP, "crates", it), {"out"}) for it in [*crate.below, "pe_c"]]
+    with open(os.path.join(TOP, "crates.txt"), encoding="utf-8") as file:
+        now = sum_of(run([find_rt(), "version"]), file.read(), sources)
+    with contextlib.suppress(OSError), open(mark, encoding="utf-8") as file:
+        built = [os.path.getmtime(f"{TOP}/crates/{it}/out/rlib/{it}.rlib/format") for it in crate.below]
+        if file.read() == now and max(built) <= os.path.getmtime(mark):
+            return
+    processors = str(len(os.sched_getaffinity(0)))
     said = run_loud([find_rt(), "ci"], SECONDS_TO_PROVE, cwd=TOP, env={**os.environ, "RT_JOBS": processors})
     if not re.search(r"^\d+ passed, 0 failed$", said, re.M):
         raise Failed(f"rt ci: not all crates are proved: {said[-2000:]}")
+    os.makedirs(os.path.dirname(mark), exist_ok=True)
+    with open(mark, "w", encoding="utf-8") as file:
+        file.write(now)
+
+
+def over_ci(rt, words):
+    """The command that makes the archive over the libraries that `rt ci` left."""
+    kit = os.path.dirname(os.path.dirname(rt))
     own = Crate(TOP, "pe_c", read_lines(TOP)).words(kit)[1:]
-    jobs = [] if "--jobs" in words else ["--jobs", processors]
+    jobs = [] if "--jobs" in words else ["--jobs", str(len(os.sched_getaffinity(0)))]
     kept = ["--incremental", os.path.join(CRATE, "out", "incremental"), "--toolchain", f"{kit}/toolchain"]
     return [f"{kit}/bin/rattle", "build", *own, *jobs, *kept, "-o", BUILT, *(it for it in words if it != OVER_CI)]
 
@@ -240,6 +257,8 @@ def build(target, folder, code=None, words=()):
     of LLVM code, which is not proved. Returns the lines that say what was proved, or "not proved"."""
     expect_there(target)
     folder = os.path.realpath(folder)
+    if OVER_CI in words:
+        prove_by_ci()
     os.makedirs(folder, exist_ok=True)
     archive = os.path.join(folder, "libpe_c.a")
     proof = "not proved"
