@@ -28,12 +28,12 @@ import tempfile
 import time
 
 import header_files
+import verdicts
 from header import TOP, Header
 from limits import SECONDS, Failed, limited
 from needs import GROUPS, MINGW, missing
 from rooms import Crate, read_lines
 from retarget import Compiler, compiled, edited
-from verdicts import files_of, sum_of
 
 BINDINGS = os.path.join(TOP, "bindings")
 SOURCES = os.path.join(BINDINGS, "targets")
@@ -121,9 +121,9 @@ def run_loud(words, seconds, **more):
 def prove_by_ci():
     """Has `rt ci` prove what it does not keep, unless the libraries that it left are those of the crates as they are. It empties out/."""
     crate, mark = Crate(TOP, "pe_c", read_lines(TOP)), os.path.join(CRATE, "out", "over-ci")
-    sources = [files_of(os.path.join(TOP, "crates", it), {"out"}) for it in [*crate.below, "pe_c"]]
+    sources = [verdicts.files_of(os.path.join(TOP, "crates", it), {"out"}) for it in [*crate.below, "pe_c"]]
     with open(os.path.join(TOP, "crates.txt"), encoding="utf-8") as file:
-        now = sum_of(run([find_rt(), "version"]), file.read(), sources)
+        now = verdicts.sum_of(run([find_rt(), "version"]), file.read(), sources)
     with contextlib.suppress(OSError), open(mark, encoding="utf-8") as file:
         built = [os.path.getmtime(f"{TOP}/crates/{it}/out/rlib/{it}.rlib/format") for it in crate.below]
         if file.read() == now and max(built) <= os.path.getmtime(mark):
