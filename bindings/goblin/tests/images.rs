@@ -495,7 +495,9 @@ fn unwritten(change: impl FnOnce(&mut PE<'_>)) -> String {
 fn a_write_of_changed_values_that_does_not_fit_changes_nothing() {
     const STUB: &[u8] = &[7; IMAGE.len()];
     let error = unwritten(|pe| pe.header.dos_stub.data = STUB);
-    assert_eq!(error, format!("Buffer is too short for {} bytes", IMAGE.len() + 64));
+    // With the feature `rest` errors are those of goblin 0.2.1, which has no such one of its own.
+    let kind = if cfg!(feature = "rest") { "Malformed entity: " } else { "" };
+    assert_eq!(error, format!("{kind}Buffer is too short for {} bytes", IMAGE.len() + 64));
     let error = unwritten(|pe| {
         let header = pe.header.optional_header.as_mut().unwrap();
         header.standard_fields.magic = 0x10b;
