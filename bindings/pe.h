@@ -63,7 +63,7 @@
  *   pe_c_message                    Returns the text of a result, that of pe_c_text, as a string constant
  * the image
  *   pe_c_image                      Reads the headers of an image, which are at the same offsets in a file and in memory
- *   pe_c_sections                   Writes the section headers to the start of the array, image->number_of_sections of them
+ *   pe_c_sections                   Writes the section headers to the start of the array, image->number_of_sections of ..
  *   pe_c_offset                     Returns the file offset of an RVA, by the first section that covers it; in an image as ..
  * all numbers of the headers
  *   pe_c_headers                    Reads all numbers of the headers of an image, which are at the same offsets in a file ..
@@ -83,7 +83,6 @@
  *   pe_c_long_section_name          Returns the name of a section in the string table
  * COFF objects and COFF symbols
  *   pe_c_coff                       Reads the header of an object, the 20 bytes at its start
- *   pe_c_coff_sections              Writes the section headers of an object to the start of the array ..
  *   pe_c_coff_symbols               Returns a walk over the symbols of an object or of an image, with the range of their table
  *   pe_c_coff_strings               Returns the string table of an object or of an image, from its size field on
  *   pe_c_next_symbol                Reads the next symbol of a walk
@@ -94,29 +93,19 @@
  * debug data
  *   pe_c_debug_entries              Returns the entries of the debug directory as a walk for pe_c_next_debug_entry
  *   pe_c_next_debug_entry           Returns the next entry of the debug directory
- *   pe_c_first_debug_entry          Returns the first entry of a type
  *   pe_c_codeview                   Returns the symbol key of a CodeView record that stands alone, as a minidump has one ..
- *   pe_c_debug_data                 Reads the record of the first entry of each type at once
- *   pe_c_symbol_key_of              Returns the symbol key
- *   pe_c_pdb20_of                   Returns a CodeView record of PDB 2.0
- *   pe_c_vc_features_of             Returns the counts of VC features
- *   pe_c_characteristics_of         Returns the extended DLL characteristics
- *   pe_c_repro_of                   Returns a Repro record
- *   pe_c_pogo_of                    Returns a POGO record
- *   pe_c_embedded_pdb_of            Returns the portable PDB in an image
- *   pe_c_pdb_checksum_of            Returns the checksum of the PDB file
+ *   pe_c_symbol_key                 Returns the symbol key
+ *   pe_c_debug_data                 Reads the record of the first entry of each type
+ *   pe_c_debug_record               Reads the record of an entry that the caller has, in a mode, by the type that the ..
  * TE images
  *   pe_c_te                         Reads the header of a TE image, the 40 bytes at its start
  *   pe_c_te_sections                Writes the section headers of a TE image to the start of the array ..
  *   pe_c_te_debug_entries           Returns the entries of the debug directory as a walk for pe_c_next_te_debug_entry
  *   pe_c_next_te_debug_entry        Reads the next entry, the RVA and the file offset of its record reduced by te->rva_offset
- *   pe_c_te_first_debug_entry       Returns the first entry of a type, as pe_c_next_te_debug_entry does
  * why headers are refused
  *   pe_c_image_failure              Returns why pe_c_image refuses the bytes in this mode
  *   pe_c_sections_failure           Returns why pe_c_sections refuses the section headers of an image, whatever room it is ..
  *   pe_c_te_failure                 Returns why pe_c_te refuses the bytes
- *   pe_c_te_sections_failure        Return why pe_c_te_sections and pe_c_coff_sections refuse the section headers, as ..
- *   pe_c_coff_sections_failure      as the call above
  *   pe_c_directory_failure          Returns what is wrong with a directory, PE_C_DIRECTORY_EXPORT and so on
  *   pe_c_debug_failure              Returns what is wrong with the record of an entry of the debug directory that is read ..
  * certificates
@@ -157,8 +146,7 @@
  *   pe_c_plan_from                  Starts the plan of a function, by its unwind RVA, the field `unwind` of the function
  *   pe_c_next_record                Returns the next record of a plan
  *   pe_c_step                       Finds the registers of a function's caller, from those inside the function, in its ..
- *   pe_c_next_frame                 Returns the next frame of a stack walk on x64, in the walk
- *   pe_c_next_frames                The same for several frames in one call, which tests the modules once
+ *   pe_c_next_frames                Returns the next frames of a stack walk on x64
  * ARM64 functions and unwind records
  *   pe_c_arm64_table                Returns the range of the function table, entries of 8 bytes
  *   pe_c_find_arm64_function        Returns the function that covers an RVA, by binary search, or PE_C_NOTHING. In a table ..
@@ -167,8 +155,7 @@
  *   pe_c_next_arm64_scope           Returns the next epilog scope of a record
  *   pe_c_arm64_codes                Returns a walk over a record's codes
  *   pe_c_step_arm64                 Finds the registers of a function's caller, from those inside the function, and writes ..
- *   pe_c_next_arm64_frame           As pe_c_next_frame, on ARM64
- *   pe_c_next_arm64_frames          The same for several frames in one call, as pe_c_next_frames
+ *   pe_c_next_arm64_frames          As pe_c_next_frames, on ARM64
  * exports
  *   pe_c_export_directory           Returns the fields of the export directory, whatever its tables are
  *   pe_c_export_tables              Returns the tables of the export directory, where a walk starts
@@ -255,12 +242,13 @@
  *   pe_c_next_relocation            Returns the next relocation of a block
  *   pe_c_next_guard_entry           Returns the next entry of a table
  *   pe_c_next_pogo_entry            Returns the next entry of a POGO record
+ *   pe_c_next_frame                 Returns the next frame of a stack walk on x64, in the walk
+ *   pe_c_next_arm64_frame           The same on ARM64
  *   pe_c_function_at                Returns the function with an index, from 0
  *   pe_c_arm64_function_at          Returns the function with an index, from 0
  *   pe_c_export_at                  Returns the export with an index, from 0
  *   pe_c_symbol                     Reads the symbol in an entry of a symbol table
  * two calls
- *   pe_c_symbol_key                 Returns the symbol key
  *   pe_c_fixed_version              Returns the fixed file information
  *   pe_c_version_text               Returns the value of a name, PE_C_COMMENTS .. PE_C_SPECIAL_BUILD: UTF-16 code units ..
  * why a step is refused
@@ -282,7 +270,6 @@
  *   pe_c_dump                       Reads the header of a minidump, and tests that its directory is inside the bytes
  *   pe_c_dump_entry_at              Returns the entry of the directory with an index, or PE_C_NOTHING. Errors
  *   pe_c_dump_stream                Returns the range of the stream of a kind, that of the first entry of the kind, or ..
- *   pe_c_dump_range                 Returns the range of a location
  *   pe_c_dump_text                  Returns the range of a string, in UTF-16LE without its final zero
  *   pe_c_dump_thread_at             Returns the thread with an index in the stream of threads, or PE_C_NOTHING. Errors
  *   pe_c_dump_module_at             The same of modules, which stand in no order
@@ -800,8 +787,9 @@ PE_C_SIZE(pe_c_kept_sections, 8);
  * fields and directories. */
 uint32_t pe_c_image(const uint8_t *bytes, size_t length, uint32_t mode, pe_c_image_info *out) PE_C_RESULT(4);
 
-/* Writes the section headers to the start of the array, image->number_of_sections of them. The rest of the array is
- * unchanged, and all of it after an error.
+/* Writes the section headers to the start of the array, image->number_of_sections of them, from image->sections_offset on; of
+ * `image` nothing else is read, so it reads those of an object too. The rest of the array is unchanged, and all of it after an
+ * error.
  * Errors: PE_C_ROOM where the array has fewer entries; PE_C_SHORT where the section headers are truncated. */
 uint32_t pe_c_sections(const uint8_t *bytes, size_t length, const pe_c_image_info *image, pe_c_section *room,
                        size_t entries) PE_C_RESULT(3);
@@ -999,7 +987,9 @@ uint32_t pe_c_long_section_name(const uint8_t *bytes, size_t length, const pe_c_
  * https://learn.microsoft.com/windows/win32/debug/pe-format#coff-symbol-table
  *
  *     pe_c_coff(bytes, length, &coff);
- *     pe_c_coff_sections(bytes, length, &coff, sections, entries);
+ *     image.sections_offset = 20u + coff.size_of_optional_header;
+ *     image.number_of_sections = coff.number_of_sections;
+ *     pe_c_sections(bytes, length, &image, sections, entries);
  *     pe_c_coff_symbols(bytes, length, &coff, &walk);
  *     while (pe_c_next_symbol(bytes, length, &walk, &symbol) == PE_C_DONE)
  *         pe_c_symbol_name(bytes, length, &walk.table, &strings, symbol.index, &name); */
@@ -1030,12 +1020,6 @@ PE_C_SIZE(pe_c_symbol_walk, 24);
 /* Reads the header of an object, the 20 bytes at its start. Any bytes are such a header: look at `machine`.
  * Error: PE_C_SHORT. */
 uint32_t pe_c_coff(const uint8_t *bytes, size_t length, pe_c_coff_header *out) PE_C_RESULT(3);
-
-/* Writes the section headers of an object to the start of the array, coff->number_of_sections of them. They follow the
- * optional header, which objects usually do not have. The rest of the array is unchanged, and all of it after an error.
- * Errors: PE_C_ROOM where the array is smaller; PE_C_SHORT where the section headers are truncated. */
-uint32_t pe_c_coff_sections(const uint8_t *bytes, size_t length, const pe_c_coff_header *coff, pe_c_section *room,
-                            size_t entries) PE_C_RESULT(3);
 
 /* Returns a walk over the symbols of an object or of an image, with the range of their table. PE_C_NOTHING where the
  * header's pointer to them is 0.
@@ -1176,17 +1160,19 @@ typedef struct {
     pe_c_range checksum;            /* the rest of the record */
 } pe_c_pdb_checksum;
 
-/* What is read of the first entry of each type, each with its own result: PE_C_DONE, and then the record is here;
- * PE_C_NOTHING or an error, and then it is as it was. */
+/* Debug records, each with its own result: PE_C_DONE, and then the record is here; PE_C_NOTHING or an error, and then it is as
+ * it was. PE_C_NOTHING also where no entry of its type is read. */
 typedef struct {
-    pe_c_key key;                   /* the CodeView record, if it is one of PDB 7.0: that of pe_c_symbol_key */
+    pe_c_key key;                   /* the CodeView record, if it is one of PDB 7.0 */
     pe_c_pdb20 pdb20;               /* the CodeView record, if it is one of PDB 2.0 */
     pe_c_repro repro;               /* the Repro record */
     pe_c_pogo pogo;                 /* the POGO record, if it has one of the two signatures */
+    pe_c_embedded_pdb embedded;     /* the portable PDB in the image */
+    pe_c_pdb_checksum checksum;     /* the checksum of the PDB file */
     pe_c_vc_features features;      /* the record of VC features */
     uint32_t characteristics;       /* extended DLL characteristics, IMAGE_DLLCHARACTERISTICS_EX_ flags */
-    uint32_t key_result, pdb20_result, repro_result;    /* of each of these fields its result */
-    uint32_t pogo_result, features_result, characteristics_result;  /* of these too */
+    uint32_t key_result, pdb20_result, repro_result, pogo_result;   /* of each of these fields its result */
+    uint32_t embedded_result, checksum_result, features_result, characteristics_result;  /* of these too */
 } pe_c_debug_records;
 
 PE_C_SIZE(pe_c_debug_entry, 28);
@@ -1198,7 +1184,7 @@ PE_C_SIZE(pe_c_pogo, 24);
 PE_C_SIZE(pe_c_pogo_entry, 24);
 PE_C_SIZE(pe_c_embedded_pdb, 24);
 PE_C_SIZE(pe_c_pdb_checksum, 32);
-PE_C_SIZE(pe_c_debug_records, 168);
+PE_C_SIZE(pe_c_debug_records, 232);
 
 /* Returns the entries of the debug directory as a walk for pe_c_next_debug_entry. PE_C_NOTHING without a directory.
  * Errors: PE_C_UNMAPPED; PE_C_DEBUG_BOUNDS in strict mode. */
@@ -1209,64 +1195,30 @@ uint32_t pe_c_debug_entries(const pe_c_view *view, pe_c_range *out) PE_C_RESULT(
 uint32_t pe_c_next_debug_entry(const uint8_t *bytes, size_t length, pe_c_range *walk, pe_c_debug_entry *out)
     PE_C_RESULT(3, 4);
 
-/* Returns the first entry of a type. A truncated last entry is none. PE_C_NOTHING without a directory or such an entry.
- * Errors: PE_C_UNMAPPED; PE_C_DEBUG_BOUNDS in strict mode. */
-uint32_t pe_c_first_debug_entry(const pe_c_view *view, uint32_t data_type, pe_c_debug_entry *out) PE_C_RESULT(1, 3);
-
 /* Returns the symbol key of a CodeView record that stands alone, as a minidump has one of each module: no other debug
  * data is read, and no damage there is an error. PE_C_NOTHING where it is not a record of PDB 7.0.
  * Errors: PE_C_SHORT where the range is not inside the bytes; PE_C_DEBUG_SIZE where it has fewer than 24 bytes. */
 uint32_t pe_c_codeview(const uint8_t *bytes, size_t length, const pe_c_range *record, pe_c_key *out) PE_C_RESULT(3, 4);
 
-/* Reads the record of the first entry of each type at once. It always returns PE_C_DONE: each record has a result of its own,
- * as if by pe_c_first_debug_entry and then the call of the same record below, which takes an entry. */
+/* Returns the symbol key: the record of the first CodeView entry, if it is one of PDB 7.0. PE_C_NOTHING also without such an entry.
+ * It reads no other entry's record: it is the field `key` of what pe_c_debug_data reads.
+ * Errors: those of pe_c_debug_entries, then those of `key` of pe_c_debug_record. */
+uint32_t pe_c_symbol_key(const pe_c_view *view, pe_c_key *out) PE_C_RESULT(1, 2);
+
+/* Reads the record of the first entry of each type. A truncated last entry is none. It always returns PE_C_DONE: each record has a
+ * result of its own, the error of pe_c_debug_entries, or else as of pe_c_debug_record. */
 uint32_t pe_c_debug_data(const pe_c_view *view, pe_c_debug_records *out) PE_C_NOT_NULL(1, 2);
 
-/* The next eight read the record of an entry that the caller has, in a mode, whatever the entry's type is. */
-
-/* Returns the symbol key. PE_C_NOTHING where the record is not one of PDB 7.0.
- * Errors: PE_C_DEBUG_SIZE where the entry's size is below 24, in strict mode, and PE_C_NOTHING in permissive mode;
- * PE_C_SHORT of the first 24 bytes; PE_C_DEBUG_DATA of the name. */
-uint32_t pe_c_symbol_key_of(const uint8_t *bytes, size_t length, uint32_t mode, const pe_c_debug_entry *entry,
-                            pe_c_key *out) PE_C_RESULT(4, 5);
-
-/* Returns a CodeView record of PDB 2.0. PE_C_NOTHING where it is none.
- * Errors: PE_C_DEBUG_SIZE where the entry's size is below 16, in strict mode, and PE_C_NOTHING in permissive mode;
- * PE_C_SHORT of the first 16 bytes; PE_C_DEBUG_DATA of the name. */
-uint32_t pe_c_pdb20_of(const uint8_t *bytes, size_t length, uint32_t mode, const pe_c_debug_entry *entry,
-                       pe_c_pdb20 *out) PE_C_RESULT(4, 5);
-
-/* Returns the counts of VC features.
- * Error: PE_C_SHORT. */
-uint32_t pe_c_vc_features_of(const uint8_t *bytes, size_t length, uint32_t mode, const pe_c_debug_entry *entry,
-                             pe_c_vc_features *out) PE_C_RESULT(4, 5);
-
-/* Returns the extended DLL characteristics.
- * Error: PE_C_SHORT. */
-uint32_t pe_c_characteristics_of(const uint8_t *bytes, size_t length, uint32_t mode, const pe_c_debug_entry *entry,
-                                 uint32_t *out) PE_C_RESULT(4, 5);
-
-/* Returns a Repro record.
- * Errors: PE_C_SHORT of the hash's length; PE_C_DEBUG_DATA of the hash. */
-uint32_t pe_c_repro_of(const uint8_t *bytes, size_t length, uint32_t mode, const pe_c_debug_entry *entry,
-                       pe_c_repro *out) PE_C_RESULT(4, 5);
-
-/* Returns a POGO record. PE_C_NOTHING for another signature.
- * Errors: PE_C_SHORT of the signature; PE_C_POGO_SIZE where the entry's size is at most 4; PE_C_DEBUG_DATA of the
- * entries. */
-uint32_t pe_c_pogo_of(const uint8_t *bytes, size_t length, uint32_t mode, const pe_c_debug_entry *entry,
-                      pe_c_pogo *out) PE_C_RESULT(4, 5);
-
-/* Returns the portable PDB in an image.
- * Errors: PE_C_DEBUG_SIZE where the entry's size is below 8; PE_C_SHORT of the first 8 bytes; PE_C_BAD_MAGIC;
- * PE_C_DEBUG_DATA of the compressed data. */
-uint32_t pe_c_embedded_pdb_of(const uint8_t *bytes, size_t length, uint32_t mode, const pe_c_debug_entry *entry,
-                              pe_c_embedded_pdb *out) PE_C_RESULT(4, 5);
-
-/* Returns the checksum of the PDB file.
- * Errors: PE_C_DEBUG_DATA; PE_C_DEBUG_SIZE where no zero ends the name of the algorithm. */
-uint32_t pe_c_pdb_checksum_of(const uint8_t *bytes, size_t length, uint32_t mode, const pe_c_debug_entry *entry,
-                              pe_c_pdb_checksum *out) PE_C_RESULT(4, 5);
+/* Reads the record of an entry that the caller has, in a mode, by the type that the entry says. It always returns PE_C_DONE: each
+ * record has a result of its own, PE_C_NOTHING of another type.
+ * Errors: of `key` PE_C_DEBUG_SIZE where the entry's size is below 24, in strict mode, and PE_C_NOTHING in permissive mode;
+ * PE_C_SHORT of the first 24 bytes; PE_C_DEBUG_DATA of the name. Of `pdb20` the same with 16 for 24. Of `repro` PE_C_SHORT of the
+ * hash's length; PE_C_DEBUG_DATA of the hash. Of `pogo` PE_C_SHORT of the signature; PE_C_POGO_SIZE where the entry's size is at most
+ * 4; PE_C_DEBUG_DATA of the entries. Of `embedded` PE_C_DEBUG_SIZE where the entry's size is below 8; PE_C_SHORT of the first 8 bytes;
+ * PE_C_BAD_MAGIC; PE_C_DEBUG_DATA of the compressed data. Of `checksum` PE_C_DEBUG_DATA; PE_C_DEBUG_SIZE where no zero ends the name of
+ * the algorithm. Of `features` and `characteristics` PE_C_SHORT, whatever the entry's size is. */
+uint32_t pe_c_debug_record(const uint8_t *bytes, size_t length, uint32_t mode, const pe_c_debug_entry *entry,
+                           pe_c_debug_records *out) PE_C_NOT_NULL(4, 5);
 
 /* ---- TE images
  *
@@ -1275,8 +1227,10 @@ uint32_t pe_c_pdb_checksum_of(const uint8_t *bytes, size_t length, uint32_t mode
  * offset. https://uefi.org/specs/PI/1.8/V1_TE_Image.html
  *
  *     pe_c_te(bytes, length, &te);
- *     pe_c_te_first_debug_entry(bytes, length, &te, 2, &entry);
- *     pe_c_symbol_key_of(bytes, length, PE_C_MAPPED, &entry, &key); */
+ *     pe_c_te_debug_entries(bytes, length, &te, &walk);
+ *     while (pe_c_next_te_debug_entry(bytes, length, &te, &walk, &entry) == PE_C_DONE && entry.data_type != 2)
+ *         continue;
+ *     pe_c_debug_record(bytes, length, PE_C_MAPPED, &entry, &records); */
 
 /* The header of a TE image, EFI_TE_IMAGE_HEADER. Its RVAs are reduced by rva_offset. */
 typedef struct {
@@ -1317,12 +1271,6 @@ uint32_t pe_c_te_debug_entries(const uint8_t *bytes, size_t length, const pe_c_t
 uint32_t pe_c_next_te_debug_entry(const uint8_t *bytes, size_t length, const pe_c_te_image *te, pe_c_range *walk,
                                   pe_c_debug_entry *out) PE_C_RESULT(3, 4, 5);
 
-/* Returns the first entry of a type, as pe_c_next_te_debug_entry does. PE_C_NOTHING where there is none, and where the
- * directory is absent. A truncated last entry is none.
- * Error: PE_C_DEBUG_BOUNDS. */
-uint32_t pe_c_te_first_debug_entry(const uint8_t *bytes, size_t length, const pe_c_te_image *te, uint32_t data_type,
-                                   pe_c_debug_entry *out) PE_C_RESULT(3, 5);
-
 /* ---- why headers are refused
  *
  * A result is one number. These calls return with it where the error is, and the number that stands there. */
@@ -1346,19 +1294,13 @@ PE_C_SIZE(pe_c_failure, 32);
 uint32_t pe_c_image_failure(const uint8_t *bytes, size_t length, uint32_t mode, pe_c_failure *out) PE_C_RESULT(4);
 
 /* Returns why pe_c_sections refuses the section headers of an image, whatever room it is given. PE_C_NOTHING where it does
- * not. It never returns an error. The failure is PE_C_SHORT, with the offset of the headers and the bytes that they need. */
+ * not. It never returns an error. The failure is PE_C_SHORT, with the offset of the headers and the bytes that they need. Of
+ * pe_c_te_sections it is what this call returns with the sections_offset 40. */
 uint32_t pe_c_sections_failure(const uint8_t *bytes, size_t length, const pe_c_image_info *image,
                                pe_c_failure *out) PE_C_RESULT(3, 4);
 
 /* Returns why pe_c_te refuses the bytes. PE_C_NOTHING where it does not. It never returns an error. */
 uint32_t pe_c_te_failure(const uint8_t *bytes, size_t length, pe_c_failure *out) PE_C_RESULT(3);
-
-/* Return why pe_c_te_sections and pe_c_coff_sections refuse the section headers, as pe_c_sections_failure does of an
- * image. */
-uint32_t pe_c_te_sections_failure(const uint8_t *bytes, size_t length, const pe_c_te_image *te,
-                                  pe_c_failure *out) PE_C_RESULT(3, 4);
-uint32_t pe_c_coff_sections_failure(const uint8_t *bytes, size_t length, const pe_c_coff_header *coff,
-                                    pe_c_failure *out) PE_C_RESULT(3, 4);
 
 /* Returns what is wrong with a directory, PE_C_DIRECTORY_EXPORT and so on: the result of the call that reads it, and the
  * numbers of that error. PE_C_NOTHING where that call returns no error, and of a directory that no call reads. It never
@@ -1375,20 +1317,20 @@ uint32_t pe_c_coff_sections_failure(const uint8_t *bytes, size_t length, const p
  * PE_C_CERTIFICATE_TABLE `offset`, where the table ends. */
 uint32_t pe_c_directory_failure(const pe_c_view *view, uint32_t index, pe_c_failure *out) PE_C_RESULT(1, 3);
 
-/* What a debug record is read as: by which call. */
+/* What a debug record is read as: which field of pe_c_debug_records. */
 enum {
-    PE_C_RECORD_SYMBOL_KEY = 0,     /* pe_c_symbol_key_of */
-    PE_C_RECORD_PDB20 = 1,          /* pe_c_pdb20_of */
-    PE_C_RECORD_VC_FEATURES = 2,    /* pe_c_vc_features_of */
-    PE_C_RECORD_CHARACTERISTICS = 3, /* pe_c_characteristics_of */
-    PE_C_RECORD_REPRO = 4,          /* pe_c_repro_of */
-    PE_C_RECORD_POGO = 5,           /* pe_c_pogo_of */
-    PE_C_RECORD_EMBEDDED_PDB = 6,   /* pe_c_embedded_pdb_of */
-    PE_C_RECORD_PDB_CHECKSUM = 7    /* pe_c_pdb_checksum_of */
+    PE_C_RECORD_SYMBOL_KEY = 0,     /* key */
+    PE_C_RECORD_PDB20 = 1,          /* pdb20 */
+    PE_C_RECORD_VC_FEATURES = 2,    /* features */
+    PE_C_RECORD_CHARACTERISTICS = 3, /* characteristics */
+    PE_C_RECORD_REPRO = 4,          /* repro */
+    PE_C_RECORD_POGO = 5,           /* pogo */
+    PE_C_RECORD_EMBEDDED_PDB = 6,   /* embedded */
+    PE_C_RECORD_PDB_CHECKSUM = 7    /* checksum */
 };
 
-/* Returns what is wrong with the record of an entry of the debug directory that is read as one of these: the result of the
- * call that reads it, and the numbers of that error. PE_C_NOTHING where that call returns no error, and of a kind that is
+/* Returns what is wrong with the record of an entry of the debug directory that is read as one of these, whatever the entry's type
+ * is: its result by pe_c_debug_record, and the numbers of that error. PE_C_NOTHING where that is no error, and of a kind that is
  * none of these. It never returns an error.
  *
  * The numbers: of PE_C_SHORT `offset` and `needed`; of PE_C_DEBUG_DATA `needed`; of PE_C_DEBUG_SIZE and PE_C_POGO_SIZE
@@ -2112,8 +2054,13 @@ uint32_t pe_c_scope_table(const uint8_t *bytes, size_t length, const pe_c_range 
  * Errors: PE_C_SHORT where the walk is not inside the bytes, or its last entry is truncated. */
 uint32_t pe_c_next_scope(const uint8_t *bytes, size_t length, pe_c_range *walk, pe_c_scope *out) PE_C_RESULT(3, 4);
 
-/* Starts the plan of a function, by its unwind RVA, the field `unwind` of the function. It always returns PE_C_DONE. */
-uint32_t pe_c_plan_from(uint32_t unwind, pe_c_plan *out) PE_C_NOT_NULL(2);
+/* Starts the plan of a function, by its unwind RVA, the field `unwind` of the function. */
+PE_C_NOT_NULL(2)
+static inline void pe_c_plan_from(uint32_t unwind, pe_c_plan *out)
+{
+    const pe_c_plan plan = {unwind, 0, unwind, 0, 0, 1};
+    *out = plan;
+}
 
 /* Returns the next record of a plan: that of the function, then that of the function to which it is chained, and so on.
  * PE_C_NOTHING after the root. The table is the one that the function is from: pass the same one at each step.
@@ -2151,9 +2098,10 @@ uint32_t pe_c_step(const pe_c_view *view, const pe_c_range *table, const uint8_t
                    const uint8_t *memory, size_t memory_length, const pe_c_memory_piece *pieces, size_t piece_count,
                    pe_c_frame *frame) PE_C_RESULT(1, 2, 9);
 
-/* Returns the next frame of a stack walk on x64, in the walk: first the top frame, and then the caller of each, through the
- * modules of a process. PE_C_NOTHING where the walk is over: walk->end says why. The caller keeps the walk between two
- * calls, and may copy it.
+/* Returns the next frames of a stack walk on x64: first the top frame, and then the caller of each, through the modules of a
+ * process. Each of `frames` is the walk as it is after a frame, and `count` how many there are. PE_C_NOTHING where the walk was
+ * over before all were filled: walk->end says why, and the others stay unchanged. An array of no entries is always filled. The
+ * caller keeps the walk between two calls, and may copy it.
  *
  * An address is that of the first module that has it: by binary search in modules in ascending order that do not overlap, in
  * any others in turn. The modules are tested in each call, and may differ from call to call. `memory` and `pieces` are as in
@@ -2177,13 +2125,6 @@ uint32_t pe_c_step(const pe_c_view *view, const pe_c_range *table, const uint8_t
  * module, which was jumped to, returns to executable code. Only past an interrupt may the stack pointer not rise.
  * Errors, which change nothing: PE_C_SHORT where the table of a module is not inside its bytes, or, where walk->is_searched
  * is 0, a piece not inside the memory. */
-uint32_t pe_c_next_frame(const pe_c_module *modules, size_t module_count, const uint8_t *memory, size_t memory_length,
-                         const pe_c_memory_piece *pieces, size_t piece_count, pe_c_stack_walk *walk) PE_C_RESULT(7);
-
-/* The same for several frames in one call, which tests the modules once: each of `frames` is the walk as it is after a
- * frame, and `count` how many there are. PE_C_NOTHING where the walk was over before all were filled: the others stay
- * unchanged. An array of no entries is always filled.
- * Errors, which change nothing: those of pe_c_next_frame. */
 uint32_t pe_c_next_frames(const pe_c_module *modules, size_t module_count, const uint8_t *memory, size_t memory_length,
                           const pe_c_memory_piece *pieces, size_t piece_count, pe_c_stack_walk *walk,
                           pe_c_stack_walk *frames, size_t frame_count, uint64_t *count) PE_C_RESULT(7, 10);
@@ -2394,7 +2335,7 @@ typedef struct {
 
 PE_C_SIZE(pe_c_arm64_stack_walk, 376);
 
-/* As pe_c_next_frame, on ARM64. In each frame the function is looked up by pc, or by the call, four bytes before it, where
+/* As pe_c_next_frames, on ARM64. In each frame the function is looked up by pc, or by the call, four bytes before it, where
  * the function has called. Where no unwind data describe the code of the top frame, or of one that was interrupted, the
  * caller is found by the link register, if a call ends there or it is in a module without an image, else by the first of 128
  * words from the stack pointer on that is, without its signature, after a call in an executable section; in a frame that has
@@ -2402,13 +2343,7 @@ PE_C_SIZE(pe_c_arm64_stack_walk, 376);
  * the stack pointer is then that after the two words, and may be too low. In a module without an image, where none is found, it
  * is the first word that is an address of such a module. The stack pointer may stay where it is in the first two alone, and
  * sink past an interrupt alone.
- * Errors, which change nothing: those of pe_c_next_frame. */
-uint32_t pe_c_next_arm64_frame(const pe_c_module *modules, size_t module_count, const uint8_t *memory, size_t memory_length,
-                               const pe_c_memory_piece *pieces, size_t piece_count, pe_c_arm64_stack_walk *walk)
-    PE_C_RESULT(7);
-
-/* The same for several frames in one call, as pe_c_next_frames.
- * Errors, which change nothing: those of pe_c_next_frame. */
+ * Errors, which change nothing: those of pe_c_next_frames. */
 uint32_t pe_c_next_arm64_frames(const pe_c_module *modules, size_t module_count, const uint8_t *memory, size_t memory_length,
                                 const pe_c_memory_piece *pieces, size_t piece_count, pe_c_arm64_stack_walk *walk,
                                 pe_c_arm64_stack_walk *frames, size_t frame_count, uint64_t *count) PE_C_RESULT(7, 10);
@@ -3724,6 +3659,31 @@ static inline uint32_t pe_c_next_pogo_entry(const uint8_t *bytes, size_t length,
     return result == PE_C_DONE && written == 0 ? (uint32_t)PE_C_NOTHING : result;
 }
 
+/* Returns the next frame of a stack walk on x64, in the walk: what pe_c_next_frames returns of one, which tests the modules in each
+ * call.
+ * Errors, which change nothing: those of pe_c_next_frames. */
+PE_C_RESULT(7)
+static inline uint32_t pe_c_next_frame(const pe_c_module *modules, size_t module_count, const uint8_t *memory,
+                                       size_t memory_length, const pe_c_memory_piece *pieces, size_t piece_count,
+                                       pe_c_stack_walk *walk)
+{
+    pe_c_stack_walk found = PE_C_EMPTY;
+    uint64_t written = 0;
+    return pe_c_next_frames(modules, module_count, memory, memory_length, pieces, piece_count, walk, &found, 1, &written);
+}
+
+/* The same on ARM64.
+ * Errors, which change nothing: those of pe_c_next_frames. */
+PE_C_RESULT(7)
+static inline uint32_t pe_c_next_arm64_frame(const pe_c_module *modules, size_t module_count, const uint8_t *memory,
+                                             size_t memory_length, const pe_c_memory_piece *pieces, size_t piece_count,
+                                             pe_c_arm64_stack_walk *walk)
+{
+    pe_c_arm64_stack_walk found = PE_C_EMPTY;
+    uint64_t written = 0;
+    return pe_c_next_arm64_frames(modules, module_count, memory, memory_length, pieces, piece_count, walk, &found, 1, &written);
+}
+
 /* Returns the function with an index, from 0.
  * Errors: PE_C_SHORT where the table is not inside the bytes; PE_C_FUNCTION_INDEX where it has no such entry. */
 PE_C_RESULT(3, 5)
@@ -3771,16 +3731,6 @@ static inline uint32_t pe_c_symbol(const uint8_t *bytes, size_t length, const pe
 /* ---- two calls
  *
  * These functions are defined here too. Each makes a call, and where that is done another over what it wrote. */
-
-/* Returns the symbol key: the record of the first CodeView entry, if it is one of PDB 7.0. PE_C_NOTHING also without such an
- * entry. Errors: those of pe_c_first_debug_entry, then those of pe_c_symbol_key_of. */
-PE_C_RESULT(1, 2)
-static inline uint32_t pe_c_symbol_key(const pe_c_view *view, pe_c_key *out)
-{
-    pe_c_debug_entry found = PE_C_EMPTY;
-    uint32_t result = pe_c_first_debug_entry(view, 2, &found);
-    return result == PE_C_DONE ? pe_c_symbol_key_of(view->bytes, view->length, view->image->mode, &found, out) : result;
-}
 
 /* Returns the fixed file information. PE_C_NOTHING also where version information has none. A damaged string is an error too:
  * without the strings the same is read by pe_c_fixed_version_in, of the first 92 bytes of what pe_c_version_blocks returns.
@@ -3979,7 +3929,7 @@ typedef struct {
     uint32_t time_date_stamp;       /* TimeDateStamp of its image */
     uint32_t module_name_rva;       /* its path, for pe_c_dump_text */
     pe_c_dump_version version_info; /* its version */
-    pe_c_dump_location cv_record;   /* its CodeView record: pe_c_dump_range, then pe_c_codeview. No bytes where there is
+    pe_c_dump_location cv_record;   /* its CodeView record, which pe_c_codeview reads as a range. No bytes where there is
                                        none */
     pe_c_dump_location misc_record; /* its IMAGE_DEBUG_MISC */
     uint32_t spare;                 /* 0 */
@@ -4162,10 +4112,6 @@ uint32_t pe_c_dump_entry_at(const uint8_t *bytes, size_t length, const pe_c_rang
 uint32_t pe_c_dump_stream(const uint8_t *bytes, size_t length, const pe_c_range *directory, uint32_t stream_type,
                           pe_c_range *out) PE_C_RESULT(3, 5);
 
-/* Returns the range of a location. Errors: PE_C_DUMP_LOCATION where it is not inside the bytes. */
-uint32_t pe_c_dump_range(const uint8_t *bytes, size_t length, const pe_c_dump_location *location, pe_c_range *out)
-    PE_C_RESULT(3, 4);
-
 /* Returns the range of a string, in UTF-16LE without its final zero. `rva` is what a record says.
  * Errors: PE_C_DUMP_LOCATION where its length is not inside the bytes; PE_C_DUMP_TEXT where that is odd; PE_C_DUMP_LOCATION
  * where the string is not inside the bytes. */
@@ -4251,12 +4197,26 @@ uint32_t pe_c_dump_context_arm64(const uint8_t *bytes, size_t length, const pe_c
  * since the thread's own may be of the code that wrote the dump; else the thread's own. `raised` is what pe_c_dump_exception
  * returned, or PE_C_EMPTY without an exception.
  * Errors: those of the thread's own context, as of pe_c_dump_context. */
-uint32_t pe_c_dump_thread_context(const uint8_t *bytes, size_t length, const pe_c_dump_thread *thread,
-                                  const pe_c_dump_raised *raised, pe_c_context *out) PE_C_RESULT(3, 4, 5);
+PE_C_RESULT(3, 4, 5)
+static inline uint32_t pe_c_dump_thread_context(const uint8_t *bytes, size_t length, const pe_c_dump_thread *thread,
+                                                const pe_c_dump_raised *raised, pe_c_context *out)
+{
+    if (raised->thread_id == thread->thread_id
+        && pe_c_dump_context(bytes, length, &raised->thread_context, out) == PE_C_DONE)
+        return PE_C_DONE;
+    return pe_c_dump_context(bytes, length, &thread->thread_context, out);
+}
 
 /* The same of ARM64. Errors: those of the thread's own context, as of pe_c_dump_context_arm64. */
-uint32_t pe_c_dump_thread_context_arm64(const uint8_t *bytes, size_t length, const pe_c_dump_thread *thread,
-                                        const pe_c_dump_raised *raised, pe_c_arm64_context *out) PE_C_RESULT(3, 4, 5);
+PE_C_RESULT(3, 4, 5)
+static inline uint32_t pe_c_dump_thread_context_arm64(const uint8_t *bytes, size_t length, const pe_c_dump_thread *thread,
+                                                      const pe_c_dump_raised *raised, pe_c_arm64_context *out)
+{
+    if (raised->thread_id == thread->thread_id
+        && pe_c_dump_context_arm64(bytes, length, &raised->thread_context, out) == PE_C_DONE)
+        return PE_C_DONE;
+    return pe_c_dump_context_arm64(bytes, length, &thread->thread_context, out);
+}
 
 /* Returns PE_C_DONE where an image is that of a module: its time stamp and its size are the module's. PE_C_NOTHING where it
  * is another one, or has no optional header. The checksum is not asked. */

@@ -1,13 +1,12 @@
 //! Steps of a stack walk on ARM64. The records are those that clang 14 makes of the instructions beside them with their
 //! `.seh` directives, and the stacks are by hand: what is expected is the state at the function's entry.
 
-use crate::frames::bytes_of;
+use crate::frames::{bytes_of, shown, text};
 use crate::images::{arm64_function, stack_at};
 use pe_core::{Error, Reason};
 use pe_frame::{Arm64Registers, FrameError, Stack, step_arm64, step_arm64_packed, step_out_arm64};
 use pe_unwind::{Arm64RuntimeFunction, Arm64UnwindInfo};
 use std::alloc::{AllocError, Global};
-use std::fmt::{Debug, Display};
 use std::test::Fail;
 
 /// The stack pointer where each of these functions is entered.
@@ -85,14 +84,6 @@ fn step_at(
     )
 }
 
-fn shown<T: Debug>(alloc: Global, value: &T) -> Result<String, AllocError> {
-    format!(in alloc; "{value:?}")
-}
-
-fn text<T: Display>(alloc: Global, value: &T) -> Result<String, AllocError> {
-    format!(in alloc; "{value}")
-}
-
 /// stp x29,x30,[sp,#-256]!; stp d8,d9,[sp,#224]; stp x19,x20,[sp,#240]; mov x29,sp; sub sp,sp,#512
 const CHAINED: [u8; 16] = [
     0x0B, 0x00, 0xA0, 0x18, 0xC0, 0x20, 0xE1, 0xC8, 0x1E, 0xD8, 0x1C, 0x9F, 0xE4, 0xE3, 0xE3, 0xE3,
@@ -141,10 +132,8 @@ fn undoes_each_part_of_a_prolog(rt: HostRuntime) -> Result<(), Fail> {
         for value in &mut expected.float[2..] {
             *value = 5;
         }
-        assert_eq!(rt;
-            step_at(&CHAINED, offset, after_body(sp, base), &stack)?,
-            expected
-        );
+        let found = step_at(&CHAINED, offset, after_body(sp, base), &stack)?;
+        assert_eq!(rt; found, expected);
     }
     Ok(())
 }
@@ -417,10 +406,8 @@ fn undoes_stores_of_any_register(rt: HostRuntime) -> Result<(), Fail> {
                 expected.float[*register - 108] = value;
             }
         }
-        assert_eq!(rt;
-            step_at(&record, 0x40, changed(ENTRY, &[]), &stack)?,
-            expected
-        );
+        let found = step_at(&record, 0x40, changed(ENTRY, &[]), &stack)?;
+        assert_eq!(rt; found, expected);
     }
     Ok(())
 }
@@ -468,10 +455,8 @@ fn undoes_machine_frames(rt: HostRuntime) -> Result<(), Fail> {
         let registers = changed(sp, &[(LR, 7)]);
         let mut expected = registers;
         (expected.sp, expected.pc) = (0x1230, 0x4567);
-        assert_eq!(rt;
-            step_out_at(&record, 0x40, registers, &stack)?,
-            (expected, true)
-        );
+        let found = step_out_at(&record, 0x40, registers, &stack)?;
+        assert_eq!(rt; found, (expected, true));
         assert_eq!(rt; step_at(&record, 0x40, registers, &stack)?, expected);
     }
     let record = record_of(rt.alloc(), &[0xE9, 0xE4, 0xE3, 0xE3])?;
@@ -488,16 +473,12 @@ fn undoes_contexts(rt: HostRuntime) -> Result<(), Fail> {
     let stack = stack_at(ENTRY - 0x390, &bytes);
     let record = record_of(rt.alloc(), &[0xEA, 0xE4, 0xE3, 0xE3])?;
     let registers = after_body(ENTRY - 0x390, 3);
-    assert_eq!(rt;
-        step_out_at(&record, 0x40, registers, &stack)?,
-        (expected, true)
-    );
+    let found = step_out_at(&record, 0x40, registers, &stack)?;
+    assert_eq!(rt; found, (expected, true));
     // Nothing but the pointers is read above d15, which is read first.
     let short = stack_at(ENTRY - 0x390, &bytes[..0x208]);
-    assert_eq!(rt;
-        step_out_at(&record, 0x40, registers, &short)?,
-        (expected, true)
-    );
+    let found = step_out_at(&record, 0x40, registers, &short)?;
+    assert_eq!(rt; found, (expected, true));
     let shorter = stack_at(ENTRY - 0x390, &bytes[..0x207]);
     let missing = step_out_at(&record, 0x40, registers, &shorter);
     assert!(rt; matches!(missing, Err(FrameError::Memory(address)) if address == ENTRY - 0x190));
@@ -587,10 +568,8 @@ fn names_the_first_error(rt: HostRuntime) -> Result<(), Fail> {
     );
     // What comes after the first `end` is not read.
     let record = record_of(rt.alloc(), &[0x01, 0xE4, 0xE3, 0xE0])?;
-    assert_eq!(rt;
-        step_at(&record, 4, changed(ENTRY - 16, &[]), &stack)?,
-        of_caller()
-    );
+    let found = step_at(&record, 4, changed(ENTRY - 16, &[]), &stack)?;
+    assert_eq!(rt; found, of_caller());
     Ok(())
 }
 
@@ -607,10 +586,8 @@ const TWO_EPILOGS: [u8; 36] = [
 fn finishes_epilogs_by_their_scopes(rt: HostRuntime) -> Result<(), Fail> {
     let caller = of_caller();
     let x = caller.general;
-    let bytes = bytes_of(
-        rt.alloc(),
-        &[x[29], RETURN_ADDRESS, x[19], x[20], x[21], 0xDD],
-    )?;
+    let words = [x[29], RETURN_ADDRESS, x[19], x[20], x[21], 0xDD];
+    let bytes = bytes_of(rt.alloc(), &words)?;
     let base = ENTRY - 48;
     let stack = stack_at(base, &bytes);
     // The instruction that is about to run, the stack pointer there, and which registers are restored: x21, x19 and x20, x29
@@ -660,10 +637,8 @@ const LAST_EPILOG: [u8; 12] = [
 #[test]
 fn finishes_the_epilog_at_the_end(rt: HostRuntime) -> Result<(), Fail> {
     let caller = of_caller();
-    let bytes = bytes_of(
-        rt.alloc(),
-        &[caller.general[19], 0xDD, RETURN_ADDRESS, 0xDD],
-    )?;
+    let words = [caller.general[19], 0xDD, RETURN_ADDRESS, 0xDD];
+    let bytes = bytes_of(rt.alloc(), &words)?;
     let base = ENTRY - 32;
     let stack = stack_at(base, &bytes);
     let changes = [(19, 1), (LR, 2)];
@@ -689,10 +664,8 @@ fn refuses_truncated_codes_of_an_epilog(rt: HostRuntime) -> Result<(), Fail> {
     let stack = stack_at(ENTRY, &[]);
     let truncated = [0x40, 0x00, 0xE0, 0x08, 0x01, 0xE4, 0xE3, 0xE0];
     let registers = changed(ENTRY - 16, &[]);
-    assert_eq!(rt;
-        step_at(&truncated, 0, changed(ENTRY, &[]), &stack)?,
-        of_caller()
-    );
+    let found = step_at(&truncated, 0, changed(ENTRY, &[]), &stack)?;
+    assert_eq!(rt; found, of_caller());
     let result = step_at(&truncated, 4, registers, &stack);
     // shows: pe_frame/src/arm64/record.rt first_code Arm64Cut
     assert!(rt;
@@ -703,10 +676,8 @@ fn refuses_truncated_codes_of_an_epilog(rt: HostRuntime) -> Result<(), Fail> {
     );
     let past = [0x40, 0x00, 0xE0, 0x0F, 0x01, 0xE4, 0xE3, 0xE3];
     assert_eq!(rt; step_at(&past, 4 * 62, registers, &stack)?, of_caller());
-    assert_eq!(rt;
-        step_at(&past, 4 * 63, changed(ENTRY, &[]), &stack)?,
-        of_caller()
-    );
+    let found = step_at(&past, 4 * 63, changed(ENTRY, &[]), &stack)?;
+    assert_eq!(rt; found, of_caller());
     assert_eq!(rt; step_at(&past, 4 * 64, registers, &stack)?, of_caller());
     Ok(())
 }
@@ -917,10 +888,8 @@ fn undoes_canonical_prologs(rt: HostRuntime) -> Result<(), Fail> {
             assert_eq!(rt; packed_step(row.0, place, registers, &stack)?, caller);
         }
         let registers = lowered(row, depth);
-        assert_eq!(rt;
-            packed_step(row.0, count as u32, registers, &stack)?,
-            caller
-        );
+        let found = packed_step(row.0, count as u32, registers, &stack)?;
+        assert_eq!(rt; found, caller);
         assert_eq!(rt; packed_step(row.0, 40, registers, &stack)?, caller);
         // A fragment has no prolog of its own.
         assert_eq!(rt; packed_step(row.0 + 1, 0, registers, &stack)?, caller);
@@ -959,10 +928,8 @@ fn refuses_packed_data_without_a_canonical_prolog(rt: HostRuntime) -> Result<(),
 #[test]
 fn texts_of_errors(rt: HostRuntime) -> Result<(), Fail> {
     let error = FrameError::Arm64Code(pe_unwind::Arm64UnwindCode::SaveNext);
-    assert_eq!(rt;
-        text(rt.alloc(), &error)?.as_str(),
-        "unwind code cannot be undone: SaveNext"
-    );
+    let found = text(rt.alloc(), &error)?;
+    assert_eq!(rt; found.as_str(), "unwind code cannot be undone: SaveNext");
     let error = FrameError::Packed(0x1003);
     assert_eq!(rt;
         text(rt.alloc(), &error)?.as_str(),

@@ -1,6 +1,6 @@
 //! The ARM64 function table: its entries, what is packed in them, and lookup.
 
-use crate::images::{arm64_function, directory_at, reason_in, short, short_in};
+use crate::images::{arm64_function, directory_at, flat, reason_in, short, short_in};
 use pe_core::{Error, ParseOptions, Reason};
 use pe_unwind::{Arm64RuntimeFunction, Arm64RuntimeFunctionIterator, ExceptionData};
 use std::alloc::{AllocError, Global};
@@ -15,14 +15,6 @@ const TABLE: [u8; 24] = [
     0, 0x10, 0, 0, 0x10, 0x10, 0, 0, 0x20, 0x10, 0, 0, 0x20, 0x10, 0, 0, 0x40, 0x10, 0, 0, 1, 0x10,
     0, 0,
 ];
-
-/// The default options with RVAs that are file offsets.
-fn flat() -> ParseOptions {
-    ParseOptions {
-        resolve_rva: false,
-        ..ParseOptions::default()
-    }
-}
 
 /// The exception data of an ARM64 table at an offset, with RVAs that are file offsets.
 fn table_at(bytes: &[u8], virtual_address: u32, size: u32) -> Result<ExceptionData<'_>, Error> {
@@ -43,10 +35,8 @@ fn reads_tables_of_eight_bytes(rt: HostRuntime) -> Result<(), Fail> {
     assert_eq!(rt; (data.len_arm64(), data.len()), (3, 2));
     assert_eq!(rt; data.functions_arm64().len(), 3);
     // shows: pe_unwind/src/arm64/function.rt of_table FunctionIndex
-    assert_eq!(rt;
-        reason_in(data.get_function_arm64(3)),
-        Some(Reason::FunctionIndex(3))
-    );
+    let found = reason_in(data.get_function_arm64(3));
+    assert_eq!(rt; found, Some(Reason::FunctionIndex(3)));
     // One entry, which is less than one for x64: not empty.
     let one = table_at(&TABLE, 8, 8)?;
     assert_eq!(rt; (one.len_arm64(), one.len(), one.is_empty()), (1, 0, false));

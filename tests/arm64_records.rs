@@ -43,22 +43,16 @@ fn refuses_cut_records(rt: HostRuntime) -> Result<(), Fail> {
             is_short(&Arm64UnwindInfo::parse(cut, 0), offset, 4),
             "at {length}"
         );
-        assert_eq!(rt;
-            is_short(&Arm64UnwindInfo::size(cut), 0, 4),
-            length < 4,
-            "at {length}"
-        );
+        let found = is_short(&Arm64UnwindInfo::size(cut), 0, 4);
+        assert_eq!(rt; found, length < 4, "at {length}");
 
         let cut = &EXTENDED[..length];
         assert!(rt;
             is_short(&Arm64UnwindInfo::parse(cut, 0), offset, 4),
             "at {length}"
         );
-        assert_eq!(rt;
-            is_short(&Arm64UnwindInfo::size(cut), offset, 4),
-            length < 8,
-            "at {length}"
-        );
+        let found = is_short(&Arm64UnwindInfo::size(cut), offset, 4);
+        assert_eq!(rt; found, length < 8, "at {length}");
     }
     let whole = Arm64UnwindInfo::parse(&HANDLED[..16], 0)?;
     assert_eq!(rt;

@@ -2,9 +2,9 @@
 //! is expected is what each of them was entered with.
 
 use crate::frames::bytes_of;
-use crate::images::{directory_at, stack_at};
+use crate::images::{directory_at, flat, stack_at};
 use crate::sections;
-use pe_core::{ParseOptions, SectionTable};
+use pe_core::SectionTable;
 use pe_frame::{Arm64Registers, Arm64StackFrames, Memory, Module, Modules, StackPieces, Way};
 use pe_images::image;
 use pe_unwind::ExceptionData;
@@ -84,14 +84,6 @@ fn nt(alloc: Global) -> Result<Vec<u8>, AllocError> {
     ];
     let parts: [(usize, &[u8]); 3] = [(0, &table), (0x60, &CHAINED), (0x10C, &calls)];
     image(alloc, SIZE as usize, &parts)
-}
-
-/// The options of images in which an RVA is a file offset.
-fn flat() -> ParseOptions {
-    ParseOptions {
-        resolve_rva: false,
-        ..ParseOptions::default()
-    }
 }
 
 /// The exception data of an image with so many functions.
@@ -237,14 +229,8 @@ fn a_walk_goes_through_all_modules(rt: HostRuntime) -> Result<(), Fail> {
     // Without sections nothing says that the leaf function is code, so that its caller is a guess.
     expect_walk(&rt, rt.alloc(), top, &memory, &frames, ZERO)?;
     let memory = StackPieces::new(&pieces[..1]);
-    expect_walk(
-        &rt,
-        rt.alloc(),
-        top,
-        &memory,
-        &frames,
-        "no memory at address 0x3000",
-    )
+    let end = "no memory at address 0x3000";
+    expect_walk(&rt, rt.alloc(), top, &memory, &frames, end)
 }
 
 /// One word a register and an address: a stack of 128 words from 0x2000 on, 0 but for these.
@@ -303,14 +289,9 @@ fn cleared_marks_are_no_calls(rt: HostRuntime) -> Result<(), Fail> {
         (APP + 0x120, 0x2000, 0, Way::Interrupt, false),
         (APP + 0x120, 0x2000, 0, Way::Records, true),
     ];
-    expect_walk(
-        &rt,
-        rt.alloc(),
-        registers(APP + 0x1CC, 0x2000, APP + 0x120),
-        &memory,
-        &frames,
-        "no memory at address 0x0",
-    )
+    let top = registers(APP + 0x1CC, 0x2000, APP + 0x120);
+    let end = "no memory at address 0x0";
+    expect_walk(&rt, rt.alloc(), top, &memory, &frames, end)
 }
 
 /// After a call of a null or wild pointer the return address is the link register, if a call ends at it.
@@ -331,15 +312,8 @@ fn wild_calls_return_to_the_link_register(rt: HostRuntime) -> Result<(), Fail> {
     }
     for lr in [0, NT + 0x10C, NT + 0x11C, NT + 0x111, NT] {
         let frames = [(0, 0x2000, 0, Way::Top, false)];
-        expect_walk_in(
-            &[CODE],
-            &rt,
-            rt.alloc(),
-            registers(0, 0x2000, lr),
-            &memory,
-            &frames,
-            NO_MODULE,
-        )?;
+        let top = registers(0, 0x2000, lr);
+        expect_walk_in(&[CODE], &rt, rt.alloc(), top, &memory, &frames, NO_MODULE)?;
     }
     Ok(())
 }
@@ -429,14 +403,9 @@ fn a_second_frame_that_stands_ends_the_walk(rt: HostRuntime) -> Result<(), Fail>
         (APP + 0x164, 0x2000, 0, Way::Top, false),
         (APP + 0x170, 0x2000, 0, Way::Records, true),
     ];
-    expect_walk(
-        &rt,
-        rt.alloc(),
-        registers(APP + 0x164, 0x2000, APP + 0x170),
-        &memory,
-        &frames,
-        "stack pointer 0x2000 of the caller is not above that of the function",
-    )
+    let end = "stack pointer 0x2000 of the caller is not above that of the function";
+    let top = registers(APP + 0x164, 0x2000, APP + 0x170);
+    expect_walk(&rt, rt.alloc(), top, &memory, &frames, end)
 }
 
 /// From a caller at 0 a scan leads on, as under a dispatcher whose records do not say that an interrupt came before it: then it is

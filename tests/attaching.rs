@@ -2,12 +2,12 @@
 //! certificate of 9 bytes after it; its checksum is at 0x98, the entry of the certificate directory at 0xE8. What is
 //! written follows from the format; the checksums are those that `osslsigncode verify` 2.9 calculates of the same bytes.
 
+use crate::frames::shown;
 use crate::images::{with_byte, with_part};
 use pe_core::{Error, Header, ParseOptions, Reason};
 use pe_images::with_functions;
 use pe_sign::{Placement, SignError, attach, attached_len, detach, detached_len};
-use std::alloc::{AllocError, Global};
-use std::fmt::Debug;
+use std::alloc::Global;
 use std::test::Fail;
 
 /// A certificate whose body is one byte.
@@ -45,10 +45,6 @@ fn attached(
     Ok((result, out))
 }
 
-fn shown<T: Debug>(alloc: Global, value: &T) -> Result<String, AllocError> {
-    format!(in alloc; "{value:?}")
-}
-
 #[test]
 fn refuses_images(rt: HostRuntime) -> Result<(), Fail> {
     let alloc = rt.alloc();
@@ -76,26 +72,18 @@ fn refuses_images(rt: HostRuntime) -> Result<(), Fail> {
         let mut out = vec![in alloc; OLD; 0x800]?;
         for placement in [Placement::After, Placement::InPlace] {
             let refused = attach(bytes, &header, &CERTIFICATE, placement, &mut out);
-            assert_eq!(rt;
-                shown(alloc, &refused.err())?,
-                format!(in alloc; "Some({error})")?
-            );
+            let found = shown(alloc, &refused.err())?;
+            assert_eq!(rt; found, format!(in alloc; "Some({error})")?);
             let refused = attached_len(bytes, &header, &CERTIFICATE, placement);
-            assert_eq!(rt;
-                shown(alloc, &refused.err())?,
-                format!(in alloc; "Some({error})")?
-            );
+            let found = shown(alloc, &refused.err())?;
+            assert_eq!(rt; found, format!(in alloc; "Some({error})")?);
         }
         let refused = detach(bytes, &header, &mut out);
-        assert_eq!(rt;
-            shown(alloc, &refused.err())?,
-            format!(in alloc; "Some({error})")?
-        );
+        let found = shown(alloc, &refused.err())?;
+        assert_eq!(rt; found, format!(in alloc; "Some({error})")?);
         let refused = detached_len(bytes, &header);
-        assert_eq!(rt;
-            shown(alloc, &refused.err())?,
-            format!(in alloc; "Some({error})")?
-        );
+        let found = shown(alloc, &refused.err())?;
+        assert_eq!(rt; found, format!(in alloc; "Some({error})")?);
         assert!(rt; out.iter().all(|byte| *byte == OLD));
     }
     Ok(())
@@ -150,9 +138,8 @@ fn refuses_certificates_and_buffers(rt: HostRuntime) -> Result<(), Fail> {
     let Err(SignError::Image(Error::Malformed(reason))) = refused else {
         return Err(Fail::new("not refused"));
     };
-    let found = reason;
     assert_eq!(rt;
-        found,
+        reason,
         Reason::WriteFit {
             end: 1024,
             length: 0

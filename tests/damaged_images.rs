@@ -1,11 +1,19 @@
-//! Damaged images, in both modes: one that has every directory, each of which is damaged alone and beside another, and
-//! images that are truncated.
+//! Damaged images, in both modes: one that has every directory, each of which is damaged alone, and images that are truncated.
+//! That of two damages the first refuses, and that what is not damaged stays, laws say.
 
+use crate::damaged_images::Directory::{
+    Certificates, Exceptions, Exports, Imports, Relocations, Resources,
+};
+use crate::damaged_images::Refusal::{For, Nothing, Short};
 use crate::images::{with_every_directory, with_functions, with_part};
 use crate::whole_images::in_mode;
-use pe_image::{DebugData, Error, ExceptionData, PE, ParseMode, Reason};
-use std::alloc::{AllocError, Global};
-use std::fmt::Debug;
+use pe_core::Reason::{
+    CertificateRevision, CertificateSize, CertificateTable, CertificateType, DebugData,
+    ExceptionBounds, ExceptionOffset, ExceptionSize, ImportName, PogoSize, ResourceBounds,
+    ResourceCycle, ResourceString, Unmapped,
+};
+use pe_image::{Error, PE, ParseMode, Reason};
+use std::alloc::Global;
 use std::process::Abort;
 use std::test::Fail;
 
@@ -59,141 +67,36 @@ type Damage = (Directory, usize, &'static [u8], Refusal);
 
 /// All that these name is refused in both modes where it is read alone.
 const DAMAGES: [Damage; 25] = [
-    (Directory::Exports, 0xC9, &[0x30], Refusal::Nothing),
-    (Directory::Exports, 0x31D, &[0x30], Refusal::Nothing),
-    (Directory::Exports, 0x31A, &[1], Refusal::Nothing),
+    (Exports, 0xC9, &[0x30], Nothing),
+    (Exports, 0x31D, &[0x30], Nothing),
+    (Exports, 0x31A, &[1], Nothing),
+    (Imports, 0xD1, &[0x30], For(Unmapped(0x3000))),
+    (Imports, 0x448, &[0xFF], For(ImportName(0x1248))),
+    (Imports, 0x459, &[0x30], For(Unmapped(0x3090))),
+    (Imports, 0x49A, &[0xFF], For(ImportName(0x1298))),
+    (Directory::Debug, 0xF9, &[0x30], For(Unmapped(0x3040))),
+    (Directory::Debug, 0x66D, &[0xFF], For(DebugData(0xFF1E))),
+    (Directory::Debug, 0x688, &[4], For(PogoSize(4))),
+    (Exceptions, 0xE4, &[0x20], For(ExceptionSize(32))),
+    (Exceptions, 0xE1, &[0x30], For(Unmapped(0x3000))),
+    (Exceptions, 0xE0, &[2], For(ExceptionOffset(0x202))),
+    (Exceptions, 0xE6, &[0x18], For(ExceptionBounds(0x18_0218))),
+    (Relocations, 0xF1, &[0x30], For(Unmapped(0x3000))),
+    (Relocations, 0xF6, &[1], Short(0x600, 0x1_0010)),
+    (Certificates, 0xE9, &[0x30], For(CertificateTable(0x3020))),
+    (Certificates, 0xA16, &[9], For(CertificateType(9))),
+    (Certificates, 0xA05, &[3], For(CertificateRevision(0x0300))),
+    (Certificates, 0xA13, &[1], For(CertificateSize(0x100_000A))),
+    (Resources, 0xD9, &[0x30], For(Unmapped(0x3000))),
+    (Resources, 0xDE, &[1], For(ResourceBounds(0x1_05EB))),
     (
-        Directory::Imports,
-        0xD1,
-        &[0x30],
-        Refusal::For(Reason::Unmapped(0x3000)),
-    ),
-    (
-        Directory::Imports,
-        0x448,
-        &[0xFF],
-        Refusal::For(Reason::ImportName(0x1248)),
-    ),
-    (
-        Directory::Imports,
-        0x459,
-        &[0x30],
-        Refusal::For(Reason::Unmapped(0x3090)),
-    ),
-    (
-        Directory::Imports,
-        0x49A,
-        &[0xFF],
-        Refusal::For(Reason::ImportName(0x1298)),
-    ),
-    (
-        Directory::Debug,
-        0xF9,
-        &[0x30],
-        Refusal::For(Reason::Unmapped(0x3040)),
-    ),
-    (
-        Directory::Debug,
-        0x66D,
-        &[0xFF],
-        Refusal::For(Reason::DebugData(0xFF1E)),
-    ),
-    (
-        Directory::Debug,
-        0x688,
-        &[4],
-        Refusal::For(Reason::PogoSize(4)),
-    ),
-    (
-        Directory::Exceptions,
-        0xE4,
-        &[0x20],
-        Refusal::For(Reason::ExceptionSize(32)),
-    ),
-    (
-        Directory::Exceptions,
-        0xE1,
-        &[0x30],
-        Refusal::For(Reason::Unmapped(0x3000)),
-    ),
-    (
-        Directory::Exceptions,
-        0xE0,
-        &[2],
-        Refusal::For(Reason::ExceptionOffset(0x202)),
-    ),
-    (
-        Directory::Exceptions,
-        0xE6,
-        &[0x18],
-        Refusal::For(Reason::ExceptionBounds(0x18_0218)),
-    ),
-    (
-        Directory::Relocations,
-        0xF1,
-        &[0x30],
-        Refusal::For(Reason::Unmapped(0x3000)),
-    ),
-    (
-        Directory::Relocations,
-        0xF6,
-        &[1],
-        Refusal::Short(0x600, 0x1_0010),
-    ),
-    (
-        Directory::Certificates,
-        0xE9,
-        &[0x30],
-        Refusal::For(Reason::CertificateTable(0x3020)),
-    ),
-    (
-        Directory::Certificates,
-        0xA16,
-        &[9],
-        Refusal::For(Reason::CertificateType(9)),
-    ),
-    (
-        Directory::Certificates,
-        0xA05,
-        &[3],
-        Refusal::For(Reason::CertificateRevision(0x0300)),
-    ),
-    (
-        Directory::Certificates,
-        0xA13,
-        &[1],
-        Refusal::For(Reason::CertificateSize(0x100_000A)),
-    ),
-    (
-        Directory::Resources,
-        0xD9,
-        &[0x30],
-        Refusal::For(Reason::Unmapped(0x3000)),
-    ),
-    (
-        Directory::Resources,
-        0xDE,
-        &[1],
-        Refusal::For(Reason::ResourceBounds(0x1_05EB)),
-    ),
-    (
-        Directory::Resources,
+        Resources,
         0x534,
         &[0x20, 0, 0, 0x80],
-        Refusal::For(Reason::ResourceCycle(0x20)),
+        For(ResourceCycle(0x20)),
     ),
-    (
-        Directory::Resources,
-        0x572,
-        &[0xFF, 0xFF],
-        Refusal::For(Reason::ResourceString(0)),
-    ),
-    (
-        Directory::Resources,
-        0x565,
-        &[0xFF],
-        Refusal::For(Reason::ResourceBounds(0x1_04EB)),
-    ),
+    (Resources, 0x572, &[0xFF, 0xFF], For(ResourceString(0))),
+    (Resources, 0x565, &[0xFF], For(ResourceBounds(0x1_04EB))),
 ];
 
 /// Whether an image has nothing of a directory.
@@ -213,179 +116,54 @@ fn is_empty(pe: &PE<'_>, directory: Directory) -> bool {
     }
 }
 
-fn shown<T: Debug>(alloc: Global, value: &T) -> Result<String, AllocError> {
-    format!(in alloc; "{value:?}")
-}
-
-/// Where the function table is, each function, and the record of each.
-fn shown_exceptions(alloc: Global, pe: &PE<'_>, data: &ExceptionData<'_>) -> Result<String, Fail> {
-    let mut text = shown(alloc, data)?;
-    for function in data.functions() {
-        let function = function?;
-        let info = data.get_unwind_info(function, &pe.sections)?;
-        let line = format!(in alloc; " {function:?} {info:?}")?;
-        text.push_str(line.as_str())?;
-        for code in info.unwind_codes() {
-            let code = code?;
-            text.push_str(format!(in alloc; " {code:?}")?.as_str())?;
-        }
-    }
-    Ok(text)
-}
-
-/// All that an image has of a directory, as text.
-fn shown_directory(alloc: Global, pe: &PE<'_>, directory: Directory) -> Result<String, Fail> {
-    Ok(match directory {
-        Directory::Exports => {
-            format!(in alloc; "{:?} {:?} {:?}", pe.name, pe.export_data, pe.exports)?
-        }
-        Directory::Imports => {
-            format!(in alloc; "{:?} {:?} {:?}", pe.import_data, pe.imports, pe.libraries)?
-        }
-        Directory::Debug => shown(alloc, &pe.debug_data)?,
-        Directory::Exceptions => match &pe.exception_data {
-            Some(data) => shown_exceptions(alloc, pe, data)?,
-            None => String::new(alloc),
-        },
-        Directory::Relocations => shown(alloc, &pe.relocation_data)?,
-        Directory::Certificates => shown(alloc, &pe.certificates)?,
-        Directory::Resources => shown(alloc, &pe.resource_data)?,
-    })
-}
-
-/// Whether all but the directories is the same of both images.
-fn is_same_core(pe: &PE<'_>, other: &PE<'_>) -> bool {
-    let (Some(mine), Some(others)) = (pe.header.optional_header, other.header.optional_header)
-    else {
-        return false;
-    };
-    pe.header.dos_header == other.header.dos_header
-        && pe.header.dos_stub == other.header.dos_stub
-        && pe.header.signature == other.header.signature
-        && pe.header.coff_header == other.header.coff_header
-        && mine.standard_fields == others.standard_fields
-        && mine.windows_fields == others.windows_fields
-        && pe.sections.as_slice() == other.sections.as_slice()
-        && pe.size == other.size
-        && pe.is_lib == other.is_lib
-        && pe.is_64 == other.is_64
-        && pe.entry == other.entry
-        && pe.image_base == other.image_base
-}
-
-/// An image with some damages, beside the same image without any.
-#[derive(Drop)]
-struct Damaged<'a> {
+/// Refused for this.
+fn check_refused(
+    rt: &impl Abort,
     alloc: Global,
-    whole: &'a PE<'a>,
-    bytes: Vec<u8>,
+    bytes: &[u8],
+    mode: ParseMode,
+    refusal: Refusal,
+) -> Result<(), Fail> {
+    let error = PE::parse_with_opts(alloc, bytes, &in_mode(mode))
+        .err()
+        .ok_or("given")?;
+    assert!(rt; refusal.is(&error), "{error:?}");
+    Ok(())
 }
 
-impl<'a> Damaged<'a> {
-    fn new(
-        alloc: Global,
-        whole: &'a PE<'a>,
-        undamaged: &[u8],
-        damages: &[Damage],
-    ) -> Result<Damaged<'a>, AllocError> {
-        let mut bytes = Vec::from_slice(alloc, undamaged)?;
-        for (_, offset, part, _) in damages {
-            bytes = with_part(bytes, *offset, part);
-        }
-        Ok(Damaged {
-            alloc,
-            whole,
-            bytes,
-        })
-    }
-
-    /// Refused for this.
-    fn check_refused(
-        &self,
-        rt: &impl Abort,
-        mode: ParseMode,
-        refusal: Refusal,
-    ) -> Result<(), Fail> {
-        let parsed = PE::parse_with_opts(self.alloc, &self.bytes, &in_mode(mode));
-        let error = parsed.err().ok_or("given")?;
-        assert!(rt; refusal.is(&error), "{error:?}");
-        Ok(())
-    }
-
-    /// Given, with these directories empty, and all else as in the whole image.
-    fn check_given(
-        &self,
-        rt: &impl Abort,
-        mode: ParseMode,
-        empty: &[Directory],
-    ) -> Result<(), Fail> {
-        let pe = PE::parse_with_opts(self.alloc, &self.bytes, &in_mode(mode))?;
-        assert!(rt; is_same_core(&pe, self.whole));
-        for (i, directory) in DIRECTORIES.into_iter().enumerate() {
-            assert!(rt; !is_empty(self.whole, directory), "directory {i}");
-            if empty.iter().any(|gone| *gone == directory) {
-                assert!(rt; is_empty(&pe, directory), "directory {i}");
-            } else {
-                let found = shown_directory(self.alloc, &pe, directory)?;
-                let want = shown_directory(self.alloc, self.whole, directory)?;
-                assert_eq!(rt; found.as_str(), want.as_str(), "directory {i}");
-            }
-        }
-        Ok(())
-    }
-
-    /// By mode, where this is the first refusal, if there is one, and these directories are damaged.
-    fn check(&self, rt: &impl Abort, first: &Damage, damaged: &[Directory]) -> Result<(), Fail> {
-        let (directory, _, _, refusal) = *first;
-        match directory {
-            Directory::Exports => {
-                self.check_given(rt, ParseMode::Strict, damaged)?;
-                self.check_given(rt, ParseMode::Permissive, damaged)
-            }
-            Directory::Imports => {
-                self.check_refused(rt, ParseMode::Strict, refusal)?;
-                self.check_refused(rt, ParseMode::Permissive, refusal)
-            }
-            _ => {
-                self.check_refused(rt, ParseMode::Strict, refusal)?;
-                self.check_given(rt, ParseMode::Permissive, damaged)
-            }
-        }
-    }
-}
-
-#[test]
-fn one_damage(rt: HostRuntime) -> Result<(), Fail> {
-    let bytes = with_every_directory(rt.alloc())?;
-    let whole = PE::parse(rt.alloc(), &bytes)?;
-    for damage in DAMAGES {
-        let image = Damaged::new(rt.alloc(), &whole, &bytes, &[damage])?;
-        image.check(&rt, &damage, &[damage.0])?;
+/// Given, with this directory empty alone: that the others are as in the whole image a law says.
+fn check_given(
+    rt: &impl Abort,
+    alloc: Global,
+    bytes: &[u8],
+    mode: ParseMode,
+    empty: Directory,
+) -> Result<(), Fail> {
+    let pe = PE::parse_with_opts(alloc, bytes, &in_mode(mode))?;
+    for (i, directory) in DIRECTORIES.into_iter().enumerate() {
+        assert_eq!(rt;
+            is_empty(&pe, directory),
+            directory == empty,
+            "directory {i}"
+        );
     }
     Ok(())
 }
 
-/// Of two damages the directory that stands first refuses, unless that is the exports.
 #[test]
-fn two_damages(rt: HostRuntime) -> Result<(), Fail> {
-    let bytes = with_every_directory(rt.alloc())?;
-    let whole = PE::parse(rt.alloc(), &bytes)?;
-    let mut pairs = 0u32;
-    for (i, one) in DAMAGES.into_iter().enumerate() {
-        for other in DAMAGES.into_iter().skip(i) {
-            if one.0 == other.0 {
-                continue;
-            }
-            let image = Damaged::new(rt.alloc(), &whole, &bytes, &[other, one])?;
-            let first = match one.0 {
-                Directory::Exports => other,
-                _ => one,
-            };
-            image.check(&rt, &first, &[one.0, other.0])?;
-            pairs = pairs.wrapping_add(1);
+fn one_damage(rt: HostRuntime) -> Result<(), Fail> {
+    let alloc = rt.alloc();
+    for (directory, offset, part, refusal) in DAMAGES {
+        let bytes = with_part(with_every_directory(alloc)?, offset, part);
+        match directory {
+            Exports => check_given(&rt, alloc, &bytes, ParseMode::Strict, directory)?,
+            _ => check_refused(&rt, alloc, &bytes, ParseMode::Strict, refusal)?,
+        }
+        match directory {
+            Imports => check_refused(&rt, alloc, &bytes, ParseMode::Permissive, refusal)?,
+            _ => check_given(&rt, alloc, &bytes, ParseMode::Permissive, directory)?,
         }
     }
-    assert_eq!(rt; pairs, 265);
     Ok(())
 }
 
@@ -447,11 +225,8 @@ fn cut_to_every_length(rt: HostRuntime) -> Result<(), Fail> {
             let part = bytes.get(..length).ok_or("past the end")?;
             assert_eq!(rt; kind_of(&PE::parse(rt.alloc(), part)), kind, "at {length}");
             let pe = PE::parse_with_opts(rt.alloc(), part, &in_mode(ParseMode::Permissive))?;
-            assert_eq!(rt;
-                count_entries(&rt, &pe)?,
-                (whole, usize::from(is_cut)),
-                "at {length}"
-            );
+            let found = count_entries(&rt, &pe)?;
+            assert_eq!(rt; found, (whole, usize::from(is_cut)), "at {length}");
             let found = pe.exception_data.as_ref().map(|data| data.len());
             assert_eq!(rt; found, functions, "at {length}");
             assert_eq!(rt; pe.certificates.len(), certificates, "at {length}");

@@ -427,10 +427,8 @@ fn reads_delay_imports_above_2_gib(rt: HostRuntime) -> Result<(), Fail> {
     parts.image_base = 0x7FFF_FFFF_0000_0000;
     assert_eq!(rt; entry.imported(&parts, 0x7FFF_FFFF_0000_1048)?, named);
     parts.is_64 = false;
-    assert_eq!(rt;
-        entry.imported(&parts, 0x8000_1048)?,
-        DelayedFunction::Ordinal(0x1048)
-    );
+    let found = entry.imported(&parts, 0x8000_1048)?;
+    assert_eq!(rt; found, DelayedFunction::Ordinal(0x1048));
     let by_rva = DelayImport {
         attributes: 1,
         ..entry
@@ -508,11 +506,8 @@ fn finds_the_last_rich_header(rt: HostRuntime) -> Result<(), Fail> {
         let Some(header) = RichHeader::find(&damaged[..232]) else {
             return Err(Fail::new("no Rich header"));
         };
-        assert_eq!(rt;
-            (header.key, header.before.len()),
-            (0x25A3_10C8, 128),
-            "{offset}"
-        );
+        let found = (header.key, header.before.len());
+        assert_eq!(rt; found, (0x25A3_10C8, 128), "{offset}");
         assert_eq!(rt; header.len(), 9, "{offset}");
     }
     // Two headers: the last one.

@@ -8,7 +8,7 @@ use crate::sections::section;
 use pe_core::{Error, ParseOptions, Reason, SectionTable, Strtab};
 use pe_directories::{
     BoundImportDirectory, DelayImport, DelayImports, DelayedFunction, DirectoryError, ImageBytes,
-    IndexedImage, long_section_names,
+    IndexedImage, long_section_name, long_section_names,
 };
 use std::alloc::{AllocError, Allocator, Global};
 use std::process::Abort;
@@ -319,6 +319,9 @@ fn many_long_section_names(rt: HostRuntime) -> Result<(), Fail> {
     for (i, name) in names.iter().enumerate() {
         assert_eq!(rt; name.map(str::len), Some(0x80_0000 - 4 - i));
     }
+    assert!(rt;
+        long_section_name(&sections[5], &strings).is_some_and(|name| name.len() == 0x80_0000 - 9)
+    );
     Ok(())
 }
 

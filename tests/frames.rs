@@ -85,7 +85,7 @@ pub fn shown<T: Debug>(alloc: Global, value: &T) -> Result<String, AllocError> {
     format!(in alloc; "{value:?}")
 }
 
-fn text<T: Display>(alloc: Global, value: &T) -> Result<String, AllocError> {
+pub(crate) fn text<T: Display>(alloc: Global, value: &T) -> Result<String, AllocError> {
     format!(in alloc; "{value}")
 }
 
@@ -565,13 +565,8 @@ fn knows_the_forms_of_epilogs(rt: HostRuntime) -> Result<(), Fail> {
     let bytes = bytes_of(rt.alloc(), &[0x77, RETURN_ADDRESS])?;
     let stack = stack_at(ENTRY, &bytes);
     let code = [0x5E, 0xFF, 0xE0];
-    let found = step_in(
-        &ONE_PUSH,
-        0x40,
-        &code,
-        changed(&[(RSP, ENTRY), (RBX, 3)]),
-        &stack,
-    )?;
+    let registers = changed(&[(RSP, ENTRY), (RBX, 3)]);
+    let found = step_in(&ONE_PUSH, 0x40, &code, registers, &stack)?;
     let own = (found.general[RSI], found.general[RBX], found.rip);
     assert_eq!(rt; own, (0x77, 3, RETURN_ADDRESS));
     Ok(())

@@ -3,6 +3,7 @@
 use crate::images::{
     directory_at, headers_alone, image, pointer_below_64, put, short, short_in, with_byte,
 };
+use crate::whole_images::in_mode;
 use pe_core::{
     CoffHeader, DataDirectory, DosHeader, Error, Header, OptionalHeader, ParseMode, ParseOptions,
     Reason,
@@ -11,10 +12,6 @@ use std::alloc::{AllocError, Global};
 use std::test::Fail;
 
 const MODES: [ParseMode; 2] = [ParseMode::Strict, ParseMode::Permissive];
-
-fn in_mode(mode: ParseMode) -> ParseOptions {
-    ParseOptions::default().with_parse_mode(mode)
-}
 
 #[test]
 fn refuses_other_magics(rt: HostRuntime) -> Result<(), Fail> {
@@ -168,10 +165,8 @@ fn absent_directories(rt: HostRuntime) -> Result<(), Fail> {
     assert!(rt; directories.get_resource_table().is_some());
     assert_eq!(rt; directories.get_exception_table(), None);
     let truncated = bytes.get(..0x77).ok_or("past the end")?;
-    assert_eq!(rt;
-        short_in(OptionalHeader::parse(truncated, 0)),
-        short(96, 24)
-    );
+    let found = short_in(OptionalHeader::parse(truncated, 0));
+    assert_eq!(rt; found, short(96, 24));
     Ok(())
 }
 
@@ -184,10 +179,8 @@ fn records_alone(rt: HostRuntime) -> Result<(), Fail> {
     let found = Some((row.virtual_address, row.size));
     assert_eq!(rt; found, DIRECTORIES.first().copied());
     assert!(rt; DataDirectory::parse(&bytes[..0x78 + 104], 0x78 + 96)? == row);
-    assert_eq!(rt;
-        short_in(CoffHeader::parse(&bytes, 0x1ED)),
-        Some((0x1ED, 20))
-    );
+    let found = short_in(CoffHeader::parse(&bytes, 0x1ED));
+    assert_eq!(rt; found, Some((0x1ED, 20)));
     Ok(())
 }
 

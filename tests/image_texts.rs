@@ -1,18 +1,14 @@
 //! What `{:?}` shows of an image with every directory, of a TE image and of an object. The texts are those of a derived
 //! `Debug`, field by field from the bytes; the image's own leaves out the bytes that it was read from.
 
+use crate::frames::shown;
 use crate::images::{headers_alone, image, put, te_with_debug, with_every_directory};
 use pe_core::{Header, ParseOptions};
 use pe_image::{Coff, PE, TE};
 use pe_resource::{ImageResourceDirectory, ResourceString};
 use pe_unwind::RuntimeFunctionIterator;
-use std::alloc::{AllocError, Global};
 use std::fmt::Debug;
 use std::test::Fail;
-
-fn shown<T: Debug>(alloc: Global, value: &T) -> Result<String, AllocError> {
-    format!(in alloc; "{value:?}")
-}
 
 /// The section at 0x148, and what stands before the directories.
 const SECTIONS: &str =

@@ -1,6 +1,6 @@
 //! Images made by hand, and what calls are handed.
 
-use pe_core::{ByteRange, DataDirectory, Error, Reason};
+use pe_core::{ByteRange, DataDirectory, Error, ParseOptions, Reason};
 use pe_edit::RecordRange;
 use pe_frame::{MemoryPiece, Stack};
 pub(crate) use pe_images::{
@@ -8,6 +8,14 @@ pub(crate) use pe_images::{
     with_every_directory, with_exports, with_functions, with_imports, with_resources,
 };
 use pe_unwind::{Arm64RuntimeFunction, RuntimeFunction};
+
+/// The default options of images in which an RVA is a file offset.
+pub(crate) fn flat() -> ParseOptions {
+    ParseOptions {
+        resolve_rva: false,
+        ..ParseOptions::default()
+    }
+}
 
 /// The buffer with this byte at this offset.
 pub(crate) fn with_byte(mut bytes: Vec<u8>, offset: usize, byte: u8) -> Vec<u8> {

@@ -1,7 +1,7 @@
 //! Imports: the directory, its records and libraries, and the list of what is imported.
 
 use crate::exports::one_section;
-use crate::images::{directory_at, image, reason_in, short, short_in, with_byte};
+use crate::images::{directory_at, flat, image, reason_in, short, short_in, with_byte};
 use pe_core::{
     DataDirectory, Error, Import, ImportData, MappedBytes, ParseOptions, Reason, Result,
     SectionIndex,
@@ -71,11 +71,8 @@ pub(crate) fn check_imports(rt: &impl Abort, imports: &[Import<'_>], want: &[Wan
 fn lists_imports(rt: HostRuntime) -> std::result::Result<(), Fail> {
     let bytes = importing(rt.alloc(), 0x410)?;
     let imports = imports_of(rt.alloc(), &bytes)?;
-    check_imports(
-        &rt,
-        &imports,
-        &[(None, "a.dll", 5, 0x10C0), (Some("f"), "a.dll", 7, 0x10C8)],
-    );
+    let want = [(None, "a.dll", 5, 0x10C0), (Some("f"), "a.dll", 7, 0x10C8)];
+    check_imports(&rt, &imports, &want);
     let data = directory_of(rt.alloc(), &bytes)?;
     assert_eq!(rt; data.import_data.len(), 1);
     let libraries = data.libraries(rt.alloc())?;
@@ -117,14 +114,6 @@ fn lists_pe32_imports(rt: HostRuntime) -> std::result::Result<(), Fail> {
         ],
     );
     Ok(())
-}
-
-/// Options under which an RVA is a file offset.
-fn flat() -> ParseOptions {
-    ParseOptions {
-        resolve_rva: false,
-        ..ParseOptions::default()
-    }
 }
 
 /// A directory of libraries with these names, whose lists are all the zero entry after the records.
@@ -297,13 +286,8 @@ fn lists_inside_of_lists(rt: HostRuntime) -> std::result::Result<(), Fail> {
         assert_eq!(rt; records[0].lookups.len(), 24, "at {start}");
         assert_eq!(rt; records[1].lookups.len(), 8 * wanted, "at {start}");
     }
-    let endless = sharing(
-        alloc,
-        2,
-        b"a.dll\0\x01\x01\x01\x01\x01\x01\x01\x01\x01\x01",
-        (0, 6),
-        (0, 0),
-    )?;
+    let after = b"a.dll\0\x01\x01\x01\x01\x01\x01\x01\x01\x01\x01";
+    let endless = sharing(alloc, 2, after, (0, 6), (0, 0))?;
     let found = shared_data(alloc, &endless);
     assert!(rt; matches!(found, Err(Error::Short { at: 74, needed: 8 })));
     Ok(())
@@ -360,20 +344,14 @@ fn refuses_records(rt: HostRuntime) -> std::result::Result<(), Fail> {
         &opts,
         true,
     );
-    assert_eq!(rt;
-        reason_in(unmapped.err().ok_or("given")?),
-        Some(Reason::Unmapped(0x3000))
-    );
+    let found = reason_in(unmapped.err().ok_or("given")?);
+    assert_eq!(rt; found, Some(Reason::Unmapped(0x3000)));
     assert_eq!(rt; short_in(refusal(alloc, 0x270, &[])?), short(0x260, 20));
-    assert_eq!(rt;
-        reason_in(refusal(alloc, 0x410, &[(0x26C, 0), (0x26D, 0x30)])?),
-        Some(Reason::Unmapped(0x3000))
-    );
+    let found = reason_in(refusal(alloc, 0x410, &[(0x26C, 0), (0x26D, 0x30)])?);
+    assert_eq!(rt; found, Some(Reason::Unmapped(0x3000)));
     // shows: pe_core/src/import.rt import_record ImportName
-    assert_eq!(rt;
-        reason_in(refusal(alloc, 0x410, &[(0x290, 0xFF)])?),
-        Some(Reason::ImportName(0x1090))
-    );
+    let found = reason_in(refusal(alloc, 0x410, &[(0x290, 0xFF)])?);
+    assert_eq!(rt; found, Some(Reason::ImportName(0x1090)));
     assert_eq!(rt; short_in(refusal(alloc, 0x2B4, &[])?), short(0x2B0, 8));
     Ok(())
 }
@@ -394,20 +372,14 @@ fn refuses_in_order(rt: HostRuntime) -> std::result::Result<(), Fail> {
 fn refuses_entries(rt: HostRuntime) -> std::result::Result<(), Fail> {
     let alloc = rt.alloc();
     // shows: pe_core/src/import_list.rt import_of Unmapped
-    assert_eq!(rt;
-        reason_in(refusal(alloc, 0x410, &[(0x2A9, 0x30)])?),
-        Some(Reason::Unmapped(0x30D0))
-    );
+    let found = reason_in(refusal(alloc, 0x410, &[(0x2A9, 0x30)])?);
+    assert_eq!(rt; found, Some(Reason::Unmapped(0x30D0)));
     assert_eq!(rt; short_in(refusal(alloc, 0x2D1, &[])?), short(0x2D0, 2));
     // shows: pe_core/src/import_list.rt import_of ImportName
-    assert_eq!(rt;
-        reason_in(refusal(alloc, 0x2D3, &[])?),
-        Some(Reason::ImportName(0x10D0))
-    );
-    assert_eq!(rt;
-        reason_in(refusal(alloc, 0x410, &[(0x2D2, 0xFF)])?),
-        Some(Reason::ImportName(0x10D0))
-    );
+    let found = reason_in(refusal(alloc, 0x2D3, &[])?);
+    assert_eq!(rt; found, Some(Reason::ImportName(0x10D0)));
+    let found = reason_in(refusal(alloc, 0x410, &[(0x2D2, 0xFF)])?);
+    assert_eq!(rt; found, Some(Reason::ImportName(0x10D0)));
     Ok(())
 }
 

@@ -2,8 +2,7 @@
 //! stack has the return address where the frame at the jump's target has it.
 
 use crate::frames::{bytes_of, shown};
-use crate::images::{directory_at, stack_at};
-use pe_core::ParseOptions;
+use crate::images::{directory_at, flat, stack_at};
 use pe_frame::{FrameError, FunctionPlan, ImageFunctions, Registers, Stopped, step_in_image};
 use pe_images::image;
 use pe_unwind::{ExceptionData, UnwindInfo};
@@ -58,14 +57,6 @@ fn functions(alloc: Global) -> Result<Vec<u8>, AllocError> {
             (0xF0, &ENDLESS),
         ],
     )
-}
-
-/// The options of an image in which an RVA is a file offset.
-fn flat() -> ParseOptions {
-    ParseOptions {
-        resolve_rva: false,
-        ..ParseOptions::default()
-    }
 }
 
 /// The words from INSIDE on: 32 bytes, what the prolog pushed, the return address, and the rest of a machine frame, if that is

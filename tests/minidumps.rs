@@ -36,6 +36,26 @@ fn counting(alloc: Global, len: usize, from: usize) -> Result<Vec<u8>, AllocErro
     Ok(bytes)
 }
 
+fn location(rva: u64, size: u64, length: usize) -> DumpError {
+    DumpError::Location { rva, size, length }
+}
+
+fn list_size(count: u64, size: usize) -> DumpError {
+    DumpError::ListSize { count, size }
+}
+
+fn entry_size(size: u32, needed: usize) -> DumpError {
+    DumpError::EntrySize { size, needed }
+}
+
+fn short(needed: usize, length: usize) -> DumpError {
+    DumpError::Short { needed, length }
+}
+
+fn directory(rva: u32, count: u32, length: usize) -> DumpError {
+    DumpError::Directory { rva, count, length }
+}
+
 /// Whether a call was refused for this.
 fn refused<T: Drop>(returned: pe_minidump::Result<T>, error: DumpError) -> bool {
     match returned {
@@ -70,9 +90,8 @@ fn reads_the_header_and_the_directory(rt: HostRuntime) -> Result<(), Fail> {
     let Some(last) = dump.directory().get(6) else {
         return Err(Fail::new("no entry 6"));
     };
-    let found = last.location;
     assert_eq!(rt;
-        found,
+        last.location,
         Location {
             size: 960,
             rva: 6641
@@ -81,16 +100,7 @@ fn reads_the_header_and_the_directory(rt: HostRuntime) -> Result<(), Fail> {
     assert!(rt; dump.directory().get(8).is_none());
     // shows: pe_minidump/src/location.rt located Location
     // The file ends after the directory.
-    assert!(rt;
-        refused(
-            dump.threads(),
-            DumpError::Location {
-                rva: 289,
-                size: 100,
-                length: 128
-            }
-        )
-    );
+    assert!(rt; refused(dump.threads(), location(289, 100, 128)));
     assert!(rt; dump.memory_list()?.is_none());
     Ok(())
 }
@@ -102,11 +112,7 @@ fn damaged_headers_are_refused(rt: HostRuntime) -> Result<(), Fail> {
     // shows: pe_minidump/src/dump.rt parse Version
     // shows: pe_minidump/src/dump.rt directory_bytes Directory
     let bytes = with_stream(rt.alloc(), 3, b"")?;
-    let short = DumpError::Short {
-        needed: 32,
-        length: 31,
-    };
-    assert!(rt; refused(Dump::parse(&bytes[..31]), short));
+    assert!(rt; refused(Dump::parse(&bytes[..31]), short(32, 31)));
     let other = image(rt.alloc(), 40, &[(0, b"MDMQ\x93\xA7")])?;
     assert!(rt; refused(Dump::parse(&other), DumpError::Signature(0x514D_444D)));
     let other = image(rt.alloc(), 40, &[(0, b"MDMP\x94\xA7\x01\0")])?;
@@ -116,12 +122,7 @@ fn damaged_headers_are_refused(rt: HostRuntime) -> Result<(), Fail> {
         67,
         &[(0, b"MDMP\x93\xA7\0\0\x03\0\0\0\x20\0\0\0")],
     )?;
-    let directory = DumpError::Directory {
-        rva: 32,
-        count: 3,
-        length: 67,
-    };
-    assert!(rt; refused(Dump::parse(&other), directory));
+    assert!(rt; refused(Dump::parse(&other), directory(32, 3, 67)));
     Ok(())
 }
 
@@ -131,11 +132,7 @@ fn lists_have_the_size_of_their_entries(rt: HostRuntime) -> Result<(), Fail> {
     // shows: pe_minidump/src/list.rt counted_list ListSize
     for length in [51usize, 53, 55] {
         let bytes = with_stream(rt.alloc(), 3, stream.get(..length).unwrap_or_default())?;
-        let size = DumpError::ListSize {
-            count: 1,
-            size: length,
-        };
-        assert!(rt; refused(Dump::parse(&bytes)?.threads(), size));
+        assert!(rt; refused(Dump::parse(&bytes)?.threads(), list_size(1, length)));
     }
     Ok(())
 }
@@ -143,10 +140,7 @@ fn lists_have_the_size_of_their_entries(rt: HostRuntime) -> Result<(), Fail> {
 /// Streams of a byte less than their fields have.
 #[test]
 fn truncated_streams_are_refused(rt: HostRuntime) -> Result<(), Fail> {
-    let short = |needed: usize| DumpError::Short {
-        needed,
-        length: needed - 1,
-    };
+    let short = |needed: usize| short(needed, needed - 1);
     let bytes = with_stream(rt.alloc(), 4, &[2, 0, 0])?;
     assert!(rt; refused(Dump::parse(&bytes)?.modules(), short(4)));
     let bytes = with_stream(rt.alloc(), 6, &[0; 167])?;
@@ -205,11 +199,7 @@ fn offsets_past_64_bits_are_refused(rt: HostRuntime) -> Result<(), Fail> {
     let mut bytes = with_stream(rt.alloc(), 9, &stream)?;
     // shows: pe_minidump/src/memory64.rt parse Location
     // shows: pe_minidump/src/memory64.rt parse ListSize
-    let wrong = DumpError::Location {
-        rva: 0xFD,
-        size: u64::MAX,
-        length: 92,
-    };
+    let wrong = location(0xFD, u64::MAX, 92);
     assert!(rt; refused(Dump::parse(&bytes)?.memory64_list(), wrong));
     // FDh + (2^64 - 255) + 1 is 2^64 - 1.
     crate::images::put(&mut bytes, &[(44 + 24, &[1])]);
@@ -217,14 +207,9 @@ fn offsets_past_64_bits_are_refused(rt: HostRuntime) -> Result<(), Fail> {
     crate::images::put(&mut bytes, &[(44 + 24, &[2])]);
     assert!(rt; refused(Dump::parse(&bytes)?.memory64_list(), wrong));
     crate::images::put(&mut bytes, &[(44, &[3])]);
-    let size = DumpError::ListSize { count: 3, size: 48 };
-    assert!(rt; refused(Dump::parse(&bytes)?.memory64_list(), size));
+    assert!(rt; refused(Dump::parse(&bytes)?.memory64_list(), list_size(3, 48)));
     let bytes = with_stream(rt.alloc(), 9, &[0; 15])?;
-    let short = DumpError::Short {
-        needed: 16,
-        length: 15,
-    };
-    assert!(rt; refused(Dump::parse(&bytes)?.memory64_list(), short));
+    assert!(rt; refused(Dump::parse(&bytes)?.memory64_list(), short(16, 15)));
     Ok(())
 }
 
@@ -244,13 +229,10 @@ fn entries_may_be_larger_than_their_fields(rt: HostRuntime) -> Result<(), Fail> 
     assert_eq!(rt; found, (0x0706_0504_0302_0100, 0x0B0A_0908));
     let found = (first.object_name_rva, first.attributes);
     assert_eq!(rt; found, (0x0F0E_0D0C, 0x1312_1110));
+    assert_eq!(rt; first.granted_access, 0x1716_1514);
     assert_eq!(rt;
-        (
-            first.granted_access,
-            first.handle_count,
-            first.pointer_count
-        ),
-        (0x1716_1514, 0x1B1A_1918, 0x1F1E_1D1C)
+        (first.handle_count, first.pointer_count),
+        (0x1B1A_1918, 0x1F1E_1D1C)
     );
     assert_eq!(rt; second.handle, 0x2F2E_2D2C_2B2A_2928);
     assert!(rt; handles.get(2).is_none());
@@ -282,33 +264,12 @@ fn damaged_headers_of_lists_are_refused(rt: HostRuntime) -> Result<(), Fail> {
     // shows: pe_minidump/src/list.rt list_with EntrySize
     // shows: pe_minidump/src/list.rt list_with ListSize
     for (part, error) in [
-        (
-            b"\x10\0\0\0\x1F\0\0\0\x02\0\0\0",
-            DumpError::EntrySize {
-                size: 31,
-                needed: 32,
-            },
-        ),
-        (
-            b"\x0F\0\0\0\x20\0\0\0\x02\0\0\0",
-            DumpError::ListSize {
-                count: 2,
-                size: 100,
-            },
-        ),
-        (
-            b"\x10\0\0\0\x2B\0\0\0\x02\0\0\0",
-            DumpError::ListSize {
-                count: 2,
-                size: 100,
-            },
-        ),
+        (b"\x10\0\0\0\x1F\0\0\0\x02\0\0\0", entry_size(31, 32)),
+        (b"\x0F\0\0\0\x20\0\0\0\x02\0\0\0", list_size(2, 100)),
+        (b"\x10\0\0\0\x2B\0\0\0\x02\0\0\0", list_size(2, 100)),
         (
             b"\x10\0\0\0\xFF\xFF\xFF\xFF\xFE\xFF\xFF\xFF",
-            DumpError::ListSize {
-                count: 0xFFFF_FFFE,
-                size: 100,
-            },
+            list_size(0xFFFF_FFFE, 100),
         ),
     ] {
         crate::images::put(&mut bytes, &[(44, part)]);
@@ -317,11 +278,8 @@ fn damaged_headers_of_lists_are_refused(rt: HostRuntime) -> Result<(), Fail> {
     // 2^64 - 1 entries of 48 bytes.
     let stream = image(rt.alloc(), 64, &[(0, &[16]), (4, &[48]), (8, &[0xFF; 8])])?;
     let bytes = with_stream(rt.alloc(), 16, &stream)?;
-    let size = DumpError::ListSize {
-        count: u64::MAX,
-        size: 64,
-    };
-    assert!(rt; refused(Dump::parse(&bytes)?.memory_regions(), size));
+    let wanted = list_size(u64::MAX, 64);
+    assert!(rt; refused(Dump::parse(&bytes)?.memory_regions(), wanted));
     Ok(())
 }
 
@@ -334,30 +292,15 @@ fn reads_texts(rt: HostRuntime) -> Result<(), Fail> {
     let dump = Dump::parse(&bytes)?;
     let want: &[u8] = b"w\0k\0";
     assert_eq!(rt; dump.text(60)?, want);
-    let past = DumpError::Location {
-        rva: 65,
-        size: 4,
-        length: 68,
-    };
-    assert!(rt; refused(dump.text(65), past));
-    let past = DumpError::Location {
-        rva: u64::MAX,
-        size: 4,
-        length: 68,
-    };
-    assert!(rt; refused(dump.text(u64::MAX), past));
+    assert!(rt; refused(dump.text(65), location(65, 4, 68)));
+    assert!(rt; refused(dump.text(u64::MAX), location(u64::MAX, 4, 68)));
     let mut odd = bytes.clone()?;
     // shows: pe_minidump/src/text.rt text_at Text
     crate::images::put(&mut odd, &[(60, &[3])]);
     let wanted = DumpError::Text { rva: 60, size: 3 };
     assert!(rt; refused(Dump::parse(&odd)?.text(60), wanted));
     crate::images::put(&mut odd, &[(60, &[6])]);
-    let past = DumpError::Location {
-        rva: 64,
-        size: 6,
-        length: 68,
-    };
-    assert!(rt; refused(Dump::parse(&odd)?.text(60), past));
+    assert!(rt; refused(Dump::parse(&odd)?.text(60), location(64, 6, 68)));
     Ok(())
 }
 
@@ -437,40 +380,20 @@ fn index_of_many_ranges(rt: HostRuntime) -> Result<(), Fail> {
 #[test]
 fn errors_say_what_is_wrong(rt: HostRuntime) -> Result<(), Fail> {
     for (error, text) in [
+        (short(32, 31), "record truncated: 32 bytes needed, 31 left"),
         (
-            DumpError::Short {
-                needed: 32,
-                length: 31,
-            },
-            "record truncated: 32 bytes needed, 31 left",
-        ),
-        (
-            DumpError::Directory {
-                rva: 32,
-                count: 3,
-                length: 67,
-            },
+            directory(32, 3, 67),
             "directory of 3 entries at offset 0x20 passes the end of the file, 67 bytes",
         ),
         (
-            DumpError::Location {
-                rva: 289,
-                size: 100,
-                length: 128,
-            },
+            location(289, 100, 128),
             "100 bytes at offset 0x121 pass the end of the file, 128 bytes",
         ),
         (
-            DumpError::ListSize { count: 1, size: 51 },
+            list_size(1, 51),
             "list of 1 entries in a stream of 51 bytes",
         ),
-        (
-            DumpError::EntrySize {
-                size: 31,
-                needed: 32,
-            },
-            "entries of 31 bytes, smaller than 32",
-        ),
+        (entry_size(31, 32), "entries of 31 bytes, smaller than 32"),
         (
             DumpError::Text { rva: 60, size: 3 },
             "string at offset 0x3c has an odd number of bytes: 3",

@@ -192,12 +192,8 @@ fn rows_by_hand_have_the_lines_of_the_format(rt: HostRuntime) -> Result<(), Fail
     put(&mut none, &[(3, b"\x80")]);
     assert_eq!(rt; LineIndex::count(&none, &sections)?, 0);
     let two = lines_of(rt.alloc(), &msf, 1)?;
-    assert!(rt;
-        refused(
-            LineIndex::count(&two[..135], &sections),
-            record_truncated(88, 48, 135)
-        )
-    );
+    let found = LineIndex::count(&two[..135], &sections);
+    assert!(rt; refused(found, record_truncated(88, 48, 135)));
     Ok(())
 }
 
@@ -221,10 +217,8 @@ fn contributions_are_those_that_pdbutil_lists(rt: HostRuntime) -> Result<(), Fai
         relocations_checksum: 0,
     };
     assert_eq!(rt; all.get(0), Some(first));
-    assert_eq!(rt;
-        all.get(7).map(|it| (it.section, it.offset, it.size)),
-        Some((3, 12, 24))
-    );
+    let found = all.get(7).map(|it| (it.section, it.offset, it.size));
+    assert_eq!(rt; found, Some((3, 12, 24)));
     assert_eq!(rt; all.get(8), None::<Contribution>);
     let mut ranges = [ModuleRange::default(); 8];
     let few: std::result::Result<usize, usize> = all.put_ranges(&sections, &mut ranges[..7]);
@@ -283,12 +277,8 @@ fn contributions_are_those_that_pdbutil_lists(rt: HostRuntime) -> Result<(), Fai
     let wanted = PdbError::ContributionsVersion(0xF131_51E5);
     assert!(rt; refused(SectionContributions::parse(&other), wanted));
     // shows: pe_pdb/src/contribution.rt of ContributionsSize
-    assert!(rt;
-        refused(
-            SectionContributions::parse(&part[..59]),
-            PdbError::ContributionsSize(55)
-        )
-    );
+    let found = SectionContributions::parse(&part[..59]);
+    assert!(rt; refused(found, PdbError::ContributionsSize(55)));
     Ok(())
 }
 
@@ -335,10 +325,8 @@ fn inlined_functions_are_where_pdbutil_says(rt: HostRuntime) -> Result<(), Fail>
             let name = file_name(rt.alloc(), &msf, &lines, found.file)?;
             assert!(rt; name.as_slice() == b"c.h".as_slice());
         }
-        assert_eq!(rt;
-            InlineeLine::find(subsection.content, 0x1002)?,
-            None::<InlineeLine>
-        );
+        let own = InlineeLine::find(subsection.content, 0x1002)?;
+        assert_eq!(rt; own, None::<InlineeLine>);
     }
     // With other files: one of the first function, none of the second, and a third that is truncated.
     let mut other = vec![in rt.alloc(); 0u8; 4 + 20 + 16 + 16]?;
@@ -407,18 +395,12 @@ fn annotations_are_those_of_cvinfo(rt: HostRuntime) -> Result<(), Fail> {
         assert!(rt; refused(InlineRows::row_at(bytes, 0), PdbError::Annotation(offset)));
     }
     // shows: pe_pdb/src/inline_site.rt parse Short
-    assert!(rt;
-        refused(
-            InlineSite::parse(S_INLINESITE2, &bytes[..15]),
-            short(16, 15)
-        )
-    );
-    assert_eq!(rt;
-        InlineSite::parse(S_INLINESITE2, &bytes[..17])?
-            .annotations
-            .len(),
-        1
-    );
+    let found = InlineSite::parse(S_INLINESITE2, &bytes[..15]);
+    assert!(rt; refused(found, short(16, 15)));
+    let found = InlineSite::parse(S_INLINESITE2, &bytes[..17])?
+        .annotations
+        .len();
+    assert_eq!(rt; found, 1);
     Ok(())
 }
 
@@ -438,31 +420,19 @@ fn damaged_names_and_files_are_refused(rt: HostRuntime) -> Result<(), Fail> {
     // shows: pe_pdb/src/names.rt stream_texts Short
     assert!(rt; refused(named_stream(&info[..31], NAMES_STREAM), short(32, 31)));
     // shows: pe_pdb/src/names.rt stream_texts RecordTruncated
-    assert!(rt;
-        refused(
-            named_stream(&info[..48], NAMES_STREAM),
-            record_truncated(32, 17, 48)
-        )
-    );
+    let found = named_stream(&info[..48], NAMES_STREAM);
+    assert!(rt; refused(found, record_truncated(32, 17, 48)));
     // shows: pe_pdb/src/names.rt pairs_start RecordTruncated
-    assert!(rt;
-        refused(
-            named_stream(&info[..84], NAMES_STREAM),
-            record_truncated(69, 16, 84)
-        )
-    );
+    let found = named_stream(&info[..84], NAMES_STREAM);
+    assert!(rt; refused(found, record_truncated(69, 16, 84)));
     // shows: pe_pdb/src/names.rt pairs_start Short
     assert!(rt; refused(named_stream(&info[..56], NAMES_STREAM), short(8, 7)));
     // shows: pe_pdb/src/names.rt words_end Short
     assert!(rt; refused(named_stream(&info[..60], NAMES_STREAM), short(4, 3)));
     // shows: pe_pdb/src/names.rt words_end RecordTruncated
     let many = with_byte(info, 59, 0xFF);
-    assert!(rt;
-        refused(
-            named_stream(&many, NAMES_STREAM),
-            record_truncated(61, 4 * 0x00FF_0001, 93)
-        )
-    );
+    let found = named_stream(&many, NAMES_STREAM);
+    assert!(rt; refused(found, record_truncated(61, 4 * 0x00FF_0001, 93)));
     let lines = lines_of(rt.alloc(), &msf, 0)?;
     for subsection in Subsections::new(&lines) {
         let subsection = subsection?;
@@ -476,12 +446,8 @@ fn damaged_names_and_files_are_refused(rt: HostRuntime) -> Result<(), Fail> {
         // shows: pe_pdb/src/checksum.rt parse Short
         assert!(rt; refused(FileChecksum::parse(&content[..29], 24), short(6, 5)));
         // shows: pe_pdb/src/checksum.rt parse RecordTruncated
-        assert!(rt;
-            refused(
-                FileChecksum::parse(&content[..45], 24),
-                record_truncated(24, 22, 45)
-            )
-        );
+        let found = FileChecksum::parse(&content[..45], 24);
+        assert!(rt; refused(found, record_truncated(24, 22, 45)));
     }
     Ok(())
 }
@@ -534,22 +500,14 @@ fn ids_are_those_that_pdbutil_lists(rt: HostRuntime) -> Result<(), Fail> {
     assert!(rt; refused(ids.put_starts(&mut room[..9]), small));
     let mut more = stream.clone()?;
     put(&mut more, &[(12, b"\x0B")]);
-    assert!(rt;
-        refused(
-            TypeRecords::parse(&more)?.put_starts(&mut room),
-            short(4, 0)
-        )
-    );
+    let found = TypeRecords::parse(&more)?.put_starts(&mut room);
+    assert!(rt; refused(found, short(4, 0)));
     assert!(rt; refused(TypeRecords::parse(&more)?.count(), short(4, 0)));
     // shows: pe_pdb/src/ids.rt parse Short
     assert!(rt; refused(TypeRecords::parse(&stream[..55]), short(56, 55)));
     // shows: pe_pdb/src/ids.rt parse RecordTruncated
-    assert!(rt;
-        refused(
-            TypeRecords::parse(&stream[..stream.len() - 1]),
-            record_truncated(56, stream.len() - 56, stream.len() - 1)
-        )
-    );
+    let wanted = record_truncated(56, stream.len() - 56, stream.len() - 1);
+    assert!(rt; refused(TypeRecords::parse(&stream[..stream.len() - 1]), wanted));
     assert!(rt; refused(FunctionId::parse(&twice[..7]), short(8, 7)));
     // shows: pe_pdb/src/ids.rt parse Name
     assert!(rt; refused(FunctionId::parse(&twice[..13]), PdbError::Name(8)));

@@ -61,12 +61,8 @@ fn an_index_needs_its_room(rt: HostRuntime) -> Result<(), Fail> {
         needed: 3,
         length: 2,
     };
-    assert!(rt;
-        refused(
-            SymbolIndex::new(class, &symbols, 0, &sections, &mut few),
-            small
-        )
-    );
+    let found = SymbolIndex::new(class, &symbols, 0, &sections, &mut few);
+    assert!(rt; refused(found, small));
     Ok(())
 }
 
@@ -123,12 +119,8 @@ fn damaged_records_are_refused(rt: HostRuntime) -> Result<(), Fail> {
     };
     assert!(rt; refused(SymbolRecord::parse(&small, 20), size));
     // shows: pe_pdb/src/symbol.rt parse RecordTruncated
-    assert!(rt;
-        refused(
-            SymbolRecord::parse(&symbols[..43], 20),
-            record_truncated(20, 24, 43)
-        )
-    );
+    let found = SymbolRecord::parse(&symbols[..43], 20);
+    assert!(rt; refused(found, record_truncated(20, 24, 43)));
     let mut walk = SymbolRecords::new(&symbols[..43], 0);
     assert!(rt; matches!(walk.next(), Some(Ok(_))));
     assert!(rt; matches!(walk.next(), Some(Err(_))));
@@ -205,30 +197,18 @@ fn damaged_lines_are_refused(rt: HostRuntime) -> Result<(), Fail> {
     let header = Module::parse(Dbi::parse(&dbi)?.modules, 0)?.header;
     let stream = all_of(rt.alloc(), &msf, 11)?;
     // shows: pe_pdb/src/line.rt line_bytes RecordTruncated
-    assert!(rt;
-        refused(
-            header.line_bytes(&stream[..300]),
-            record_truncated(248, 112, 300)
-        )
-    );
+    let found = header.line_bytes(&stream[..300]);
+    assert!(rt; refused(found, record_truncated(248, 112, 300)));
     // shows: pe_pdb/src/line.rt parse Short
     assert!(rt; refused(Subsection::parse(&lines[..95], 88), short(8, 7)));
     // shows: pe_pdb/src/line.rt parse RecordTruncated
-    assert!(rt;
-        refused(
-            Subsection::parse(&lines[..135], 88),
-            record_truncated(88, 48, 135)
-        )
-    );
+    let found = Subsection::parse(&lines[..135], 88);
+    assert!(rt; refused(found, record_truncated(88, 48, 135)));
     let content = Subsection::parse(&lines, 88)?.content;
     assert!(rt; refused(LineHeader::parse(&content[..11]), short(12, 11)));
     assert!(rt; refused(LineBlock::parse(&content[..23], 12), short(12, 11)));
-    assert!(rt;
-        refused(
-            LineBlock::parse(&content[..39], 12),
-            record_truncated(12, 28, 39)
-        )
-    );
+    let found = LineBlock::parse(&content[..39], 12);
+    assert!(rt; refused(found, record_truncated(12, 28, 39)));
     let mut many = lines.clone()?;
     put(&mut many, &[(88 + 8 + 16, &u32::to_le_bytes(3))]);
     let content = Subsection::parse(&many, 88)?.content;

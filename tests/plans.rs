@@ -1,6 +1,6 @@
 //! Plans: the records of a function up to the root of its chain, chains that never end, and the memory that they take.
 
-use crate::images::{directory_at, function_at, reason_in, short, short_in, with_part};
+use crate::images::{directory_at, flat, function_at, reason_in, short, short_in, with_part};
 use crate::refusing::Refusing;
 use pe_core::{Error, ParseOptions, Reason, Result};
 use pe_plan::{ShortPlan, UnwindPlan, read_plan};
@@ -8,14 +8,6 @@ use pe_unwind::{ExceptionData, UnwindHandler, UnwindInfo};
 use std::alloc::{AllocError, Allocator, Global};
 use std::process::Abort;
 use std::test::Fail;
-
-/// The default options with RVAs that are file offsets.
-fn flat() -> ParseOptions {
-    ParseOptions {
-        resolve_rva: false,
-        ..ParseOptions::default()
-    }
-}
 
 /// The plan of an address, by a function table of this size at offset 0.
 pub(crate) fn plan<'a, A: Allocator>(
@@ -119,19 +111,13 @@ fn refuses_as_the_first_refusal(rt: HostRuntime) -> std::result::Result<(), Fail
             "by {address:#x}"
         );
     }
-    assert_eq!(rt;
-        reason_in(plan(alloc, &with_address(5)?, 12, 0x1005)),
-        Some(Reason::FunctionLink(5))
-    );
-    assert_eq!(rt;
-        short_in(plan(alloc, &with_address(0x20)?, 12, 0x1005)),
-        short(0x20, 1)
-    );
+    let found = reason_in(plan(alloc, &with_address(5)?, 12, 0x1005));
+    assert_eq!(rt; found, Some(Reason::FunctionLink(5)));
+    let found = short_in(plan(alloc, &with_address(0x20)?, 12, 0x1005));
+    assert_eq!(rt; found, short(0x20, 1));
     let version = with_part(two_records(alloc)?, 0x1C, &[3]);
-    assert_eq!(rt;
-        reason_in(plan(alloc, &version, 12, 0x1005)),
-        Some(Reason::UnwindVersion(3))
-    );
+    let found = reason_in(plan(alloc, &version, 12, 0x1005));
+    assert_eq!(rt; found, Some(Reason::UnwindVersion(3)));
     Ok(())
 }
 

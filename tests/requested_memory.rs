@@ -4,7 +4,9 @@
 
 use crate::directories::{at, image_of};
 use crate::exports::one_section;
-use crate::images::{put, te, with_every_directory, with_exports, with_imports, with_resources};
+use crate::images::{
+    flat, put, te, with_every_directory, with_exports, with_imports, with_resources,
+};
 use crate::imports::{image_by, sharing};
 use crate::minidumps::with_stream;
 use crate::plans::{chain, offset_of, plan};
@@ -150,14 +152,6 @@ const EMPTY: [u8; 8] = [8, 0, 0, 0, 1, 0, 0, 0];
 /// An allocator that grants each request.
 fn granting(alloc: Global) -> Refusing<Global> {
     Refusing::new(alloc, u32::MAX)
-}
-
-/// The default options with RVAs that are file offsets.
-fn flat() -> ParseOptions {
-    ParseOptions {
-        resolve_rva: false,
-        ..ParseOptions::default()
-    }
 }
 
 /// These numbers of 32 bits.
@@ -371,10 +365,8 @@ fn certificates(rt: HostRuntime) -> Result<(), Fail> {
         }
         let count = count as usize;
         let asked = granting(alloc);
-        assert_eq!(rt;
-            enumerate_certificates(&asked, &bytes, 0, bytes.len())?.len(),
-            count
-        );
+        let found = enumerate_certificates(&asked, &bytes, 0, bytes.len())?.len();
+        assert_eq!(rt; found, count);
         let room = Room::NONE.growing(count, size_of::<AttributeCertificate<'_>>());
         room.check(&rt, &asked, "certificates", count);
     }

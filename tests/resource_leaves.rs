@@ -48,10 +48,8 @@ fn in_the_order_of_entries(rt: HostRuntime) -> std::result::Result<(), Fail> {
         let Some(Ok(leaf)) = walk.next() else {
             return Err("no leaf".into());
         };
-        assert_eq!(rt;
-            leaf.resource_type.name_units(data)?,
-            Some(b"A\0B\0".as_slice())
-        );
+        let found = leaf.resource_type.name_units(data)?;
+        assert_eq!(rt; found, Some(b"A\0B\0".as_slice()));
         assert_eq!(rt; leaf.name.id(), Some(1));
         assert_eq!(rt; leaf.name.name_units(data)?, None);
         assert_eq!(rt; leaf.language.id(), Some(language));
@@ -252,8 +250,7 @@ fn contents_and_version_information(rt: HostRuntime) -> std::result::Result<(), 
         return Err("no version".into());
     };
     let range = version.content_range(&image)?;
-    let found = range;
-    assert_eq!(rt; found, range_at(0xA0, 0x78));
+    assert_eq!(rt; range, range_at(0xA0, 0x78));
     let info = version
         .version_info(&image)?
         .ok_or("no version information")?;
@@ -263,8 +260,7 @@ fn contents_and_version_information(rt: HostRuntime) -> std::result::Result<(), 
         return Err("no manifest".into());
     };
     let range = manifest.content_range(&image)?;
-    let found = range;
-    assert_eq!(rt; found, range_at(0x118, 3));
+    assert_eq!(rt; range, range_at(0x118, 3));
     assert!(rt; manifest.version_info(&image)?.is_none());
     assert!(rt; walk.next().is_none());
     Ok(())

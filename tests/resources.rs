@@ -98,14 +98,10 @@ fn whole_resources(rt: HostRuntime) -> std::result::Result<(), Fail> {
         let version = data.version_info.ok_or("no version information")?;
         let fixed = version.fixed_info.ok_or("no fixed file information")?;
         assert!(rt; fixed.is_valid());
-        assert_eq!(rt;
-            fixed.file_version().to_string(rt.alloc())?.as_str(),
-            "3.11.3150.0"
-        );
-        assert_eq!(rt;
-            fixed.product_version().to_string(rt.alloc())?.as_str(),
-            "0.0.0.0"
-        );
+        let found = fixed.file_version().to_string(rt.alloc())?;
+        assert_eq!(rt; found.as_str(), "3.11.3150.0");
+        let found = fixed.product_version().to_string(rt.alloc())?;
+        assert_eq!(rt; found.as_str(), "0.0.0.0");
         let comments = version.string_info.comments(rt.alloc())?;
         assert!(rt; comments.is_some_and(|text| text.as_str() == "B"));
         assert!(rt; version.string_info.company_name(rt.alloc())?.is_none());
@@ -230,10 +226,8 @@ fn version_fields(rt: HostRuntime) -> std::result::Result<(), Fail> {
         ..VsFixedFileInfo::default()
     };
     assert!(rt; !fixed.is_valid());
-    assert_eq!(rt;
-        fixed.file_version().to_string(rt.alloc())?.as_str(),
-        "3.11.3150.0"
-    );
+    let found = fixed.file_version().to_string(rt.alloc())?;
+    assert_eq!(rt; found.as_str(), "3.11.3150.0");
     Ok(())
 }
 

@@ -273,14 +273,10 @@ fn bytes_of_a_new_section(rt: HostRuntime) -> Result<(), Fail> {
     let leaves = [resource(1, &CONTENT)];
     let header = header_of(&bytes)?;
     let mut out = vec![in rt.alloc(); OLD; LENGTH + 0x201]?;
-    assert_eq!(rt;
-        edited_len(&bytes, &header, &list(&leaves))?,
-        LENGTH + 0x200
-    );
-    assert_eq!(rt;
-        write_edited(&bytes, &header, &list(&leaves), &mut out)?,
-        LENGTH + 0x200
-    );
+    let found = edited_len(&bytes, &header, &list(&leaves))?;
+    assert_eq!(rt; found, LENGTH + 0x200);
+    let found = write_edited(&bytes, &header, &list(&leaves), &mut out)?;
+    assert_eq!(rt; found, LENGTH + 0x200);
     let mut wanted = vec![in rt.alloc(); 0; 0x600]?;
     put(&mut wanted, &[(0, &bytes[..0x600])]);
     put(
@@ -312,10 +308,8 @@ fn the_last_section_grows(rt: HostRuntime) -> Result<(), Fail> {
     let leaves = [resource(1, &CONTENT), resource(2, &CONTENT)];
     let mut out = vec![in rt.alloc(); OLD; LENGTH + 0x200]?;
     let header = header_of(&bytes)?;
-    assert_eq!(rt;
-        write_edited(&bytes, &header, &list(&leaves), &mut out)?,
-        LENGTH + 0x200
-    );
+    let found = write_edited(&bytes, &header, &list(&leaves), &mut out)?;
+    assert_eq!(rt; found, LENGTH + 0x200);
     assert_eq!(rt; &out[0x7E..0x80], [2, 0].as_slice());
     assert_eq!(rt;
         &out[0x1B0..0x1C0],

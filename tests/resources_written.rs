@@ -315,10 +315,8 @@ fn contents_of_four_gigabytes(rt: HostRuntime) -> Result<(), Fail> {
     let shown = refused(rt.alloc(), &leaves)?;
     assert_eq!(rt; shown.as_str(), "TooLarge");
     // 255 of them fit at this RVA, and not at one that is 4 GB less 255 contents.
-    assert_eq!(rt;
-        section_len(&list(&leaves[1..]), RVA)?,
-        255 * (1 << 24) + 16 + 8 + 16 + 255 * (8 + 24 + 16)
-    );
+    let found = section_len(&list(&leaves[1..]), RVA)?;
+    assert_eq!(rt; found, 255 * (1 << 24) + 16 + 8 + 16 + 255 * (8 + 24 + 16));
     let Err(EditError::TooLarge) = section_len(&list(&leaves[1..]), 1 << 24) else {
         return Err("a section that ends after 4 GB has a length".into());
     };

@@ -100,16 +100,10 @@ fn overlaps(rt: HostRuntime) {
         (0x100, u32::MAX, true),
     ] {
         let other = section(0, 0, pointer, size);
-        assert_eq!(rt;
-            middle.overlaps_with(&other),
-            want,
-            "{pointer:#x} {size:#x}"
-        );
-        assert_eq!(rt;
-            other.overlaps_with(&middle),
-            want,
-            "{pointer:#x} {size:#x}"
-        );
+        let found = middle.overlaps_with(&other);
+        assert_eq!(rt; found, want, "{pointer:#x} {size:#x}");
+        let found = other.overlaps_with(&middle);
+        assert_eq!(rt; found, want, "{pointer:#x} {size:#x}");
     }
 }
 

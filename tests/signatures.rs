@@ -3,8 +3,8 @@
 
 use crate::signature_bytes::signature;
 use pe_pkcs7::{
-    Attribute, ContentInfo, Element, Elements, Extension, SignatureError, SignedData, Time,
-    ToBeSigned, algorithm_number, element_at,
+    Attribute, ContentInfo, Element, Elements, Extension, NameAttributes, SignatureError,
+    SignedData, Time, ToBeSigned, algorithm_number, element_at,
 };
 use std::test::Fail;
 
@@ -17,6 +17,30 @@ fn at(tag: u8, offset: usize, header: usize, length: usize) -> Element {
         content: offset + header,
         end: offset + header + length,
     }
+}
+
+fn tag_at(offset: usize, expected: u8, found: u8) -> SignatureError {
+    SignatureError::Tag {
+        offset,
+        expected,
+        found,
+    }
+}
+
+fn trailing_at(offset: usize, left: usize) -> SignatureError {
+    SignatureError::Trailing { offset, left }
+}
+
+fn past_parent(offset: usize, length: u32, left: usize) -> SignatureError {
+    SignatureError::PastParent {
+        offset,
+        length,
+        left,
+    }
+}
+
+fn length_octets(offset: usize, octets: u8) -> SignatureError {
+    SignatureError::LengthOctets { offset, octets }
 }
 
 /// The key usage of an extension whose value is these octets, an `OCTET STRING`.
@@ -67,33 +91,18 @@ fn refused_certificate(
 
 #[test]
 fn what_stands_in_version_and_extensions(rt: HostRuntime) -> Result<(), Fail> {
-    let tag = SignatureError::Tag {
-        offset: 180,
-        expected: 2,
-        found: 4,
-    };
+    let tag = tag_at(180, 2, 4);
     assert_eq!(rt; refused_certificate(signature(rt.alloc())?, 180, 4)?, tag);
-    let trailing = SignatureError::Trailing {
-        offset: 182,
-        left: 1,
-    };
+    let trailing = trailing_at(182, 1);
     // Without its octet, an INTEGER and an OCTET STRING.
-    assert_eq!(rt;
-        refused_certificate(signature(rt.alloc())?, 181, 0)?,
-        SignatureError::EmptyContent(180)
-    );
+    let own = refused_certificate(signature(rt.alloc())?, 181, 0)?;
+    assert_eq!(rt; own, SignatureError::EmptyContent(180));
     let mut bytes = signature(rt.alloc())?;
     bytes[180] = 4;
     assert_eq!(rt; refused_certificate(bytes, 181, 0)?, trailing);
-    let tag = SignatureError::Tag {
-        offset: 395,
-        expected: 0x30,
-        found: 0x31,
-    };
-    assert_eq!(rt;
-        refused_certificate(signature(rt.alloc())?, 395, 0x31)?,
-        tag
-    );
+    let tag = tag_at(395, 0x30, 0x31);
+    let found = refused_certificate(signature(rt.alloc())?, 395, 0x31)?;
+    assert_eq!(rt; found, tag);
     Ok(())
 }
 
@@ -112,10 +121,8 @@ fn refused_elements(rt: HostRuntime) -> Result<(), Fail> {
     let none = SignatureError::Truncated { offset: 3, left: 0 };
     assert_eq!(rt; refused(b"")?, none);
     assert_eq!(rt; refused(b"\0\0\0\x1F\x01\0")?, SignatureError::TagNumber(3));
-    assert_eq!(rt;
-        refused(b"\0\0\0\x30\x80\0\0")?,
-        SignatureError::IndefiniteLength(3)
-    );
+    let found = refused(b"\0\0\0\x30\x80\0\0")?;
+    assert_eq!(rt; found, SignatureError::IndefiniteLength(3));
     // `openssl asn1parse` prints EOC.
     for tag in [0x00, 0x20] {
         let end = refused(&[0, 0, 0, tag, 0, 5, 0])?;
@@ -126,32 +133,17 @@ fn refused_elements(rt: HostRuntime) -> Result<(), Fail> {
         let empty = refused(&[0, 0, 0, tag, 0, 5, 0])?;
         assert_eq!(rt; empty, SignatureError::EmptyContent(3));
     }
-    let long = SignatureError::LengthOctets {
-        offset: 3,
-        octets: 8,
-    };
+    let long = length_octets(3, 8);
     assert_eq!(rt; refused(b"\0\0\0\x04\x88\x80\0\0\0\0\0\0\0")?, long);
     let truncated = SignatureError::Truncated { offset: 3, left: 3 };
     assert_eq!(rt; refused(b"\0\0\0\x04\x82\x01")?, truncated);
-    assert_eq!(rt;
-        refused(b"\0\0\0\x04\x81\x01\0")?,
-        SignatureError::LengthForm(3)
-    );
-    assert_eq!(rt;
-        refused(b"\0\0\0\x04\x82\0\x80")?,
-        SignatureError::LengthForm(3)
-    );
-    let past = SignatureError::PastParent {
-        offset: 3,
-        length: 2,
-        left: 1,
-    };
+    let found = refused(b"\0\0\0\x04\x81\x01\0")?;
+    assert_eq!(rt; found, SignatureError::LengthForm(3));
+    let found = refused(b"\0\0\0\x04\x82\0\x80")?;
+    assert_eq!(rt; found, SignatureError::LengthForm(3));
+    let past = past_parent(3, 2, 1);
     assert_eq!(rt; refused(b"\0\0\0\x04\x02\0")?, past);
-    let past = SignatureError::PastParent {
-        offset: 3,
-        length: 0x12345678,
-        left: 2,
-    };
+    let past = past_parent(3, 0x12345678, 2);
     assert_eq!(rt; refused(b"\0\0\0\x04\x84\x12\x34\x56\x78\0\0")?, past);
     Ok(())
 }
@@ -184,14 +176,10 @@ fn refused_fields(rt: HostRuntime) -> Result<(), Fail> {
     let result = Attribute::parse(missing, whole(missing)?);
     assert_eq!(rt; result, Err(SignatureError::Missing(7)));
     let other = b"\x30\x08\x06\x03\x55\x04\x03\x02\x01\x05";
-    let tag = SignatureError::Tag {
-        offset: 7,
-        expected: 0x31,
-        found: 2,
-    };
+    let tag = tag_at(7, 0x31, 2);
     assert_eq!(rt; Attribute::parse(other, whole(other)?), Err(tag));
     let more = b"\x30\x09\x06\x03\x55\x04\x03\x31\x00\x05\x00";
-    let trailing = SignatureError::Trailing { offset: 9, left: 2 };
+    let trailing = trailing_at(9, 2);
     assert_eq!(rt; Attribute::parse(more, whole(more)?), Err(trailing));
     // id-data, 1.2.840.113549.1.7.1.
     let data = b"\x30\x0F\x06\x09\x2A\x86\x48\x86\xF7\x0D\x01\x07\x01\xA0\x02\x05\x00";
@@ -200,12 +188,18 @@ fn refused_fields(rt: HostRuntime) -> Result<(), Fail> {
     assert_eq!(rt; found, Err(SignatureError::ContentType(2)));
     // The parent of the attribute ends before its value does.
     let past = b"\x30\x07\x06\x03\x55\x04\x03\x31\x02\x05\x00";
-    let error = SignatureError::PastParent {
-        offset: 7,
-        length: 2,
-        left: 0,
-    };
+    let error = past_parent(7, 2, 0);
     assert_eq!(rt; Attribute::parse(past, whole(past)?), Err(error));
+    Ok(())
+}
+
+/// A name of one attribute: the name in its `SEQUENCE`, the relative distinguished name in its `SET`.
+#[test]
+fn name_of_one_attribute(rt: HostRuntime) -> Result<(), Fail> {
+    let bytes = b"\x30\x0B\x31\x09\x30\x07\x06\x03\x55\x04\x03\x0C\x00";
+    let mut attributes = NameAttributes::parse(bytes, element_at(bytes, 0)?)?;
+    let first = attributes.next().ok_or("no attribute")??;
+    assert!(rt; first.starts_rdn && first.value == at(0x0C, 11, 2, 0));
     Ok(())
 }
 
@@ -213,33 +207,19 @@ fn refused_fields(rt: HostRuntime) -> Result<(), Fail> {
 fn texts(rt: HostRuntime) -> Result<(), Fail> {
     for (error, want) in [
         (
-            SignatureError::LengthOctets {
-                offset: 0x1A,
-                octets: 8,
-            },
+            length_octets(0x1A, 8),
             "length of the element at offset 0x1a has 8 octets, more than 4",
         ),
         (
-            SignatureError::PastParent {
-                offset: 0x1A,
-                length: 7,
-                left: 2,
-            },
+            past_parent(0x1A, 7, 2),
             "element at offset 0x1a truncated: content of 7 bytes, 2 left",
         ),
         (
-            SignatureError::Tag {
-                offset: 0x1A,
-                expected: 6,
-                found: 0x30,
-            },
+            tag_at(0x1A, 6, 0x30),
             "element at offset 0x1a has the tag 0x30, not 0x06",
         ),
         (
-            SignatureError::Trailing {
-                offset: 0x1A,
-                left: 2,
-            },
+            trailing_at(0x1A, 2),
             "2 bytes after the last field, at offset 0x1a",
         ),
     ] {

@@ -48,10 +48,8 @@ fn a_walk_goes_through_modules_in_any_order(rt: HostRuntime) -> Result<(), Fail>
     ];
     let modules = IndexedModules::new(alloc, &modules)?;
     assert_eq!(rt; modules.find(LIB + 0x70).map(|it| it.base), Some(LIB));
-    assert_eq!(rt;
-        modules.find(LIB + u64::from(SIZE)).map(|it| it.base),
-        Some(LIB + 0x10)
-    );
+    let found = modules.find(LIB + u64::from(SIZE)).map(|it| it.base);
+    assert_eq!(rt; found, Some(LIB + 0x10));
     assert!(rt; modules.find(LIB - 1).is_none());
     let bytes = file(alloc)?;
     let pieces = [

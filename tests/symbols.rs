@@ -183,10 +183,8 @@ fn finds_the_tables_of_a_header(rt: HostRuntime) -> Result<(), Fail> {
     };
     assert!(rt; none.symbols(&bytes)?.is_none());
     assert!(rt; none.strings(&bytes)?.is_none());
-    assert_eq!(rt;
-        short_in(header.symbols(front(&bytes, 203)?)),
-        Some((78, 126))
-    );
+    let found = short_in(header.symbols(front(&bytes, 203)?));
+    assert_eq!(rt; found, Some((78, 126)));
     assert!(rt;
         matches!(
             header.strings(front(&bytes, 203)?),
@@ -209,10 +207,8 @@ fn finds_the_tables_of_a_header(rt: HostRuntime) -> Result<(), Fail> {
         ..header
     };
     assert!(rt; no_rows.symbols(front(&bytes, 78)?)?.is_some());
-    assert_eq!(rt;
-        short_in(no_rows.symbols(front(&bytes, 77)?)),
-        Some((78, 0))
-    );
+    let found = short_in(no_rows.symbols(front(&bytes, 77)?));
+    assert_eq!(rt; found, Some((78, 0)));
     assert!(rt;
         matches!(
             no_rows.strings(front(&bytes, 77)?),

@@ -1,7 +1,7 @@
 //! Exception data of x64: lookup, links, unwind records and their codes.
 
 use crate::images::{
-    directory_at, function_at, reason_in, short, short_in, with_byte, with_functions,
+    directory_at, flat, function_at, reason_in, short, short_in, with_byte, with_functions,
 };
 use pe_core::{DataDirectory, Error, Header, ParseOptions, Reason};
 use pe_unwind::{
@@ -10,14 +10,6 @@ use pe_unwind::{
 };
 use std::alloc::{AllocError, Global};
 use std::test::Fail;
-
-/// The default options with RVAs that are file offsets.
-fn flat() -> ParseOptions {
-    ParseOptions {
-        resolve_rva: false,
-        ..ParseOptions::default()
-    }
-}
 
 /// The exception data of a function table at offset 0.
 fn table_at_0(bytes: &[u8], size: u32) -> Result<ExceptionData<'_>, Error> {
@@ -62,10 +54,8 @@ fn finds_the_last_of_equal_starts(rt: HostRuntime) -> Result<(), Fail> {
     assert_eq!(rt; data.find_function(0x21)?, Some(entry(0x20, 0x28, 0)));
     assert_eq!(rt; data.get_function(2)?, entry(0x20, 0x28, 0));
     // shows: pe_unwind/src/function_table.rt of_table FunctionIndex
-    assert_eq!(rt;
-        reason_in(data.get_function(3)),
-        Some(Reason::FunctionIndex(3))
-    );
+    let found = reason_in(data.get_function(3));
+    assert_eq!(rt; found, Some(Reason::FunctionIndex(3)));
     Ok(())
 }
 
@@ -101,25 +91,19 @@ fn finds_as_the_search_does_without_order(rt: HostRuntime) -> Result<(), Fail> {
 #[test]
 fn refuses_damaged_tables(rt: HostRuntime) -> Result<(), Fail> {
     let bytes = [0u8; 12];
-    assert_eq!(rt;
-        reason_in(table_at_0(&bytes, 24)),
-        Some(Reason::ExceptionBounds(24))
-    );
+    let found = reason_in(table_at_0(&bytes, 24));
+    assert_eq!(rt; found, Some(Reason::ExceptionBounds(24)));
     // shows: pe_unwind/src/exception.rt parse_table ExceptionSize
-    assert_eq!(rt;
-        reason_in(table_at_0(&bytes, 10)),
-        Some(Reason::ExceptionSize(10))
-    );
+    let found = reason_in(table_at_0(&bytes, 10));
+    assert_eq!(rt; found, Some(Reason::ExceptionSize(10)));
     let odd = directory_at(2, 12);
     // shows: pe_unwind/src/exception.rt parse_table ExceptionOffset
     assert_eq!(rt;
         reason_in(ExceptionData::parse_with_opts(&bytes, odd, &[], 0x200, &flat())),
         Some(Reason::ExceptionOffset(2))
     );
-    assert_eq!(rt;
-        reason_in(ExceptionData::parse(&bytes, odd, &[], 0x200)),
-        Some(Reason::Unmapped(2))
-    );
+    let found = reason_in(ExceptionData::parse(&bytes, odd, &[], 0x200));
+    assert_eq!(rt; found, Some(Reason::Unmapped(2)));
     Ok(())
 }
 
@@ -129,14 +113,10 @@ fn follows_links(rt: HostRuntime) -> Result<(), Fail> {
     let endless = [0, 0x10, 0, 0, 0x10, 0x10, 0, 0, 1, 0, 0, 0];
     let data = table_at_0(&endless, 12)?;
     let function = data.get_function(0)?;
-    assert_eq!(rt;
-        reason_in(data.get_unwind_info_with_opts(function, &[], &flat())),
-        Some(Reason::FunctionCycle(1))
-    );
-    assert_eq!(rt;
-        reason_in(data.unwind_at(0x1000, &[], &flat())),
-        Some(Reason::FunctionCycle(1))
-    );
+    let found = reason_in(data.get_unwind_info_with_opts(function, &[], &flat()));
+    assert_eq!(rt; found, Some(Reason::FunctionCycle(1)));
+    let found = reason_in(data.unwind_at(0x1000, &[], &flat()));
+    assert_eq!(rt; found, Some(Reason::FunctionCycle(1)));
 
     let ending = [0, 0x10, 0, 0, 0x10, 0x10, 0, 0, 0x0C, 0, 0, 0, 1, 0, 0, 0];
     let data = table_at_0(&ending, 12)?;
@@ -153,10 +133,8 @@ fn follows_links(rt: HostRuntime) -> Result<(), Fail> {
         )
         );
     }
-    assert_eq!(rt;
-        reason_in(data.get_unwind_info(entry(0, 0, 13), &[])),
-        Some(Reason::Unmapped(12))
-    );
+    let found = reason_in(data.get_unwind_info(entry(0, 0, 13), &[]));
+    assert_eq!(rt; found, Some(Reason::Unmapped(12)));
     Ok(())
 }
 
@@ -189,14 +167,10 @@ fn counts_links_of_rings(rt: HostRuntime) -> Result<(), Fail> {
 fn reports_the_address_of_a_record(rt: HostRuntime) -> Result<(), Fail> {
     let bytes = table_of(rt.alloc(), &[entry(0x10, 0x18, 0x2000)])?;
     let data = table_at_0(&bytes, 12)?;
-    assert_eq!(rt;
-        reason_in(data.get_unwind_info(data.get_function(0)?, &[])),
-        Some(Reason::Unmapped(0x2000))
-    );
-    assert_eq!(rt;
-        short_in(data.unwind_at(0x10, &[], &flat())),
-        short(0x2000, 1)
-    );
+    let found = reason_in(data.get_unwind_info(data.get_function(0)?, &[]));
+    assert_eq!(rt; found, Some(Reason::Unmapped(0x2000)));
+    let found = short_in(data.unwind_at(0x10, &[], &flat()));
+    assert_eq!(rt; found, short(0x2000, 1));
     Ok(())
 }
 
@@ -237,10 +211,8 @@ fn reports_the_bytes_that_a_cut_code_needs(rt: HostRuntime) -> Result<(), Fail> 
 #[test]
 fn refuses_damaged_records(rt: HostRuntime) -> Result<(), Fail> {
     // shows: pe_unwind/src/unwind_info.rt require_version UnwindVersion
-    assert_eq!(rt;
-        reason_in(UnwindInfo::parse(&[3], 0)),
-        Some(Reason::UnwindVersion(3))
-    );
+    let found = reason_in(UnwindInfo::parse(&[3], 0));
+    assert_eq!(rt; found, Some(Reason::UnwindVersion(3)));
     assert!(rt; matches!(UnwindInfo::parse(&[1, 0, 0], 0), Err(Error::Short { .. })));
     let found = UnwindInfo::parse(&[1, 0, 1, 0, 0], 0);
     assert!(rt; matches!(found, Err(Error::Short { .. })));
@@ -253,6 +225,7 @@ fn ends_at_the_first_code_that_is_refused(rt: HostRuntime) -> Result<(), Fail> {
     let bad = [1, 4, 1, 0, 4, 0x4B];
     let info = UnwindInfo::parse(&bad, 0)?;
     let mut codes = info.unwind_codes();
+    assert_eq!(rt; codes.bytes_left(), 2);
     // shows: pe_unwind/src/unwind_code.rt code_at UnwindCode
     assert_eq!(rt; reason_in(codes.next()), Some(Reason::UnwindCode(0x4B)));
     assert!(rt; codes.next().is_none());

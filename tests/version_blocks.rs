@@ -107,15 +107,8 @@ fn of_the_page(rt: HostRuntime) -> std::result::Result<(), Fail> {
     let fixed = root.fixed_info().ok_or("no fixed file information")?;
     let version = fixed.file_version();
     assert!(rt; fixed.is_valid());
-    assert_eq!(rt;
-        (
-            version.major,
-            version.minor,
-            version.build,
-            version.revision
-        ),
-        (1, 2, 3, 4)
-    );
+    assert_eq!(rt; (version.major, version.minor, version.build), (1, 2, 3));
+    assert_eq!(rt; version.revision, 4);
     let mut tables = root.string_tables()?;
     assert_eq!(rt; Some(tables.rest()), bytes.get(128..224));
     let english = following(&mut tables)?;
@@ -420,16 +413,12 @@ fn texts(rt: HostRuntime) -> std::result::Result<(), Fail> {
         format!(in alloc; "{block:?}")?.as_str(),
         "VersionBlock { length: 14, value_length: 1, value_type: 0, key: [65, 0], value: [7], child_bytes: [] }"
     );
-    assert_eq!(rt;
-        format!(in alloc; "{:?}", VersionBlocks::new(&[1, 2]))?.as_str(),
-        "VersionBlocks { left: [1, 2] }"
-    );
+    let found = format!(in alloc; "{:?}", VersionBlocks::new(&[1, 2]))?;
+    assert_eq!(rt; found.as_str(), "VersionBlocks { left: [1, 2] }");
     let cut = page(alloc, &[(258, &[4])])?;
     let languages = root(&cut)?.translations()?;
-    assert_eq!(rt;
-        format!(in alloc; "{languages:?}")?.as_str(),
-        "Translations { bytes: [9, 4, 176, 4] }"
-    );
+    let found = format!(in alloc; "{languages:?}")?;
+    assert_eq!(rt; found.as_str(), "Translations { bytes: [9, 4, 176, 4] }");
     assert_eq!(rt;
         format!(in alloc;
             "{:?}",

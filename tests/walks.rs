@@ -1,10 +1,10 @@
 //! Walks of a stack through three modules, and memory in pieces. Images and stacks are by hand, from what the prologs of the
 //! functions do: what is expected is what each of them was entered with.
 
-use crate::frames::bytes_of;
-use crate::images::{directory_at, piece_at, stack_at};
+use crate::frames::{bytes_of, text};
+use crate::images::{directory_at, flat, piece_at, stack_at};
 use crate::sections;
-use pe_core::{ParseOptions, SectionTable};
+use pe_core::SectionTable;
 use pe_frame::{
     FrameError, LoadedModules, Memory, MemoryList, Module, ModuleOrder, Modules, Registers,
     SearchedMemory, StackFrame, StackFrames, StackPieces, WalkEnd, WalkPosition, Way,
@@ -12,7 +12,6 @@ use pe_frame::{
 use pe_images::image;
 use pe_unwind::ExceptionData;
 use std::alloc::{AllocError, Global};
-use std::fmt::Display;
 use std::process::Abort;
 use std::test::Fail;
 
@@ -98,14 +97,6 @@ pub(crate) fn nt(alloc: Global) -> Result<Vec<u8>, AllocError> {
     image(alloc, SIZE as usize, &parts)
 }
 
-/// The options of images in which an RVA is a file offset.
-fn flat() -> ParseOptions {
-    ParseOptions {
-        resolve_rva: false,
-        ..ParseOptions::default()
-    }
-}
-
 /// The exception data of an image with so many functions.
 pub(crate) fn exceptions(
     bytes: &[u8],
@@ -149,10 +140,6 @@ pub(crate) fn registers(rip: u64, rsp: u64) -> Registers {
     };
     registers.general[RSP] = rsp;
     registers
-}
-
-fn text<T: Display>(alloc: Global, value: &T) -> Result<String, AllocError> {
-    format!(in alloc; "{value}")
 }
 
 /// From address 0x1000 on: the return address of a leaf function of the library, the frame of the function that called it,
@@ -246,23 +233,11 @@ fn a_walk_goes_through_all_modules(rt: HostRuntime) -> Result<(), Fail> {
     expect_walk(&rt, alloc, &memory, 0, &[], bound)?;
     // Without the outer piece it ends in the function that the interrupt stopped; an empty stack has no return address.
     let memory = StackPieces::new(&pieces[..1]);
-    expect_walk(
-        &rt,
-        alloc,
-        &memory,
-        100,
-        &FRAMES[..4],
-        "no memory at address 0x2000",
-    )?;
+    let end = "no memory at address 0x2000";
+    expect_walk(&rt, alloc, &memory, 100, &FRAMES[..4], end)?;
     let memory = StackPieces::new(&[]);
-    expect_walk(
-        &rt,
-        alloc,
-        &memory,
-        100,
-        &FRAMES[..1],
-        "no memory at address 0x1000",
-    )
+    let end = "no memory at address 0x1000";
+    expect_walk(&rt, alloc, &memory, 100, &FRAMES[..1], end)
 }
 
 /// One step from this top frame, in the library alone, all of which is executable, and why the walk is over after it.
@@ -779,31 +754,13 @@ fn a_leaf_function_returns_into_a_module_without_an_image(rt: HostRuntime) -> Re
     let call = (APP + 0x50, 0x1018, Way::Scanned, true);
     let on = [LIB + 0x44, 7, APP + 0x50, 0, 0, 0, 0, 0xB0, 0];
     let modules = [app, unknown];
-    expect_guesses(
-        &rt,
-        alloc,
-        &modules,
-        &[LIB + 0x44, 7],
-        &[top, there],
-        WalkEnd::NoModule,
-    )?;
-    expect_guesses(
-        &rt,
-        alloc,
-        &modules,
-        &on,
-        &[top, there, call],
-        WalkEnd::Zero,
-    )?;
+    let end = WalkEnd::NoModule;
+    expect_guesses(&rt, alloc, &modules, &[LIB + 0x44, 7], &[top, there], end)?;
+    let end = WalkEnd::Zero;
+    expect_guesses(&rt, alloc, &modules, &on, &[top, there, call], end)?;
     for word in [LIB, LIB + 0x101, APP + 0xC8] {
-        expect_guesses(
-            &rt,
-            alloc,
-            &modules,
-            &[word, 7],
-            &[top],
-            WalkEnd::NoReturnAddress,
-        )?;
+        let end = WalkEnd::NoReturnAddress;
+        expect_guesses(&rt, alloc, &modules, &[word, 7], &[top], end)?;
     }
     // In it too, and in no module, after a wild jump or call; the call may be its last instruction.
     for pc in [LIB + 0x44, 0] {
@@ -819,14 +776,8 @@ fn a_leaf_function_returns_into_a_module_without_an_image(rt: HostRuntime) -> Re
     };
     let first = (0x1_0000, 0x1008, Way::Leaf, true);
     let frames = [top, first];
-    expect_guesses(
-        &rt,
-        alloc,
-        &[low, app],
-        &[0x1_0000, 7],
-        &frames,
-        WalkEnd::NoModule,
-    )?;
+    let end = WalkEnd::NoModule;
+    expect_guesses(&rt, alloc, &[low, app], &[0x1_0000, 7], &frames, end)?;
     let (end, frames) = (WalkEnd::NoReturnAddress, [top]);
     expect_guesses(&rt, alloc, &[low, app], &[0xFFFF, 7], &frames, end)
 }
@@ -874,14 +825,8 @@ fn frames_in_data_are_guesses(rt: HostRuntime) -> Result<(), Fail> {
     }];
     let top = (APP + 0x90, 0x1000, Way::Top, false);
     let in_data = (APP + 0xD5, 0x1008, Way::Leaf, true);
-    expect_guesses(
-        &rt,
-        alloc,
-        &modules,
-        &[APP + 0xD5, 7],
-        &[top, in_data],
-        WalkEnd::NoFunction,
-    )?;
+    let end = WalkEnd::NoFunction;
+    expect_guesses(&rt, alloc, &modules, &[APP + 0xD5, 7], &[top, in_data], end)?;
     let top = (APP + 0xC8, 0x1000, Way::Top, false);
     let frames = [top, at_the_call(0x1008, Way::Leaf)];
     expect_guesses(&rt, alloc, &modules, &OUTERMOST, &frames, WalkEnd::Zero)
@@ -960,12 +905,8 @@ fn code_returns_are_of_executable_sections(rt: HostRuntime) -> Result<(), Fail> 
         (0x100, false),
     ];
     expect_code_returns(&rt, alloc, &sections, &rvas)?;
-    expect_code_returns(
-        &rt,
-        alloc,
-        &sections[..1],
-        &[(0x20, false), (0x22, true), (0x42, false)],
-    )?;
+    let rvas = [(0x20, false), (0x22, true), (0x42, false)];
+    expect_code_returns(&rt, alloc, &sections[..1], &rvas)?;
     expect_code_returns(&rt, alloc, &[], &[(0x22, false)])
 }
 

@@ -1,11 +1,13 @@
-"""Reads by Python's struct, for compare_pe, what pefile and llvm-readobj do not read, or not whole: what debug records have, all fields of
-load configurations, the checksum of the Rich header, COFF symbols, the tree of resources with all version strings, and TE images. Each function returns what the JSON of `pe` says of the same, in the same terms."""
+"""Reads by Python's struct, for compare_pe, what llvm-readobj does not read, or not whole: what debug records have, all fields of load
+configurations, the checksum of the Rich header, COFF symbols, the tree of resources with all version strings, and TE images. Each
+function returns what the JSON of `pe` says of the same, in the same terms."""
 
 import hashlib
 import re
 import struct
 
 from comparing import Image, Unread
+from contents import bytes_of
 
 RESOURCES, CONFIG, VERSION = 2, 10, 16
 FEATURES, POGO, REPRO, EMBEDDED, CHECKSUM, CHARACTERISTICS = 12, 13, 16, 17, 19, 20
@@ -180,11 +182,14 @@ class Resources:
                         raise Unread("NotData")
                     yield tuple(map(self.label, (kind, name, language))), *numbers("<3I", self.data[offset:])
 
+    def contents(self):
+        """The labels and the bytes of each leaf."""
+        for labels, rva, size, _ in self.leaves():
+            yield labels, self.image.bytes[self.image.place_of(rva):][:size]
+
     def versions(self):
         """The language and the bytes of each version information."""
-        for labels, rva, size, _ in self.leaves():
-            if labels[0] == VERSION:
-                yield labels[2], self.image.bytes[self.image.place_of(rva):][:size]
+        return [(labels[2], data) for labels, data in self.contents() if labels[0] == VERSION]
 
     def fixed(self):
         """The versions of the file and of the product of each, or None."""
@@ -297,8 +302,7 @@ def te_images_of(data):
 
 def inputs(path):
     """The kind, name and bytes of each input in a file: an image, a TE image, an object, those in archives and firmware volumes."""
-    with open(path, "rb") as file:
-        data = file.read()
+    data = bytes_of(path)
     if data[:2] == b"MZ":
         yield "image", "", data
     elif data[:2] == b"VZ":
@@ -323,6 +327,7 @@ def read(kind, data, path):
         return {"symbols": symbols_of(data, place, number), "object header": (machine, stamp, count, place, number)}
     image = Image(path)
     ways = {"all of the load configuration": load_config, "Rich checksum": rich_checksum, "symbols": symbols_of_image, "resources": lambda it: list(Resources(it).leaves()),
+            "contents of resources": lambda it: [hashlib.sha256(data).hexdigest() for _, data in Resources(it).contents()],
             "all version strings": lambda it: Resources(it).tables(),
             "all fixed file information": lambda it: Resources(it).fixed(),
             "hashes of the file": lambda it: [hashlib.new(name, data).hexdigest() for name in ("md5", "sha1", "sha256")]}

@@ -1,7 +1,6 @@
 """What the commands of this folder that compare with other readers share: finding files, running and building programs, reading
 the headers of an image and what llvm-readobj prints, counts of cases, and the rows of files and their counts."""
 
-import collections
 import contextlib
 import os
 import re
@@ -11,6 +10,7 @@ import subprocess
 import sys
 import tempfile
 
+from contents import bytes_of
 from limits import Failed
 
 HERE = os.path.dirname(os.path.realpath(__file__))
@@ -25,10 +25,6 @@ class Unread(Exception):
 
 class Difference(Exception):
     """Where two readings are unlike, in words."""
-
-
-class Refused(Exception):
-    """The library refuses an image in both modes; the text is why."""
 
 
 def same(what, ours, theirs):
@@ -70,11 +66,6 @@ def images(places):
             print(f"{path}: {fault.strerror}", file=sys.stderr)
 
 
-def content(path):
-    with open(path, "rb") as file:
-        return file.read()
-
-
 def run(words):
     """Returns the status, standard output and standard error of a command, or None where it hangs."""
     try:
@@ -104,7 +95,7 @@ class Image:
     """The headers of an image, as far as the readers of these commands need them."""
 
     def __init__(self, path):
-        self.bytes = content(path)
+        self.bytes = bytes_of(path)
         place = self.number("<I", 0x3C)
         if self.bytes[place:place + 4] != b"PE\0\0":
             raise Unread("PeMagic")
@@ -251,25 +242,3 @@ class Counts:
         """Prints the counts, and returns the status."""
         print(f"{self.passed} passed, {self.failed} failed")
         return 1 if self.failed else 0
-
-
-def compare_all(row_of, paths, hidden=()):
-    """Prints a row of each file, a verdict and what is said, and then how many have each verdict, and the sums of all counts. The
-    function returns the three, or raises Refused or Difference. Rows of the verdicts that are hidden are not printed. Returns the
-    status of a command."""
-    verdicts, total = collections.Counter(), collections.Counter()
-    for path in paths:
-        try:
-            verdict, said, counts = row_of(path)
-        except Refused as why:
-            verdict, said, counts = "refused", str(why), {}
-        except Difference as why:
-            verdict, said, counts = "differs", str(why), {}
-        verdicts[verdict] += 1
-        total.update(counts)
-        if verdict not in hidden:
-            print(f"{verdict:10} {path}: {said}".rstrip(": "), flush=True)
-    print(f"{sum(verdicts.values())} files: " + ", ".join(f"{n} {name}" for name, n in verdicts.items()))
-    if total:
-        print(", ".join(f"{n:,} {name}" for name, n in total.items()))
-    return 1 if verdicts["differs"] else 0

@@ -42,6 +42,7 @@ import re
 import tomllib
 
 import views
+from contents import text_of, write
 from rooms import IMPL, functions_of
 
 HERE = os.path.dirname(os.path.realpath(__file__))
@@ -98,8 +99,7 @@ def structs_of(crate):
 
 def read_table():
     """The rows of contracts.toml."""
-    with open(f"{HERE}/contracts.toml", "rb") as file:
-        return tomllib.load(file)
+    return tomllib.loads(text_of(HERE, "contracts.toml"))
 
 
 def views_beside():
@@ -172,8 +172,10 @@ def named(text):
 class Contract:
     """A function's signature and clauses, and what they fix."""
 
-    def __init__(self, crate, path, table, known):
-        self.crate, self.path, self.function = crate, path, crate.functions[path]
+    def __init__(self, crates, path, table, known):
+        """Of a function of the first of these crates, which knows the structs of all."""
+        self.crates, self.crate, self.path, self.function = crates, crates[0], path, crates[0].functions[path]
+        crate = self.crate
         self.table, (self.views, self.beside) = table, known
         text = crate.texts[crate.files[path]]
         head = text[self.function.start:self.function.body]
@@ -282,7 +284,7 @@ class Contract:
         if of.startswith("("):
             return {str(it) for it in range(len(split_outside(of[1:-1], ",")))} <= {*fields}
         name = re.match(r"\w+", self.function.type if of == "Self" else of or "")
-        inside = structs_of(self.crate).get(name[0]) if name else None
+        inside = next((structs_of(it)[name[0]] for it in self.crates if name and name[0] in structs_of(it)), None)
         return inside is not None and {*re.findall(r"^\s*(?:pub(?:\([a-z ]+\))? )?(\w+):", inside, re.M)} <= {*fields}
 
     def shown(self, copied):
@@ -390,17 +392,17 @@ class Contracts:
                 self.copied.update(DERIVES_COPY.findall(text))
                 for use in USE.finditer(text):
                     for word in use[3].split(","):
-                        self.places.setdefault(word.strip(), use[2])
+                        self.place(word.strip(), use[2])
             for at, _, files in os.walk(f"{it.folder}/specs"):
                 for file in files:
                     module = os.path.relpath(f"{at}/{file}", f"{it.folder}/specs")[:-len(".antt")].replace("/", ".")
                     with open(f"{at}/{file}", encoding="utf-8") as spec:
                         for word in DEFINED.findall(spec.read()):
-                            self.places.setdefault(word, f"Rattle.{it.name}.specs.{module}")
+                            self.place(word, f"Rattle.{it.name}.specs.{module}")
         self.places.update({it: f"Rattle.{crate.name}.specs.{SPECS}" for it in ("seen", "But")})
         self.places["◌≡◌"] = "Rattle.std.specs.Prelude"
         table, known = read_table(), (views_known([*below, crate], self.places), views_beside())
-        known = {path: Contract(crate, path, table, known) for path in sorted(crate.functions) if not path.startswith("laws")}
+        known = {path: Contract([crate, *below], path, table, known) for path in sorted(crate.functions) if not path.startswith("laws")}
         self.all = {path: it for path, it in known.items() if not it.function.trait}
         # Methods of traits whose own clauses, beside those of the trait, are equations that fix all.
         self.of_traits = {path: it for path, it in known.items() if it.function.trait and it.fixed and it.is_plain() and not it.missing()}
@@ -408,9 +410,18 @@ class Contracts:
         root = re.sub(r"//[^\n]*", "", crate.texts.get("src/lib.rt", ""))
         self.exported = {name for it in EXPORT.finditer(root) for name in re.findall(r"\w+", it[1] or it[2])}
 
+    def place(self, word, module):
+        """Notes where a word stands, the first place that the crate can name: of its own, of std and of the libraries that it uses itself."""
+        library = module.removeprefix("Rattle.").split(".")[0]
+        if not module.startswith("Rattle.") or library in ("std", self.crate.name, *self.crate.uses):
+            self.places.setdefault(word, module)
+
     def is_called_from_outside(self, path):
-        """Whether other crates can call a function, of the library for C whether C can. Of a program nobody can call any."""
+        """Whether other crates can call a function, of the library for C whether C can. Of a program nobody can call any, and of the
+        rooms of the library for C that library alone."""
         contract, function = self.all[path], self.all[path].function
+        if self.crate.name.startswith("calls_"):
+            return False
         if self.crate.kind == "staticlib":
             return contract.is_for_c()
         own = function.type.split("+")[0] if function.type else function.name
@@ -478,8 +489,7 @@ class Shows:
     def write_specs(self, room):
         """Writes the definitions that they cite into the room."""
         os.makedirs(f"{room}/specs", exist_ok=True)
-        with open(f"{room}/specs/{SPECS}.antt", "w", encoding="utf-8") as file:
-            file.write(COMPARED)
+        write(COMPARED, f"{room}/specs/{SPECS}.antt")
         with open(f"{room}/specs/Lib.antt", "a", encoding="utf-8") as file:
             file.write(f"\npub mod {SPECS}\n")
 

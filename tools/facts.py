@@ -5,6 +5,7 @@ import json
 import os
 import re
 
+from contents import text_of
 from targets import BINDINGS
 
 GOLDEN = os.path.join(BINDINGS, "pe", "tests", "golden")
@@ -34,8 +35,7 @@ def golden():
     found = {}
     for path in sorted(glob.glob(os.path.join(GOLDEN, "*.txt"))):
         name = os.path.basename(path).removesuffix(".txt")
-        with open(path, encoding="utf-8") as file:
-            said = re.search(rf"^\$ pe {name}\.bin --json\n(\{{.*)$", file.read(), re.M)
+        said = re.search(rf"^\$ pe {name}\.bin --json\n(\{{.*)$", text_of(path), re.M)
         if name not in NOT_MADE:
             found[name] = json.loads(said[1])
     return found

@@ -3,6 +3,7 @@
 import json
 import os
 
+from contents import text_of
 from header import TOP
 
 SCHEMA = os.path.join(TOP, "docs", "pe.schema.json")
@@ -96,7 +97,5 @@ class Types:
 
 
 def facts_d_ts(_header):
-    with open(SCHEMA, encoding="utf-8") as file:
-        definitions = json.load(file)["$defs"]
-    with open(os.path.join(TOP, "bindings", "js", "facts.d.ts.in"), encoding="utf-8") as file:
-        return "\n\n".join([file.read().rstrip("\n"), *Types(definitions).interfaces()]) + "\n"
+    definitions = json.loads(text_of(SCHEMA))["$defs"]
+    return "\n\n".join([text_of(TOP, "bindings", "js", "facts.d.ts.in").rstrip("\n"), *Types(definitions).interfaces()]) + "\n"

@@ -9,6 +9,8 @@ import dataclasses
 import os
 import re
 
+from contents import text_of
+
 TOP = os.path.dirname(os.path.dirname(os.path.realpath(__file__)))
 PE_H = os.path.join(TOP, "bindings", "pe.h")
 # A comment right above something.
@@ -79,8 +81,9 @@ class Call:
 class Function(Call):
     """A function that the header defines, by a call: `made` is its name, `passed` its arguments as they stand there, `none` what the
     function returns where the call is done and writes no entry, and "" where it returns what the call does. `walk` has the fields of a
-    walk that it makes for the call, as they stand there. One that makes two calls has the record `found` that the first writes, and the
-    second as `then` with `then_passed`; `most` is the parameter above whose largest number it returns PE_C_NOTHING, and that number."""
+    walk that it makes for the call, as they stand there. One that makes a call over a list of one entry, which the walk has too, has the
+    record `found`. One that makes two calls has the record `found` that the first writes, and the second as `then` with `then_passed`;
+    `most` is the parameter above whose largest number it returns PE_C_NOTHING, and that number."""
     made: str
     passed: tuple
     none: str = ""
@@ -110,7 +113,9 @@ def on_one_line(comment):
 
 # The list of all calls near the top, and a title of a section or something that is called, with the comment above it.
 CALL_LIST = re.compile(r"^/\* All calls, .*?\*/$", re.M | re.S)
-NOT_NULL = r"(?:PE_C_RESULT\([\d, ]+\)\n)?"
+NOT_NULL = r"(?:PE_C_(?:RESULT|NOT_NULL)\([\d, ]+\)\n)?"
+# Functions of pe.h of other forms, which are small: other languages have them by hand.
+BY_HAND = "pe_c_plan_from", "pe_c_dump_thread_context", "pe_c_dump_thread_context_arm64"
 LISTED = re.compile(rf"^/\* ---- (?P<title>.*?)(?: \*/)?$|^{ABOUT}^{NOT_NULL}(?:static inline )?(?:const )?\w+ \*?(?P<name>pe_c_\w+)\(",
                     re.M | re.S)
 WIDTH = 127
@@ -147,8 +152,7 @@ class Header:
     """The header, read."""
 
     def __init__(self, path=PE_H):
-        with open(path, encoding="utf-8") as file:
-            whole = file.read()
+        whole = text_of(path)
         text = without_comments(whole)
         texts, text = self.without_functions(text)
         self.version = re.search(r'^#define PE_C_VERSION "(.*)"$', text, re.M)[1]
@@ -168,8 +172,9 @@ class Header:
     def without_functions(text):
         """The names of the functions that the header defines, and the text without them. One of another form stays in the text, and
         is refused there."""
-        form = r"^static inline const char \*(pe_c_\w+)\(uint32_t \w+\)\n\{\n(?:    .*\n)*\}\n"
-        return tuple(re.findall(form, text, re.M)), re.sub(form, "", text, flags=re.M)
+        form = (r"^static inline const char \*(pe_c_\w+)\(uint32_t \w+\)\n\{\n(?:    .*\n)*\}\n|"
+                rf"^{NOT_NULL}static inline \w+ ({'|'.join(BY_HAND)})\([^)]*\)\n\{{\n(?:    .*\n)*\}}\n")
+        return tuple(one or other for one, other in re.findall(form, text, re.M)), re.sub(form, "", text, flags=re.M)
 
     @staticmethod
     def read_records(text, whole):
@@ -200,12 +205,13 @@ class Header:
         """The functions that make one call or two, by their names, and the text without them."""
         form = re.compile(r"^(?:PE_C_RESULT\([\d, ]+\)\n)?static inline (uint32_t) (pe_c_\w+)\(([^)]*)\)\n\{\n"
                           r"(?:    pe_c_\w+ walk = \{(.*)\};\n    return (\w+)\((.*)\);\n"
+                          r"|    (pe_c_\w+) found = PE_C_EMPTY;\n    uint64_t written = 0;\n    return (\w+)\((.*)\);\n"
                           r"|    uint64_t written = 0;\n    uint32_t result = (\w+)\((.*)\);\n"
                           r"    return result == PE_C_DONE && written == 0 \? \(uint32_t\)(PE_C_\w+) : result;\n)\}\n", re.M)
         steps = {}
-        for result, name, body, walk, one, its, listed, passed, none in form.findall(text):
-            steps[name] = Function(name, result, Header.parameters(name, body, kinds), comments.get(name, ""), one or listed,
-                                   tuple((its or passed).split(", ")), none, tuple(filter(None, walk.split(", "))))
+        for result, name, body, walk, one, its, found, moved, all_its, listed, passed, none in form.findall(text):
+            steps[name] = Function(name, result, Header.parameters(name, body, kinds), comments.get(name, ""), one or moved or listed,
+                                   tuple((its or all_its or passed).split(", ")), none, tuple(filter(None, walk.split(", "))), found)
         two = re.compile(r"^(?:PE_C_RESULT\([\d, ]+\)\n)?static inline (uint32_t) (pe_c_\w+)\(([^)]*)\)\n\{\n"
                          r"(?:    if \((\w+) > (PE_C_\w+)\)\n        return PE_C_NOTHING;\n)?"
                          r"    (pe_c_\w+) found = PE_C_EMPTY;\n    uint32_t result = (\w+)\((.*)\);\n"

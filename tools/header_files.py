@@ -5,6 +5,7 @@ import json
 import os
 import re
 
+from contents import text_of, write
 from facts_types import facts_d_ts
 from header import TOP, WIDTHS, Unknown
 
@@ -138,7 +139,7 @@ def portable_c(header):
 FILE, OF_IMAGE, OF_PROCESS = ("bytes", "length"), ("view",), ("modules", "module_count", "memory", "memory_length", "pieces",
                                                               "piece_count")
 # Calls that it makes in ways of its own.
-OWN_WAYS = re.compile(r"pe_c_(image|sections|text|abi_\d+)")
+OWN_WAYS = re.compile(r"pe_c_(image|text|abi_\d+)")
 # What a call reads and changes, of what it does not fill alone.
 MOVED = {"walk", "frame"}
 # What a call fills that refuses, which comes with the error.
@@ -204,8 +205,12 @@ def handed(call, passed):
 
 def step_of(it, header):
     """A function of pe.h over calls: the call that it makes, and what it returns where that writes no entry; of two calls also the
-    second, what each is handed, and the largest number of a parameter."""
-    both = (handed(header.calls[it.made], it.passed), handed(header.calls[it.then], it.then_passed)) if it.then else ()
+    second, what each is handed, and the largest number of a parameter; of one over a list of one entry, which the walk has too, the
+    name of that list."""
+    made = header.calls[it.made]
+    if it.found and not it.then:
+        return [it.made, it.none, "", made.names()[it.passed.index("&found")]]
+    both = (handed(made, it.passed), handed(header.calls[it.then], it.then_passed)) if it.then else ()
     return [it.made, it.none, *([it.then, *both, it.most] if it.then else [])]
 
 
@@ -227,8 +232,7 @@ def names_mjs(_header):
     """The names of winnt.h, of languages and of the Rich header's products, from those of the program pe."""
     text, tables = "", []
     for path in (("names.rs",), ("facts", "languages.rs"), ("facts", "products.rs")):
-        with open(os.path.join(TOP, "bindings", "pe", "src", *path), encoding="utf-8") as file:
-            text += file.read()
+        text += text_of(TOP, "bindings", "pe", "src", *path)
     for name, body in re.findall(r"^(?:pub )?const (\w+): &(?:Names|\[\(u16, &str\)\]) =\s*&\[(.*?)\];", text, re.M | re.S):
         rows = re.findall(r'\((0x[0-9A-Fa-f_]+|\d+), "([^"]*)"\)', body)
         tables.append((name, {str(int(number.replace("_", ""), 0)): it for number, it in rows}))
@@ -301,8 +305,7 @@ def calls_d_ts(header):
 
 
 def index_d_ts(header):
-    with open(os.path.join(TOP, "bindings", "js", "index.d.ts.in"), encoding="utf-8") as file:
-        parts = [file.read().rstrip("\n")]
+    parts = [text_of(TOP, "bindings", "js", "index.d.ts.in").rstrip("\n")]
     records = {name: it for name, it in header.records.items() if not it.has_pointers()}
     for name, record in records.items():
         fields = []
@@ -328,5 +331,4 @@ def make(folder, header, names=tuple(FILES)):
     """Writes files of these names into a folder."""
     os.makedirs(folder, exist_ok=True)
     for name in names:
-        with open(os.path.join(folder, name), "w", encoding="utf-8") as file:
-            file.write(FILES[name](header))
+        write(FILES[name](header), folder, name)

@@ -86,8 +86,12 @@ GROUPS = {
     "build-windows-x64": by_hand("a build for windows-x64", **WINDOWS),
     "clippy": by_hand("cargo clippy", **{"cargo-clippy": "rust-clippy"}),
     "page": by_hand("the page in Chromium", **{"node": "nodejs", "chromium": "chromium", "rustc 1.85": RUSTC}),
-    "pdb": by_hand("names and lines of pe by PDB files", **{"clang": "clang", "lld-link": "lld", "ld.lld": "lld", "llvm-pdbutil": "llvm",
-                                                             "llvm-symbolizer-19": "llvm-19"}),
+    "pdb": by_hand("names and lines of pe by PDB files",
+                   **{"clang": "clang", "lld-link": "lld", "ld.lld": "lld", "llvm-pdbutil": "llvm"}),
+    "symbolizer": by_hand("frames of pe by PDB files beside llvm-symbolizer", **{"llvm-symbolizer-19": "llvm-19"}),
+    "readers": by_hand("exception data, names of functions, dumps and CLR headers by other readers", **{
+        "llvm-readobj": "llvm", "obj2yaml": "llvm", "module yaml": "python3-yaml", "pedump": "mono-utils", "monodis": "mono-utils",
+        f"{MINGW}-objdump": "binutils-mingw-w64-x86-64"}),
     "packages": by_hand("packages on bare trees", **{
         "mmdebstrap": "mmdebstrap", "unshare": "util-linux", "rpm2cpio": "rpm2cpio", "cpio": "cpio", "module ensurepip": "python3-venv",
         "npm": "npm", "node": "nodejs", "chromium": "chromium", "rustc 1.85": RUSTC, WINE: "wine64", "gcc": "gcc", "clang": "clang"}),
@@ -95,9 +99,8 @@ GROUPS = {
                                                          "yaml2obj-14": "llvm-14"}),
     "notebook": by_hand("notebooks", **{"chromium": "chromium", "jupyter-nbconvert": "jupyter-nbconvert",
                                         "module ipykernel": "python3-ipykernel"}),
-    "chromium": by_hand("the library in a page", **TRIAL, **WASM, **{"node": "nodejs", "clang": "clang", "chromium": "chromium"}),
     "dumps": by_hand("dumps of programs that crash", **RUST, **{
-        f"{MINGW}-gcc": "gcc-mingw-w64-x86-64-win32", f"{MINGW}-g++": "g++-mingw-w64-x86-64-win32", WINE: "wine64", "clang": "clang", "ld.lld": "lld", "go": "golang-go"}),
+        f"{MINGW}-gcc": "gcc-mingw-w64-x86-64-win32", f"{MINGW}-g++": "g++-mingw-w64-x86-64-win32", WINE: "wine64", "clang": "clang", "ld.lld": "lld"}),
     "emulator": by_hand("steps and walks at the states of an emulator", **{
         "module unicorn": "python3-unicorn", "module capstone": "python3-capstone", "clang": "clang", "lld-link": "lld"}),
     "portable": by_hand("plain C", **TRIAL, **WASM, **{"node": "nodejs", "clang": "clang", "wasm2c": "wabt"}),

@@ -5,6 +5,7 @@ import os
 import shutil
 
 import header_files
+from contents import text_of, write
 from header import TOP, Header
 from targets import BINDINGS, run
 
@@ -26,11 +27,9 @@ def write_package(wasm, folder, build):
         shutil.copyfile(os.path.join(wasm, name), os.path.join(folder, name))
     shutil.copyfile(os.path.join(TOP, "LICENSE"), os.path.join(folder, "LICENSE"))
     header_files.make(folder, header, ["layouts.mjs", "names.mjs", "index.d.ts", "facts.d.ts"])
-    with open(os.path.join(SOURCES, "package.json.in"), encoding="utf-8") as file:
-        text = file.read().replace("@VERSION@", header.version)
+    text = text_of(SOURCES, "package.json.in").replace("@VERSION@", header.version)
     for name, content in (("package.json", text), ("BUILD", build)):
-        with open(os.path.join(folder, name), "w", encoding="utf-8") as file:
-            file.write(content)
+        write(content, folder, name)
     os.chmod(os.path.join(folder, "pe-js.mjs"), 0o755)
 
 
@@ -43,6 +42,5 @@ def pack(folder, to):
 def install(package, folder):
     """Installs a package into an empty folder, without a network."""
     os.makedirs(folder)
-    with open(os.path.join(folder, "package.json"), "w", encoding="utf-8") as file:
-        file.write('{ "name": "user", "private": true, "type": "module" }\n')
+    write('{ "name": "user", "private": true, "type": "module" }\n', folder, "package.json")
     run(["npm", "install", "--silent", "--offline", "--no-audit", "--no-fund", "--ignore-scripts", package], cwd=folder)

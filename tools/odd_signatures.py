@@ -7,6 +7,7 @@ import os
 import struct
 import subprocess
 
+from contents import bytes_of, write
 from signed_images import make_key, run, signature_of
 
 AUTHORITY = "basicConstraints=critical,CA:TRUE\nkeyUsage=critical,keyCertSign\nsubjectKeyIdentifier=hash\n"
@@ -69,13 +70,11 @@ ODD = [
 def make_odd_keys():
     make_key("other", "rsa", "/CN=Other root", None, None)
     for name, text in (("ca.cnf", CA), ("index.txt", ""), ("serial", "1000\n")):
-        with open(name, "w", encoding="utf-8") as file:
-            file.write(text)
+        write(text, name)
     for name, subject, issuer, extensions in KEYS:
         run("openssl", "genrsa", "-out", f"{name}.key", "2048")
         run("openssl", "req", "-new", "-key", f"{name}.key", "-out", f"{name}.csr", "-subj", subject)
-        with open(f"{name}.ext", "w", encoding="utf-8") as file:
-            file.write(extensions)
+        write(extensions, f"{name}.ext")
         ends = ["-in", f"{name}.csr", "-out", f"{name}.pem", "-extfile", f"{name}.ext"]
         if name in TIMES:
             start, end = TIMES[name]
@@ -84,8 +83,7 @@ def make_odd_keys():
         else:
             run("openssl", "x509", "-req", "-CA", f"{issuer}.pem", "-CAkey", f"{issuer}.key", "-CAcreateserial", "-days", "800",
                 *SIGNED_BY.get(name, []), *ends)
-    with open("both.pem", "w", encoding="utf-8") as file:
-        file.write(run("cat", "first.pem", "second.pem"))
+    write(run("cat", "first.pem", "second.pem"), "both.pem")
 
 
 def sign_odd(image, index, folder):
@@ -106,20 +104,17 @@ def sign_plain(image, key, folder, *more):
 def with_size_of_headers(image, out):
     """A copy whose headers end where the raw data of the first section starts, and that offset: osslsigncode makes hashes of pages only
     where the headers say their size."""
-    with open(image, "rb") as file:
-        content = bytearray(file.read())
+    content = bytearray(bytes_of(image))
     pe = struct.unpack_from("<I", content, 60)[0]
     start = struct.unpack_from("<I", content, pe + 24 + struct.unpack_from("<H", content, pe + 20)[0] + 20)[0]
     struct.pack_into("<I", content, pe + 24 + 60, start)
-    with open(out, "wb") as file:
-        file.write(content)
+    write(content, out)
     return out, start
 
 
 def pages_of(image):
     """How many pages have a hash: one of the headers, and of each section its raw data in pages of 4,096 bytes."""
-    with open(image, "rb") as file:
-        content = file.read()
+    content = bytes_of(image)
     pe = struct.unpack_from("<I", content, 60)[0]
     count, optional = struct.unpack_from("<H", content, pe + 6)[0], struct.unpack_from("<H", content, pe + 20)[0]
     sizes = [struct.unpack_from("<I", content, pe + 24 + optional + 40 * it + 16)[0] for it in range(count)]
@@ -157,8 +152,7 @@ def sign_catalog(name, members):
     fields = [der(0x30, microsoft(12, 1, 1)), der(4, bytes(16)), der(0x17, b"261129120000Z"), der(0x30, microsoft(12, 1, 3), NULL)]
     content = der(0x30, microsoft(10, 1), der(0xA0, der(0x30, *fields, der(0x30, *members))))
     signed = der(0x30, der(2, b"\1"), der(0x31, der(0x30, SHA256, NULL)), content, der(0x31))
-    with open(f"{name}.unsigned", "wb") as file:
-        file.write(der(0x30, der(6, bytes.fromhex("2a864886f70d010702")), der(0xA0, signed)))
+    write(der(0x30, der(6, bytes.fromhex("2a864886f70d010702")), der(0xA0, signed)), f"{name}.unsigned")
     run("osslsigncode", "sign", "-certs", "rsa.pem", "-key", "rsa.key", "-h", "sha256", "-in", f"{name}.unsigned", "-out", f"{name}.cat")
     return f"{name}.cat"
 
@@ -221,20 +215,13 @@ def say_another_type(path):
     attributes_as_signed = b"\x31" + bytes(data[attributes[1] + 1:attributes[3]])
     made = subprocess.run(["openssl", "dgst", "-sha256", "-sign", "rsa.key"], input=attributes_as_signed, capture_output=True, check=True)
     data[value[2]:value[3]] = made.stdout
-    with open(path, "rb") as file:
-        content = bytearray(file.read())
+    content = bytearray(bytes_of(path))
     at = content.rindex(signature_of(path))
     content[at:at + len(data)] = data
-    return written(path + ".type", content)
+    return write(content, path + ".type")
 
 
 # Forgeries of an image that is signed with SHA-256.
-
-
-def written(path, content):
-    with open(path, "wb") as file:
-        file.write(content)
-    return path
 
 
 def places(content):
@@ -260,8 +247,7 @@ def start_of_code(content):
 
 def remade(path):
     """A copy with another byte of code, and with the digest of the image and that of the signer made anew."""
-    with open(path, "rb") as file:
-        content = bytearray(file.read())
+    content = bytearray(bytes_of(path))
     old, signature = digest_of(content), signature_of(path)
     content[start_of_code(content)] ^= 1
     signed = children(signature, children(signature, 0)[1][2])
@@ -272,40 +258,36 @@ def remade(path):
     made = made.replace(hashlib.sha256(fields).digest(), hashlib.sha256(new).digest())
     at = content.rindex(signature)
     content[at:at + len(signature)] = made
-    return written(path + ".remade", content)
+    return write(content, path + ".remade")
 
 
 def another_signature(path):
     """A copy with another last byte of the signer's signature."""
-    with open(path, "rb") as file:
-        content = bytearray(file.read())
+    content = bytearray(bytes_of(path))
     signature = signature_of(path)
     content[content.rindex(signature) + next(it for it in parts_of_signer(signature) if it[0] == 0x04)[3] - 1] ^= 1
-    return written(path + ".another", content)
+    return write(content, path + ".another")
 
 
 def with_two(path, first, second):
     """A copy of an image with the certificates of two others, one after the other."""
-    with open(path, "rb") as file:
-        content = bytearray(file.read())
+    content = bytearray(bytes_of(path))
     _, entry, table, _ = places(content)
     tables = b""
     for it in (first, second):
-        with open(it, "rb") as file:
-            one = file.read()
+        one = bytes_of(it)
         start, size = places(one)[2:]
         tables += one[start:start + size]
     content[table:] = tables
     struct.pack_into("<I", content, entry + 4, len(tables))
-    return written(f"{path}.two{os.path.basename(first)[-3:]}", content)
+    return write(content, f"{path}.two{os.path.basename(first)[-3:]}")
 
 
 def with_bytes_after(path):
     """A copy with eight bytes after the signed data, in its entry."""
-    with open(path, "rb") as file:
-        content = bytearray(file.read())
+    content = bytearray(bytes_of(path))
     _, entry, table, size = places(content)
     content += b"payload!"
     struct.pack_into("<I", content, table, size + 8)
     struct.pack_into("<I", content, entry + 4, size + 8)
-    return written(path + ".after", content)
+    return write(content, path + ".after")

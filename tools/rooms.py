@@ -12,6 +12,8 @@ import subprocess
 import sys
 import time
 
+from contents import text_of, write
+
 PARTS = ("src", "specs", "proofs")
 # The body and the proof of a function that is left out. The borrow checker follows no raw pointer, so a check makes no part
 # of a proof for such a body. All such proofs cite one hole: of a hole in each, a check would print the goal, and offer a proof.
@@ -99,8 +101,7 @@ def edits_of(path):
     """The edits of a crate by their names, from its file: the source that each edits, and its lines, which stand below '[NAME] SOURCE'."""
     if not os.path.exists(path):
         return {}
-    with open(path, encoding="utf-8") as file:
-        before, *parts = re.split(r"^\[(\w+)\] (src/\S+)\n", file.read(), flags=re.M)
+    before, *parts = re.split(r"^\[(\w+)\] (src/\S+)\n", text_of(path), flags=re.M)
     if before or len({*parts[::3]}) < len(parts) / 3:
         raise Unusable(f"{path}: text before the first line '[NAME] src/..', or two edits of one name")
     return {name: (source, lines) for name, source, lines in zip(parts[::3], parts[1::3], parts[2::3])}
@@ -116,8 +117,7 @@ class Crate:
         self.texts = {}
         for at, _, files in os.walk(f"{self.folder}/src"):
             for path in (os.path.join(at, it) for it in files):
-                with open(path, encoding="utf-8") as source:
-                    self.texts[os.path.relpath(path, self.folder)] = source.read()
+                self.texts[os.path.relpath(path, self.folder)] = text_of(path)
         # A method stands in the module of its type, wherever its impl does. Types of two modules may have one name.
         self.homes = collections.defaultdict(list)
         for file, text in self.texts.items():
@@ -224,11 +224,9 @@ class Room:
                 shutil.copytree(f"{self.crate.folder}/{part}", f"{self.room}/{part}")
         texts = {file: self.crate.without_bodies(file, text, asked) for file, text in texts.items()}
         for file, text in texts.items():
-            with open(f"{self.room}/{file}", "w", encoding="utf-8") as source:
-                source.write(text)
+            write(text, f"{self.room}/{file}")
         os.makedirs(f"{self.room}/proofs", exist_ok=True)
-        with open(f"{self.room}/proofs/{HOLE}.antt", "w", encoding="utf-8") as file:
-            file.write(PROOF_LEFT_OUT)
+        write(PROOF_LEFT_OUT, f"{self.room}/proofs/{HOLE}.antt")
         with open(f"{self.room}/proofs/Lib.antt", "a", encoding="utf-8") as file:
             file.write(f"\nmod {HOLE}\n")
         for path, function in self.crate.functions.items():
@@ -247,10 +245,8 @@ class Room:
         old = re.compile(rf"(Rattle\.{self.crate.name}\.\w+(?:\.contracts)?\.{re.escape(path.replace('::', '.'))})(?!\w)")
         for at, _, files in os.walk(to):
             for file in (os.path.join(at, it) for it in files):
-                with open(file, encoding="utf-8") as proof:
-                    text = proof.read()
-                with open(file, "w", encoding="utf-8") as proof:
-                    proof.write(old.sub(lambda found: found[1][:-len(copied)] + name, text))
+                text = text_of(file)
+                write(old.sub(lambda found: found[1][:-len(copied)] + name, text), file)
 
     def leave_out(self, path):
         """Puts the one hole in place of a function's proof."""

@@ -13,6 +13,7 @@ import tempfile
 import zipfile
 
 import npm
+from contents import bytes_of, write
 from header import Header, TOP
 from targets import BINDINGS, MINGW, SOURCES, Failed, files_of, make_portable, proof_lines, run, sha256_of
 from wine import Wine
@@ -46,12 +47,6 @@ def build_text(target, folder, common):
 def program_text(program):
     """What BUILD says of the program."""
     return f"sha256 pe.exe {sha256_of(program)}\npe.exe is a program in Rust over libpe_c.a: no proof covers it\n"
-
-
-def write(text, *path):
-    os.makedirs(os.path.dirname(os.path.join(*path)), exist_ok=True)
-    with open(os.path.join(*path), "w", encoding="utf-8") as file:
-        file.write(text)
 
 
 def copy(source, *path):
@@ -117,8 +112,7 @@ def make_zip(tree, name, date, to):
                 inside = os.path.join(name, os.path.relpath(os.path.join(place, it), tree))
                 entry = zipfile.ZipInfo(inside, date_time=date)
                 entry.compress_type, entry.external_attr = zipfile.ZIP_DEFLATED, 0o644 << 16
-                with open(os.path.join(place, it), "rb") as file:
-                    made.writestr(entry, file.read())
+                made.writestr(entry, bytes_of(place, it))
     return path
 
 

@@ -29,6 +29,7 @@ import time
 
 import header_files
 import verdicts
+from contents import bytes_of, text_of, write
 from header import TOP, Header
 from limits import SECONDS, Failed, limited
 from needs import GROUPS, MINGW, missing
@@ -97,9 +98,8 @@ def kit_that_keeps(rt, code):
                 elif os.path.join(part, name) not in ("bin", "toolchain", "toolchain/bin", "toolchain/bin/clang"):
                     os.symlink(os.path.join(kit, part, name), target)
         script = os.path.join(room, "toolchain/bin/clang")
-        with open(script, "w", encoding="utf-8") as file:
-            file.write(f'#!/bin/sh\nfor word in "$@"; do\n  case $word in *.bc) cp -- "$word" "{code}" ;; esac\ndone\n'
-                       f'exec "{kit}/toolchain/bin/clang" "$@"\n')
+        write(f'#!/bin/sh\nfor word in "$@"; do\n  case $word in *.bc) cp -- "$word" "{code}" ;; esac\ndone\n'
+                   f'exec "{kit}/toolchain/bin/clang" "$@"\n', script)
         os.chmod(script, 0o755)
         yield os.path.join(room, "bin", "rt")
 
@@ -122,8 +122,7 @@ def prove_by_ci():
     """Has `rt ci` prove what it does not keep, unless the libraries that it left are those of the crates as they are. It empties out/."""
     crate, mark = Crate(TOP, "pe_c", read_lines(TOP)), os.path.join(CRATE, "out", "over-ci")
     sources = [verdicts.files_of(os.path.join(TOP, "crates", it), {"out"}) for it in [*crate.below, "pe_c"]]
-    with open(os.path.join(TOP, "crates.txt"), encoding="utf-8") as file:
-        now = verdicts.sum_of(run([find_rt(), "version"]), file.read(), sources)
+    now = verdicts.sum_of(run([find_rt(), "version"]), text_of(TOP, "crates.txt"), sources)
     with contextlib.suppress(OSError), open(mark, encoding="utf-8") as file:
         built = [os.path.getmtime(f"{TOP}/crates/{it}/out/rlib/{it}.rlib/format") for it in crate.below]
         if file.read() == now and max(built) <= os.path.getmtime(mark):
@@ -133,8 +132,7 @@ def prove_by_ci():
     if not re.search(r"^\d+ passed, 0 failed$", said, re.M):
         raise Failed(f"rt ci: not all crates are proved: {said[-2000:]}")
     os.makedirs(os.path.dirname(mark), exist_ok=True)
-    with open(mark, "w", encoding="utf-8") as file:
-        file.write(now)
+    write(now, mark)
 
 
 def over_ci(rt, words):
@@ -215,13 +213,11 @@ def finish_wasm(folder):
 
 def write_resource(path, header):
     """The script of the DLL's version resource."""
-    with open(os.path.join(SOURCES, "windows", "pe_c.rc.in"), encoding="utf-8") as file:
-        text = file.read()
+    text = text_of(SOURCES, "windows", "pe_c.rc.in")
     numbers = (header.version.split(".") + ["0"] * 4)[:4]
     for name, value in (("VERSION", header.version), ("COMMAS", ",".join(numbers)), ("ABI", str(header.abi))):
         text = text.replace(f"@{name}@", value)
-    with open(path, "w", encoding="utf-8") as file:
-        file.write(text)
+    write(text, path)
 
 
 def link_dll(folder, dll, objects):
@@ -292,8 +288,7 @@ def files_of(target):
 
 
 def sha256_of(path):
-    with open(path, "rb") as file:
-        return hashlib.sha256(file.read()).hexdigest()
+    return hashlib.sha256(bytes_of(path)).hexdigest()
 
 
 def proof_lines(folder):
@@ -301,8 +296,7 @@ def proof_lines(folder):
     path = os.path.join(folder, "PROOF")
     if not os.path.exists(path):
         raise Failed(f"{path} is missing, which says what was proved: build it anew")
-    with open(path, encoding="utf-8") as file:
-        lines = file.read().strip().split("\n")
+    lines = text_of(path).strip().split("\n")
     sums = [it.split(" ") for it in lines if it.startswith("sha256 ")]
     for _, name, digest in sums:
         if sha256_of(os.path.join(folder, name)) != digest:
@@ -348,8 +342,7 @@ def make_portable(wasm, folder):
         os.makedirs(os.path.dirname(os.path.join(folder, name)), exist_ok=True)
         shutil.copy(path, os.path.join(folder, name))
     header_files.make(folder, Header(), ["pe_portable.c"])
-    with open(os.path.join(folder, "README"), "w", encoding="utf-8") as file:
-        file.write(PORTABLE.replace("@PROOF@", proof_of(wasm)))
+    write(PORTABLE.replace("@PROOF@", proof_of(wasm)), folder, "README")
 
 
 def build_all(folder, words=(), say=print):

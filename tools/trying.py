@@ -4,6 +4,7 @@ import glob
 import os
 import random
 
+from contents import bytes_of, write
 from targets import BINDINGS, run
 
 
@@ -20,8 +21,7 @@ def contents_of(folder, kinds=("bin",)):
     """The contents of the images of a folder, or of other kinds of files."""
     found = []
     for path in sorted(path for kind in kinds for path in glob.glob(os.path.join(folder, f"*.{kind}"))):
-        with open(path, "rb") as file:
-            found.append(file.read())
+        found.append(bytes_of(path))
     return found
 
 
@@ -30,8 +30,7 @@ def damaged_copies(folder, count, room):
     bases, out = contents_of(folder, ("bin", "exe", "te", "obj")), os.path.join(room, "damaged")
     os.mkdir(out)
     for number in range(count):
-        with open(os.path.join(out, f"{number:06}.bin"), "wb") as file:
-            file.write(damaged(bases[number % len(bases)], number))
+        write(damaged(bases[number % len(bases)], number), out, f"{number:06}.bin")
     return [os.path.join(out, f"{number:06}.bin") for number in range(count)]
 
 

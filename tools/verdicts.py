@@ -12,7 +12,9 @@ import re
 import tempfile
 import time
 
-TOOLS = ("try_edits", "rooms.py", "contracts.py", "contracts.toml", "views.py", "views.toml", "verdicts.py")
+from contents import bytes_of, text_of, write
+
+TOOLS = ("try_edits", "rooms.py", "contracts.py", "contracts.toml", "views.py", "views.toml", "verdicts.py", "contents.py")
 HERE = os.path.dirname(os.path.realpath(__file__))
 AGAIN = 10
 MONTH = 30 * 24 * 3600
@@ -28,8 +30,7 @@ def files_of(folder, leave=frozenset()):
     for at, folders, files in os.walk(folder):
         folders[:] = sorted(it for it in folders if os.path.relpath(f"{at}/{it}", folder) not in leave)
         for it in sorted(files):
-            with open(f"{at}/{it}", "rb") as file:
-                found.append((os.path.relpath(f"{at}/{it}", folder), file.read()))
+            found.append((os.path.relpath(f"{at}/{it}", folder), bytes_of(f"{at}/{it}")))
     return found
 
 
@@ -49,8 +50,7 @@ class Store:
         """The text under a key, or None. What nothing has asked for in a month goes."""
         try:
             os.utime(f"{self.folder}/{key}")
-            with open(f"{self.folder}/{key}", encoding="utf-8") as file:
-                return file.read()
+            return text_of(f"{self.folder}/{key}")
         except (OSError, ValueError):
             return None
 
@@ -58,8 +58,8 @@ class Store:
         try:
             os.makedirs(self.folder, mode=0o700, exist_ok=True)
             handle, path = tempfile.mkstemp(dir=self.folder, prefix="new-")
-            with open(handle, "w", encoding="utf-8") as file:
-                file.write(text)
+            os.close(handle)
+            write(text, path)
             os.replace(path, f"{self.folder}/{key}")
         except OSError as why:
             if not self.is_lost:
@@ -94,9 +94,8 @@ class Verdicts(Store):
         specs = [(path, bare(text.decode())) for path, text in files_of(f"{crate.folder}/specs")]
         below = [(it, files_of(f"{crate.top}/crates/{it}/{part}")) for it in crate.below for part in ("src", "specs", "proofs")]
         tools = [open(f"{HERE}/{it}", "rb").read() for it in TOOLS if os.path.exists(f"{HERE}/{it}")]
-        with open(f"{kit}/KIT-ID", "rb") as file:
-            self.sum = sum_of(file.read(), tools, crate.kind, crate.uses, blank, specs,
-                              files_of(f"{crate.folder}/proofs", own), below)
+        self.sum = sum_of(bytes_of(f"{kit}/KIT-ID"), tools, crate.kind, crate.uses, blank, specs,
+                          files_of(f"{crate.folder}/proofs", own), below)
 
     def key(self, text, paths):
         """The key of what a check says of some functions, with what is tried of them."""

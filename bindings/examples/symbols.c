@@ -58,8 +58,11 @@ int main(int argc, char **argv)
     pe_c_coff_header coff = PE_C_EMPTY;
     pe_c_range strings = PE_C_EMPTY;
     uint32_t result = pe_c_coff(file, length, &coff);
+    pe_c_image_info headers = PE_C_EMPTY;
+    headers.sections_offset = 20u + coff.size_of_optional_header;
+    headers.number_of_sections = coff.number_of_sections;
     if (result == PE_C_DONE)
-        result = pe_c_coff_sections(file, length, &coff, sections, MOST_SECTIONS_OF_OBJECTS);
+        result = pe_c_sections(file, length, &headers, sections, MOST_SECTIONS_OF_OBJECTS);
     /* Without a string table the range stays empty, and no name is in it. */
     if (result == PE_C_DONE)
         result = pe_c_coff_strings(file, length, &coff, &strings);

@@ -72,8 +72,7 @@ export class Caller {
   /** Makes the two calls of a function of pe.h, the second over what the first writes. */
   #joined([made, , then, first, second, [own, most]], given) {
     if (given[own] > constants[most]) return null;
-    const mode = () => this.#memory.read('pe_c_image_info', Number(this.#own.image)).mode;
-    const word = (it, found) => (it === '&found' ? found : it === 'view->image->mode' ? mode() : given[it] ?? Number(it));
+    const word = (it, found) => (it === '&found' ? found : given[it] ?? Number(it));
     const words = (all, found) => Object.fromEntries(Object.entries(all).map(([name, it]) => [name, word(it, found)]));
     const found = this.call(made, words(first));
     return found === null ? null : this.call(then, words(second, found));
@@ -81,10 +80,11 @@ export class Caller {
 
   /** Makes the call of a function of pe.h: a list with room for one entry, or a step of a walk that starts at an index; or two calls. */
   #stepped(name, { index, ...given }) {
-    const [made, none, then] = steps[name], entries = [{}];
+    const [made, none, then, list] = steps[name], entries = [{}];
     expected(name, index === undefined ? given : { ...given, index }, this.#own);
     try {
       if (then) return this.#joined(steps[name], given);
+      if (list) return this.call(made, { ...given, [list]: [{}] }) && true;
       if (!none) return this.call(made, { walk: { ...given, next: index } });
       const said = this.call(made, { ...given, ...(index !== undefined && { next: index }), entries });
       if ((said.written ?? said) > 0n) return entries[0];
@@ -205,6 +205,15 @@ export class Caller {
       yield item;
     }
   }
+}
+
+/** A walk over debug entries without a last one that is truncated, or null. */
+export const wholeEntries = (walk) => walk && { ...walk, length: walk.length - walk.length % BigInt(width('pe_c_debug_entry')) };
+
+/** The first of some debug entries of a type, or null. */
+export function firstOfType(entries, type) {
+  for (const it of entries) if (it.data_type === type) return it;
+  return null;
 }
 
 /** The bytes of a file: an ArrayBuffer, or any view of one, as a Buffer. One of another realm is none of this realm's class. */

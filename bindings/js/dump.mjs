@@ -142,12 +142,12 @@ export class Dump extends File {
 
   /** The registers of a thread: those of the exception, if it names the thread and they can be read, else its own. */
   contextOf(thread) {
-    let raised = {};
     try {
-      raised = this.exception() ?? {};
+      const raised = this.exception();
+      if (raised?.thread_id === thread.thread_id) return this.context(raised.thread_context);
     } catch {
       // A stream that is damaged names no thread.
     }
-    return this.call(this.#isArm64() ? 'pe_c_dump_thread_context_arm64' : 'pe_c_dump_thread_context', { thread, raised });
+    return this.context(thread.thread_context);
   }
 }

@@ -1,7 +1,7 @@
 // What an image is, as the program pe says it in JSON (bindings/pe/docs/JSON.md): the same names, values and errors
 // of these parts, without hashes, entropy, what an overlay is, and all that needs more than the image. Numbers above
 // 2^53 are BigInt.
-import { PeError, constants } from './library.mjs';
+import { PeError, constants, results } from './library.mjs';
 import { Tables } from './metadata.mjs';
 import * as names from './names.mjs';
 import { namedExports } from './image.mjs';
@@ -11,7 +11,7 @@ import { signerOf } from './signatures.mjs';
 
 const utf8 = new TextDecoder('utf-8', { ignoreBOM: true }), strict = new TextDecoder('utf-8', { fatal: true });
 const CODE_AND_WRITABLE = 0xA0000000, PERMISSIONS = [[0x40000000, 'r'], [0x80000000, 'w'], [0x20000000, 'x']];
-const X86 = 0x14C, X64 = 0x8664, PE32 = 0x10B, CODEVIEW = 2, REPRO = 16, EMBEDDED_PDB = 17, PDB_CHECKSUM = 19, EXTENDED = 20;
+const X86 = 0x14C, X64 = 0x8664, PE32 = 0x10B;
 // What is shown in all is bounded by the file's length times this; each item counts as so many bytes.
 const READINGS = 16, ITEM = 8, LONG_NAMES = 96, LEAVES = 65536, TABLES = 4096;
 
@@ -165,7 +165,7 @@ function directory({ virtual_address: start, size }, index) {
 function hardening(image) {
   const { info } = image, has = (flag) => (info.dll_characteristics & flag) !== 0;
   const config = attempt(() => image.call('pe_c_load_config'));
-  const extended = attempt(() => recordOf(image, EXTENDED, 'pe_c_characteristics_of')) ?? 0;
+  const extended = attempt(() => recordOf(image, 'characteristics')) ?? 0;
   const aslr = has(0x40) && (info.characteristics & 1) === 0;
   return {
     aslr,
@@ -282,14 +282,16 @@ function hyphenated(all) {
   return `{${cut.slice(1).map((end, i) => all.slice(cut[i], end)).join('-')}}`;
 }
 
-/** The record of the first debug entry of a type, by the call that reads it. */
-function recordOf(image, type, call) {
-  const entry = image.debugEntry(type);
-  return entry && image.call(call, { mode: image.info.mode, entry });
+/** The record of the first debug entry of its type: a field of pe_c_debug_records, or null. */
+function recordOf(image, field) {
+  const found = image.call('pe_c_debug_data'), result = found[`${field}_result`];
+  if (result === constants.PE_C_NOTHING) return null;
+  if (result !== constants.PE_C_DONE) throw image.refused('pe_c_debug_data', results[result]);
+  return found[field];
 }
 
 /** Whether time stamps are a hash, which a Repro record says. */
-const isHashed = (image) => Boolean(attempt(() => recordOf(image, REPRO, 'pe_c_repro_of')));
+const isHashed = (image) => Boolean(attempt(() => recordOf(image, 'repro')));
 
 function debug(image) {
   const isHash = isHashed(image);
@@ -305,23 +307,23 @@ function debug(image) {
         key: `${all}${key.age.toString(16).toUpperCase()}` };
     }),
     ...part('pdb20', () => {
-      const record = recordOf(image, CODEVIEW, 'pe_c_pdb20_of');
+      const record = recordOf(image, 'pdb20');
       return record && { ...name(untilZero(image.slice(record.name))), ...time(record.signature), age: record.age };
     }),
     ...part('repro', () => {
-      const record = recordOf(image, REPRO, 'pe_c_repro_of');
+      const record = recordOf(image, 'repro');
       return record && { hash_hex: record.has_hash ? hex(image.slice(record.hash)) : null };
     }),
     ...part('extended_dll_characteristics', () => {
-      const value = recordOf(image, EXTENDED, 'pe_c_characteristics_of');
+      const value = recordOf(image, 'characteristics');
       return value === null ? null : flags(value, names.EXTENDED_DLL_CHARACTERISTICS);
     }),
     ...part('embedded_pdb', () => {
-      const record = recordOf(image, EMBEDDED_PDB, 'pe_c_embedded_pdb_of');
+      const record = recordOf(image, 'embedded');
       return record && { size: record.uncompressed_size, compressed_size: number(record.compressed.length) };
     }),
     ...part('pdb_checksum', () => {
-      const record = recordOf(image, PDB_CHECKSUM, 'pe_c_pdb_checksum_of');
+      const record = recordOf(image, 'checksum');
       return record && { ...name(image.slice(record.algorithm), 'algorithm'), checksum_hex: hex(image.slice(record.checksum)) };
     }),
   };

@@ -1,5 +1,5 @@
 // An image: its headers and sections, all calls of pe.h over it, and its lists as iterators.
-import { File, listOf, memoryOf, ownOf, placed, placeFor, written } from './calls.mjs';
+import { File, firstOfType, listOf, memoryOf, ownOf, placed, placeFor, wholeEntries, written } from './calls.mjs';
 import { constants } from './layouts.mjs';
 import { width } from './memory.mjs';
 import { delayImportsOf, digestOf, exportsOf, importsOf, manifestOf, signaturesOf, versionsOf } from './parts.mjs';
@@ -88,7 +88,7 @@ export class Image extends File {
 
   /** The first entry of the debug directory of a type, IMAGE_DEBUG_TYPE_ of winnt.h, or null. */
   debugEntry(type) {
-    return this.call('pe_c_first_debug_entry', { data_type: type });
+    return firstOfType(this.items('pe_c_next_debug_entry', wholeEntries(this.call('pe_c_debug_entries'))), type);
   }
 
   /** The COFF symbols, as images of mingw-w64 have them, or null. An image as loaded has none. */
@@ -220,7 +220,7 @@ export class Image extends File {
 
   /** The unwind records of an x64 function, up to the root of its chain. */
   *records(found) {
-    const table = this.call('pe_c_function_table'), plan = this.call('pe_c_plan_from', { unwind: found.unwind });
+    const table = this.call('pe_c_function_table'), plan = { unwind: found.unwind, saved: found.unwind, limit: 1n };
     if (table) yield* this.items('pe_c_next_record', { plan }, { table });
   }
 

@@ -1,5 +1,5 @@
 // What is read as images are, and is none: COFF objects, the output of compilers, and TE images, those of firmware.
-import { File, placed } from './calls.mjs';
+import { File, firstOfType, placed, wholeEntries } from './calls.mjs';
 import { symbolsOf } from './symbols.mjs';
 
 /** The section headers that a call writes to an array. */
@@ -15,7 +15,8 @@ export class Coff extends File {
     /** pe_c_coff_header */
     this.header = this.call('pe_c_coff');
     /** pe_c_section, one for each section. */
-    this.sections = sectionsOf(this, 'pe_c_coff_sections', { coff: this.header }, this.header.number_of_sections);
+    const { number_of_sections: count, size_of_optional_header: size } = this.header;
+    this.sections = sectionsOf(this, 'pe_c_sections', { image: { sections_offset: 20n + BigInt(size), number_of_sections: count } }, count);
   }
 
   /** The symbols, or null where the header leads to none. */
@@ -41,6 +42,7 @@ export class TeImage extends File {
 
   /** The first of them of a type, IMAGE_DEBUG_TYPE_ of winnt.h, or null. */
   debugEntry(type) {
-    return this.call('pe_c_te_first_debug_entry', { te: this.header, data_type: type });
+    const te = this.header, walk = wholeEntries(this.call('pe_c_te_debug_entries', { te }));
+    return firstOfType(this.items('pe_c_next_te_debug_entry', walk, { te }), type);
   }
 }

@@ -152,8 +152,8 @@ test('the first debug entry of a type, in a view that the library makes', () => 
     assert.equal(entry.pointer_to_raw_data, entry.address_of_raw_data - 0xC00);
   }
   assert.deepEqual([17, 19, 3].map((type) => image.debugEntry(type)), [null, null, null]);
-  assert.throws(() => image.call('pe_c_first_debug_entry', { data_type: 2, view: {} }), TypeError);
-  assert.throws(() => image.call('pe_c_first_debug_entry', {}), TypeError);
+  assert.throws(() => image.call('pe_c_offset', { rva: 2, view: {} }), TypeError);
+  assert.throws(() => image.call('pe_c_offset', {}), TypeError);
   // other calls before it do not write over the view
   [...image.list('debugEntries')].forEach((it) => assert.deepEqual(image.debugEntry(it.data_type), it));
 });
@@ -184,36 +184,35 @@ test('the image as a loader lays it out, and at another base', () => {
   assert.equal(refused(() => image.call('pe_c_map', { room: room.slice(1) })).constant, 'PE_C_ROOM');
 });
 
-/** The record of the first debug entry of a type. */
-function record(image, type, call, mode = constants.PE_C_STRICT) {
-  return image.call(call, { mode, entry: image.debugEntry(type) });
+/** The record of an entry, a field of what is read of it, or its result. */
+function record(image, entry, field, mode = constants.PE_C_STRICT) {
+  const found = image.call('pe_c_debug_record', { mode, entry }), result = found[`${field}_result`];
+  return result === constants.PE_C_DONE ? found[field] : results[result];
 }
 
 test('the records of debug entries', () => {
-  const image = opened('debug'), key = record(image, 2, 'pe_c_symbol_key_of');
+  const image = opened('debug'), of = (type, field) => record(image, image.debugEntry(type), field), key = of(2, 'key');
   const guid = [0xF6, 0x72, 0x7B, 0x49, 0x0A, 0x39, 0xFC, 0x44, 0x87, 0x8E, 0x5A, 0x2D, 0x63, 0xB6, 0xCC, 0x4B];
   assert.deepEqual([key.guid, key.age, image.utf8(key.name)], [guid, 1, 'a.pdb\0']);
-  assert.deepEqual(Object.values(record(image, 12, 'pe_c_vc_features_of')), [1, 2, 3, 4, 5]);
-  const pogo = record(image, 13, 'pe_c_pogo_of');
-  assert.deepEqual([...image.items('pe_c_next_pogo_entry', pogo.entries)].map((it) => [image.utf8(it.name), it.rva, it.size]),
+  assert.deepEqual(image.call('pe_c_symbol_key'), key);
+  assert.deepEqual(Object.values(of(12, 'features')), [1, 2, 3, 4, 5]);
+  assert.deepEqual([...image.items('pe_c_next_pogo_entry', of(13, 'pogo').entries)].map((it) => [image.utf8(it.name), it.rva, it.size]),
     [['.text$mn\0', 0x1000, 16], ['.bss\0', 0x2000, 8]]);
-  assert.equal(image.utf8(record(image, 16, 'pe_c_repro_of').hash), 'hash');
-  assert.equal(record(image, 20, 'pe_c_characteristics_of'), 0x41);
-  assert.equal(record(image, 2, 'pe_c_pdb20_of'), null);
-  const old = opened('old_debug'), pdb = record(old, 2, 'pe_c_pdb20_of');
+  assert.equal(image.utf8(of(16, 'repro').hash), 'hash');
+  assert.equal(of(20, 'characteristics'), 0x41);
+  assert.deepEqual([of(2, 'pdb20'), of(2, 'pogo')], ['PE_C_NOTHING', 'PE_C_NOTHING']);
+  const old = opened('old_debug'), pdb = record(old, old.debugEntry(2), 'pdb20');
   assert.deepEqual([pdb.signature, pdb.age, old.utf8(pdb.name)], [0x3333, 7, 'b.pdb\0\0\0']);
-  const managed = opened('managed_debug'), embedded = record(managed, 17, 'pe_c_embedded_pdb_of');
+  const managed = opened('managed_debug'), { embedded, checksum } = managed.call('pe_c_debug_data');
   assert.deepEqual([embedded.uncompressed_size, managed.utf8(embedded.compressed)], [600, 'zippe']);
-  const checksum = record(managed, 19, 'pe_c_pdb_checksum_of');
   assert.deepEqual([managed.utf8(checksum.algorithm), [...managed.slice(checksum.checksum)]], ['SHA256', [0xAA, 0, 0xBB]]);
 });
 
 test('the mode of a call for a debug entry', () => {
-  const image = opened('debug'), entry = { ...image.debugEntry(2), size_of_data: 23 };
-  const read = (mode) => image.call('pe_c_symbol_key_of', { mode, entry });
-  assert.equal(refused(() => read(constants.PE_C_STRICT)).constant, 'PE_C_DEBUG_SIZE');
-  assert.equal(read(constants.PE_C_PERMISSIVE), null);
-  assert.equal(refused(() => record(image, 2, 'pe_c_embedded_pdb_of')).constant, 'PE_C_BAD_MAGIC');
+  const image = opened('debug'), entry = image.debugEntry(2), short = { ...entry, size_of_data: 23 };
+  assert.equal(record(image, short, 'key'), 'PE_C_DEBUG_SIZE');
+  assert.equal(record(image, short, 'key', constants.PE_C_PERMISSIVE), 'PE_C_NOTHING');
+  assert.equal(record(image, { ...entry, data_type: 17 }, 'embedded'), 'PE_C_BAD_MAGIC');
 });
 
 test('parameters that are missing or unknown', () => {
@@ -508,7 +507,7 @@ test('TE images', () => {
   assert.deepEqual([te.header.machine, te.header.subsystem, te.header.rva_offset, te.header.entry_point], [0x8664, 10, 0x100, 0x1000]);
   assert.deepEqual(te.sections.map((it) => [te.sectionName(it), it.virtual_address]), [['.text', 0x1000]]);
   assert.deepEqual([entry.address_of_raw_data, te.debugEntry(2), te.debugEntry(13)], [0x70, entry, null]);
-  const key = te.call('pe_c_symbol_key_of', { mode: constants.PE_C_MAPPED, entry });
+  const { key } = te.call('pe_c_debug_record', { mode: constants.PE_C_MAPPED, entry });
   assert.deepEqual([te.utf8(key.name), key.age], ['a.pdb\0', 9]);
   assert.equal(refused(() => library.openTe(bytes.subarray(0, 79))).constant, 'PE_C_SHORT');
   assert.equal(refused(() => [...library.openTe(bytes.subarray(0, 0x6B)).debugEntries()]).constant, 'PE_C_DEBUG_BOUNDS');
@@ -568,15 +567,10 @@ test('why steps are refused', () => {
     [image, 'delayed_function', { walk: { left: range(6n, 3n), attributes: 1 } }, 6n, 8n, 0n, 'PE_C_SHORT'],
     [image, 'bound_import', { table: range(0n, 4n), walk: range(6n, 7n) }, 6n, 8n, 0n, 'PE_C_SHORT'],
     [image, 'symbol_name', { table: range(2n, far), strings: {}, index: 0n }, 2n, far, 0n, 'PE_C_SHORT'],
-    [image, 'te_sections', { te: { number_of_sections: 200 } }, 40n, 8000n, 0n, 'PE_C_SHORT'],
-    [image, 'coff_sections', { coff: { number_of_sections: 0xFFFF, size_of_optional_header: 1 } }, 21n, 2621400n, 0n, 'PE_C_SHORT'],
+    [image, 'sections', { image: { number_of_sections: 0xFFFF, sections_offset: 21n } }, 21n, 2621400n, 0n, 'PE_C_SHORT'],
   ])
     assert.deepEqual(said(of, name, given), wanted, name);
   assert.equal(image.call('pe_c_library_failure', { walk: { is_over: 1 } }), null);
-});
-
-test('calls that take no file', () => {
-  assert.deepEqual(library.call('pe_c_plan_from', { unwind: 7 }), { unwind: 7, is_over: 0, saved: 7, spare: 0, steps: 0n, limit: 1n });
 });
 
 test('the caller of a leaf function, by its return address', () => {
@@ -913,7 +907,7 @@ test('each stream of a minidump', () => {
   assert.deepEqual([...x64.list('threads')].map((it) => [it.thread_id, it.thread_context.rva]), [[0x24, 0x1000], [0x25, 0x1000]]);
   const module = only('modules');
   assert.deepEqual([module.base_of_image, module.size_of_image, x64.text(module.module_name_rva)], [BASE, 0x6000, 'a.exe']);
-  const record = x64.call('pe_c_dump_range', { location: module.cv_record });
+  const { rva: offset, size: length } = module.cv_record, record = { offset, length };
   assert.equal(x64.utf8(x64.call('pe_c_codeview', { record }).name), 'a.pdb\0');
   assert.deepEqual([x64.exception().exception_code, x64.exception().number_parameters], [0xC0000005, 2]);
   const { process_id: id, processor_power: power } = x64.process(), name = only('threadNames');

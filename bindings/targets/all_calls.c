@@ -188,7 +188,7 @@ static void walk_x64(const struct file *file)
         if (!IS_DONE(pe_c_function_at, function, BYTES, &table, i, &function))
             continue;
         CALL(pe_c_find_function, found, BYTES, &table, function.begin + (uint32_t)(next_random() % 64), &found);
-        CALL(pe_c_plan_from, walk.plan, function.unwind, &walk.plan);
+        pe_c_plan_from(function.unwind, &walk.plan);
         WALK(RECORDS, pe_c_next_record, record, VIEW, &table, &walk, &record)
             record_x64(file, &record);
         pe_c_code codes[8] = PE_C_EMPTY;
@@ -289,39 +289,23 @@ static void walk_arm64(const struct file *file)
 
 /* ---- the parts of an image */
 
-/* The record of an entry by each call, whatever the entry's type is. */
+/* The record of an entry by each type, whatever the entry's is. */
 static void debug_record(const struct file *file, const pe_c_debug_entry *entry)
 {
+    static const uint32_t types[] = {2, 12, 20, 16, 13, 17, 19};
+    const uint32_t mode = file->image.mode;
     pe_c_range record = {entry->pointer_to_raw_data, entry->size_of_data};
     pe_c_key key = PE_C_EMPTY;
-    pe_c_pdb20 pdb = PE_C_EMPTY;
-    pe_c_vc_features features = PE_C_EMPTY;
-    uint32_t flags = 0, mode = file->image.mode;
-    pe_c_repro repro = PE_C_EMPTY;
-    pe_c_pogo pogo = PE_C_EMPTY;
-    pe_c_embedded_pdb embedded = PE_C_EMPTY;
-    pe_c_pdb_checksum checksum = PE_C_EMPTY;
+    pe_c_debug_records found = PE_C_EMPTY;
     pe_c_failure failure = PE_C_EMPTY;
     CALL(pe_c_codeview, key, BYTES, &record, &key);
-    CALL(pe_c_symbol_key_of, key, BYTES, mode, entry, &key);
-    CALL(pe_c_pdb20_of, pdb, BYTES, mode, entry, &pdb);
-    CALL(pe_c_vc_features_of, features, BYTES, mode, entry, &features);
-    CALL(pe_c_characteristics_of, flags, BYTES, mode, entry, &flags);
-    CALL(pe_c_repro_of, repro, BYTES, mode, entry, &repro);
-    CALL(pe_c_pogo_of, pogo, BYTES, mode, entry, &pogo);
-    CALL(pe_c_embedded_pdb_of, embedded, BYTES, mode, entry, &embedded);
-    CALL(pe_c_pdb_checksum_of, checksum, BYTES, mode, entry, &checksum);
+    for (size_t i = 0; i < sizeof types / sizeof *types; i++) {
+        pe_c_debug_entry typed = *entry;
+        typed.data_type = types[i];
+        CALL(pe_c_debug_record, found, BYTES, mode, &typed, &found);
+    }
     for (uint32_t kind = 0; kind < 9; kind++)
         CALL(pe_c_debug_failure, failure, BYTES, mode, entry, kind, &failure);
-}
-
-/* The first entry of each type whose record has a call, and of one that no image has. */
-static void first_entries(const struct file *file)
-{
-    static const uint32_t types[] = {2, 12, 13, 16, 17, 19, 20, 0xFFFF};
-    pe_c_debug_entry entry = PE_C_EMPTY;
-    for (size_t i = 0; i < sizeof types / sizeof *types; i++)
-        CALL(pe_c_first_debug_entry, entry, VIEW, types[i], &entry);
 }
 
 static void debug_data(const struct file *file)
@@ -333,7 +317,6 @@ static void debug_data(const struct file *file)
     if (IS_DONE(pe_c_debug_entries, range, VIEW, &range))
         WALK(ITEMS, pe_c_next_debug_entry, entry, BYTES, &range, &entry)
             debug_record(file, &entry);
-    first_entries(file);
     CALL(pe_c_symbol_key, key, VIEW, &key);
     pe_c_debug_records all = PE_C_EMPTY;
     CALL(pe_c_debug_data, all, VIEW, &all);
@@ -870,17 +853,18 @@ static void others(struct file *file)
     pe_c_debug_entry entry = PE_C_EMPTY;
     pe_c_failure failure = PE_C_EMPTY;
     if (IS_DONE(pe_c_coff, coff, BYTES, &coff)) {
-        CALL(pe_c_coff_sections, sections, BYTES, &coff, sections, SECTIONS);
-        CALL(pe_c_coff_sections_failure, failure, BYTES, &coff, &failure);
+        pe_c_image_info headers = PE_C_EMPTY;
+        headers.sections_offset = 20u + coff.size_of_optional_header;
+        headers.number_of_sections = coff.number_of_sections;
+        CALL(pe_c_sections, sections, BYTES, &headers, sections, SECTIONS);
+        CALL(pe_c_sections_failure, failure, BYTES, &headers, &failure);
         symbols(file, &coff);
     }
     CALL(pe_c_te_failure, failure, BYTES, &failure);
     CALL(pe_c_te, te, BYTES, &te);
     CALL(pe_c_te_sections, sections, BYTES, &te, sections, SECTIONS);
-    CALL(pe_c_te_sections_failure, failure, BYTES, &te, &failure);
     CALL(pe_c_te_debug_entries, entries, BYTES, &te, &entries);
     WALK(ITEMS, pe_c_next_te_debug_entry, entry, BYTES, &te, &entries, &entry) {}
-    CALL(pe_c_te_first_debug_entry, entry, BYTES, &te, 2, &entry);
 }
 
 /* Why steps are refused whose walk is past the end of the bytes, and what is read by a key that no image has. */
@@ -894,8 +878,6 @@ static void refused_steps(const struct file *file)
     const pe_c_arm64_walk arm64_codes = {.left = past};
     const pe_c_delayed_functions functions = {.left = past};
     const pe_c_arm64_function function = {.unwind = 0xFFFFFFF0};
-    const pe_c_te_image te = {.number_of_sections = 255};
-    const pe_c_coff_header coff = {.number_of_sections = 65535};
     pe_c_image_info image = file->image;
     pe_c_failure failure = PE_C_EMPTY;
     image.sections_offset = file->length;
@@ -915,8 +897,6 @@ static void refused_steps(const struct file *file)
     CALL(pe_c_delayed_function_failure, failure, VIEW, &functions, &failure);
     CALL(pe_c_bound_import_failure, failure, BYTES, &none, &past, &failure);
     CALL(pe_c_symbol_name_failure, failure, BYTES, &past, &none, 0, &failure);
-    CALL(pe_c_te_sections_failure, failure, BYTES, &te, &failure);
-    CALL(pe_c_coff_sections_failure, failure, BYTES, &coff, &failure);
 }
 
 static void in_mode(struct file *file, uint32_t mode)
@@ -976,15 +956,13 @@ static void dump_lists(const struct file *file, const pe_c_range *stream)
     pe_c_dump_region region = PE_C_EMPTY;
     pe_c_dump_piece piece = PE_C_EMPTY;
     pe_c_range range = PE_C_EMPTY;
-    pe_c_dump_raised raised = PE_C_EMPTY;
     pe_c_context context = PE_C_EMPTY;
     pe_c_arm64_context arm64_context = PE_C_EMPTY;
     uint32_t is_image = 0;
     for (uint64_t i = 0; i < 4; i++) {
         CALL(pe_c_dump_thread_at, thread, BYTES, stream, i, &thread);
-        raised.thread_id = (uint32_t)i;
-        CALL(pe_c_dump_thread_context, context, BYTES, &thread, &raised, &context);
-        CALL(pe_c_dump_thread_context_arm64, arm64_context, BYTES, &thread, &raised, &arm64_context);
+        CALL(pe_c_dump_context, context, BYTES, &thread.thread_context, &context);
+        CALL(pe_c_dump_context_arm64, arm64_context, BYTES, &thread.thread_context, &arm64_context);
         CALL(pe_c_dump_module_at, module, BYTES, stream, i, &module);
         pe_c_image_info image = file->image;
         CALL(pe_c_is_image_of, is_image, &image, &module);
@@ -992,7 +970,6 @@ static void dump_lists(const struct file *file, const pe_c_range *stream)
         image.time_date_stamp = module.time_date_stamp;
         image.size_of_image = module.size_of_image;
         CALL(pe_c_is_image_of, is_image, &image, &module);
-        CALL(pe_c_dump_range, range, BYTES, &module.cv_record, &range);
         CALL(pe_c_dump_text, range, BYTES, module.module_name_rva, &range);
         CALL(pe_c_dump_thread_name_at, name, BYTES, stream, i, &name);
         CALL(pe_c_dump_unloaded_at, unloaded, BYTES, stream, i, &unloaded);

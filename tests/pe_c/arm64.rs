@@ -3,11 +3,11 @@
 use super::made::*;
 use super::steps::pe_c_arm64_function_at;
 use crate::arm64::functions::{
-    Arm64Packed, pe_c_arm64_packed_fields, pe_c_arm64_table, pe_c_find_arm64_function,
+    pe_c_arm64_packed_fields, pe_c_arm64_table, pe_c_find_arm64_function,
 };
-use crate::arm64::records::{
-    Arm64Record, Arm64Scope, pe_c_arm64_unwind_record, pe_c_next_arm64_scope,
-};
+use crate::arm64::records::{pe_c_arm64_unwind_record, pe_c_next_arm64_scope};
+use calls_unwind::arm64::functions::Arm64Packed;
+use calls_unwind::arm64::records::{Arm64Record, Arm64Scope};
 use pe_unwind::Arm64RuntimeFunction;
 
 /// An image for ARM64 with its exception directory there.
@@ -107,10 +107,8 @@ fn functions_of_addresses(rt: HostRuntime) -> Result<(), Fail> {
 /// A table that is truncated has no last entry.
 #[test]
 fn functions_by_index(rt: HostRuntime) -> Result<(), Fail> {
-    let bytes = words(
-        rt.alloc(),
-        &[0xFFFF_FFFF, 0x1000, 0x0062_0021, 0x1020, 0x1040],
-    )?;
+    let numbers = [0xFFFF_FFFF, 0x1000, 0x0062_0021, 0x1020, 0x1040];
+    let bytes = words(rt.alloc(), &numbers)?;
     let at = |table: &Range, index| {
         let mut out = OTHER;
         let answer = pe_c_arm64_function_at(&bytes, table, index, &mut out);
@@ -289,11 +287,8 @@ fn records_are_read(rt: HostRuntime) -> Result<(), Fail> {
         (0x1068, ([0x6C, 0], [0x6C, 4], OVER, [0, 0, 0, 0, 0, 0])),
         (0x1070, ([0x78, 0], [0x78, 0], OVER, [0, 0, 0, 0, 0, 0])),
     ] {
-        assert_eq!(rt;
-            record_of(&bytes, &image, unwind_data),
-            (DONE, want),
-            "at {unwind_data:#x}"
-        );
+        let found = record_of(&bytes, &image, unwind_data);
+        assert_eq!(rt; found, (DONE, want), "at {unwind_data:#x}");
     }
     Ok(())
 }

@@ -2,7 +2,8 @@
 
 use super::made::*;
 use super::steps::pe_c_next_arm64_code;
-use crate::arm64::codes::{Arm64Code, Arm64CodeWalk, pe_c_arm64_codes};
+use crate::arm64::codes::pe_c_arm64_codes;
+use calls_unwind::arm64::codes::{Arm64Code, Arm64CodeWalk};
 
 /// Range and offset of a walk.
 fn of_walk(walk: Arm64CodeWalk) -> [u64; 3] {
@@ -180,7 +181,7 @@ fn codes_that_are_cut(rt: HostRuntime) {
                 last = step(&bytes, &mut walk);
             }
         }
-        // shows: pe_c/src/arm64/codes.rt step Arm64Cut
+        // shows: calls_unwind/src/arm64/codes.rt step Arm64Cut
         assert_eq!(rt; last, (ARM64_CUT, NO_CODE, OVER_WALK), "{code:?}");
     }
 }
@@ -191,7 +192,7 @@ fn walks_that_lie(rt: HostRuntime) {
     let bytes = [0xE3; 8];
     let want = (SHORT, NO_CODE, OVER_WALK);
     assert_eq!(rt; step(&bytes, &mut walk_over(range(1, 8), 0)), want);
-    // shows: pe_c/src/arm64/codes.rt left_of_stream Arm64Stream
+    // shows: calls_unwind/src/arm64/codes.rt left_of_stream Arm64Stream
     for (length, offset) in [(4, 1), (4, 4_294_967_292), (4, u64::MAX - 3)] {
         let mut walk = walk_over(range(1, length), offset);
         let want = (ARM64_STREAM, NO_CODE, OVER_WALK);

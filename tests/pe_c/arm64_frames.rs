@@ -2,8 +2,9 @@
 //! data whose prolog llvm-readobj prints. Stacks are by hand: what is expected is the state at the function's entry.
 
 use super::made::*;
-use crate::arm64::frames::{Arm64FrameRegisters, Arm64StackFrame, pe_c_step_arm64};
-use crate::base::results::{BAD_ADDRESS, BAD_OPERATION, MISSING, NOT_RISING};
+use crate::arm64::frames::pe_c_step_arm64;
+use calls_base::results::{BAD_ADDRESS, BAD_OPERATION, MISSING, NOT_RISING};
+use calls_stacks::arm64::frames::{Arm64FrameRegisters, Arm64StackFrame};
 use pe_images::image as bytes_of;
 use pe_unwind::Arm64RuntimeFunction;
 
@@ -197,16 +198,10 @@ fn steps_tell_interrupts(rt: HostRuntime) -> Result<(), Fail> {
     pushed.pc = 0x1_2345;
     for (data, caller) in [(0x1070, pushed), (0x1080, of_caller())] {
         let mut frame = frame_at(data, 9, registers);
-        assert_eq!(rt;
-            step(&bytes, (ENTRY, &stack), &mut frame),
-            DONE,
-            "of {data:#x}"
-        );
-        assert_eq!(rt;
-            fields_of(&frame.registers),
-            fields_of(&caller),
-            "of {data:#x}"
-        );
+        let found = step(&bytes, (ENTRY, &stack), &mut frame);
+        assert_eq!(rt; found, DONE, "of {data:#x}");
+        let found = fields_of(&frame.registers);
+        assert_eq!(rt; found, fields_of(&caller), "of {data:#x}");
         assert_eq!(rt; frame.interrupted, 1, "of {data:#x}");
     }
     Ok(())
@@ -246,10 +241,8 @@ fn steps_are_refused(rt: HostRuntime) -> Result<(), Fail> {
 fn leaves_a_leaf(rt: HostRuntime) {
     let mut frame = frame_at(7, 8, changed(ENTRY, &[]));
     frame.leaf = u32::MAX;
-    assert_eq!(rt;
-        step_over(&[], &[], &[piece_at(0, 0, 1)], &mut frame),
-        SHORT
-    );
+    let found = step_over(&[], &[], &[piece_at(0, 0, 1)], &mut frame);
+    assert_eq!(rt; found, SHORT);
     assert_eq!(rt; step_over(&[], &[], &[], &mut frame), DONE);
     let mut wanted = left_at(7, 8, of_caller());
     wanted.leaf = u32::MAX;

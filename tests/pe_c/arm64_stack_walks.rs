@@ -2,10 +2,13 @@
 //! entered with.
 
 use super::made::*;
-use crate::arm64::frames::Arm64FrameRegisters;
-use crate::arm64::stack_walk::{Arm64StackWalk, pe_c_next_arm64_frame, pe_c_next_arm64_frames};
-use crate::base::results::MISSING;
-use crate::stack::walk::ModuleView;
+use super::stack_walks::module;
+use super::steps::pe_c_next_arm64_frame;
+use crate::arm64::stack_walk::pe_c_next_arm64_frames;
+use calls_base::results::MISSING;
+use calls_stacks::arm64::frames::Arm64FrameRegisters;
+use calls_stacks::arm64::stack_walk::Arm64StackWalk;
+use calls_stacks::stack::walk::ModuleView;
 use pe_images::image as bytes_of;
 
 /// Where the image is loaded.
@@ -27,12 +30,6 @@ const DAMAGED: u64 = BASE + 0x1048;
 const FP: usize = 29;
 
 const LR: usize = 30;
-
-/// The range of the function table.
-const TABLE: Range = Range {
-    offset: 0x80,
-    length: 24,
-};
 
 // Ways, and reasons why a walk is over.
 const TOP: u32 = 0;
@@ -71,15 +68,6 @@ fn program(alloc: Global) -> Result<Vec<u8>, AllocError> {
             (0xB0, &[8, 0, 4, 0x08, 0xE4, 0xE3, 0xE3, 0xE3]),
         ],
     )
-}
-
-/// The image as a module.
-fn module<'a>(bytes: &'a [u8], image: &'a Image, sections: &'a [SectionTable]) -> ModuleView<'a> {
-    ModuleView {
-        image: view(bytes, image, sections),
-        table: TABLE,
-        base: BASE,
-    }
 }
 
 /// A walk of at most so many frames from these pointers.

@@ -2,14 +2,13 @@
 
 use super::made::*;
 use super::steps::{pe_c_next_relocation, pe_c_next_relocation_block};
-use crate::directories::base_relocations::{Relocation, RelocationBlock, pe_c_relocation_blocks};
+use crate::directories::base_relocations::pe_c_relocation_blocks;
+use calls_directories::directories::base_relocations::{Relocation, RelocationBlock};
 
 /// At offset 4: a block with two entries, and one with a HIGHADJ, its argument, and a HIGHADJ that has none.
 pub(crate) fn two_blocks(alloc: Global) -> Result<Vec<u8>, AllocError> {
-    words(
-        alloc,
-        &[0, 0x1000, 12, 0x3FFF_A008, 0x5000, 14, 0x8765_4010, 0x4020],
-    )
+    let numbers = [0, 0x1000, 12, 0x3FFF_A008, 0x5000, 14, 0x8765_4010, 0x4020];
+    words(alloc, &numbers)
 }
 
 #[test]

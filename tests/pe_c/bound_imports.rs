@@ -2,7 +2,8 @@
 
 use super::made::*;
 use super::steps::{pe_c_next_bound_forwarder, pe_c_next_bound_import};
-use crate::directories::bound_imports::{BoundForwarder, BoundImport, pe_c_bound_imports};
+use crate::directories::bound_imports::pe_c_bound_imports;
+use calls_directories::directories::bound_imports::{BoundForwarder, BoundImport};
 
 /// The directory at offset 4, 63 bytes: two DLLs, of which the first forwards to one, and an entry without a name. The last
 /// name is not NUL-terminated. By hand from the layout of winnt.h.
@@ -69,7 +70,7 @@ fn imports_in_turn(rt: HostRuntime) -> Result<(), Fail> {
     let first = ([0x2C, 7], [12, 8], 0x3F00_0001, 0);
     assert_eq!(rt; step(BYTES, table(), table()), (DONE, first, [20, 47]));
     // The name of the second is the end of the bytes.
-    // shows: pe_c/src/directories/bound_imports.rt range_at BoundImportName
+    // shows: calls_directories/src/directories/bound_imports.rt range_at BoundImportName
     let refused = (DIRECTORY_BOUND_IMPORT_NAME, flat(NO_IMPORT), OVER);
     assert_eq!(rt; step(BYTES, table(), range(20, 47)), refused);
     let mut ended = *BYTES;

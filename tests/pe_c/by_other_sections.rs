@@ -16,10 +16,10 @@ use super::steps::{
 };
 use super::unwinding::no_record;
 use crate::directories::delay_imports::pe_c_delay_imports;
-use crate::names::exports::Exports;
-use crate::names::imports::{Imports, Libraries};
 use crate::unwinding::pe_c_function_table;
 use crate::unwinding::plan::pe_c_next_record;
+use calls_directories::names::exports::Exports;
+use calls_directories::names::imports::{Imports, Libraries};
 use pe_images::image as bytes_of;
 
 /// Where the second half of the bytes starts.

@@ -1,7 +1,8 @@
 //! The certificates of a table, one a step.
 
 use super::made::*;
-use crate::directories::certificates::{Certificate, pe_c_next_certificate};
+use crate::directories::certificates::pe_c_next_certificate;
+use calls_directories::directories::certificates::Certificate;
 use pe_images::image as bytes_of;
 
 /// Body, length, revision and type of a certificate.
@@ -65,11 +66,8 @@ fn certificates_at_the_end_of_a_walk(rt: HostRuntime) -> Result<(), Fail> {
     let bytes = three_certificates(rt.alloc())?;
     for (length, after) in [(1, OVER), (16, OVER), (17, [24, 1])] {
         let mut walk = range(8, length);
-        assert_eq!(rt;
-            step(&bytes, &mut walk),
-            (DONE, FIRST, after),
-            "of {length}"
-        );
+        let found = step(&bytes, &mut walk);
+        assert_eq!(rt; found, (DONE, FIRST, after), "of {length}");
     }
     let mut next = range(24, 1);
     let found = step(&bytes, &mut next);
@@ -99,7 +97,7 @@ fn certificates_that_are_refused(rt: HostRuntime) -> Result<(), Fail> {
     assert_eq!(rt; step(&bytes, &mut range(8, 40)), empty);
     let mut cut = range(49, 7);
     assert_eq!(rt; step(&bytes, &mut cut), (SHORT, NO_CERTIFICATE, OVER));
-    // shows: pe_c/src/directories/certificates.rt step CertificateTable
+    // shows: calls_directories/src/directories/certificates.rt step CertificateTable
     let mut lie = range(8, 49);
     let want = (CERTIFICATE_TABLE, NO_CERTIFICATE, OVER);
     assert_eq!(rt; step(&bytes, &mut lie), want);

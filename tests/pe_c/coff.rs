@@ -14,11 +14,12 @@
 
 use super::made::*;
 use super::steps::pe_c_symbol;
-use crate::headers::CoffFields;
 use crate::headers::coff::{
-    Symbol, SymbolWalk, pe_c_coff, pe_c_coff_sections, pe_c_coff_strings, pe_c_coff_symbols,
-    pe_c_next_symbol, pe_c_symbol_name,
+    pe_c_coff, pe_c_coff_strings, pe_c_coff_symbols, pe_c_next_symbol, pe_c_symbol_name,
 };
+use crate::headers::image::pe_c_sections;
+use calls_headers::coff::{Symbol, SymbolWalk};
+use calls_headers::headers::CoffFields;
 use pe_images::image as bytes_of;
 
 /// Offset and entries of the symbols, offset and size of the string table after them.
@@ -97,13 +98,25 @@ fn header_of_an_object(rt: HostRuntime) -> Result<(), Fail> {
     Ok(())
 }
 
+/// Where the section headers of an object are.
+pub(crate) fn section_headers(coff: &CoffFields) -> Image {
+    Image {
+        sections_offset: 20 + u64::from(coff.size_of_optional_header),
+        number_of_sections: coff.number_of_sections,
+        ..image(X64)
+    }
+}
+
 #[test]
 fn sections_of_an_object(rt: HostRuntime) -> Result<(), Fail> {
     let mut bytes = object(rt.alloc())?;
     let (_, _, coff) = header_of(&bytes);
     let [other] = sections();
     let mut room = [other; 4];
-    assert_eq!(rt; pe_c_coff_sections(&bytes, &coff, &mut room), DONE);
+    assert_eq!(rt;
+        pe_c_sections(&bytes, &section_headers(&coff), &mut room),
+        DONE
+    );
     let text = SectionTable {
         name: *b".text\0\0\0",
         virtual_size: 0,
@@ -130,14 +143,20 @@ fn sections_of_an_object(rt: HostRuntime) -> Result<(), Fail> {
         number_of_sections: 2,
         ..moved
     };
-    assert_eq!(rt; pe_c_coff_sections(&bytes, &two, &mut room), DONE);
+    assert_eq!(rt;
+        pe_c_sections(&bytes, &section_headers(&two), &mut room),
+        DONE
+    );
     let [first, second, third, _] = room;
     assert_eq!(rt;
         (first.name, second.name, third.name),
         (*b".data\0\0\0", *b".bss\0\0\0\0", *b".bss\0\0\0\0")
     );
     let mut room = [other; 2];
-    assert_eq!(rt; pe_c_coff_sections(&bytes, &coff, &mut room), ROOM);
+    assert_eq!(rt;
+        pe_c_sections(&bytes, &section_headers(&coff), &mut room),
+        ROOM
+    );
     assert_eq!(rt; room, [other; 2]);
     Ok(())
 }

@@ -1,13 +1,11 @@
 //! The debug directory's table, and the records that its entries lead to.
 
 use super::made::*;
-use super::steps::pe_c_symbol_key;
-use crate::debug::records::{
-    EmbeddedPdb, Pdb20, PdbChecksum, Pogo, Repro, SymbolKey, pe_c_characteristics_of,
-    pe_c_codeview, pe_c_embedded_pdb_of, pe_c_pdb_checksum_of, pe_c_pdb20_of, pe_c_pogo_of,
-    pe_c_repro_of, pe_c_symbol_key_of, pe_c_vc_features_of,
-};
-use crate::debug::{DebugRecords, pe_c_debug_data, pe_c_debug_entries, pe_c_first_debug_entry};
+use crate::debug::records::pe_c_codeview;
+use crate::debug::walks::pe_c_next_debug_entry;
+use crate::debug::{pe_c_debug_data, pe_c_debug_entries, pe_c_debug_record, pe_c_symbol_key};
+use calls_headers::debug::DebugRecords;
+use calls_headers::debug::records::SymbolKey;
 use pe_images::image as bytes_of;
 use pe_records::{ImageDebugDirectory, VCFeatureInfo};
 
@@ -94,7 +92,7 @@ fn with_old_records(alloc: Global) -> Result<Vec<u8>, Fail> {
     Ok(bytes)
 }
 
-/// All six records of an image: the answer and all fields of each.
+/// All records of an image: the answer and all fields of each.
 #[derive(Clone, Copy, Debug, PartialEq)]
 struct Reported {
     key: (u32, [u8; 16], [u32; 2], [u64; 2]),
@@ -103,6 +101,8 @@ struct Reported {
     characteristics: (u32, u32),
     repro: (u32, [u64; 2], [u32; 2]),
     pogo: (u32, [u64; 2], [u32; 2]),
+    embedded: (u32, [u64; 2], [u32; 2]),
+    checksum: (u32, [[u64; 2]; 2]),
 }
 
 fn key_of(bytes: &[u8], image: &Image, mode: u32) -> (u32, [u8; 16], [u32; 2], [u64; 2]) {
@@ -147,51 +147,10 @@ fn records_that_stand_alone(rt: HostRuntime) -> Result<(), Fail> {
     Ok(())
 }
 
-const NO_FEATURES: VCFeatureInfo = VCFeatureInfo {
-    pre_vc_plusplus_count: 9,
-    c_and_cplusplus_count: 9,
-    guard_stack_count: 9,
-    sdl_count: 9,
-    guard_count: 9,
-};
-
-/// What the call for all of them returns, which is always `DONE`.
-fn reported_by(bytes: &[u8], image: &Image, mode: u32) -> Reported {
-    let mut out = DebugRecords {
-        key: SymbolKey {
-            guid: [7; 16],
-            age: 8,
-            spare: 9,
-            name: untouched(),
-        },
-        pdb20: Pdb20 {
-            name: untouched(),
-            offset: 5,
-            signature: 6,
-            age: 7,
-            spare: 8,
-        },
-        repro: Repro {
-            hash: untouched(),
-            has_hash: 5,
-            spare: 6,
-        },
-        pogo: Pogo {
-            entries: untouched(),
-            signature: 5,
-            spare: 6,
-        },
-        features: NO_FEATURES,
-        characteristics: 9,
-        key_result: 99,
-        pdb20_result: 99,
-        repro_result: 99,
-        pogo_result: 99,
-        features_result: 99,
-        characteristics_result: 99,
-    };
-    let answer = pe_c_debug_data(&view(bytes, &in_mode(image, mode), &sections()), &mut out);
+/// What a call returns, which is always `DONE`, and what it wrote.
+fn reported(answer: u32, out: &DebugRecords) -> Reported {
     let (key, old, repro, pogo) = (out.key, out.pdb20, out.repro, out.pogo);
+    let (embedded, checksum) = (out.embedded, out.checksum);
     Reported {
         key: (
             out.key_result | answer,
@@ -216,7 +175,30 @@ fn reported_by(bytes: &[u8], image: &Image, mode: u32) -> Reported {
             of_range(pogo.entries),
             [pogo.signature, pogo.spare],
         ),
+        embedded: (
+            out.embedded_result,
+            of_range(embedded.compressed),
+            [embedded.uncompressed_size, embedded.spare],
+        ),
+        checksum: (
+            out.checksum_result,
+            [of_range(checksum.algorithm), of_range(checksum.checksum)],
+        ),
     }
+}
+
+/// The records of the first entries.
+fn reported_by(bytes: &[u8], image: &Image, mode: u32) -> Reported {
+    let mut out = untouched_records();
+    let answer = pe_c_debug_data(&view(bytes, &in_mode(image, mode), &sections()), &mut out);
+    reported(answer, &out)
+}
+
+/// The record of an entry.
+fn reported_of(bytes: &[u8], mode: u32, entry: &ImageDebugDirectory) -> Reported {
+    let mut out = untouched_records();
+    let answer = pe_c_debug_record(bytes, mode, entry, &mut out);
+    reported(answer, &out)
 }
 
 /// Where nothing goes out and each result is this one.
@@ -228,6 +210,8 @@ fn nothing_but(answer: u32) -> Reported {
         characteristics: (answer, 9),
         repro: (answer, UNTOUCHED, [5, 6]),
         pogo: (answer, UNTOUCHED, [5, 6]),
+        embedded: (answer, UNTOUCHED, [5, 6]),
+        checksum: (answer, [UNTOUCHED; 2]),
     }
 }
 
@@ -295,110 +279,79 @@ fn older_records_in_strict_mode(rt: HostRuntime) -> Result<(), Fail> {
 
 // ---- entries
 
-fn first_entry(bytes: &[u8], image: &Image, data_type: u32) -> (u32, ImageDebugDirectory) {
-    let sections: &[SectionTable] = &sections();
-    let view = view(bytes, image, sections);
-    let mut out = NO_DEBUG_ENTRY;
-    (pe_c_first_debug_entry(&view, data_type, &mut out), out)
-}
-
 /// The first entry of each type, whole ones alone; a second one of a type is never read.
 #[test]
 fn first_entries_of_types(rt: HostRuntime) -> Result<(), Fail> {
     let mut bytes = with_records(rt.alloc())?;
-    let image = with_table(0x1010, TABLE_SIZE);
-    for (data_type, size, offset) in [(2, 30, 0xA0), (12, 20, 0xC0), (20, 4, 0x110)] {
-        let want = ImageDebugDirectory {
-            characteristics: 0,
-            time_date_stamp: 0,
-            major_version: 0,
-            minor_version: 0,
-            data_type,
-            size_of_data: size,
-            address_of_raw_data: 0xFF,
-            pointer_to_raw_data: offset,
-        };
-        assert_eq!(rt; first_entry(&bytes, &image, data_type), (DONE, want));
-    }
-    assert_eq!(rt; first_entry(&bytes, &image, 17), (NOTHING, NO_DEBUG_ENTRY));
-    // the last entry is of CodeView too, and leads nowhere
-    put(&mut bytes, &[(0x8C, &[2]), (0x98, &[0xFF; 4])]);
     let want = Reported {
         characteristics: nothing_but(NOTHING).characteristics,
         ..reported_of_records()
     };
+    let truncated = with_table(0x1010, TABLE_SIZE - 1);
+    assert_eq!(rt; reported_by(&bytes, &truncated, STRICT), want);
+    // the last entry is of CodeView too, and leads nowhere
+    put(&mut bytes, &[(0x8C, &[2]), (0x98, &[0xFF; 4])]);
+    let image = with_table(0x1010, TABLE_SIZE);
     assert_eq!(rt; reported_by(&bytes, &image, STRICT), want);
     Ok(())
 }
 
-/// The record of an entry that a caller has is that of the image, whatever its type says; and the table is not read.
+/// The entries of the table at 0x10.
+fn entries_of(bytes: &[u8]) -> [ImageDebugDirectory; 5] {
+    let (mut entries, mut walk) = ([NO_DEBUG_ENTRY; 5], range(0x10, u64::from(TABLE_SIZE)));
+    for entry in &mut entries {
+        pe_c_next_debug_entry(bytes, &mut walk, entry);
+    }
+    entries
+}
+
+/// The record of an entry that a caller has is that of the image, by its type; and the table is not read.
 #[test]
 fn records_of_entries(rt: HostRuntime) -> Result<(), Fail> {
     let mut bytes = with_records(rt.alloc())?;
-    let image = with_table(0x1010, TABLE_SIZE);
-    let mut entries = [NO_DEBUG_ENTRY; 5];
-    for (entry, data_type) in entries.iter_mut().zip([2, 12, 13, 16, 20]) {
-        *entry = first_entry(&bytes, &image, data_type).1;
-        entry.data_type = 99;
-    }
+    let mut entries = entries_of(&bytes);
     put(&mut bytes, &[(0x10, &[0xFF; 0x8C])]);
-    let whole = reported_of_records();
-    let mut key = SymbolKey {
-        guid: [7; 16],
-        age: 8,
-        spare: 9,
-        name: untouched(),
-    };
-    let number = pe_c_symbol_key_of(&bytes, STRICT, &entries[0], &mut key);
-    let found = (number, key.guid, [key.age, key.spare], of_range(key.name));
-    assert_eq!(rt; found, whole.key);
-    let mut features = NO_FEATURES;
-    let number = pe_c_vc_features_of(&bytes, STRICT, &entries[1], &mut features);
-    assert_eq!(rt; (number, features), whole.features);
-    let mut pogo = Pogo {
-        entries: untouched(),
-        signature: 5,
-        spare: 6,
-    };
-    let number = pe_c_pogo_of(&bytes, STRICT, &entries[2], &mut pogo);
-    let found = (number, of_range(pogo.entries), [pogo.signature, pogo.spare]);
-    assert_eq!(rt; found, whole.pogo);
-    let mut repro = Repro {
-        hash: untouched(),
-        has_hash: 5,
-        spare: 6,
-    };
-    let number = pe_c_repro_of(&bytes, STRICT, &entries[3], &mut repro);
-    let found = (number, of_range(repro.hash), [repro.has_hash, repro.spare]);
-    assert_eq!(rt; found, whole.repro);
-    let mut flags = 9;
-    let number = pe_c_characteristics_of(&bytes, STRICT, &entries[4], &mut flags);
-    assert_eq!(rt; (number, flags), whole.characteristics);
+    let (whole, none) = (reported_of_records(), nothing_but(NOTHING));
+    let wanted = [
+        Reported {
+            key: whole.key,
+            ..none
+        },
+        Reported {
+            features: whole.features,
+            ..none
+        },
+        Reported {
+            pogo: whole.pogo,
+            ..none
+        },
+        Reported {
+            repro: whole.repro,
+            ..none
+        },
+        Reported {
+            characteristics: whole.characteristics,
+            ..none
+        },
+    ];
+    for (entry, want) in entries.iter().zip(wanted) {
+        assert_eq!(rt; reported_of(&bytes, STRICT, entry), want);
+    }
     // in an image as loaded the record stands at its RVA
     entries[4].address_of_raw_data = 0x111;
-    let found = pe_c_characteristics_of(&bytes, MAPPED, &entries[4], &mut flags);
-    assert_eq!(rt; found, DONE);
-    assert_eq!(rt; flags, 0x0004_0302);
-    let mut old = Pdb20 {
-        name: untouched(),
-        offset: 5,
-        signature: 6,
-        age: 7,
-        spare: 8,
-    };
-    let number = pe_c_pdb20_of(&bytes, STRICT, &entries[0], &mut old);
-    let found = (number, old.offset, of_range(old.name));
-    assert_eq!(rt; found, (NOTHING, 5, UNTOUCHED));
+    let found = reported_of(&bytes, MAPPED, &entries[4]);
+    assert_eq!(rt; found.characteristics, (DONE, 0x0004_0302));
     put(&mut bytes, &[(0xA0, b"NB10")]);
-    let number = pe_c_pdb20_of(&bytes, STRICT, &entries[0], &mut old);
-    let want = (DONE, 0x1312_1110, [0xB0, 14]);
-    assert_eq!(rt; (number, old.offset, of_range(old.name)), want);
+    let found = reported_of(&bytes, STRICT, &entries[0]);
+    assert_eq!(rt; (found.pdb20.0, found.pdb20.1), (DONE, [0xB0, 14]));
+    assert_eq!(rt; (found.pdb20.2[0], found.key), (0x1312_1110, none.key));
     Ok(())
 }
 
-/// An entry whose record stands at an offset and has so many bytes.
-fn entry(offset: u32, size: u32) -> ImageDebugDirectory {
+/// An entry of a type whose record stands at an offset and has so many bytes.
+fn entry(data_type: u32, offset: u32, size: u32) -> ImageDebugDirectory {
     ImageDebugDirectory {
+        data_type,
         size_of_data: size,
         pointer_to_raw_data: offset,
         ..NO_DEBUG_ENTRY
@@ -409,22 +362,17 @@ fn entry(offset: u32, size: u32) -> ImageDebugDirectory {
 #[test]
 fn embedded_pdbs(rt: HostRuntime) -> Result<(), Fail> {
     let bytes = bytes_of(rt.alloc(), 16, &[(3, b"MPDB\x01\x02\0\0zipped")])?;
-    let read = |mode, entry| {
-        let mut out = EmbeddedPdb {
-            compressed: untouched(),
-            uncompressed_size: 5,
-            spare: 6,
-        };
-        let number = pe_c_embedded_pdb_of(&bytes, mode, &entry, &mut out);
-        (number, of_range(out.compressed), out.uncompressed_size)
+    let read = |mode, offset, size| {
+        let found = reported_of(&bytes, mode, &entry(17, offset, size));
+        (found.embedded.0, found.embedded.1, found.embedded.2[0])
     };
-    assert_eq!(rt; read(STRICT, entry(3, 13)), (DONE, [11, 5], 0x201));
-    for (mode, entry, number) in [
-        (STRICT, entry(3, 7), DEBUG_SIZE),
-        (PERMISSIVE, entry(4, 8), BAD_MAGIC),
-        (PERMISSIVE, entry(3, 14), DEBUG_DATA),
+    assert_eq!(rt; read(STRICT, 3, 13), (DONE, [11, 5], 0x201));
+    for (mode, offset, size, number) in [
+        (STRICT, 3, 7, DEBUG_SIZE),
+        (PERMISSIVE, 4, 8, BAD_MAGIC),
+        (PERMISSIVE, 3, 14, DEBUG_DATA),
     ] {
-        assert_eq!(rt; read(mode, entry), (number, UNTOUCHED, 5));
+        assert_eq!(rt; read(mode, offset, size), (number, UNTOUCHED, 5));
     }
     Ok(())
 }
@@ -433,18 +381,28 @@ fn embedded_pdbs(rt: HostRuntime) -> Result<(), Fail> {
 #[test]
 fn checksums_of_pdbs(rt: HostRuntime) -> Result<(), Fail> {
     let bytes = bytes_of(rt.alloc(), 16, &[(3, b"SHA256\0\xAA\0\xBB")])?;
-    let read = |mode, entry| {
-        let mut out = PdbChecksum {
-            algorithm: untouched(),
-            checksum: untouched(),
-        };
-        let number = pe_c_pdb_checksum_of(&bytes, mode, &entry, &mut out);
-        (number, of_range(out.algorithm), of_range(out.checksum))
-    };
-    assert_eq!(rt; read(STRICT, entry(3, 10)), (DONE, [3, 6], [10, 3]));
-    let found = read(STRICT, entry(3, 6));
-    assert_eq!(rt; found, (DEBUG_SIZE, UNTOUCHED, UNTOUCHED));
-    let long = entry(3, 14);
-    assert_eq!(rt; read(PERMISSIVE, long), (DEBUG_DATA, UNTOUCHED, UNTOUCHED));
+    let read = |mode, size| reported_of(&bytes, mode, &entry(19, 3, size)).checksum;
+    assert_eq!(rt; read(STRICT, 10), (DONE, [[3, 6], [10, 3]]));
+    assert_eq!(rt; read(STRICT, 6), (DEBUG_SIZE, [UNTOUCHED; 2]));
+    assert_eq!(rt; read(PERMISSIVE, 14), (DEBUG_DATA, [UNTOUCHED; 2]));
+    Ok(())
+}
+
+/// Of an image the first entries of both types.
+#[test]
+fn managed_records_of_an_image(rt: HostRuntime) -> Result<(), Fail> {
+    let mut bytes = with_records(rt.alloc())?;
+    put(
+        &mut bytes,
+        &[
+            (0x1C, &[17, 0, 0, 0, 13]),
+            (0xA0, b"MPDB\x01\x02\0\0zippe"),
+            (0x38, &[19, 0, 0, 0, 10]),
+            (0xC0, b"SHA256\0\xAA\0\xBB"),
+        ],
+    );
+    let found = reported_by(&bytes, &with_table(0x1010, TABLE_SIZE), STRICT);
+    assert_eq!(rt; found.embedded, (DONE, [0xA8, 5], [0x201, 0]));
+    assert_eq!(rt; found.checksum, (DONE, [[0xC0, 6], [0xC7, 3]]));
     Ok(())
 }

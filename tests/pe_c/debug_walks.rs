@@ -2,7 +2,8 @@
 
 use super::made::*;
 use super::steps::pe_c_next_pogo_entry;
-use crate::debug::walks::{PogoEntry, pe_c_next_debug_entry};
+use crate::debug::walks::pe_c_next_debug_entry;
+use calls_headers::debug::walks::PogoEntry;
 use pe_records::ImageDebugDirectory;
 
 fn step(bytes: &[u8], walk: &mut Range) -> (u32, ImageDebugDirectory, [u64; 2]) {
@@ -38,7 +39,7 @@ fn debug_entries_in_turn(rt: HostRuntime) {
     assert_eq!(rt; step(&bytes, &mut walk), (DONE, first, [31, 28]));
     assert_eq!(rt; step(&bytes, &mut walk), (DONE, second, [59, 0]));
     assert_eq!(rt; step(&bytes, &mut walk), (NOTHING, NO_DEBUG_ENTRY, [59, 0]));
-    // shows: pe_c/src/base/walks.rt next_entry Short
+    // shows: calls_base/src/walks.rt next_entry Short
     let mut cut = range(3, 55);
     assert_eq!(rt; step(&bytes, &mut cut), (DONE, first, [31, 27]));
     assert_eq!(rt; step(&bytes, &mut cut), (SHORT, NO_DEBUG_ENTRY, OVER));

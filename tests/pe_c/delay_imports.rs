@@ -2,9 +2,9 @@
 
 use super::made::*;
 use super::steps::{pe_c_next_delay_import, pe_c_next_delayed_function};
-use crate::directories::delay_imports::{
+use crate::directories::delay_imports::pe_c_delay_imports;
+use calls_directories::directories::delay_imports::{
     DelayLibrary, DelayWalk, DelayedFunction, DelayedFunctionWalk, DelayedFunctions,
-    pe_c_delay_imports,
 };
 use pe_directories::DelayImport;
 
@@ -124,7 +124,7 @@ fn entries_in_turn(rt: HostRuntime) -> Result<(), Fail> {
     let bytes = bytes_of(rt.alloc())?;
     let image = image(X64);
     let found = |left| (DONE, [[68, 5], [84, 44]], 1, ENTRY, left);
-    // shows: pe_c/src/directories/delay_imports.rt name_range DelayImportName
+    // shows: calls_directories/src/directories/delay_imports.rt name_range DelayImportName
     assert_eq!(rt; next(&bytes, &image, [4, 64]), found([36, 32]));
     let nothing = |answer, left| (answer, [OVER; 2], 7, NO_ENTRY, left);
     let end = [36, 32];
@@ -152,9 +152,9 @@ fn names_and_tables(rt: HostRuntime) -> Result<(), Fail> {
         base: 0x40_0000,
         ..wide
     };
-    // shows: pe_c/src/directories/delay_imports.rt rva_of VaBelowBase
+    // shows: calls_directories/src/directories/delay_imports.rt rva_of VaBelowBase
     for (image, attributes, name, table, want) in [
-        // shows: pe_c/src/directories/delay_imports.rt address_offset Unmapped
+        // shows: calls_directories/src/directories/delay_imports.rt address_offset Unmapped
         (&wide, 1, 0x2000, 0x1054, UNMAPPED),
         (&wide, 1, 0x1080, 0x2000, DIRECTORY_DELAY_IMPORT_NAME),
         (&low, 0, 0x3F_FFFF, 0x40_1054, DIRECTORY_VA_BELOW_BASE),

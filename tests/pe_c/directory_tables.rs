@@ -4,10 +4,10 @@ use super::exports::with_exports;
 use super::made::*;
 use super::resource_leaves::{of_size, with_tree};
 use crate::directories::tables::{
-    ExportFields, ResourceDirectory, ResourceItem, pe_c_export_directory, pe_c_next_resource_item,
-    pe_c_resource_directory_at, pe_c_resource_root,
+    pe_c_export_directory, pe_c_next_resource_item, pe_c_resource_directory_at, pe_c_resource_root,
 };
-use crate::resources::leaves::ResourceName;
+use calls_directories::directories::tables::{ExportFields, ResourceDirectory, ResourceItem};
+use calls_directories::resources::leaves::ResourceName;
 
 /// The fields in the order of winnt.h.
 type Fields = ([u32; 2], [u16; 2], [u32; 7]);

@@ -1,7 +1,8 @@
 //! Texts for programs in C: GUIDs, texts in UTF-16, texts that end with a zero where they stand.
 
 use super::made::*;
-use crate::base::ended_texts::{TextInBytes, pe_c_guid_text, pe_c_text_in, pe_c_utf16_text};
+use crate::base::ended_texts::{pe_c_guid_text, pe_c_text_in, pe_c_utf16_text};
+use calls_base::ended_texts::TextInBytes;
 
 /// The GUID of the README, as the bytes of a file have it.
 const GUID: [u8; 16] = *b"\xF6\x72\x7B\x49\x0A\x39\xFC\x44\x87\x8E\x5A\x2D\x63\xB6\xCC\x4B";
@@ -84,10 +85,8 @@ fn surrogates_without_a_partner(rt: HostRuntime) -> Result<(), Fail> {
     assert_eq!(rt; found, (&other[..], &b"\xF0\x9F\x98\x80"[..]));
     // the last and the first of each kind
     assert_eq!(rt; utf8_of(b"\xFF\xD7\x00\xE0\xFF\xFF", &mut room), (DONE, 9));
-    assert_eq!(rt;
-        &room[..9],
-        b"\xED\x9F\xBF\xEE\x80\x80\xEF\xBF\xBF".as_slice()
-    );
+    let found = &room[..9];
+    assert_eq!(rt; found, b"\xED\x9F\xBF\xEE\x80\x80\xEF\xBF\xBF".as_slice());
     let found = utf8_of(b"\xFF\xDB\xFF\xDF\x00\xD8\x00\xDC", &mut room);
     assert_eq!(rt; found, (DONE, 8));
     assert_eq!(rt; &room[..8], b"\xF4\x8F\xBF\xBF\xF0\x90\x80\x80".as_slice());

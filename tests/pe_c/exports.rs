@@ -3,8 +3,10 @@
 use super::made::*;
 use super::steps::{pe_c_export_at, pe_c_next_export};
 use crate::lists::exports::pe_c_list_exports;
-use crate::names::export_addresses::{AddressTable, Exported, pe_c_export_addresses};
-use crate::names::exports::{Export, ExportWalk, Exports, pe_c_export_tables};
+use crate::names::export_addresses::pe_c_export_addresses;
+use crate::names::exports::pe_c_export_tables;
+use calls_directories::names::export_addresses::{AddressTable, Exported};
+use calls_directories::names::exports::{Export, ExportWalk, Exports};
 use pe_images::image as bytes_of;
 
 /// An export directory of 40 bytes at 0x10: in it at 0x24 the count of addresses, at 0x28 that of names, and after these

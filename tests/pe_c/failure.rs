@@ -1,14 +1,9 @@
 //! Why headers are refused: where, and by which number. Offsets are those of winnt.h, and every number is worked out by hand.
 
-use super::coff::{header_of, object};
+use super::coff::{header_of, object, section_headers};
 use super::made::*;
-use super::te::image_of;
-use crate::failures::headers::{
-    pe_c_coff_sections_failure, pe_c_image_failure, pe_c_sections_failure, pe_c_te_failure,
-    pe_c_te_sections_failure,
-};
-use crate::headers::CoffFields;
-use crate::headers::te::TeImage;
+use crate::failures::headers::{pe_c_image_failure, pe_c_sections_failure, pe_c_te_failure};
+use calls_headers::headers::CoffFields;
 use pe_images::{headers_alone, image as bytes_of, pointer_below_64, te};
 
 const NO_FAILURE: Failure = Failure {
@@ -129,29 +124,7 @@ fn failures_of_section_headers_of_objects(rt: HostRuntime) -> Result<(), Fail> {
         (of(0, u16::MAX), 0, NONE),
     ] {
         let mut out = NO_FAILURE;
-        let answer = pe_c_coff_sections_failure(&bytes[..length], &coff, &mut out);
-        let found = (answer, out.result, [out.offset, out.needed, out.value]);
-        assert_eq!(rt; found, wanted);
-    }
-    Ok(())
-}
-
-/// Those of a TE image follow its header of 40 bytes.
-#[test]
-fn failures_of_section_headers_of_te_images(rt: HostRuntime) -> Result<(), Fail> {
-    let bytes = bytes_of(rt.alloc(), 160, &[(0, b"VZ"), (6, &[40, 0])])?;
-    let (_, te) = image_of(&bytes);
-    for (number_of_sections, length, wanted) in [
-        (3, 160, NONE),
-        (3, 159, (DONE, SHORT, [40, 120, 0])),
-        (0, 0, NONE),
-    ] {
-        let te = TeImage {
-            number_of_sections,
-            ..te
-        };
-        let mut out = NO_FAILURE;
-        let answer = pe_c_te_sections_failure(&bytes[..length], &te, &mut out);
+        let answer = pe_c_sections_failure(&bytes[..length], &section_headers(&coff), &mut out);
         let found = (answer, out.result, [out.offset, out.needed, out.value]);
         assert_eq!(rt; found, wanted);
     }

@@ -2,10 +2,9 @@
 //! `pe_c_function_names` says.
 
 use super::made::*;
-use crate::names::exports::Exports;
-use crate::stack::function_names::{
-    CodeAddress, FunctionName, NameSources, pe_c_function_names, pe_c_name_tables,
-};
+use crate::stack::function_names::{pe_c_function_names, pe_c_name_tables};
+use calls_directories::names::exports::Exports;
+use calls_stacks::stack::function_names::{CodeAddress, FunctionName, NameSources};
 use pe_images::image as bytes_of;
 
 /// Three x64 functions at 0: [0x2000, 0x2040), [0x2040, 0x2060), [0x2080, 0x2090); one of ARM64 at 0x28, packed, of 0x40 bytes. Names,
@@ -180,14 +179,12 @@ fn tables_each_by_itself(rt: HostRuntime) -> Result<(), Fail> {
     assert_eq!(rt; of_range(out.strings), [0, 0]);
     assert_eq!(rt; of_range(out.exports.names), [0, 0]);
     assert_eq!(rt; out.room, 0);
-    assert_eq!(rt;
-        [
-            out.functions_result,
-            out.symbols_result,
-            out.strings_result,
-            out.exports_result
-        ],
-        [DONE, BAD_MAGIC, BAD_MAGIC, NOTHING]
-    );
+    let found = [
+        out.functions_result,
+        out.symbols_result,
+        out.strings_result,
+        out.exports_result,
+    ];
+    assert_eq!(rt; found, [DONE, BAD_MAGIC, BAD_MAGIC, NOTHING]);
     Ok(())
 }

@@ -2,7 +2,8 @@
 //! 0x4B4A4948; the offsets of fields are those of winnt.h.
 
 use super::made::*;
-use crate::headers::{CoffFields, DosFields, Headers, OptionalFields, pe_c_headers};
+use crate::headers::pe_c_headers;
+use calls_headers::headers::{CoffFields, DosFields, Headers, OptionalFields};
 use pe_images::{pointer_below_64, with_every_directory, with_every_directory_of_x86};
 
 const NOWHERE: DataDirectory = DataDirectory {

@@ -311,11 +311,8 @@ fn sections_that_are_refused(rt: HostRuntime) -> Result<(), Fail> {
     for (offset, count, number) in [(3, 3, ROOM), (4, 2, SHORT)] {
         let mut room = [other; 2];
         let answer = pe_c_sections(&bytes, &with_sections(offset, count), &mut room);
-        assert_eq!(rt;
-            (answer, room),
-            (number, [other; 2]),
-            "{count} at {offset:#x}"
-        );
+        let found = (answer, room);
+        assert_eq!(rt; found, (number, [other; 2]), "{count} at {offset:#x}");
     }
     Ok(())
 }

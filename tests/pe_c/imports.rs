@@ -2,8 +2,9 @@
 
 use super::made::*;
 use super::steps::{pe_c_next_import, pe_c_next_library};
-use crate::names::imports::{
-    Import, ImportWalk, Imports, Libraries, Library, LibraryWalk, pe_c_import_libraries,
+use crate::names::imports::pe_c_import_libraries;
+use calls_directories::names::imports::{
+    Import, ImportWalk, Imports, Libraries, Library, LibraryWalk,
 };
 use pe_images::image as bytes_of;
 
@@ -211,7 +212,7 @@ fn libraries_in_their_order(rt: HostRuntime) -> Result<(), Fail> {
 fn refused_libraries(rt: HostRuntime) -> Result<(), Fail> {
     let image = with_directory(0x1010, 60);
     let damages: [(usize, &[u8], u64, u32); 4] = [
-        // shows: pe_c/src/base/kept_sections.rt require_kept Unmapped
+        // shows: calls_base/src/kept_sections.rt require_kept Unmapped
         // The name's address is unmapped, or its first byte is not UTF-8.
         (0x1D, &[0x30], 0x10, UNMAPPED),
         (0xA0, &[0xFF], 0x10, IMPORT_NAME),
@@ -264,7 +265,7 @@ fn imports_of_a_library(rt: HostRuntime) -> Result<(), Fail> {
 #[test]
 fn refused_imports(rt: HostRuntime) -> Result<(), Fail> {
     let image = with_directory(0x1010, 60);
-    // shows: pe_c/src/names/imports.rt name_at ImportName
+    // shows: calls_directories/src/names/imports.rt name_at ImportName
     let damages: [(usize, &[u8], u32); 3] = [
         // The address is unmapped, the hint is truncated, or the name is not UTF-8.
         (0x61, &[0x30], UNMAPPED),

@@ -3,8 +3,8 @@
 use super::imports::{NO_IMPORT as ONLY_ONES, with_imports};
 use super::made::*;
 use crate::lists::library_imports::pe_c_list_all_imports;
-use crate::names::all_imports::{LibraryImport, LibraryImports};
-use crate::names::imports::{Import, Imports, Libraries};
+use calls_directories::names::all_imports::{LibraryImport, LibraryImports};
+use calls_directories::names::imports::{Import, Imports, Libraries};
 
 /// What is in the array before a call.
 const NO_IMPORT: LibraryImport = LibraryImport {

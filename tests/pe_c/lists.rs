@@ -4,9 +4,10 @@
 use super::imports::{NO_IMPORT, from_import, with_imports};
 use super::made::*;
 use crate::lists::imports::pe_c_list_imports;
-use crate::lists::x64::{CodeForm, pe_c_all_codes, pe_c_list_codes, pe_c_list_functions};
-use crate::names::imports::Imports;
-use crate::unwinding::{Code, CodeWalk};
+use crate::lists::x64::{pe_c_all_codes, pe_c_list_codes, pe_c_list_functions};
+use calls_directories::names::imports::Imports;
+use calls_unwind::lists::x64::CodeForm;
+use calls_unwind::unwinding::{Code, CodeWalk};
 use pe_unwind::RuntimeFunction;
 
 /// What `written` is before a call.
@@ -149,7 +150,7 @@ fn imports_in_lists(rt: HostRuntime) -> Result<(), Fail> {
     let mut written = UNWRITTEN;
     for (answer, count, rvas, left) in [
         (DONE, 1, [0x2000, 1], [0x68, 8]),
-        // shows: pe_c/src/names/near_imports.rt named_near ImportName
+        // shows: calls_directories/src/names/near_imports.rt named_near ImportName
         (IMPORT_NAME, 1, [0x2000, 1], OVER),
     ] {
         let view = view(&bytes, &image, &sections);
@@ -163,7 +164,7 @@ fn imports_in_lists(rt: HostRuntime) -> Result<(), Fail> {
     walk.imports.left = range(0x60, 8);
     let view = view(&bytes, &image, &sections);
     let number = pe_c_list_imports(&view, &mut walk, &mut [], &mut entries, &mut written);
-    // shows: pe_c/src/names/near_imports.rt require_near Unmapped
+    // shows: calls_directories/src/names/near_imports.rt require_near Unmapped
     assert_eq!(rt; (number, of_range(walk.imports.left)), (UNMAPPED, OVER));
     Ok(())
 }

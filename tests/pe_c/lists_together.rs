@@ -3,11 +3,12 @@
 
 use super::exports::from as from_exports;
 use super::made::*;
-use crate::headers::coff::{Symbol, SymbolWalk};
 use crate::lists::exports::pe_c_list_exports;
 use crate::lists::section_names::pe_c_list_long_section_names;
-use crate::lists::symbols::{NamedSymbol, NamedSymbolWalk, pe_c_list_symbols};
-use crate::names::exports::{Export, Exports};
+use crate::lists::symbols::pe_c_list_symbols;
+use calls_directories::names::exports::{Export, Exports};
+use calls_headers::coff::{Symbol, SymbolWalk};
+use calls_headers::lists::symbols::{NamedSymbol, NamedSymbolWalk};
 use pe_images::image as bytes_of;
 
 /// Three long texts: at 100h 82 bytes of UTF-8, with a character of two bytes at 146h; at 160h 20 bytes before one that is none of
@@ -125,7 +126,7 @@ fn symbols(table: Range, strings: Range) -> NamedSymbolWalk {
 fn symbols_with_their_names(rt: HostRuntime) -> Result<(), Fail> {
     let bytes = with_texts(rt.alloc(), &SYMBOLS)?;
     let (table, strings) = (range(0x20, 126), range(0xF0, 0x110));
-    // shows: pe_c/src/headers/coff.rt name_by StringTable
+    // shows: calls_headers/src/coff.rt name_by StringTable
     let want = [
         (0, [0x20, 3], DONE),
         (2, [0x100, 82], DONE),
@@ -140,19 +141,14 @@ fn symbols_with_their_names(rt: HostRuntime) -> Result<(), Fail> {
     let answer = pe_c_list_symbols(&bytes, &mut walk, &mut runs, &mut entries, &mut written);
     assert_eq!(rt; (answer, written, walk.symbols.next), (DONE, 6, 7));
     assert_eq!(rt; of_range(walk.strings), [0xF0, 0x110]);
-    assert_eq!(rt;
-        entries.map(|it| (it.symbol.index, of_range(it.name), it.name_result)),
-        want
-    );
+    let found = entries.map(|it| (it.symbol.index, of_range(it.name), it.name_result));
+    assert_eq!(rt; found, want);
     let first = &entries[0].symbol;
     assert_eq!(rt;
-        (
-            of_range(first.auxiliary),
-            first.storage_class,
-            first.string_offset
-        ),
-        ([0x32, 18], 2, 0)
+        (of_range(first.auxiliary), first.storage_class),
+        ([0x32, 18], 2)
     );
+    assert_eq!(rt; first.string_offset, 0);
     assert_eq!(rt; entries[1].symbol.string_offset, 0x10);
     Ok(())
 }

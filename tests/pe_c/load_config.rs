@@ -1,7 +1,8 @@
 //! The load configuration of an image: each field, and which are there.
 
 use super::made::*;
-use crate::directories::load_config::{LoadConfig, pe_c_load_config, pe_c_load_config_field};
+use crate::directories::load_config::{pe_c_load_config, pe_c_load_config_field};
+use calls_directories::directories::load_config::LoadConfig;
 
 /// What `out` is before each call.
 pub(crate) const UNTOUCHED: LoadConfig = LoadConfig {

@@ -84,10 +84,8 @@ const MOVED: [u8; 24] = [
 /// DIR64 at 0x38, HIGHLOW at 0x40, LOW at 0x44, HIGH at 0x46; then a block that is filled up at 0xFFF.
 #[test]
 fn numbers_of_each_type(rt: HostRuntime) -> Result<(), Fail> {
-    let table = words(
-        rt.alloc(),
-        &[0, 16, 0x3040_A038, 0x1046_2044, 0, 12, 0x0FFF],
-    )?;
+    let numbers = [0, 16, 0x3040_A038, 0x1046_2044, 0, 12, 0x0FFF];
+    let table = words(rt.alloc(), &numbers)?;
     let image = relocatable(28);
     let view = view(&table, &image, &[]);
     let mut room = [0xFF; 0x48];

@@ -1,18 +1,21 @@
 //! What calls are handed, and what they hand out, as plain numbers.
 
-pub(crate) use crate::base::kept_sections::{KeptSections, NO_SECTIONS};
-pub(crate) use crate::base::ranges::{NO_BYTES, Range};
-pub(crate) use crate::base::results::{DONE, NOTHING, ROOM};
-pub(crate) use crate::base::text_runs::Run;
-pub(crate) use crate::base::view::View;
-pub(crate) use crate::failures::headers::Failure;
-pub(crate) use crate::headers::image::Image;
+pub(crate) use calls_base::image::Image;
+pub(crate) use calls_base::kept_sections::{KeptSections, NO_SECTIONS};
+pub(crate) use calls_base::numbers::Failure;
+pub(crate) use calls_base::ranges::{NO_BYTES, Range};
+pub(crate) use calls_base::results::{DONE, NOTHING, ROOM};
+pub(crate) use calls_base::text_runs::Run;
+pub(crate) use calls_base::view::View;
+use calls_headers::debug::DebugRecords;
+use calls_headers::debug::records::{EmbeddedPdb, Pdb20, PdbChecksum, Pogo, Repro, SymbolKey};
 pub(crate) use pe_core::{DataDirectory, SectionTable};
 pub(crate) use pe_edit::RecordRange;
-pub(crate) use pe_frame::{IndexEntry, MemoryPiece};
+pub(crate) use pe_frame::MemoryPiece;
 use pe_images::image as bytes_of;
 pub(crate) use pe_images::put;
-use pe_records::ImageDebugDirectory;
+pub(crate) use pe_lookup::IndexEntry;
+use pe_records::{ImageDebugDirectory, VCFeatureInfo};
 pub(crate) use pe_unwind::RuntimeFunction;
 pub(crate) use std::alloc::{AllocError, Global};
 pub(crate) use std::test::Fail;
@@ -232,6 +235,62 @@ pub(crate) const NO_DEBUG_ENTRY: ImageDebugDirectory = ImageDebugDirectory {
     address_of_raw_data: 9,
     pointer_to_raw_data: 9,
 };
+
+/// What debug records have before a call.
+pub(crate) const NO_FEATURES: VCFeatureInfo = VCFeatureInfo {
+    pre_vc_plusplus_count: 9,
+    c_and_cplusplus_count: 9,
+    guard_stack_count: 9,
+    sdl_count: 9,
+    guard_count: 9,
+};
+
+pub(crate) fn untouched_records() -> DebugRecords {
+    DebugRecords {
+        key: SymbolKey {
+            guid: [7; 16],
+            age: 8,
+            spare: 9,
+            name: untouched(),
+        },
+        pdb20: Pdb20 {
+            name: untouched(),
+            offset: 5,
+            signature: 6,
+            age: 7,
+            spare: 8,
+        },
+        repro: Repro {
+            hash: untouched(),
+            has_hash: 5,
+            spare: 6,
+        },
+        pogo: Pogo {
+            entries: untouched(),
+            signature: 5,
+            spare: 6,
+        },
+        embedded: EmbeddedPdb {
+            compressed: untouched(),
+            uncompressed_size: 5,
+            spare: 6,
+        },
+        checksum: PdbChecksum {
+            algorithm: untouched(),
+            checksum: untouched(),
+        },
+        features: NO_FEATURES,
+        characteristics: 9,
+        key_result: 99,
+        pdb20_result: 99,
+        repro_result: 99,
+        pogo_result: 99,
+        embedded_result: 99,
+        checksum_result: 99,
+        features_result: 99,
+        characteristics_result: 99,
+    }
+}
 
 /// What a room for texts has before a call.
 pub(crate) const RUN: Run = Run {

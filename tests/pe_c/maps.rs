@@ -36,11 +36,8 @@ fn sections_of_rvas(rt: HostRuntime) {
         (0x4200, DONE, 2),
         (0xA000, NOTHING, 9),
     ] {
-        assert_eq!(rt;
-            index_at(&image, &sections, rva),
-            (number, index),
-            "{rva:#x}"
-        );
+        let found = index_at(&image, &sections, rva);
+        assert_eq!(rt; found, (number, index), "{rva:#x}");
     }
     for other in [aligned(0x300, STRICT), aligned(0x200, MAPPED)] {
         assert_eq!(rt; index_at(&other, &sections, 0x1000), (NOTHING, 9));

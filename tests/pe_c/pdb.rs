@@ -8,20 +8,23 @@ use super::made::{
     PDB_STREAM_SIZE, PDB20, SHORT, of_range, range,
 };
 use super::pdb_bytes::{LENGTH, PIECES};
-use crate::base::ranges::{NO_BYTES, Range};
-use crate::base::results::{DONE, NOTHING, ROOM};
-use crate::debug::records::SymbolKey;
 use crate::pdb::index::{pe_c_find_pdb_symbol, pe_c_pdb_index, pe_c_read_pdb_symbol};
 use crate::pdb::lines::{
     pe_c_find_pdb_line, pe_c_pdb_file_name, pe_c_pdb_files, pe_c_pdb_lines, pe_c_pdb_named_stream,
     pe_c_read_pdb_line,
 };
-use crate::pdb::modules::{PdbModule, pe_c_list_pdb_modules};
+use crate::pdb::modules::pe_c_list_pdb_modules;
 use crate::pdb::omap::pe_c_pdb_moved_rva;
-use crate::pdb::symbols::{PdbSymbol, pe_c_list_pdb_symbols};
+use crate::pdb::symbols::pe_c_list_pdb_symbols;
 use crate::pdb::{
-    Pdb, pe_c_is_pdb_of, pe_c_pdb, pe_c_pdb_starts, pe_c_pdb_stream, pe_c_pdb_stream_range,
+    pe_c_is_pdb_of, pe_c_pdb, pe_c_pdb_starts, pe_c_pdb_stream, pe_c_pdb_stream_range,
 };
+use calls_base::ranges::{NO_BYTES, Range};
+use calls_base::results::{DONE, NOTHING, ROOM};
+use calls_headers::debug::records::SymbolKey;
+use calls_pdb::modules::PdbModule;
+use calls_pdb::pdb::Pdb;
+use calls_pdb::symbols::PdbSymbol;
 use pe_images::{image, put};
 use pe_pdb::{CodeLine, LineEntry};
 use std::alloc::{AllocError, Global};
@@ -299,10 +302,8 @@ fn streams_have_ranges_where_their_blocks_follow_one_another(rt: HostRuntime) ->
             assert_eq!(rt; found, DONE);
             let [offset, length] = of_range(place);
             assert_eq!(rt; length, SIZES[index as usize]);
-            assert_eq!(rt;
-                &bytes[offset as usize..(offset + length) as usize],
-                &own[..]
-            );
+            let found = &bytes[offset as usize..(offset + length) as usize];
+            assert_eq!(rt; found, &own[..]);
         }
         let mut place = range(9, 9);
         let found = pe_c_pdb_stream_range(&moved, &[], index, &mut place);
@@ -555,7 +556,7 @@ fn an_index_is_refused_as_its_records(rt: HostRuntime) -> Result<(), Fail> {
     let bytes = pdb(rt.alloc())?;
     let sections = stream(rt.alloc(), &bytes, 10)?;
     let symbols = stream(rt.alloc(), &bytes, 8)?;
-    // shows: pe_c/src/pdb.rt part_of Short
+    // shows: calls_pdb/src/pdb.rt part_of Short
     for (start, headers, error) in [
         (range(0, 107), 120, PDB_RECORD_TRUNCATED),
         (range(0, 46), 120, SHORT),

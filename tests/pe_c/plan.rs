@@ -2,8 +2,9 @@
 
 use super::made::*;
 use super::unwinding::no_record;
-use crate::unwinding::UnwindRecord;
-use crate::unwinding::plan::{Plan, PlanWalk, pe_c_next_record, pe_c_plan_from};
+use crate::unwinding::plan::pe_c_next_record;
+use calls_unwind::unwinding::UnwindRecord;
+use calls_unwind::unwinding::plan::{Plan, PlanWalk};
 
 /// Records of version 1 that go on with other functions, whose prologs have different lengths: 16 bytes each from the offset
 /// 0x30 on, after the entries of four functions, the third of which is a link to the first, the fourth one to itself. At 0x30 is a
@@ -35,16 +36,14 @@ fn from(plan: Plan) -> PlanWalk {
 
 /// The same from an unwind RVA.
 pub(crate) fn plan_from(unwind: u32) -> PlanWalk {
-    let mut walk = from(Plan {
-        unwind: 7,
-        is_over: 7,
-        saved: 7,
-        spare: 7,
-        steps: 7,
-        limit: 7,
-    });
-    let _done = pe_c_plan_from(unwind, &mut walk.plan);
-    walk
+    from(Plan {
+        unwind,
+        is_over: 0,
+        saved: unwind,
+        spare: 0,
+        steps: 0,
+        limit: 1,
+    })
 }
 
 fn fields_of(plan: &Plan) -> [u64; 6] {
@@ -90,15 +89,6 @@ fn step(bytes: &[u8], table: &Range, walk: &mut PlanWalk) -> (u32, [u64; 4], [u6
     (answer, key_of(&out), fields_of(&walk.plan))
 }
 
-/// A plan starts at its unwind RVA, with nothing returned and a limit of one record.
-#[test]
-fn plans_start(rt: HostRuntime) -> Result<(), Fail> {
-    let mut plan = plan_from(7).plan;
-    assert_eq!(rt; pe_c_plan_from(0x1060, &mut plan), DONE);
-    assert_eq!(rt; fields_of(&plan), [0x1060, 0, 0x1060, 0, 0, 1]);
-    Ok(())
-}
-
 /// A plan saves an address after 1, 2 and 4 records.
 #[test]
 fn plans_come_to_the_root(rt: HostRuntime) -> Result<(), Fail> {
@@ -125,7 +115,7 @@ fn plans_that_never_end(rt: HostRuntime) -> Result<(), Fail> {
     let bytes = with_chains(rt.alloc())?;
     let table = table_of_chains();
     let mut ring = plan_from(0x1070);
-    // shows: pe_c/src/unwinding/plan.rt advance FunctionCycle
+    // shows: calls_unwind/src/unwinding/plan.rt advance FunctionCycle
     let refused = (FUNCTION_CYCLE, NO_KEY, [0x1070, 1, 0x1070, 0, 0, 1]);
     assert_eq!(rt; step(&bytes, &table, &mut ring), refused);
     assert_eq!(rt; step(&bytes, &table, &mut ring).0, NOTHING);

@@ -1,7 +1,8 @@
 //! The Rich header of an image, and its entries.
 
 use super::made::*;
-use crate::headers::rich_header::{RichHeader, pe_c_next_rich_entry, pe_c_rich_header};
+use crate::headers::rich_header::{pe_c_next_rich_entry, pe_c_rich_header};
+use calls_headers::rich_header::RichHeader;
 use pe_directories::RichEntry;
 
 /// The first 232 bytes of t32.exe of distlib 0.3.8, a launcher that Microsoft's linker made. The entries are those that pefile

@@ -3,9 +3,8 @@
 //! the checksums are those that `osslsigncode verify` 2.9 calculates of the same bytes.
 
 use super::made::*;
-use crate::write::signing::{
-    ChecksumField, Digest, pe_c_attach, pe_c_checksum, pe_c_detach, pe_c_digest_ranges,
-};
+use crate::write::signing::{pe_c_attach, pe_c_checksum, pe_c_detach, pe_c_digest_ranges};
+use calls_write::signing::{ChecksumField, Digest};
 use pe_images::with_functions;
 
 /// The placements: after the others, and in their place.

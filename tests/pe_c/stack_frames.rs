@@ -2,8 +2,9 @@
 //! state before the prolog, with the return address popped.
 
 use super::made::*;
-use crate::base::results::{BAD_ADDRESS, BAD_OPERATION, LONG_CHAIN, MISSING, NOT_RISING};
-use crate::stack::frames::{FrameRegisters, StackFrame, pe_c_step};
+use crate::stack::frames::pe_c_step;
+use calls_base::results::{BAD_ADDRESS, BAD_OPERATION, LONG_CHAIN, MISSING, NOT_RISING};
+use calls_stacks::stack::frames::{FrameRegisters, StackFrame};
 use pe_images::image as bytes_of;
 use pe_unwind::RuntimeFunction;
 
@@ -238,11 +239,8 @@ fn steps_that_are_refused(rt: HostRuntime) -> Result<(), Fail> {
     ] {
         let registers = changed(&[(RSP, rsp)]);
         let mut frame = frame_at(unwind, 30, registers);
-        assert_eq!(rt;
-            step(&bytes, (ENTRY, &stack), &mut frame),
-            answer,
-            "of {unwind:#x}"
-        );
+        let found = step(&bytes, (ENTRY, &stack), &mut frame);
+        assert_eq!(rt; found, answer, "of {unwind:#x}");
         let mut wanted = frame_at(unwind, 30, registers);
         wanted.address = address;
         assert_eq!(rt; numbers_of(&frame), numbers_of(&wanted), "of {unwind:#x}");

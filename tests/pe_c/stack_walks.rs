@@ -2,9 +2,11 @@
 //! with.
 
 use super::made::*;
-use crate::base::results::MISSING;
-use crate::stack::frames::FrameRegisters;
-use crate::stack::walk::{ModuleView, StackWalk, pe_c_next_frame, pe_c_next_frames};
+use super::steps::pe_c_next_frame;
+use crate::stack::walk::pe_c_next_frames;
+use calls_base::results::MISSING;
+use calls_stacks::stack::frames::FrameRegisters;
+use calls_stacks::stack::walk::{ModuleView, StackWalk};
 use pe_images::image as bytes_of;
 
 /// Where the image is loaded.
@@ -65,7 +67,11 @@ fn program(alloc: Global) -> Result<Vec<u8>, AllocError> {
 }
 
 /// The image as a module.
-fn module<'a>(bytes: &'a [u8], image: &'a Image, sections: &'a [SectionTable]) -> ModuleView<'a> {
+pub(crate) fn module<'a>(
+    bytes: &'a [u8],
+    image: &'a Image,
+    sections: &'a [SectionTable],
+) -> ModuleView<'a> {
     ModuleView {
         image: view(bytes, image, sections),
         table: TABLE,
@@ -204,14 +210,12 @@ fn frames_in_one_call(rt: HostRuntime) -> Result<(), Fail> {
     assert_eq!(rt; (answer, count), (NOTHING, 2));
     assert_eq!(rt; (frame_of(&frames[0]), frame_of(&frames[1])), (top, outer));
     assert_eq!(rt; frame_of(&frames[2]), ([7, 8], [TOP, 0]));
-    assert_eq!(rt;
-        [
-            frames[0].remaining,
-            frames[1].remaining,
-            frames[1].registers.general[3]
-        ],
-        [8, 7, 0xB1]
-    );
+    let found = [
+        frames[0].remaining,
+        frames[1].remaining,
+        frames[1].registers.general[3],
+    ];
+    assert_eq!(rt; found, [8, 7, 0xB1]);
     assert_eq!(rt; end_of(&walk), ([0, 0], [BOTTOM, 0]));
     Ok(())
 }
@@ -243,7 +247,7 @@ fn ranges_that_lie(rt: HostRuntime) -> Result<(), Fail> {
     for length in [0x181, 24] {
         modules[1].table.length = length;
         let mut walk = walk_from(DISPATCHER, STACK, 9);
-        // shows: pe_c/src/stack/walk.rt new Short
+        // shows: calls_stacks/src/stack/walk.rt new Short
         let found = pe_c_next_frame(&modules[1..], &stack, &[pieces], &mut walk);
         assert_eq!(rt; found, SHORT);
         assert_eq!(rt; [walk.remaining, u64::from(walk.has_returned)], [9, 0]);

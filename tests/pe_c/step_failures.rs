@@ -12,7 +12,6 @@ use super::made::*;
 use super::resource_leaves::{NO_LEAF, of_size, start, with_tree};
 use super::steps::pe_c_next_resource_leaf;
 use super::unwinding::{no_record, with_records};
-use crate::arm64::codes::Arm64CodeWalk;
 use crate::failures::steps::arm64::{pe_c_arm64_code_failure, pe_c_arm64_record_failure};
 use crate::failures::steps::bound_imports::pe_c_bound_import_failure;
 use crate::failures::steps::delay_imports::{
@@ -25,8 +24,10 @@ use crate::failures::steps::{
     pe_c_certificate_failure, pe_c_import_failure, pe_c_library_failure,
     pe_c_relocation_block_failure, pe_c_relocation_failure,
 };
-use crate::names::imports::{Imports, Libraries};
-use crate::unwinding::{CodeWalk, pe_c_unwind_record};
+use crate::unwinding::pe_c_unwind_record;
+use calls_directories::names::imports::{Imports, Libraries};
+use calls_unwind::arm64::codes::Arm64CodeWalk;
+use calls_unwind::unwinding::CodeWalk;
 use pe_unwind::Arm64RuntimeFunction;
 
 /// The answer; the error, its offset, needed bytes and value; and the last field.

@@ -1,18 +1,9 @@
-//! The functions of `pe.h`: those that are a list with room for one entry, the next item of a walk and an entry by its index, and those
-//! that make two calls, the second over what the first writes.
+//! The functions of `pe.h`: those that are a list with room for one entry, the next item of a walk and an entry by its index, that
+//! which returns a field of what a call writes, and those that make two calls, the second over what the first writes.
 
 use super::made::*;
-use crate::arm64::codes::{Arm64Code, Arm64CodeWalk};
-use crate::debug::pe_c_first_debug_entry;
-use crate::debug::records::{SymbolKey, pe_c_symbol_key_of};
-use crate::debug::walks::PogoEntry;
-use crate::directories::base_relocations::{Relocation, RelocationBlock};
-use crate::directories::bound_imports::{BoundForwarder, BoundImport};
-use crate::directories::delay_imports::{
-    DelayLibrary, DelayWalk, DelayedFunction, DelayedFunctionWalk,
-};
-use crate::directories::guard_tables::{GuardEntries, GuardEntry};
-use crate::headers::coff::{Symbol, SymbolWalk, pe_c_next_symbol};
+use crate::arm64::stack_walk::pe_c_next_arm64_frames;
+use crate::headers::coff::pe_c_next_symbol;
 use crate::lists::arm64::{pe_c_list_arm64_codes, pe_c_list_arm64_functions};
 use crate::lists::bound_imports::{pe_c_list_bound_forwarders, pe_c_list_bound_imports};
 use crate::lists::debug::pe_c_list_pogo_entries;
@@ -24,14 +15,27 @@ use crate::lists::imports::{pe_c_list_imports, pe_c_list_libraries};
 use crate::lists::relocations::{pe_c_list_relocation_blocks, pe_c_list_relocations};
 use crate::lists::resources::{pe_c_list_resource_leaves, pe_c_list_version_blocks};
 use crate::lists::x64::{pe_c_list_codes, pe_c_list_functions};
-use crate::names::export_addresses::{AddressTable, Exported};
-use crate::names::exports::{Export, ExportWalk};
-use crate::names::imports::{Import, ImportWalk, Library, LibraryWalk};
-use crate::resources::leaves::{LeafWalk, ResourceLeaf};
 use crate::resources::version::{pe_c_fixed_version_in, pe_c_version_text_in};
-use crate::resources::version_blocks::{VersionBlock, pe_c_version_blocks};
-use crate::unwinding::{Code, CodeWalk};
-use pe_records::ImageDebugDirectory;
+use crate::resources::version_blocks::pe_c_version_blocks;
+use crate::stack::walk::pe_c_next_frames;
+use calls_directories::directories::base_relocations::{Relocation, RelocationBlock};
+use calls_directories::directories::bound_imports::{BoundForwarder, BoundImport};
+use calls_directories::directories::delay_imports::{
+    DelayLibrary, DelayWalk, DelayedFunction, DelayedFunctionWalk,
+};
+use calls_directories::directories::guard_tables::{GuardEntries, GuardEntry};
+use calls_directories::names::export_addresses::{AddressTable, Exported};
+use calls_directories::names::exports::{Export, ExportWalk};
+use calls_directories::names::imports::{Import, ImportWalk, Library, LibraryWalk};
+use calls_directories::resources::leaves::{LeafWalk, ResourceLeaf};
+use calls_directories::resources::version_blocks::VersionBlock;
+use calls_headers::coff::{Symbol, SymbolWalk};
+use calls_headers::debug::walks::PogoEntry;
+use calls_stacks::arm64::stack_walk::Arm64StackWalk;
+use calls_stacks::stack::walk::{ModuleView, StackWalk};
+use calls_unwind::arm64::codes::{Arm64Code, Arm64CodeWalk};
+use calls_unwind::unwinding::{Code, CodeWalk};
+use pe_frame::MemoryPiece;
 use pe_resource::VsFixedFileInfo;
 use pe_unwind::{Arm64RuntimeFunction, RuntimeFunction};
 
@@ -223,6 +227,24 @@ pub(crate) fn pe_c_arm64_function_at(
     one(number, written, FUNCTION_INDEX)
 }
 
+pub(crate) fn pe_c_next_frame(
+    modules: &[ModuleView<'_>],
+    memory: &[u8],
+    pieces: &[MemoryPiece],
+    walk: &mut StackWalk,
+) -> u32 {
+    pe_c_next_frames(modules, memory, pieces, walk, &mut [*walk], &mut 0)
+}
+
+pub(crate) fn pe_c_next_arm64_frame(
+    modules: &[ModuleView<'_>],
+    memory: &[u8],
+    pieces: &[MemoryPiece],
+    walk: &mut Arm64StackWalk,
+) -> u32 {
+    pe_c_next_arm64_frames(modules, memory, pieces, walk, &mut [*walk], &mut 0)
+}
+
 pub(crate) fn pe_c_export_at(
     view: &View,
     table: &AddressTable,
@@ -248,16 +270,6 @@ pub(crate) fn pe_c_symbol(bytes: &[u8], table: &Range, index: u64, out: &mut Sym
         next: index,
     };
     pe_c_next_symbol(bytes, &mut walk, out)
-}
-
-pub(crate) fn pe_c_symbol_key(view: &View, out: &mut SymbolKey) -> u32 {
-    let mut found = ImageDebugDirectory::default();
-    let number = pe_c_first_debug_entry(view, 2, &mut found);
-    if number == DONE {
-        pe_c_symbol_key_of(view.bytes, view.image.mode, &found, out)
-    } else {
-        number
-    }
 }
 
 pub(crate) fn pe_c_fixed_version(view: &View, out: &mut VsFixedFileInfo) -> u32 {

@@ -2,11 +2,11 @@
 //! specification; every number is worked out by hand.
 
 use super::made::*;
-use crate::debug::records::{SymbolKey, pe_c_symbol_key_of};
+use crate::debug::pe_c_debug_record;
 use crate::headers::te::{
-    TeImage, pe_c_next_te_debug_entry, pe_c_te, pe_c_te_debug_entries, pe_c_te_first_debug_entry,
-    pe_c_te_sections,
+    pe_c_next_te_debug_entry, pe_c_te, pe_c_te_debug_entries, pe_c_te_sections,
 };
+use calls_headers::te::TeImage;
 use pe_images::{te, te_with_debug};
 use pe_records::ImageDebugDirectory;
 
@@ -155,12 +155,6 @@ const REPRO: ImageDebugDirectory = ImageDebugDirectory {
     pointer_to_raw_data: 0xFFFF_FF00,
 };
 
-fn first_of(bytes: &[u8], te: &TeImage, data_type: u32) -> (u32, ImageDebugDirectory) {
-    let mut out = NO_DEBUG_ENTRY;
-    let answer = pe_c_te_first_debug_entry(bytes, te, data_type, &mut out);
-    (answer, out)
-}
-
 fn step(bytes: &[u8], te: &TeImage, walk: &mut Range) -> (u32, ImageDebugDirectory, [u64; 2]) {
     let mut out = NO_DEBUG_ENTRY;
     let answer = pe_c_next_te_debug_entry(bytes, te, walk, &mut out);
@@ -179,17 +173,10 @@ fn debug_entries_of_a_te_image(rt: HostRuntime) -> Result<(), Fail> {
     assert_eq!(rt; step(&bytes, &te, &mut walk), (DONE, REPRO, [0x88, 0]));
     let found = step(&bytes, &te, &mut walk);
     assert_eq!(rt; found, (NOTHING, NO_DEBUG_ENTRY, [0x88, 0]));
-    assert_eq!(rt; first_of(&bytes, &te, 2), (DONE, CODEVIEW));
-    assert_eq!(rt; first_of(&bytes, &te, 16), (DONE, REPRO));
-    assert_eq!(rt; first_of(&bytes, &te, 13), (NOTHING, NO_DEBUG_ENTRY));
-    let mut key = SymbolKey {
-        guid: [9; 16],
-        age: 9,
-        spare: 9,
-        name: untouched(),
-    };
-    let found = pe_c_symbol_key_of(&bytes, MAPPED, &CODEVIEW, &mut key);
-    assert_eq!(rt; found, DONE);
+    let mut records = untouched_records();
+    let found = pe_c_debug_record(&bytes, MAPPED, &CODEVIEW, &mut records);
+    let key = records.key;
+    assert_eq!(rt; (found, records.key_result), (DONE, DONE));
     assert_eq!(rt; (key.age, of_range(key.name)), (9, [0xA8, 6]));
     assert_eq!(rt;
         key.guid,
@@ -197,16 +184,13 @@ fn debug_entries_of_a_te_image(rt: HostRuntime) -> Result<(), Fail> {
     );
     // A truncated entry.
     let mut walk = range(0x6C, 27);
-    assert_eq!(rt;
-        step(&bytes, &te, &mut walk),
-        (SHORT, NO_DEBUG_ENTRY, [0, 0])
-    );
+    let found = step(&bytes, &te, &mut walk);
+    assert_eq!(rt; found, (SHORT, NO_DEBUG_ENTRY, [0, 0]));
     // A directory that passes the end.
     let long = TeImage {
         debug_dir: directory(0x50, 0x5F),
         ..te
     };
     assert_eq!(rt; entries_of(&bytes, &long), (DEBUG_BOUNDS, UNTOUCHED));
-    assert_eq!(rt; first_of(&bytes, &long, 16), (DEBUG_BOUNDS, NO_DEBUG_ENTRY));
     Ok(())
 }

@@ -3,9 +3,9 @@
 use super::made::*;
 use super::steps::pe_c_function_at;
 use crate::unwinding::{
-    CodeWalk, UnwindRecord, pe_c_find_function, pe_c_function_table, pe_c_next_scope,
-    pe_c_scope_table, pe_c_unwind_record,
+    pe_c_find_function, pe_c_function_table, pe_c_next_scope, pe_c_scope_table, pe_c_unwind_record,
 };
+use calls_unwind::unwinding::{CodeWalk, UnwindRecord};
 use pe_unwind::{RuntimeFunction, ScopeTableEntry};
 
 const NO_FUNCTION: RuntimeFunction = RuntimeFunction {

@@ -2,7 +2,8 @@
 
 use super::made::*;
 use super::steps::pe_c_next_version_block;
-use crate::resources::version_blocks::{VersionBlock, pe_c_version_blocks};
+use crate::resources::version_blocks::pe_c_version_blocks;
+use calls_directories::resources::version_blocks::VersionBlock;
 use pe_images::image as bytes_of;
 
 /// At offset 4: a string table, whose string has the key `A` and the value `B`; a block of 8 bytes whose key has no end; one
@@ -67,13 +68,13 @@ fn blocks_in_turn(rt: HostRuntime) -> Result<(), Fail> {
             (DONE, [[34, 2], [40, 4], [44, 0]], [1, 0, 0, 0], [44, 0]),
         ),
         ([44, 0], nothing_but(NOTHING, [44, 0])),
-        // shows: pe_c/src/resources/version_blocks.rt error_of ResourceString
+        // shows: calls_directories/src/resources/version_blocks.rt error_of ResourceString
         ([44, 26], nothing_but(RESOURCE_STRING, [52, 18])),
         (
             [52, 18],
             (DONE, [[58, 2], [62, 0], [62, 0]], [0, 0, 0, 0], [64, 6]),
         ),
-        // shows: pe_c/src/resources/version_blocks.rt error_of Short
+        // shows: calls_directories/src/resources/version_blocks.rt error_of Short
         ([64, 6], nothing_but(SHORT, [70, 0])),
         // A length of 0 with bytes after it.
         ([46, 8], nothing_but(NOTHING, [46, 8])),
@@ -121,7 +122,7 @@ fn tree(alloc: Global) -> Result<Vec<u8>, Fail> {
     )?)
 }
 
-fn blocks_of(bytes: &[u8], image: &crate::headers::image::Image) -> (u32, [u64; 2]) {
+fn blocks_of(bytes: &[u8], image: &calls_base::image::Image) -> (u32, [u64; 2]) {
     let mut out = untouched();
     let answer = pe_c_version_blocks(&view(bytes, image, &sections()), &mut out);
     (answer, of_range(out))

@@ -2,7 +2,7 @@
 
 use super::made::*;
 use super::steps::pe_c_next_code;
-use crate::unwinding::{Code, CodeWalk};
+use calls_unwind::unwinding::{Code, CodeWalk};
 
 /// A walk whose spare bytes are not zero: nothing reads them, and no step changes them.
 fn walk_over(left: Range, version: u8, frame_register: u8) -> CodeWalk {

@@ -1,4 +1,4 @@
-/* A DLL that calls back: in a loop, among floats, and by a tail call. */
+/* A DLL that calls back: in a loop, and by a tail call. */
 #include <windows.h>
 
 #define EXPORTED __attribute__((noinline)) __declspec(dllexport)
@@ -13,14 +13,6 @@ EXPORTED int call_each(callback called, int count)
         sum += called(i) * (i + 1);
     sink = sum;
     return sum;
-}
-
-EXPORTED double call_among_floats(callback called, double a, double b)
-{
-    double product = a * b, quotient = a / b;
-    int result = called(3);
-    sink = result;
-    return product + quotient * result;
 }
 
 EXPORTED int call_last(callback called)

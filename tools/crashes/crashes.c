@@ -1,17 +1,13 @@
 /* The ways to crash of tools/try_dumps: each case is a function of the table at the end, which its number names. */
 #include "crashes.h"
-#include <math.h>
-#include <setjmp.h>
 #include <stdio.h>
 #include <stdlib.h>
 #include <string.h>
 
 __declspec(dllimport) int call_each(callback called, int count);
-__declspec(dllimport) double call_among_floats(callback called, double a, double b);
 __declspec(dllimport) int call_last(callback called);
 
 #define COLD __attribute__((cold, noinline))
-#define FRAME_POINTER __attribute__((noinline, optimize("no-omit-frame-pointer")))
 
 /* ---- what most cases end in */
 
@@ -100,57 +96,6 @@ NOT_INLINE static int is_large(int n)
 }
 
 static void large_frame(void) { sink = is_large(77); }
-
-FRAME_POINTER static int has_frame_pointer(int n)
-{
-    ENTER("has_frame_pointer");
-    char room[3000];
-    pointer_sink = room;
-    room[n] = 1;
-    sink = *nowhere;
-    LEAVE();
-    return room[n];
-}
-
-static void frame_pointer(void) { sink = has_frame_pointer(77); }
-
-NOT_INLINE static double keeps_floats(double a, double b, double c, int n)
-{
-    ENTER("keeps_floats");
-    double product = a * b, quotient = a / b, difference = a - c, other = b * c, sum = a + b + c, root = sqrt(a);
-    for (int i = 0; i < n; i++) {
-        floating_sink = product;
-        product += sin(quotient);
-        quotient += cos(difference);
-        difference *= other;
-        other -= sum;
-        sum += root;
-        if (i == 7)
-            sink = *nowhere;
-    }
-    LEAVE();
-    return product + quotient + difference + other + sum + root;
-}
-
-static void among_floats(void) { floating_sink = keeps_floats(1.5, 2.5, 3.5, 20); }
-
-NOT_INLINE static long long takes_many(int a, int b, int c, int d, int e, int f, double g, long long h)
-{
-    ENTER("takes_many");
-    switch (a & 15) {
-    case 1: sink = b; break;
-    case 2: sink = c; break;
-    case 3: sink = d; break;
-    case 4: sink = e; break;
-    case 5: sink = *nowhere; break;
-    case 6: floating_sink = g; break;
-    default: sink = f;
-    }
-    LEAVE();
-    return h + a * b + c * d;
-}
-
-static void in_a_switch(void) { sink = (int)takes_many(5, 2, 3, 4, 5, 6, 7.5, 8); }
 
 /* ---- parts and tail calls */
 
@@ -256,39 +201,9 @@ NOT_INLINE static int calls_no_function(int n)
 
 static void null_call(void) { sink = calls_no_function(7); }
 
-NOT_INLINE static int returns_to_nowhere(int n)
-{
-    ENTER("returns_to_nowhere");
-    no_function = (int (*)(int))(void *)(DWORD64)0x1234567890;
-    int result = no_function(n) + n;
-    LEAVE();
-    return result;
-}
-
-static void wild_call(void) { sink = returns_to_nowhere(7); }
-
 /* ---- through libraries, and back */
 
-NOT_INLINE static int compares(const void *a, const void *b)
-{
-    ENTER("compares");
-    if (*(int *)a == 13 && sink++ > 2)
-        sink = *nowhere;
-    LEAVE();
-    return *(int *)a - *(int *)b;
-}
-
-static void in_qsort(void)
-{
-    int numbers[64];
-    for (int i = 0; i < 64; i++)
-        numbers[i] = i * 37 & 63;
-    qsort(numbers, 64, 4, compares);
-    sink = numbers[3];
-}
-
 static void from_a_library(void) { sink = call_each(crashes_at_3, 10); }
-static void from_a_library_among_floats(void) { floating_sink = call_among_floats(crashes_at_3, 2.5, 3.5); }
 static void from_a_library_by_a_tail_call(void) { sink = call_last(reads_nowhere); }
 
 static BOOL CALLBACK on_locale(LPSTR name)
@@ -325,26 +240,6 @@ static void from_user32(void)
     SendMessageA(window, WM_USER, 0, 0);
 }
 
-static void on_exit_(void)
-{
-    ENTER("on_exit_");
-    sink = *nowhere;
-    LEAVE();
-}
-
-static void at_exit(void)
-{
-    atexit(on_exit_);
-    exit(0);
-}
-
-static void in_sprintf(void)
-{
-    char room[99];
-    sink = sprintf(room, "%d %s %f\n", 5, (const char *)(DWORD64)(0x10 + zero), 2.5);
-    pointer_sink = room;
-}
-
 NOT_INLINE static int copies(void *to, int count)
 {
     ENTER("copies");
@@ -357,13 +252,6 @@ NOT_INLINE static int copies(void *to, int count)
 }
 
 static void in_memcpy(void) { sink = copies((void *)(DWORD64)0x20, 300 + zero); }
-
-static void in_free(void)
-{
-    HeapFree(GetProcessHeap(), 0, (void *)(DWORD64)(0x33331 + zero));
-    free((void *)(DWORD64)(0x12345670 + zero));
-    sink = *nowhere;
-}
 
 /* ---- threads */
 
@@ -491,40 +379,19 @@ static void raised_in_a_handler(void)
     sink = reads_nowhere(1);
 }
 
-static void raised(void) { RaiseException(0xE0001234, 0, 0, 0); }
-
 static void without_an_exception(void)
 {
     write_dumps(0);
     TerminateProcess(GetCurrentProcess(), 77);
 }
 
-static jmp_buf back;
-
-NOT_INLINE static void jumps_back(int n)
-{
-    if (n == 0)
-        longjmp(back, 5);
-    jumps_back(n - 1);
-    sink++;
-}
-
-static void after_longjmp(void)
-{
-    if (!setjmp(back))
-        jumps_back(3);
-    sink = *nowhere;
-}
-
 void run_case(int number)
 {
     static void (*const cases[])(void) = {
-        in_a_leaf, deep, stack_overflow, after_alloca, large_frame, frame_pointer, among_floats, in_a_switch, from_a_cold_part,
-        in_a_cold_part, after_a_tail_call, call_without_return, call_at_a_function_end, trap_in_prolog,
-        trap_in_prolog_with_frame_register, null_call, wild_call, in_qsort, from_a_library, from_a_library_among_floats,
-        from_a_library_by_a_tail_call, from_kernelbase, from_user32, at_exit, in_sprintf, in_memcpy, in_free,
-        in_one_of_several_threads, in_a_thread_pool, in_an_apc, in_a_fiber, in_a_handler, raised_in_a_handler, raised,
-        without_an_exception, after_longjmp,
+        in_a_leaf, deep, stack_overflow, after_alloca, large_frame, from_a_cold_part, in_a_cold_part, after_a_tail_call,
+        call_without_return, call_at_a_function_end, trap_in_prolog, trap_in_prolog_with_frame_register, null_call,
+        from_a_library, from_a_library_by_a_tail_call, from_kernelbase, from_user32, in_memcpy, in_one_of_several_threads,
+        in_a_thread_pool, in_an_apc, in_a_fiber, in_a_handler, raised_in_a_handler, without_an_exception,
     };
     if (number < 0 || number >= (int)(sizeof cases / sizeof *cases))
         ExitProcess(3);

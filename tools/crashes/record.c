@@ -1,8 +1,6 @@
 /* Keeps the calls of all threads, and writes dumps: from a thread of the process, and from another process, which also walks
  * each thread by StackWalk64. Lines on standard output, with hexadecimal addresses:
  *
- *     crashed THREAD                 which thread crashed, or asked for the dumps
- *     marks ADDRESS                  the return address of `with_marks`
  *     call THREAD NAME RIP RSP       a call that has not returned: where it returns to, with which stack pointer
  *     virtual RIP RSP                a frame of the crashed thread by RtlVirtualUnwind
  *     walked THREAD RIP RSP          a frame by StackWalk64
@@ -17,7 +15,6 @@
 enum { MOST_CALLS = 1 << 16, MOST_FRAMES = 6000 };
 
 volatile int zero = 0, one = 1, sink;
-volatile double floating_sink;
 char *volatile pointer_sink;
 int *volatile nowhere = 0;
 
@@ -132,15 +129,12 @@ static DWORD WINAPI report(void *unused)
 {
     (void)unused;
     WaitForSingleObject(is_crashed, INFINITE);
-    printf("crashed %lu\nmarks %p\n", the_crash.thread, after_marks);
     print_calls();
     if (the_crash.exception)
         walk_virtually(*the_crash.exception->ContextRecord);
     fflush(stdout);
     write_outside(&the_crash);
-#ifndef AS_A_LIBRARY
     write_inside(&the_crash);
-#endif
     SetEvent(is_written);
     return 0;
 }
@@ -209,10 +203,7 @@ static int write_of(char **arguments)
     MINIDUMP_EXCEPTION_INFORMATION *known = crash.exception ? &exception : 0;
     HANDLE process = OpenProcess(PROCESS_ALL_ACCESS, FALSE, id);
     write_dump(process, id, "outside", MiniDumpNormal, known);
-    if (getenv("WITH_FULL_DUMP"))
-        write_dump(process, id, "full", MiniDumpWithFullMemory | MiniDumpWithHandleData | MiniDumpWithThreadInfo, known);
-    if (!getenv("WITHOUT_WALKS"))
-        walk_threads(process, id, &crash);
+    walk_threads(process, id, &crash);
     return 0;
 }
 
@@ -233,49 +224,6 @@ static void begin(char *started, char *named)
     CreateThread(0, 0, report, 0, 0, 0);
 }
 
-#ifdef AS_A_LIBRARY
-
-char after_marks[1];
-
-enum { MOST_OF_A_STACK = 1 << 20 };
-
-/* Says that this thread runs on the stack on which it crashed, as fibers do: dumps have no other. A goroutine's is memory of Go's own. */
-static void say_stack(char *pointer)
-{
-    NT_TIB *known = (NT_TIB *)NtCurrentTeb();
-    MEMORY_BASIC_INFORMATION region;
-    if ((pointer >= (char *)known->StackLimit && pointer < (char *)known->StackBase) || !VirtualQuery(pointer, &region, sizeof region))
-        return;
-    char *end = (char *)region.BaseAddress + region.RegionSize;
-    known->StackLimit = region.BaseAddress;
-    known->StackBase = end - pointer < MOST_OF_A_STACK ? end : pointer + MOST_OF_A_STACK;
-}
-
-/* The first fault is dumped, before handlers of the program see it. */
-static LONG CALLBACK on_fault(EXCEPTION_POINTERS *exception)
-{
-    if (exception->ExceptionRecord->ExceptionCode >> 28 != 0xC)
-        return EXCEPTION_CONTINUE_SEARCH;
-    say_stack((char *)exception->ContextRecord->Rsp);
-    return on_crash(exception);
-}
-
-/* For a program in another language: `started` is one of this file, which writes dumps. */
-void install(char *started, char *named)
-{
-    begin(started, named);
-    AddVectoredExceptionHandler(1, on_fault);
-}
-
-#else
-
-static void run(void *argument)
-{
-    ENTER("run");
-    run_case(*(int *)argument);
-    LEAVE();
-}
-
 /* `PREFIX CASE` runs a case, whose dumps begin with the prefix. */
 int main(int count, char **arguments)
 {
@@ -288,9 +236,7 @@ int main(int count, char **arguments)
     begin(arguments[0], arguments[1]);
     SetUnhandledExceptionFilter(on_crash);
     ENTER("main");
-    with_marks(run, &number);
+    run_case(number);
     LEAVE();
     return sink & 1;
 }
-
-#endif

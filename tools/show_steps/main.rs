@@ -9,13 +9,8 @@
 //! Of an ARM64 image a line has the instruction pointer, x0 to x30, d8 to d15 and the stack pointer. A state is there an RVA and
 //! the number of bytes of its stack (u32 each), x0 to x30, d8 to d15, the stack pointer, the instruction pointer and the address
 //! of the stack (u64 each), and the bytes of the stack. The step is `step_arm64`, or `step_arm64_packed` by packed unwind data.
-//!
-//! With a word more, `show_steps IMAGE STATES walks`, it shows whole walks of an ARM64 image, for tools/try_walks.
 #![tactic(auto)]
 
-mod walks;
-
-use crate::walks::show_walks;
 use pe_core::{slice_at, u32_at, u64_at};
 use pe_frame::{
     Arm64Registers, FrameError, FunctionPlan, ImageFunctions, Registers, Stack, Stopped, leaf, leaf_arm64, step, step_arm64,
@@ -187,7 +182,7 @@ fn show_arm64(rt: &HostRuntime, found: Result<Arm64Registers, FrameError>) -> io
 }
 
 /// The state at an offset: its RVA, registers and stack, and where the next one is.
-pub fn arm64_state_at(states: &[u8], offset: usize) -> Result<(u32, Arm64Registers, Stack<'_>, usize), Error> {
+fn arm64_state_at(states: &[u8], offset: usize) -> Result<(u32, Arm64Registers, Stack<'_>, usize), Error> {
     let registers = arm64_registers_at(states, offset)?;
     let length = u32_at(states, offset + 4)? as usize;
     let start = u64_at(states, offset + 336)?;
@@ -221,12 +216,10 @@ fn main(rt: HostRuntime) -> io::Result<()> {
     let (Some(image), Some(states)) = (arguments.next(), arguments.next()) else {
         return println!(rt; "refused an image and a file of states are to be named");
     };
-    let has_walks = arguments.next().is_some();
     let bytes = fs::read(&rt, &image)?;
     let states = fs::read(&rt, &states)?;
     let opts = ParseOptions::default().with_parse_mode(ParseMode::Permissive);
     match PE::parse_with_opts(rt.alloc(), &bytes, &opts) {
-        Ok(image) if has_walks => show_walks(&rt, &image, &bytes, opts, &states),
         Ok(image) => show_image(&rt, &image, &states),
         Err(error) => println!(rt; "refused {error:?}"),
     }

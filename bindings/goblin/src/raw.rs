@@ -593,6 +593,28 @@ pub(crate) fn sections(bytes: &[u8], info: &ImageInfo) -> error::Result<Vec<Sect
     Ok(room)
 }
 
+/// Makes functions that read the record of an entry as one of a type of winnt.h, of a field of what the call reads.
+macro_rules! debug_records {
+    ($($name:ident: $field:ident, $result:ident, $data_type:expr => $out:ty;)*) => { $(
+        #[inline]
+        pub(crate) fn $name(bytes: &[u8], mode: u32, entry: &sys::DebugEntry) -> Result<Option<$out>, Refusal> {
+            let (entry, mut out) = (sys::DebugEntry { data_type: $data_type, ..*entry }, sys::DebugRecords::default());
+            // SAFETY: as below.
+            unsafe { sys::pe_c_debug_record(bytes.as_ptr(), bytes.len(), mode, &entry, &mut out) };
+            returned(out.$result, out.$field)
+        }
+    )* };
+}
+
+debug_records! {
+    symbol_key_of: key, key_result, 2 => sys::Key;
+    pdb20_of: pdb20, pdb20_result, 2 => sys::Pdb20;
+    vc_features_of: features, features_result, 12 => sys::VcFeatures;
+    pogo_of: pogo, pogo_result, 13 => sys::Pogo;
+    repro_of: repro, repro_result, 16 => sys::Repro;
+    characteristics_of: characteristics, characteristics_result, 20 => u32;
+}
+
 /// Makes functions of calls that take the bytes first.
 macro_rules! calls_of_bytes {
     ($($name:ident: $call:ident($($more:ident: $kind:ty),*) -> $out:ty;)*) => { $(
@@ -621,12 +643,6 @@ calls_of_bytes! {
     rich_header: pe_c_rich_header() -> sys::RichHeader;
     next_rich_entry: pe_c_next_rich_entry(key: u32, walk: &mut Range) -> sys::RichEntry;
     next_debug_entry: pe_c_next_debug_entry(walk: &mut Range) -> sys::DebugEntry;
-    symbol_key_of: pe_c_symbol_key_of(mode: u32, entry: &sys::DebugEntry) -> sys::Key;
-    pdb20_of: pe_c_pdb20_of(mode: u32, entry: &sys::DebugEntry) -> sys::Pdb20;
-    vc_features_of: pe_c_vc_features_of(mode: u32, entry: &sys::DebugEntry) -> sys::VcFeatures;
-    characteristics_of: pe_c_characteristics_of(mode: u32, entry: &sys::DebugEntry) -> u32;
-    repro_of: pe_c_repro_of(mode: u32, entry: &sys::DebugEntry) -> sys::Repro;
-    pogo_of: pe_c_pogo_of(mode: u32, entry: &sys::DebugEntry) -> sys::Pogo;
     next_pogo_entry: pe_c_next_pogo_entry(walk: &mut Range) -> sys::PogoEntry;
     next_certificate: pe_c_next_certificate(walk: &mut Range) -> sys::Certificate;
     certificate_failure: pe_c_certificate_failure(walk: &Range) -> sys::Failure;

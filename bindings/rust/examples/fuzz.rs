@@ -435,12 +435,8 @@ fn read_by_steps(bytes: &[u8], mode: Mode, layout: Layout, random: &mut Random, 
     let mut last = sys::PlanWalk::default();
     for function in table.of(bytes).unwrap_or(&[]).chunks_exact(12).take(MOST) {
         let unwind = u32::from_le_bytes(function[8..].try_into().unwrap());
-        let mut start = sys::Plan::default();
-        // SAFETY: the records are lent for the calls, and the view is of slices.
-        unsafe {
-            sys::pe_c_plan_from(unwind, &mut start);
-            sys::pe_c_plan_from(unwind, &mut last.plan);
-        }
+        let start = sys::Plan { unwind, saved: unwind, limit: 1, ..sys::Plan::default() };
+        last.plan = start;
         let records = steps!(view, random, MOST, pe_c_next_record(PlanWalk { plan: start }; &table), Record);
         // the same from what the plan before kept
         for record in &records {
@@ -567,7 +563,6 @@ fn read_by_lies(bytes: &[u8], random: &mut Random, seen: &mut Seen) {
         sys::pe_c_arm64_packed_fields(&sys::Arm64Function { begin: few, unwind: few.rotate_left(7) }, &mut fields);
     }
     call_of_image!(pe_c_directory_failure(few % 16), Failure);
-    let entry = call_of_image!(pe_c_first_debug_entry(few % 24), DebugEntry);
     // SAFETY: as above.
     unsafe {
         let (mut index, mut range) = (0, sys::Range::default());
@@ -676,27 +671,17 @@ fn read_by_lies(bytes: &[u8], random: &mut Random, seen: &mut Seen) {
     // SAFETY: as above.
     unsafe { sys::pe_c_all_codes(bytes.as_ptr(), bytes.len(), &form, codes.as_mut_ptr(), room, &mut written) };
     assert!(written <= room as u64 && codes[written as usize..].iter().all(|it| *it == sys::Code::default()));
-    for entry in [
-        entry,
-        sys::DebugEntry {
-            size_of_data: random.edge(number) as u32,
-            address_of_raw_data: random.edge(number) as u32,
-            pointer_to_raw_data: random.edge(number) as u32,
-            ..entry
-        },
-    ] {
-        call!(pe_c_symbol_key_of(few, &entry), Key);
-        call!(pe_c_pdb20_of(few, &entry), Pdb20);
-        call!(pe_c_vc_features_of(few, &entry), VcFeatures);
-        call!(pe_c_repro_of(few, &entry), Repro);
-        call!(pe_c_pogo_of(few, &entry), Pogo);
-        call!(pe_c_embedded_pdb_of(few, &entry), EmbeddedPdb);
-        call!(pe_c_pdb_checksum_of(few, &entry), PdbChecksum);
-        call!(pe_c_debug_failure(few, &entry, few % 9), Failure);
-    }
+    let entry = sys::DebugEntry {
+        data_type: few % 24,
+        size_of_data: random.edge(number) as u32,
+        address_of_raw_data: random.edge(number) as u32,
+        pointer_to_raw_data: random.edge(number) as u32,
+        ..sys::DebugEntry::default()
+    };
+    call!(pe_c_debug_record(few, &entry), DebugRecords);
+    call!(pe_c_debug_failure(few, &entry, few % 9), Failure);
     call!(pe_c_headers(few), Headers);
     let location = sys::DumpLocation { size: random.edge(number) as u32, rva: random.edge(number) as u32 };
-    call!(pe_c_dump_range(&location), Range);
     call!(pe_c_dump_entry_at(&range, index), DumpEntry);
     call!(pe_c_dump_stream(&range, few % 32), Range);
     call!(pe_c_dump_text(range.offset), Range);
@@ -713,11 +698,7 @@ fn read_by_lies(bytes: &[u8], random: &mut Random, seen: &mut Seen) {
     call!(pe_c_dump_process(&range), DumpProcess);
     call!(pe_c_dump_context(&location), Context);
     call!(pe_c_dump_context_arm64(&location), Arm64Context);
-    let mut raised = sys::DumpException::default();
-    (raised.thread_id, raised.thread_context) = (few % 2, location);
-    let thread = call!(pe_c_dump_thread_at(&range, 0), DumpThread);
-    call!(pe_c_dump_thread_context(&thread, &raised), Context);
-    call!(pe_c_dump_thread_context_arm64(&thread, &raised), Arm64Context);
+    call!(pe_c_dump_thread_at(&range, 0), DumpThread);
     let module = call!(pe_c_dump_module_at(&range, 0), DumpModule);
     // SAFETY: both records are lent for the call.
     assert!([sys::DONE, sys::NOTHING].contains(&unsafe { sys::pe_c_is_image_of(&image, &module) }));
@@ -987,7 +968,6 @@ fn read_by_lies(bytes: &[u8], random: &mut Random, seen: &mut Seen) {
     assert!(written <= 3 && (answer == 0 || written == 0) && named.strings == strings);
     call!(pe_c_te(), TeHeader);
     call!(pe_c_te_debug_entries(&te), Range);
-    call!(pe_c_te_first_debug_entry(&te, few % 24), DebugEntry);
     let mut failure = sys::SignatureFailure::default();
     let signed = call!(pe_c_signature(&range, &mut failure), SignedData);
     let indirect = call!(pe_c_indirect_data(&signed.content, &mut failure), SpcIndirectData);
@@ -1016,15 +996,12 @@ fn read_by_lies(bytes: &[u8], random: &mut Random, seen: &mut Seen) {
     }
     call!(pe_c_image_failure(few), Failure);
     call!(pe_c_te_failure(), Failure);
-    call!(pe_c_te_sections_failure(&te), Failure);
-    call!(pe_c_coff_sections_failure(&coff), Failure);
     let (mut entries, mut headers) = (range, sections);
     for _ in 0..MOST {
         let mut entry = sys::DebugEntry::default();
         // SAFETY: as above.
         unsafe {
             sys::pe_c_next_te_debug_entry(start, length, &te, &mut entries, &mut entry);
-            sys::pe_c_coff_sections(start, length, &coff, headers.as_mut_ptr(), headers.len());
             sys::pe_c_te_sections(start, length, &te, headers.as_mut_ptr(), headers.len());
         }
     }
@@ -1053,9 +1030,7 @@ fn read_by_lies(bytes: &[u8], random: &mut Random, seen: &mut Seen) {
         limit: range.length,
         ..sys::Plan::default()
     };
-    let mut started = sys::Plan::default();
-    // SAFETY: the record is lent for the call.
-    unsafe { sys::pe_c_plan_from(few, &mut started) };
+    let started = sys::Plan { unwind: few, saved: few, limit: 1, ..sys::Plan::default() };
     for walk in [plan, started] {
         steps!(view, random, MOST, pe_c_next_record(PlanWalk { plan: walk }; &range), Record);
     }

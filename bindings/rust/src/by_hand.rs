@@ -37,6 +37,8 @@ impl Default for DebugRecords<'_> {
             debug_characteristics: Ok(None),
             repro: Ok(None),
             pogo: Ok(None),
+            embedded_pdb: Ok(None),
+            pdb_checksum: Ok(None),
         }
     }
 }

@@ -7,7 +7,7 @@ use crate::failure::{found, Failure};
 use crate::image::{bytes_of, returned, text_of, Error, Image, Layout};
 use crate::section_names::long_names;
 use crate::shown;
-use crate::sys::{self, CoffHeader, Section};
+use crate::sys::{self, CoffHeader, ImageInfo, Section};
 use crate::walk::{ask_of_bytes, look};
 use alloc::vec::Vec;
 use core::fmt;
@@ -60,9 +60,10 @@ impl<'a> Coff<'a> {
         let mut header = CoffHeader::default();
         // SAFETY: the pointer and the length are those of one slice; the record is lent for the call.
         Error::of(unsafe { sys::pe_c_coff(bytes.as_ptr(), bytes.len(), &mut header) })?;
+        let headers = section_headers(&header);
         let sections = sections_of(header.number_of_sections.into(), |room, count| {
             // SAFETY: as above, and of the vector.
-            unsafe { sys::pe_c_coff_sections(bytes.as_ptr(), bytes.len(), &header, room, count) }
+            unsafe { sys::pe_c_sections(bytes.as_ptr(), bytes.len(), &headers, room, count) }
         })?;
         Ok(Coff { bytes, header, sections })
     }
@@ -152,6 +153,12 @@ pub(crate) fn room_for<T: Clone>(count: usize, value: T) -> Result<Vec<T>, Error
     room.try_reserve_exact(count).map_err(|_| Error::MEMORY)?;
     room.resize(count, value);
     Ok(room)
+}
+
+/// Where the section headers of an object are, after its header of 20 bytes and the optional header, as calls for images take it.
+pub(crate) fn section_headers(header: &CoffHeader) -> ImageInfo {
+    let sections_offset = 20 + u64::from(header.size_of_optional_header);
+    ImageInfo { sections_offset, number_of_sections: header.number_of_sections, ..ImageInfo::default() }
 }
 
 /// Section headers that a call writes.

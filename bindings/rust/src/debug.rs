@@ -257,6 +257,34 @@ pub struct DebugRecords<'a> {
     pub repro: Result<Option<Repro<'a>>, Error>,
     /// What [`Image::pogo`] returns.
     pub pogo: Result<Option<Pogo<'a>>, Error>,
+    /// The portable PDB in the image.
+    pub embedded_pdb: Result<Option<EmbeddedPdb<'a>>, Error>,
+    /// The checksum of the PDB.
+    pub pdb_checksum: Result<Option<PdbChecksum<'a>>, Error>,
+}
+
+impl<'a> DebugRecords<'a> {
+    fn of(out: sys::DebugRecords, bytes: &'a [u8]) -> Self {
+        DebugRecords {
+            symbol_key: record_in(returned(out.key_result, out.key), bytes, key_of),
+            pdb20: record_in(returned(out.pdb20_result, out.pdb20), bytes, pdb20_of),
+            vc_features: returned(out.features_result, out.features),
+            debug_characteristics: returned(out.characteristics_result, out.characteristics),
+            repro: record_in(returned(out.repro_result, out.repro), bytes, repro_of),
+            pogo: record_in(returned(out.pogo_result, out.pogo), bytes, pogo_of),
+            embedded_pdb: record_in(returned(out.embedded_result, out.embedded), bytes, embedded_of),
+            pdb_checksum: record_in(returned(out.checksum_result, out.checksum), bytes, checksum_of),
+        }
+    }
+
+    /// The record of an entry in a mode, read as one of this type.
+    pub(crate) fn of_entry(bytes: &'a [u8], mode: u32, entry: &DebugEntry, data_type: u32) -> Self {
+        let (entry, mut out) = (DebugEntry { data_type, ..*entry }, sys::DebugRecords::default());
+        // SAFETY: the bytes and the entry are lent for the call, which writes `out` alone.
+        let number = unsafe { sys::pe_c_debug_record(bytes.as_ptr(), bytes.len(), mode, &entry, &mut out) };
+        debug_assert_eq!(number, sys::DONE);
+        Self::of(out, bytes)
+    }
 }
 
 pub(crate) fn key_of(key: sys::Key, bytes: &[u8]) -> Result<SymbolKey<'_>, Error> {
@@ -299,14 +327,13 @@ fn record_in<'a, T, R>(
 }
 
 // The types of the entries whose records the methods below read, of winnt.h.
-const IMAGE_DEBUG_TYPE_CODEVIEW: u32 = 2;
+pub(crate) const IMAGE_DEBUG_TYPE_CODEVIEW: u32 = 2;
 const IMAGE_DEBUG_TYPE_VC_FEATURE: u32 = 12;
 const IMAGE_DEBUG_TYPE_POGO: u32 = 13;
 const IMAGE_DEBUG_TYPE_REPRO: u32 = 16;
+const IMAGE_DEBUG_TYPE_EMBEDDEDPORTABLEPDB: u32 = 17;
+const IMAGE_DEBUG_TYPE_PDBCHECKSUM: u32 = 19;
 const IMAGE_DEBUG_TYPE_EX_DLLCHARACTERISTICS: u32 = 20;
-
-/// A call that reads the record of an entry, in a mode.
-type OfEntry<T> = unsafe extern "C" fn(*const u8, usize, u32, *const DebugEntry, *mut T) -> u32;
 
 /// # Debug data
 ///
@@ -338,37 +365,21 @@ impl<'a> Image<'a> {
     ///
     /// [`Error::UNMAPPED`]; in strict mode [`Error::DEBUG_BOUNDS`].
     pub fn debug_entry(&self, data_type: u32) -> Result<Option<DebugEntry>, Error> {
-        self.ask_with(sys::pe_c_first_debug_entry, data_type)
+        Ok(self.debug_entries()?.flatten().find(|entry| entry.data_type == data_type))
     }
 
-    /// What a call reads of the record of an entry.
-    fn of_entry<T: Default>(&self, call: OfEntry<T>, entry: &DebugEntry) -> Result<Option<T>, Error> {
-        let mut out = T::default();
-        let bytes = self.bytes();
-        // SAFETY: the bytes and the entry are lent for the call, which writes `out` alone.
-        let number = unsafe { call(bytes.as_ptr(), bytes.len(), self.info().mode, entry, &mut out) };
-        returned(number, out)
+    /// The record of an entry, read as one of this type.
+    fn of_entry(&self, entry: &DebugEntry, data_type: u32) -> DebugRecords<'a> {
+        DebugRecords::of_entry(self.bytes(), self.info().mode, entry, data_type)
     }
 
-    /// What a call reads of the record of the first entry of a type.
-    fn of_first<T: Default>(&self, data_type: u32, call: OfEntry<T>) -> Result<Option<T>, Error> {
-        self.debug_entry(data_type)?.map_or(Ok(None), |entry| self.of_entry(call, &entry))
-    }
-
-    /// The record of the first debug entry of each type, by one pass over the entries. An error of one is no error of another.
+    /// The record of the first debug entry of each type. An error of one is no error of another.
     pub fn debug_records(&self) -> DebugRecords<'a> {
-        let (view, bytes, mut out) = (self.view(), self.bytes(), sys::DebugRecords::default());
+        let (view, mut out) = (self.view(), sys::DebugRecords::default());
         // SAFETY: the view and what it leads to are lent for the call, which writes `out` alone.
         let number = unsafe { sys::pe_c_debug_data(&view, &mut out) };
         debug_assert_eq!(number, sys::DONE);
-        DebugRecords {
-            symbol_key: record_in(returned(out.key_result, out.key), bytes, key_of),
-            pdb20: record_in(returned(out.pdb20_result, out.pdb20), bytes, pdb20_of),
-            vc_features: returned(out.features_result, out.features),
-            debug_characteristics: returned(out.characteristics_result, out.characteristics),
-            repro: record_in(returned(out.repro_result, out.repro), bytes, repro_of),
-            pogo: record_in(returned(out.pogo_result, out.pogo), bytes, pogo_of),
-        }
+        DebugRecords::of(out, self.bytes())
     }
 
     /// The key by which a symbol server files the image's PDB: the CodeView record, if it is one of PDB 7.0.
@@ -387,8 +398,7 @@ impl<'a> Image<'a> {
     ///
     /// Those of [debug data](#debug-data).
     pub fn symbol_key_of(&self, entry: &DebugEntry) -> Result<Option<SymbolKey<'a>>, Error> {
-        let key = self.of_entry(sys::pe_c_symbol_key_of, entry)?;
-        key.map(|key| key_of(key, self.bytes())).transpose()
+        self.of_entry(entry, IMAGE_DEBUG_TYPE_CODEVIEW).symbol_key
     }
 
     /// The CodeView record, if it is one of PDB 2.0.
@@ -397,8 +407,7 @@ impl<'a> Image<'a> {
     ///
     /// Those of [debug data](#debug-data).
     pub fn pdb20(&self) -> Result<Option<Pdb20<'a>>, Error> {
-        let record = self.of_first(IMAGE_DEBUG_TYPE_CODEVIEW, sys::pe_c_pdb20_of)?;
-        record.map(|record| pdb20_of(record, self.bytes())).transpose()
+        self.debug_records().pdb20
     }
 
     /// The same of the record of an entry.
@@ -407,8 +416,7 @@ impl<'a> Image<'a> {
     ///
     /// Those of [debug data](#debug-data).
     pub fn pdb20_of(&self, entry: &DebugEntry) -> Result<Option<Pdb20<'a>>, Error> {
-        let record = self.of_entry(sys::pe_c_pdb20_of, entry)?;
-        record.map(|record| pdb20_of(record, self.bytes())).transpose()
+        self.of_entry(entry, IMAGE_DEBUG_TYPE_CODEVIEW).pdb20
     }
 
     /// The record of VC features.
@@ -417,7 +425,7 @@ impl<'a> Image<'a> {
     ///
     /// Those of [debug data](#debug-data).
     pub fn vc_features(&self) -> Result<Option<VcFeatures>, Error> {
-        self.of_first(IMAGE_DEBUG_TYPE_VC_FEATURE, sys::pe_c_vc_features_of)
+        self.debug_records().vc_features
     }
 
     /// The same of the record of an entry.
@@ -426,7 +434,7 @@ impl<'a> Image<'a> {
     ///
     /// Those of [debug data](#debug-data).
     pub fn vc_features_of(&self, entry: &DebugEntry) -> Result<Option<VcFeatures>, Error> {
-        self.of_entry(sys::pe_c_vc_features_of, entry)
+        self.of_entry(entry, IMAGE_DEBUG_TYPE_VC_FEATURE).vc_features
     }
 
     /// The extended DLL characteristics: `IMAGE_DLLCHARACTERISTICS_EX_` flags.
@@ -435,7 +443,7 @@ impl<'a> Image<'a> {
     ///
     /// Those of [debug data](#debug-data).
     pub fn debug_characteristics(&self) -> Result<Option<u32>, Error> {
-        self.of_first(IMAGE_DEBUG_TYPE_EX_DLLCHARACTERISTICS, sys::pe_c_characteristics_of)
+        self.debug_records().debug_characteristics
     }
 
     /// The same of the record of an entry.
@@ -444,7 +452,7 @@ impl<'a> Image<'a> {
     ///
     /// Those of [debug data](#debug-data).
     pub fn debug_characteristics_of(&self, entry: &DebugEntry) -> Result<Option<u32>, Error> {
-        self.of_entry(sys::pe_c_characteristics_of, entry)
+        self.of_entry(entry, IMAGE_DEBUG_TYPE_EX_DLLCHARACTERISTICS).debug_characteristics
     }
 
     /// The Repro record.
@@ -453,8 +461,7 @@ impl<'a> Image<'a> {
     ///
     /// Those of [debug data](#debug-data).
     pub fn repro(&self) -> Result<Option<Repro<'a>>, Error> {
-        let record = self.of_first(IMAGE_DEBUG_TYPE_REPRO, sys::pe_c_repro_of)?;
-        record.map(|record| repro_of(record, self.bytes())).transpose()
+        self.debug_records().repro
     }
 
     /// The same of the record of an entry.
@@ -463,8 +470,7 @@ impl<'a> Image<'a> {
     ///
     /// Those of [debug data](#debug-data).
     pub fn repro_of(&self, entry: &DebugEntry) -> Result<Option<Repro<'a>>, Error> {
-        let record = self.of_entry(sys::pe_c_repro_of, entry)?;
-        record.map(|record| repro_of(record, self.bytes())).transpose()
+        self.of_entry(entry, IMAGE_DEBUG_TYPE_REPRO).repro
     }
 
     /// The POGO record, if it has one of the two signatures.
@@ -473,8 +479,7 @@ impl<'a> Image<'a> {
     ///
     /// Those of [debug data](#debug-data).
     pub fn pogo(&self) -> Result<Option<Pogo<'a>>, Error> {
-        let record = self.of_first(IMAGE_DEBUG_TYPE_POGO, sys::pe_c_pogo_of)?;
-        record.map(|record| pogo_of(record, self.bytes())).transpose()
+        self.debug_records().pogo
     }
 
     /// The same of the record of an entry.
@@ -483,8 +488,7 @@ impl<'a> Image<'a> {
     ///
     /// Those of [debug data](#debug-data).
     pub fn pogo_of(&self, entry: &DebugEntry) -> Result<Option<Pogo<'a>>, Error> {
-        let record = self.of_entry(sys::pe_c_pogo_of, entry)?;
-        record.map(|record| pogo_of(record, self.bytes())).transpose()
+        self.of_entry(entry, IMAGE_DEBUG_TYPE_POGO).pogo
     }
 
     /// The portable PDB in the record of an entry, whose type is `IMAGE_DEBUG_TYPE_EMBEDDEDPORTABLEPDB`, 17.
@@ -493,8 +497,7 @@ impl<'a> Image<'a> {
     ///
     /// Those of [debug data](#debug-data).
     pub fn embedded_pdb_of(&self, entry: &DebugEntry) -> Result<Option<EmbeddedPdb<'a>>, Error> {
-        let record = self.of_entry(sys::pe_c_embedded_pdb_of, entry)?;
-        record.map(|record| embedded_of(record, self.bytes())).transpose()
+        self.of_entry(entry, IMAGE_DEBUG_TYPE_EMBEDDEDPORTABLEPDB).embedded_pdb
     }
 
     /// The checksum of the PDB in the record of an entry, whose type is `IMAGE_DEBUG_TYPE_PDBCHECKSUM`, 19.
@@ -503,7 +506,6 @@ impl<'a> Image<'a> {
     ///
     /// Those of [debug data](#debug-data).
     pub fn pdb_checksum_of(&self, entry: &DebugEntry) -> Result<Option<PdbChecksum<'a>>, Error> {
-        let record = self.of_entry(sys::pe_c_pdb_checksum_of, entry)?;
-        record.map(|record| checksum_of(record, self.bytes())).transpose()
+        self.of_entry(entry, IMAGE_DEBUG_TYPE_PDBCHECKSUM).pdb_checksum
     }
 }

@@ -168,8 +168,8 @@ impl<'a> Dump<'a> {
     ///
     /// [`Error::DUMP_LOCATION`].
     pub fn located(&self, location: &DumpLocation) -> Result<&'a [u8], Error> {
-        let range = ask_of_bytes(self.bytes, sys::pe_c_dump_range, location)?;
-        bytes_of(range.unwrap_or_default(), self.bytes)
+        let range = sys::Range { offset: location.rva.into(), length: location.size.into() };
+        range.of(self.bytes).ok_or(Error::DUMP_LOCATION)
     }
 
     /// A string that a record says the offset of, as bytes of UTF-16LE.
@@ -354,15 +354,11 @@ impl<'a> Dump<'a> {
     ///
     /// Those of [`Dump::context`].
     pub fn thread_context(&self, thread: &DumpThread) -> Result<DumpContext, Error> {
-        let raised = self.exception().ok().flatten().unwrap_or_default();
-        let found = match self.system()?.map(|system| system.processor_architecture) {
-            Some(X64) => look(self.bytes, sys::pe_c_dump_thread_context, thread, &raised)?.map(DumpContext::X64),
-            Some(ARM64) => {
-                look(self.bytes, sys::pe_c_dump_thread_context_arm64, thread, &raised)?.map(DumpContext::Arm64)
-            }
-            _ => None,
-        };
-        found.ok_or(Error::DUMP_MACHINE)
+        let raised = self.exception().ok().flatten().filter(|it| it.thread_id == thread.thread_id);
+        match raised.map(|it| self.context(&it.thread_context)) {
+            Some(Ok(context)) => Ok(context),
+            _ => self.context(&thread.thread_context),
+        }
     }
 }
 

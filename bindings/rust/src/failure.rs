@@ -2,7 +2,7 @@
 //! number, so that a caller can store it; this reads them again, and says the rest. Of items see the method `failure` of iterators, as
 //! [`Libraries::failure`](crate::Libraries::failure).
 
-use crate::coff::Coff;
+use crate::coff::{section_headers, Coff};
 use crate::image::{number_of, returned, DirectoryIndex, Error, Image, Layout, Mode};
 use crate::sys::{self, CoffHeader, DebugEntry, ImageInfo, TeHeader};
 use crate::te::Te;
@@ -164,7 +164,11 @@ impl Te<'_> {
         // SAFETY: as above.
         let number = unsafe {
             match sys::pe_c_te(bytes.as_ptr(), bytes.len(), &mut header) {
-                sys::DONE => sys::pe_c_te_sections_failure(bytes.as_ptr(), bytes.len(), &header, &mut out),
+                sys::DONE => {
+                    let number_of_sections = header.number_of_sections.into();
+                    let headers = ImageInfo { sections_offset: 40, number_of_sections, ..ImageInfo::default() };
+                    sys::pe_c_sections_failure(bytes.as_ptr(), bytes.len(), &headers, &mut out)
+                }
                 _ => sys::pe_c_te_failure(bytes.as_ptr(), bytes.len(), &mut out),
             }
         };
@@ -179,7 +183,9 @@ impl Coff<'_> {
         // SAFETY: as above.
         let number = unsafe {
             match sys::pe_c_coff(bytes.as_ptr(), bytes.len(), &mut header) {
-                sys::DONE => sys::pe_c_coff_sections_failure(bytes.as_ptr(), bytes.len(), &header, &mut out),
+                sys::DONE => {
+                    sys::pe_c_sections_failure(bytes.as_ptr(), bytes.len(), &section_headers(&header), &mut out)
+                }
                 // The header is the first 20 bytes.
                 number => {
                     out = sys::Failure { needed: SIZE_OF_COFF_HEADER, result: number, ..out };

@@ -586,12 +586,14 @@ pub struct PdbChecksum {
 }
 const _: () = assert!(core::mem::size_of::<PdbChecksum>() == 32);
 
-/// What is read of the first entry of each type, each with its own result: [`DONE`], and then the record is here;
-/// [`NOTHING`] or an error, and then it is as it was.
+/// Debug records, each with its own result: [`DONE`], and then the record is here; [`NOTHING`] or an error, and then it
+/// is as it was.
+///
+/// [`NOTHING`] also where no entry of its type is read.
 #[repr(C)]
 #[derive(Clone, Copy, Debug, Default, PartialEq, Eq)]
 pub struct DebugRecords {
-    /// The CodeView record, if it is one of PDB 7.0: that of [`pe_c_symbol_key`].
+    /// The CodeView record, if it is one of PDB 7.0.
     pub key: Key,
     /// The CodeView record, if it is one of PDB 2.0.
     pub pdb20: Pdb20,
@@ -599,6 +601,10 @@ pub struct DebugRecords {
     pub repro: Repro,
     /// The POGO record, if it has one of the two signatures.
     pub pogo: Pogo,
+    /// The portable PDB in the image.
+    pub embedded: EmbeddedPdb,
+    /// The checksum of the PDB file.
+    pub checksum: PdbChecksum,
     /// The record of VC features.
     pub features: VcFeatures,
     /// Extended DLL characteristics, `IMAGE_DLLCHARACTERISTICS_EX_` flags.
@@ -609,14 +615,18 @@ pub struct DebugRecords {
     pub pdb20_result: u32,
     /// Of each of these fields its result.
     pub repro_result: u32,
-    /// Of these too.
+    /// Of each of these fields its result.
     pub pogo_result: u32,
+    /// Of these too.
+    pub embedded_result: u32,
+    /// Of these too.
+    pub checksum_result: u32,
     /// Of these too.
     pub features_result: u32,
     /// Of these too.
     pub characteristics_result: u32,
 }
-const _: () = assert!(core::mem::size_of::<DebugRecords>() == 168);
+const _: () = assert!(core::mem::size_of::<DebugRecords>() == 232);
 
 /// The header of a TE image, `EFI_TE_IMAGE_HEADER`.
 ///
@@ -1110,8 +1120,7 @@ pub struct Scope {
 }
 const _: () = assert!(core::mem::size_of::<Scope>() == 16);
 
-/// Where a plan stands: a walk over the records of a function, up to the root of its chain. [`pe_c_plan_from`] starts
-/// it.
+/// Where a plan stands: a walk over the records of a function, up to the root of its chain. `pe_c_plan_from` starts it.
 #[repr(C)]
 #[derive(Clone, Copy, Debug, Default, PartialEq, Eq)]
 pub struct Plan {
@@ -1132,7 +1141,7 @@ const _: () = assert!(core::mem::size_of::<Plan>() == 32);
 
 /// A plan, step by step.
 ///
-/// It starts as `PE_C_EMPTY` with what [`pe_c_plan_from`] returns. The plan of another function of the same image may
+/// It starts as `PE_C_EMPTY` with what `pe_c_plan_from` returns. The plan of another function of the same image may
 /// start in the same walk, at `&walk.plan`, with `kept` as the last steps left it: that spares its first search.
 #[repr(C)]
 #[derive(Clone, Copy, Debug, Default, PartialEq, Eq)]
@@ -2526,7 +2535,7 @@ pub struct DumpModule {
     pub module_name_rva: u32,
     /// Its version.
     pub version_info: DumpVersion,
-    /// Its CodeView record: [`pe_c_dump_range`], then [`pe_c_codeview`]. No bytes where there is none.
+    /// Its CodeView record, which [`pe_c_codeview`] reads as a range. No bytes where there is none.
     pub cv_record: DumpLocation,
     /// Its `IMAGE_DEBUG_MISC`.
     pub misc_record: DumpLocation,
@@ -3023,7 +3032,8 @@ extern "C" {
     /// [`Error::SHORT`], [`Error::BAD_MAGIC`] of the PE signature; [`Error::SHORT`] of the COFF header;
     /// [`Error::SHORT`], [`Error::BAD_MAGIC`] of the optional header; [`Error::SHORT`] of its fields and directories.
     pub fn pe_c_image(bytes: *const u8, length: usize, mode: u32, out: *mut ImageInfo) -> u32;
-    /// Writes the section headers to the start of the array, `image->number_of_sections` of them.
+    /// Writes the section headers to the start of the array, `image->number_of_sections` of them, from
+    /// `image->sections_offset` on; of `image` nothing else is read, so it reads those of an object too.
     ///
     /// The rest of the array is unchanged, and all of it after an error.
     ///
@@ -3144,19 +3154,6 @@ extern "C" {
     ///
     /// Error: [`Error::SHORT`].
     pub fn pe_c_coff(bytes: *const u8, length: usize, out: *mut CoffHeader) -> u32;
-    /// Writes the section headers of an object to the start of the array, `coff->number_of_sections` of them.
-    ///
-    /// They follow the optional header, which objects usually do not have. The rest of the array is unchanged, and all
-    /// of it after an error.
-    ///
-    /// Errors: [`ROOM`] where the array is smaller; [`Error::SHORT`] where the section headers are truncated.
-    pub fn pe_c_coff_sections(
-        bytes: *const u8,
-        length: usize,
-        coff: *const CoffHeader,
-        room: *mut Section,
-        entries: usize,
-    ) -> u32;
     /// Returns a walk over the symbols of an object or of an image, with the range of their table.
     ///
     /// [`NOTHING`] where the header's pointer to them is 0.
@@ -3218,12 +3215,6 @@ extern "C" {
     ///
     /// Errors: [`Error::SHORT`] where the walk is not inside the bytes, or its last entry is truncated.
     pub fn pe_c_next_debug_entry(bytes: *const u8, length: usize, walk: *mut Range, out: *mut DebugEntry) -> u32;
-    /// Returns the first entry of a type.
-    ///
-    /// A truncated last entry is none. [`NOTHING`] without a directory or such an entry.
-    ///
-    /// Errors: [`Error::UNMAPPED`]; [`Error::DEBUG_BOUNDS`] in strict mode.
-    pub fn pe_c_first_debug_entry(view: *const View, data_type: u32, out: *mut DebugEntry) -> u32;
     /// Returns the symbol key of a CodeView record that stands alone, as a minidump has one of each module: no other
     /// debug data is read, and no damage there is an error.
     ///
@@ -3232,82 +3223,36 @@ extern "C" {
     /// Errors: [`Error::SHORT`] where the range is not inside the bytes; [`Error::DEBUG_SIZE`] where it has fewer than
     /// 24 bytes.
     pub fn pe_c_codeview(bytes: *const u8, length: usize, record: *const Range, out: *mut Key) -> u32;
-    /// Reads the record of the first entry of each type at once.
+    /// Returns the symbol key: the record of the first CodeView entry, if it is one of PDB 7.0.
     ///
-    /// It always returns [`DONE`]: each record has a result of its own, as if by [`pe_c_first_debug_entry`] and then
-    /// the call of the same record below, which takes an entry.
+    /// [`NOTHING`] also without such an entry. It reads no other entry's record: it is the field `key` of what
+    /// [`pe_c_debug_data`] reads.
+    ///
+    /// Errors: those of [`pe_c_debug_entries`], then those of `key` of [`pe_c_debug_record`].
+    pub fn pe_c_symbol_key(view: *const View, out: *mut Key) -> u32;
+    /// Reads the record of the first entry of each type.
+    ///
+    /// A truncated last entry is none. It always returns [`DONE`]: each record has a result of its own, the error of
+    /// [`pe_c_debug_entries`], or else as of [`pe_c_debug_record`].
     pub fn pe_c_debug_data(view: *const View, out: *mut DebugRecords) -> u32;
-    /// Returns the symbol key.
+    /// Reads the record of an entry that the caller has, in a mode, by the type that the entry says.
     ///
-    /// [`NOTHING`] where the record is not one of PDB 7.0.
+    /// It always returns [`DONE`]: each record has a result of its own, [`NOTHING`] of another type.
     ///
-    /// Errors: [`Error::DEBUG_SIZE`] where the entry's size is below 24, in strict mode, and [`NOTHING`] in permissive
-    /// mode; [`Error::SHORT`] of the first 24 bytes; [`Error::DEBUG_DATA`] of the name.
-    pub fn pe_c_symbol_key_of(
+    /// Errors: of `key` [`Error::DEBUG_SIZE`] where the entry's size is below 24, in strict mode, and [`NOTHING`] in
+    /// permissive mode; [`Error::SHORT`] of the first 24 bytes; [`Error::DEBUG_DATA`] of the name. Of `pdb20` the same
+    /// with 16 for 24. Of `repro` [`Error::SHORT`] of the hash's length; [`Error::DEBUG_DATA`] of the hash. Of `pogo`
+    /// [`Error::SHORT`] of the signature; [`Error::POGO_SIZE`] where the entry's size is at most 4;
+    /// [`Error::DEBUG_DATA`] of the entries. Of `embedded` [`Error::DEBUG_SIZE`] where the entry's size is below 8;
+    /// [`Error::SHORT`] of the first 8 bytes; [`Error::BAD_MAGIC`]; [`Error::DEBUG_DATA`] of the compressed data. Of
+    /// `checksum` [`Error::DEBUG_DATA`]; [`Error::DEBUG_SIZE`] where no zero ends the name of the algorithm. Of
+    /// `features` and `characteristics` [`Error::SHORT`], whatever the entry's size is.
+    pub fn pe_c_debug_record(
         bytes: *const u8,
         length: usize,
         mode: u32,
         entry: *const DebugEntry,
-        out: *mut Key,
-    ) -> u32;
-    /// Returns a CodeView record of PDB 2.0.
-    ///
-    /// [`NOTHING`] where it is none.
-    ///
-    /// Errors: [`Error::DEBUG_SIZE`] where the entry's size is below 16, in strict mode, and [`NOTHING`] in permissive
-    /// mode; [`Error::SHORT`] of the first 16 bytes; [`Error::DEBUG_DATA`] of the name.
-    pub fn pe_c_pdb20_of(bytes: *const u8, length: usize, mode: u32, entry: *const DebugEntry, out: *mut Pdb20) -> u32;
-    /// Returns the counts of VC features.
-    ///
-    /// Error: [`Error::SHORT`].
-    pub fn pe_c_vc_features_of(
-        bytes: *const u8,
-        length: usize,
-        mode: u32,
-        entry: *const DebugEntry,
-        out: *mut VcFeatures,
-    ) -> u32;
-    /// Returns the extended DLL characteristics.
-    ///
-    /// Error: [`Error::SHORT`].
-    pub fn pe_c_characteristics_of(
-        bytes: *const u8,
-        length: usize,
-        mode: u32,
-        entry: *const DebugEntry,
-        out: *mut u32,
-    ) -> u32;
-    /// Returns a Repro record.
-    ///
-    /// Errors: [`Error::SHORT`] of the hash's length; [`Error::DEBUG_DATA`] of the hash.
-    pub fn pe_c_repro_of(bytes: *const u8, length: usize, mode: u32, entry: *const DebugEntry, out: *mut Repro) -> u32;
-    /// Returns a POGO record.
-    ///
-    /// [`NOTHING`] for another signature.
-    ///
-    /// Errors: [`Error::SHORT`] of the signature; [`Error::POGO_SIZE`] where the entry's size is at most 4;
-    /// [`Error::DEBUG_DATA`] of the entries.
-    pub fn pe_c_pogo_of(bytes: *const u8, length: usize, mode: u32, entry: *const DebugEntry, out: *mut Pogo) -> u32;
-    /// Returns the portable PDB in an image.
-    ///
-    /// Errors: [`Error::DEBUG_SIZE`] where the entry's size is below 8; [`Error::SHORT`] of the first 8 bytes;
-    /// [`Error::BAD_MAGIC`]; [`Error::DEBUG_DATA`] of the compressed data.
-    pub fn pe_c_embedded_pdb_of(
-        bytes: *const u8,
-        length: usize,
-        mode: u32,
-        entry: *const DebugEntry,
-        out: *mut EmbeddedPdb,
-    ) -> u32;
-    /// Returns the checksum of the PDB file.
-    ///
-    /// Errors: [`Error::DEBUG_DATA`]; [`Error::DEBUG_SIZE`] where no zero ends the name of the algorithm.
-    pub fn pe_c_pdb_checksum_of(
-        bytes: *const u8,
-        length: usize,
-        mode: u32,
-        entry: *const DebugEntry,
-        out: *mut PdbChecksum,
+        out: *mut DebugRecords,
     ) -> u32;
     /// Reads the header of a TE image, the 40 bytes at its start.
     ///
@@ -3342,18 +3287,6 @@ extern "C" {
         walk: *mut Range,
         out: *mut DebugEntry,
     ) -> u32;
-    /// Returns the first entry of a type, as [`pe_c_next_te_debug_entry`] does.
-    ///
-    /// [`NOTHING`] where there is none, and where the directory is absent. A truncated last entry is none.
-    ///
-    /// Error: [`Error::DEBUG_BOUNDS`].
-    pub fn pe_c_te_first_debug_entry(
-        bytes: *const u8,
-        length: usize,
-        te: *const TeHeader,
-        data_type: u32,
-        out: *mut DebugEntry,
-    ) -> u32;
     /// Returns why [`pe_c_image`] refuses the bytes in this mode.
     ///
     /// [`NOTHING`] where it does not. It never returns an error.
@@ -3364,23 +3297,13 @@ extern "C" {
     /// Returns why [`pe_c_sections`] refuses the section headers of an image, whatever room it is given.
     ///
     /// [`NOTHING`] where it does not. It never returns an error. The failure is [`Error::SHORT`], with the offset of
-    /// the headers and the bytes that they need.
+    /// the headers and the bytes that they need. Of [`pe_c_te_sections`] it is what this call returns with the
+    /// `sections_offset` 40.
     pub fn pe_c_sections_failure(bytes: *const u8, length: usize, image: *const ImageInfo, out: *mut Failure) -> u32;
     /// Returns why [`pe_c_te`] refuses the bytes.
     ///
     /// [`NOTHING`] where it does not. It never returns an error.
     pub fn pe_c_te_failure(bytes: *const u8, length: usize, out: *mut Failure) -> u32;
-    /// Return why [`pe_c_te_sections`] and [`pe_c_coff_sections`] refuse the section headers, as
-    /// [`pe_c_sections_failure`] does of an image.
-    pub fn pe_c_te_sections_failure(bytes: *const u8, length: usize, te: *const TeHeader, out: *mut Failure) -> u32;
-    /// Return why [`pe_c_te_sections`] and [`pe_c_coff_sections`] refuse the section headers, as
-    /// [`pe_c_sections_failure`] does of an image.
-    pub fn pe_c_coff_sections_failure(
-        bytes: *const u8,
-        length: usize,
-        coff: *const CoffHeader,
-        out: *mut Failure,
-    ) -> u32;
     /// Returns what is wrong with a directory, `PE_C_DIRECTORY_EXPORT` and so on: the result of the call that reads it,
     /// and the numbers of that error.
     ///
@@ -3397,10 +3320,10 @@ extern "C" {
     /// `offset`; of [`Error::EXCEPTION_BOUNDS`], [`Error::DEBUG_BOUNDS`], [`Error::RESOURCE_BOUNDS`] and
     /// [`Error::CERTIFICATE_TABLE`] `offset`, where the table ends.
     pub fn pe_c_directory_failure(view: *const View, index: u32, out: *mut Failure) -> u32;
-    /// Returns what is wrong with the record of an entry of the debug directory that is read as one of these: the
-    /// result of the call that reads it, and the numbers of that error.
+    /// Returns what is wrong with the record of an entry of the debug directory that is read as one of these, whatever
+    /// the entry's type is: its result by [`pe_c_debug_record`], and the numbers of that error.
     ///
-    /// [`NOTHING`] where that call returns no error, and of a kind that is none of these. It never returns an error.
+    /// [`NOTHING`] where that is no error, and of a kind that is none of these. It never returns an error.
     ///
     /// The numbers: of [`Error::SHORT`] `offset` and `needed`; of [`Error::DEBUG_DATA`] `needed`; of
     /// [`Error::DEBUG_SIZE`] and [`Error::POGO_SIZE`] `value`, the size that the entry says; of [`Error::BAD_MAGIC`]
@@ -3690,18 +3613,14 @@ extern "C" {
     ///
     /// Errors: [`Error::SHORT`] where the walk is not inside the bytes, or its last entry is truncated.
     pub fn pe_c_next_scope(bytes: *const u8, length: usize, walk: *mut Range, out: *mut Scope) -> u32;
-    /// Starts the plan of a function, by its unwind RVA, the field `unwind` of the function.
-    ///
-    /// It always returns [`DONE`].
-    pub fn pe_c_plan_from(unwind: u32, out: *mut Plan) -> u32;
     /// Returns the next record of a plan: that of the function, then that of the function to which it is chained, and
     /// so on.
     ///
     /// [`NOTHING`] after the root. The table is the one that the function is from: pass the same one at each step.
     ///
     /// Errors: those of [`pe_c_unwind_record`] for the next record; [`Error::FUNCTION_CYCLE`] if, and only if, the
-    /// chain of a plan that [`pe_c_plan_from`] started never ends. Records may be returned before that error. Such a
-    /// plan is over after at most 3 * 2^32 records; a plan with other fields may never be over.
+    /// chain of a plan that `pe_c_plan_from` started never ends. Records may be returned before that error. Such a plan
+    /// is over after at most 3 * 2^32 records; a plan with other fields may never be over.
     pub fn pe_c_next_record(view: *const View, table: *const Range, walk: *mut PlanWalk, out: *mut Record) -> u32;
     /// Finds the registers of a function's caller, from those inside the function, in its prolog and epilogs too, and
     /// writes them over those of the frame.
@@ -3743,11 +3662,12 @@ extern "C" {
         piece_count: usize,
         frame: *mut Frame,
     ) -> u32;
-    /// Returns the next frame of a stack walk on x64, in the walk: first the top frame, and then the caller of each,
-    /// through the modules of a process.
+    /// Returns the next frames of a stack walk on x64: first the top frame, and then the caller of each, through the
+    /// modules of a process.
     ///
-    /// [`NOTHING`] where the walk is over: `walk->end` says why. The caller keeps the walk between two calls, and may
-    /// copy it.
+    /// Each of `frames` is the walk as it is after a frame, and `count` how many there are. [`NOTHING`] where the walk
+    /// was over before all were filled: `walk->end` says why, and the others stay unchanged. An array of no entries is
+    /// always filled. The caller keeps the walk between two calls, and may copy it.
     ///
     /// An address is that of the first module that has it: by binary search in modules in ascending order that do not
     /// overlap, in any others in turn. The modules are tested in each call, and may differ from call to call. `memory`
@@ -3775,22 +3695,6 @@ extern "C" {
     ///
     /// Errors, which change nothing: [`Error::SHORT`] where the table of a module is not inside its bytes, or, where
     /// `walk->is_searched` is 0, a piece not inside the memory.
-    pub fn pe_c_next_frame(
-        modules: *const Module,
-        module_count: usize,
-        memory: *const u8,
-        memory_length: usize,
-        pieces: *const MemoryPiece,
-        piece_count: usize,
-        walk: *mut StackWalk,
-    ) -> u32;
-    /// The same for several frames in one call, which tests the modules once: each of `frames` is the walk as it is
-    /// after a frame, and `count` how many there are.
-    ///
-    /// [`NOTHING`] where the walk was over before all were filled: the others stay unchanged. An array of no entries is
-    /// always filled.
-    ///
-    /// Errors, which change nothing: those of [`pe_c_next_frame`].
     pub fn pe_c_next_frames(
         modules: *const Module,
         module_count: usize,
@@ -3881,7 +3785,7 @@ extern "C" {
         piece_count: usize,
         frame: *mut Arm64Frame,
     ) -> u32;
-    /// As [`pe_c_next_frame`], on ARM64.
+    /// As [`pe_c_next_frames`], on ARM64.
     ///
     /// In each frame the function is looked up by pc, or by the call, four bytes before it, where the function has
     /// called. Where no unwind data describe the code of the top frame, or of one that was interrupted, the caller is
@@ -3892,19 +3796,7 @@ extern "C" {
     /// without an image, where none is found, it is the first word that is an address of such a module. The stack
     /// pointer may stay where it is in the first two alone, and sink past an interrupt alone.
     ///
-    /// Errors, which change nothing: those of [`pe_c_next_frame`].
-    pub fn pe_c_next_arm64_frame(
-        modules: *const Module,
-        module_count: usize,
-        memory: *const u8,
-        memory_length: usize,
-        pieces: *const MemoryPiece,
-        piece_count: usize,
-        walk: *mut Arm64StackWalk,
-    ) -> u32;
-    /// The same for several frames in one call, as [`pe_c_next_frames`].
-    ///
-    /// Errors, which change nothing: those of [`pe_c_next_frame`].
+    /// Errors, which change nothing: those of [`pe_c_next_frames`].
     pub fn pe_c_next_arm64_frames(
         modules: *const Module,
         module_count: usize,
@@ -4664,10 +4556,6 @@ extern "C" {
         stream_type: u32,
         out: *mut Range,
     ) -> u32;
-    /// Returns the range of a location.
-    ///
-    /// Errors: [`Error::DUMP_LOCATION`] where it is not inside the bytes.
-    pub fn pe_c_dump_range(bytes: *const u8, length: usize, location: *const DumpLocation, out: *mut Range) -> u32;
     /// Returns the range of a string, in UTF-16LE without its final zero.
     ///
     /// `rva` is what a record says.
@@ -4799,29 +4687,6 @@ extern "C" {
         bytes: *const u8,
         length: usize,
         location: *const DumpLocation,
-        out: *mut Arm64Context,
-    ) -> u32;
-    /// Reads the registers of a thread that count, on x64: those of the exception, if it names the thread and they can
-    /// be read, since the thread's own may be of the code that wrote the dump; else the thread's own.
-    ///
-    /// `raised` is what [`pe_c_dump_exception`] returned, or `PE_C_EMPTY` without an exception.
-    ///
-    /// Errors: those of the thread's own context, as of [`pe_c_dump_context`].
-    pub fn pe_c_dump_thread_context(
-        bytes: *const u8,
-        length: usize,
-        thread: *const DumpThread,
-        raised: *const DumpException,
-        out: *mut Context,
-    ) -> u32;
-    /// The same of ARM64.
-    ///
-    /// Errors: those of the thread's own context, as of [`pe_c_dump_context_arm64`].
-    pub fn pe_c_dump_thread_context_arm64(
-        bytes: *const u8,
-        length: usize,
-        thread: *const DumpThread,
-        raised: *const DumpException,
         out: *mut Arm64Context,
     ) -> u32;
     /// Returns [`DONE`] where an image is that of a module: its time stamp and its size are the module's.
@@ -5474,6 +5339,49 @@ pub unsafe extern "C" fn pe_c_next_pogo_entry(
     if result == DONE && written == 0 { NOTHING } else { result }
 }
 
+/// Returns the next frame of a stack walk on x64, in the walk: what [`pe_c_next_frames`] returns of one, which tests
+/// the modules in each call.
+///
+/// Errors, which change nothing: those of [`pe_c_next_frames`].
+///
+/// # Safety
+///
+/// As of [`pe_c_next_frames`], which it calls.
+#[rustfmt::skip]
+pub unsafe extern "C" fn pe_c_next_frame(
+    modules: *const Module,
+    module_count: usize,
+    memory: *const u8,
+    memory_length: usize,
+    pieces: *const MemoryPiece,
+    piece_count: usize,
+    walk: *mut StackWalk,
+) -> u32 {
+    let (mut found, mut written) = (StackWalk::default(), 0);
+    unsafe { pe_c_next_frames(modules, module_count, memory, memory_length, pieces, piece_count, walk, &mut found, 1, &mut written) }
+}
+
+/// The same on ARM64.
+///
+/// Errors, which change nothing: those of [`pe_c_next_frames`].
+///
+/// # Safety
+///
+/// As of [`pe_c_next_arm64_frames`], which it calls.
+#[rustfmt::skip]
+pub unsafe extern "C" fn pe_c_next_arm64_frame(
+    modules: *const Module,
+    module_count: usize,
+    memory: *const u8,
+    memory_length: usize,
+    pieces: *const MemoryPiece,
+    piece_count: usize,
+    walk: *mut Arm64StackWalk,
+) -> u32 {
+    let (mut found, mut written) = (Arm64StackWalk::default(), 0);
+    unsafe { pe_c_next_arm64_frames(modules, module_count, memory, memory_length, pieces, piece_count, walk, &mut found, 1, &mut written) }
+}
+
 /// Returns the function with an index, from 0.
 ///
 /// Errors: [`Error::SHORT`] where the table is not inside the bytes; [`Error::FUNCTION_INDEX`] where it has no such
@@ -5557,24 +5465,6 @@ pub unsafe extern "C" fn pe_c_symbol(
 ) -> u32 {
     let mut walk = SymbolWalk { table: unsafe { *table }, next: index };
     unsafe { pe_c_next_symbol(bytes, length, &mut walk, out) }
-}
-
-/// Returns the symbol key: the record of the first CodeView entry, if it is one of PDB 7.0.
-///
-/// [`NOTHING`] also without such an entry. Errors: those of [`pe_c_first_debug_entry`], then those of
-/// [`pe_c_symbol_key_of`].
-///
-/// # Safety
-///
-/// As of [`pe_c_first_debug_entry`] and [`pe_c_symbol_key_of`], which it calls.
-#[rustfmt::skip]
-pub unsafe extern "C" fn pe_c_symbol_key(
-    view: *const View,
-    out: *mut Key,
-) -> u32 {
-    let mut found = DebugEntry::default();
-    let result = unsafe { pe_c_first_debug_entry(view, 2, &mut found) };
-    if result == DONE { unsafe { pe_c_symbol_key_of((*view).bytes, (*view).length, (*(*view).image).mode, &found, out) } } else { result }
 }
 
 /// Returns the fixed file information.

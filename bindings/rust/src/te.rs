@@ -4,11 +4,11 @@
 //! [UEFI specification](https://uefi.org/specs/PI/1.8/V1_TE_Image.html).
 
 use crate::coff::sections_of;
-use crate::debug::{key_of, SymbolKey};
-use crate::image::{returned, Error};
+use crate::debug::{DebugRecords, SymbolKey, IMAGE_DEBUG_TYPE_CODEVIEW};
+use crate::image::Error;
 use crate::shown::{self, shown};
 use crate::sys::{self, DebugEntry, Section, TeHeader};
-use crate::walk::{ask_of_bytes, look, next_of};
+use crate::walk::{ask_of_bytes, next_of};
 use alloc::vec::Vec;
 use core::fmt;
 use core::iter::FusedIterator;
@@ -89,7 +89,7 @@ impl<'a> Te<'a> {
     ///
     /// [`Error::DEBUG_BOUNDS`].
     pub fn first_debug_entry(&self, data_type: u32) -> Result<Option<DebugEntry>, Error> {
-        look(self.bytes, sys::pe_c_te_first_debug_entry, &self.header, data_type)
+        Ok(self.debug_entries()?.flatten().find(|entry| entry.data_type == data_type))
     }
 
     /// The key by which a symbol server files the symbols of the image, of its first CodeView entry. `None` where there is no
@@ -99,16 +99,10 @@ impl<'a> Te<'a> {
     ///
     /// Those of [`Te::first_debug_entry`]; then [`Error::DEBUG_SIZE`], [`Error::SHORT`], [`Error::DEBUG_DATA`] of the record.
     pub fn symbol_key(&self) -> Result<Option<SymbolKey<'a>>, Error> {
-        let Some(entry) = self.first_debug_entry(CODEVIEW)? else { return Ok(None) };
-        let (bytes, mut key) = (self.bytes, sys::Key::default());
-        // SAFETY: as above; the entry is lent for the call.
-        let number = unsafe { sys::pe_c_symbol_key_of(bytes.as_ptr(), bytes.len(), sys::MAPPED, &entry, &mut key) };
-        returned(number, key)?.map(|key| key_of(key, bytes)).transpose()
+        let Some(entry) = self.first_debug_entry(IMAGE_DEBUG_TYPE_CODEVIEW)? else { return Ok(None) };
+        DebugRecords::of_entry(self.bytes, sys::MAPPED, &entry, IMAGE_DEBUG_TYPE_CODEVIEW).symbol_key
     }
 }
-
-/// `IMAGE_DEBUG_TYPE_CODEVIEW`.
-const CODEVIEW: u32 = 2;
 
 /// The entries of the debug directory of a TE image.
 #[derive(Clone)]

@@ -380,10 +380,8 @@ impl Iterator for FunctionEntries<'_, '_> {
 }
 
 fn plan_from(unwind: u32) -> sys::PlanWalk {
-    let mut walk = sys::PlanWalk::default();
-    // SAFETY: a writable record.
-    let _ = unsafe { sys::pe_c_plan_from(unwind, &mut walk.plan) };
-    walk
+    let plan = sys::Plan { unwind, saved: unwind, limit: 1, ..sys::Plan::default() };
+    sys::PlanWalk { plan, ..sys::PlanWalk::default() }
 }
 
 /// The records of a function, up to the root of its chain. [`Functions::plan`] says which errors an item can be.

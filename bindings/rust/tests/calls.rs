@@ -241,22 +241,27 @@ fn debug_records_are_read() {
     assert_eq!(parts, [(0x1000, 16, b".text$mn".as_slice()), (0x2000, 8, b".bss".as_slice())]);
 }
 
-/// All records at once are what each is by itself, also where one is damaged, and where the table is.
+/// All records at once are what the first entry of each type has, also where one is damaged, and where the table is.
 #[test]
 fn debug_records_are_read_at_once() {
     fn check(bytes: &[u8], errors: usize) {
         for mode in [Mode::Strict, Mode::Permissive] {
             let image = Image::parse(bytes, mode).unwrap();
             let all = image.debug_records();
-            assert_eq!(all.symbol_key, image.symbol_key());
-            assert_eq!(all.pdb20, image.pdb20());
-            assert_eq!(all.vc_features, image.vc_features());
-            assert_eq!(all.debug_characteristics, image.debug_characteristics());
-            assert_eq!(all.repro, image.repro());
+            // what the first entry of a type leads to, where the table has one
+            let first = |data_type| image.debug_entry(data_type).unwrap();
+            let codeview = first(2);
+            assert_eq!(all.symbol_key, codeview.map_or(Ok(None), |it| image.symbol_key_of(&it)));
+            assert_eq!(all.pdb20, codeview.map_or(Ok(None), |it| image.pdb20_of(&it)));
+            assert_eq!(all.vc_features, first(12).map_or(Ok(None), |it| image.vc_features_of(&it)));
+            assert_eq!(all.debug_characteristics, first(20).map_or(Ok(None), |it| image.debug_characteristics_of(&it)));
+            assert_eq!(all.repro, first(16).map_or(Ok(None), |it| image.repro_of(&it)));
             assert_eq!(
                 all.pogo.map(|it| it.map(|it| it.entry_bytes)),
-                image.pogo().map(|it| it.map(|it| it.entry_bytes))
+                first(13).map_or(Ok(None), |it| image.pogo_of(&it)).map(|it| it.map(|it| it.entry_bytes))
             );
+            assert_eq!(all.embedded_pdb, first(17).map_or(Ok(None), |it| image.embedded_pdb_of(&it)));
+            assert_eq!(all.pdb_checksum, first(19).map_or(Ok(None), |it| image.pdb_checksum_of(&it)));
             let refused = [
                 all.symbol_key.is_err(),
                 all.pdb20.is_err(),
@@ -286,12 +291,13 @@ fn debug_records_are_read_at_once() {
         check(&damaged, errors);
     }
     check(&with_old_debug(), 0);
+    check(&with_managed_debug(), 0);
     check(&with_imports(), 0);
 }
 
-/// A table of 150,000 entries is read once for all records, and not once for each of the six: the least of nine times.
+/// A table of 150,000 entries is read in few passes for all records, which take about as long as a walk: the least of nine times.
 #[test]
-fn debug_records_are_read_in_one_pass() {
+fn debug_records_are_read_in_few_passes() {
     let mut made = Made::new(X64);
     let size = 28 * 150_000;
     made.size_of_image = 0x100_0000;
@@ -307,9 +313,9 @@ fn debug_records_are_read_in_one_pass() {
         });
         times.min().unwrap()
     };
-    let one = least(&|| assert_eq!(image.symbol_key(), Ok(None)));
+    let walk = least(&|| assert_eq!(image.debug_entry(2), Ok(None)));
     let all = least(&|| assert!(matches!(image.debug_records().pogo, Ok(None))));
-    assert!(all < 4 * one, "{all:?} for all, {one:?} for one");
+    assert!(all < 4 * walk, "{all:?} for all, {walk:?} for a walk");
 }
 
 /// Each record is read from the entry of its type too, and as one of any other type where its bytes are one.

@@ -279,9 +279,8 @@ fn plans_that_lie_end() {
         }
     }
     for (offset, length) in numbers.iter().flat_map(|it| numbers.iter().map(move |length| (*it, *length))) {
-        let (lie, mut plan) = (sys::Range { offset, length }, sys::Plan::default());
-        // SAFETY: as above.
-        unsafe { sys::pe_c_plan_from(chained, &mut plan) };
+        let lie = sys::Range { offset, length };
+        let plan = sys::Plan { unwind: chained, saved: chained, limit: 1, ..sys::Plan::default() };
         for kept in KEPT {
             let first = first_of_all(2, sys::PlanWalk { plan, kept }, |walk, out| unsafe {
                 sys::pe_c_next_record(&view, &lie, walk, out)

@@ -175,8 +175,7 @@ fn items_of(image: &Image, sections: &[sys::Section], room: usize) -> Items {
     if let Some(table) = started(sys::pe_c_function_table, &view) {
         for entry in table.of(image.bytes()).unwrap().chunks_exact(12) {
             let unwind = u32::from_le_bytes(entry[8..].try_into().unwrap());
-            // SAFETY: the record is lent for the call.
-            unsafe { sys::pe_c_plan_from(unwind, &mut walk.plan) };
+            walk.plan = sys::Plan { unwind, saved: unwind, limit: 1, ..sys::Plan::default() };
             // SAFETY: as above. Each plan starts with the sections that the one before kept.
             all.6.extend(items(&mut walk, |walk, out| unsafe {
                 sys::pe_c_next_record(&view, &table, &mut **walk, out)

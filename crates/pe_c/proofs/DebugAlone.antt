@@ -20,11 +20,11 @@ use Rattle.pe_records.specs.DebugRecords.{pdb70_at, pdb70_record, pdb20_at, pdb2
 use Rattle.pe_records.specs.DebugRecords as records
 use Rattle.pe_records.specs.ManagedDebug.{Embedded, checksum_record, embedded_record}
 use Rattle.pe_records.specs.declared.debug.ImageDebugDirectory.{ImageDebugDirectory}
-use Rattle.pe_c.specs.Debug.{characteristics_of, checksum_of, embedded_of, features_of, first_entry, flat_checksum, flat_embedded, flat_key, flat_pdb20, flat_pogo, flat_repro, key_of, pdb20_of, pogo_of, repro_of}
+use Rattle.calls_headers.specs.Debug.{characteristics_of, checksum_of, embedded_of, features_of, first_entry, flat_checksum, flat_embedded, flat_key, flat_pdb20, flat_pogo, flat_repro, key_of, pdb20_of, pogo_of, repro_of}
 use Rattle.pe_c.specs.DebugLaws.{ReadsItsBytes, SameBytes, SameOrOther, StandsAlone, by_kind, by_length, by_signature, by_size, debug_table}
-use Rattle.pe_c.specs.Images.{debug_directory, is_absent}
-use Rattle.pe_c.specs.Modes.{options_of, resolves}
-use Rattle.pe_c.specs.declared.headers.image.Image.{Image}
+use Rattle.calls_base.specs.Images.{debug_directory, is_absent}
+use Rattle.calls_base.specs.Modes.{options_of, resolves}
+use Rattle.calls_base.specs.declared.image.Image.{Image}
 
 -- ---- parts of the same bytes
 

@@ -12,15 +12,15 @@ use Rattle.pe_records.specs.DebugRecords as records
 use Rattle.pe_records.specs.ManagedDebug as managed
 use Rattle.pe_records.specs.Parts.{StandsAfter, hash_of}
 use Rattle.pe_records.specs.declared.debug.ImageDebugDirectory.{ImageDebugDirectory}
-use Rattle.pe_c.proofs.RecordRanges.{of_offset}
-use Rattle.pe_c.specs.Debug.{characteristics_of, checksum_of, embedded_of, features_of, first_entry, flat_checksum, flat_embedded, flat_key, flat_pdb20, flat_pogo, flat_repro, key_of, part_after, pdb20_of, pogo_of, repro_of}
+use Rattle.calls_unwind.proofs.RecordRanges.{of_offset}
+use Rattle.calls_headers.specs.Debug.{characteristics_of, checksum_of, embedded_of, features_of, first_entry, flat_checksum, flat_embedded, flat_key, flat_pdb20, flat_pogo, flat_repro, key_of, part_after, pdb20_of, pogo_of, repro_of}
 use Rattle.pe_c.specs.DebugLaws.{ReportsPart, ReturnsRecord, image_debug}
-use Rattle.pe_c.specs.Images.{debug_directory, is_absent}
-use Rattle.pe_c.specs.Modes.{options_of, resolves}
-use Rattle.pe_c.specs.Ranges.{IsPart, IsRange, no_bytes}
-use Rattle.pe_c.specs.declared.debug.records.Repro.{Repro}
-use Rattle.pe_c.specs.declared.headers.image.Image.{Image}
-use Rattle.pe_c.specs.declared.base.ranges.Range.{Range}
+use Rattle.calls_base.specs.Images.{debug_directory, is_absent}
+use Rattle.calls_base.specs.Modes.{options_of, resolves}
+use Rattle.calls_base.specs.Ranges.{IsPart, IsRange, no_bytes}
+use Rattle.calls_headers.specs.declared.debug.records.Repro.{Repro}
+use Rattle.calls_base.specs.declared.image.Image.{Image}
+use Rattle.calls_base.specs.declared.ranges.Range.{Range}
 
 -- ---- ranges are parts
 

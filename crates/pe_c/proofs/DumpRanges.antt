@@ -10,10 +10,10 @@ use Rattle.pe_minidump.specs.Refusals.{DumpRefusal, Location}
 use Rattle.pe_minidump.specs.declared.dump.DirectoryEntry.{DirectoryEntry}
 use Rattle.pe_minidump.specs.declared.dump.DumpHeader.{DumpHeader}
 use Rattle.pe_c.specs.DumpLaws.{IsStreamOf, memory_range}
-use Rattle.pe_c.specs.DumpMemory.{piece_reported}
-use Rattle.pe_c.specs.Dumps.{dump_stream_at, range_of_entry}
-use Rattle.pe_c.specs.Ranges.{IsRange}
-use Rattle.pe_c.specs.declared.base.ranges.Range.{Range}
+use Rattle.calls_stacks.specs.DumpMemory.{piece_reported}
+use Rattle.calls_stacks.specs.Dumps.{dump_stream_at, range_of_entry}
+use Rattle.calls_base.specs.Ranges.{IsRange}
+use Rattle.calls_base.specs.declared.ranges.Range.{Range}
 
 -- ---- streams
 

@@ -17,13 +17,13 @@ use Rattle.pe_minidump.specs.declared.thread.Thread.{Thread}
 use Rattle.pe_stacks.specs.Images.{has_size, is_image_of}
 use Rattle.pe_stacks.specs.MemoryRuns.{bytes_at, bytes_in}
 use Rattle.pe_stacks.specs.ThreadContexts.{context_at, first_of, or_else, raised_by, thread_context}
-use Rattle.pe_c.specs.DumpContexts.{raised_of, thread_context_at}
-use Rattle.pe_c.specs.DumpImages.{fits}
+use Rattle.calls_stacks.specs.DumpContexts.{raised_of, thread_context_at}
+use Rattle.calls_stacks.specs.DumpImages.{fits}
 use Rattle.pe_c.specs.DumpLaws.{as_reported}
-use Rattle.pe_c.specs.DumpRecords.{module_reported}
-use Rattle.pe_c.specs.DumpRuns.{part_in, range_in}
-use Rattle.pe_c.specs.Images.{image_info_by, image_info_of}
-use Rattle.pe_c.specs.declared.base.ranges.Range.{Range}
+use Rattle.calls_stacks.specs.DumpRecords.{module_reported}
+use Rattle.calls_stacks.specs.DumpRuns.{part_in, range_in}
+use Rattle.calls_base.specs.Images.{image_info_by, image_info_of}
+use Rattle.calls_base.specs.declared.ranges.Range.{Range}
 
 -- ---- contexts
 

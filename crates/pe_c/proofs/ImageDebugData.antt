@@ -29,15 +29,15 @@ use Rattle.pe_records.specs.declared.debug.ImageDebugDirectory.{ImageDebugDirect
 use Rattle.pe_records.specs.declared.debug.records.ExDllCharacteristicsInfo.{ExDllCharacteristicsInfo}
 use Rattle.pe_records.specs.declared.debug.constants.TheConstants.{CODEVIEW_PDB20_MAGIC, CODEVIEW_PDB70_MAGIC}
 use Rattle.pe_c.proofs.ImageFields.{IsThere, Says, all_passed, part_of, plain, there}
-use Rattle.pe_c.proofs.RecordRanges.{of_offset}
-use Rattle.pe_c.specs.Debug.{characteristics_of, debug_entries_range, features_of, first_entry, flat_key, flat_pdb20, flat_pogo, flat_repro, key_of, pdb20_of, pogo_of, read_first, repro_of}
+use Rattle.calls_unwind.proofs.RecordRanges.{of_offset}
+use Rattle.calls_headers.specs.Debug.{characteristics_of, debug_entries_range, features_of, first_entry, flat_key, flat_pdb20, flat_pogo, flat_repro, key_of, pdb20_of, pogo_of, read_first, repro_of}
 use Rattle.pe_c.specs.ImageDebug.{AreDebugData, DebugResults, IsDebugData, IsKey, IsPdb20, IsPogo, IsRepro, debug_results, debug_results_after}
-use Rattle.pe_c.specs.ImageParts.{HasOption, HasResult, Reports}
-use Rattle.pe_c.specs.Images.{debug_directory, is_absent, or_absent}
-use Rattle.pe_c.specs.Modes.{options_of, resolves}
-use Rattle.pe_c.specs.Ranges.{IsRange, range_of}
-use Rattle.pe_c.specs.declared.headers.image.Image.{Image}
-use Rattle.pe_c.specs.declared.base.ranges.Range.{Range}
+use Rattle.calls_failures.specs.ImageParts.{HasOption, HasResult, Reports}
+use Rattle.calls_base.specs.Images.{debug_directory, is_absent, or_absent}
+use Rattle.calls_base.specs.Modes.{options_of, resolves}
+use Rattle.calls_base.specs.Ranges.{IsRange, range_of}
+use Rattle.calls_base.specs.declared.image.Image.{Image}
+use Rattle.calls_base.specs.declared.ranges.Range.{Range}
 
 -- ---- the kind of a CodeView record
 

@@ -17,18 +17,18 @@ use Rattle.pe_image.specs.Layout.{alignment}
 use Rattle.pe_image.specs.Layout as layout
 use Rattle.pe_records.specs.Certificates.{CertificateView, certificates_at}
 use Rattle.pe_unwind.specs.ExceptionTable.{exception_at, exception_at_offset, table_range}
-use Rattle.pe_c.proofs.CertificateRuns.{certificates_in_turn, refused_in_turn}
+use Rattle.calls_stacks.proofs.CertificateRuns.{certificates_in_turn, refused_in_turn}
 use Rattle.pe_c.proofs.ImageFields.{IsThere, Says, part_of, plain, same_map, there}
-use Rattle.pe_c.specs.Certificates.{ReportsCertificate, StepsCertificates, listed}
-use Rattle.pe_c.specs.Directories.{if_present}
-use Rattle.pe_c.specs.ImageParts.{AreCertificates, AreExceptions, AreListed, AreRelocations, IsTable, Reports, function_table, is_left_out}
-use Rattle.pe_c.specs.Images.{directory, is_absent, map_of_image, or_absent}
-use Rattle.pe_c.specs.Modes.{options_of}
-use Rattle.pe_c.specs.Ranges.{IsRange, range_of}
-use Rattle.pe_c.specs.Runs.{ReturnsReported}
-use Rattle.pe_c.specs.Unwinding.{exception_table_at}
-use Rattle.pe_c.specs.declared.headers.image.Image.{Image}
-use Rattle.pe_c.specs.declared.base.ranges.Range.{Range}
+use Rattle.calls_directories.specs.Certificates.{ReportsCertificate, StepsCertificates, listed}
+use Rattle.calls_base.specs.Directories.{if_present}
+use Rattle.calls_failures.specs.ImageParts.{AreCertificates, AreExceptions, AreListed, AreRelocations, IsTable, Reports, function_table, is_left_out}
+use Rattle.calls_base.specs.Images.{directory, is_absent, map_of_image, or_absent}
+use Rattle.calls_base.specs.Modes.{options_of}
+use Rattle.calls_base.specs.Ranges.{IsRange, range_of}
+use Rattle.calls_base.specs.Runs.{ReturnsReported}
+use Rattle.calls_unwind.specs.Unwinding.{exception_table_at}
+use Rattle.calls_base.specs.declared.image.Image.{Image}
+use Rattle.calls_base.specs.declared.ranges.Range.{Range}
 
 -- ---- base relocations
 

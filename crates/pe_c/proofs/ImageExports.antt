@@ -17,20 +17,21 @@ use Rattle.pe_core.specs.declared.section_table.SectionTable.{SectionTable}
 use Rattle.pe_image.specs.Core.{export_data_of, exports_of, value_or_none}
 use Rattle.pe_image.specs.Layout.{alignment}
 use Rattle.pe_image.specs.Layout as layout
-use Rattle.pe_c.proofs.AddressEntries.{name_is, names_stand}
-use Rattle.pe_c.proofs.ExportParts.{tables_stand}
-use Rattle.pe_c.proofs.ExportRuns.{directory_in_turn}
+use Rattle.calls_directories.proofs.AddressEntries.{name_is, names_stand}
+use Rattle.calls_directories.proofs.ExportParts.{tables_stand}
+use Rattle.calls_directories.proofs.ExportRuns.{directory_in_turn}
 use Rattle.pe_c.proofs.ImageFields.{IsThere, Says, same_map, there}
-use Rattle.pe_c.proofs.ResourceRoots.{tested}
-use Rattle.pe_c.specs.DirectoryTables.{export_directory_at, export_fields}
-use Rattle.pe_c.specs.ExportAddresses.{address_table, address_table_at, dll_name, text_range}
-use Rattle.pe_c.specs.Exports.{one_if_some, tables_at, walk_over}
-use Rattle.pe_c.specs.ImageParts.{AreExports, AreExportsBy}
-use Rattle.pe_c.specs.Images.{export_directory, is_absent, map_of_image, or_absent}
-use Rattle.pe_c.specs.declared.directories.tables.ExportFields.{ExportFields}
-use Rattle.pe_c.specs.declared.names.exports.Exports.{Exports}
-use Rattle.pe_c.specs.declared.headers.image.Image.{Image}
-use Rattle.pe_c.specs.declared.base.ranges.Range.{Range}
+use Rattle.calls_base.proofs.ResourceRoots.{tested}
+use Rattle.calls_directories.specs.DirectoryTables.{export_directory_at, export_fields}
+use Rattle.calls_directories.specs.ExportAddresses.{address_table, address_table_at, dll_name, text_range}
+use Rattle.calls_directories.specs.Exports.{tables_at, walk_over}
+use Rattle.calls_base.specs.Ranges.{one_if_some}
+use Rattle.calls_failures.specs.ImageParts.{AreExports, AreExportsBy}
+use Rattle.calls_base.specs.Images.{export_directory, is_absent, map_of_image, or_absent}
+use Rattle.calls_directories.specs.declared.directories.tables.ExportFields.{ExportFields}
+use Rattle.calls_directories.specs.declared.names.exports.Exports.{Exports}
+use Rattle.calls_base.specs.declared.image.Image.{Image}
+use Rattle.calls_base.specs.declared.ranges.Range.{Range}
 
 -- ---- the name
 

@@ -16,9 +16,9 @@ use Rattle.pe_image.specs.Fields.{Field}
 use Rattle.pe_image.specs.Layout.{alignment, entry_point, image_base, is_64}
 use Rattle.pe_image.specs.Layout as layout
 use Rattle.pe_c.specs.ImageOfCalls.{mode_of, number_of_mode}
-use Rattle.pe_c.specs.Images.{directory, image_info_by, is_absent, map_of_image, or_absent}
-use Rattle.pe_c.specs.Modes.{mode_of_number, options_of}
-use Rattle.pe_c.specs.declared.headers.image.Image.{Image}
+use Rattle.calls_base.specs.Images.{directory, image_info_by, is_absent, map_of_image, or_absent}
+use Rattle.calls_base.specs.Modes.{mode_of_number, options_of}
+use Rattle.calls_base.specs.declared.image.Image.{Image}
 
 -- ---- options
 

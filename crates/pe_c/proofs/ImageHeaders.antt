@@ -17,11 +17,11 @@ use Rattle.pe_core.specs.declared.data_directories.DataDirectory.{DataDirectory}
 use Rattle.pe_core.specs.declared.options.ParseMode.{ParseMode}
 use Rattle.pe_core.specs.declared.options.ParseOptions.{ParseOptions}
 use Rattle.pe_c.proofs.ImageFields.{all_passed, same_mode}
-use Rattle.pe_c.specs.Headers.{dos_fields, headers_at, headers_by, headers_of}
+use Rattle.calls_headers.specs.Headers.{dos_fields, headers_at, headers_by, headers_of}
 use Rattle.pe_c.specs.HeadersRead.{dos_numbers, header_of}
 use Rattle.pe_c.specs.ImageOfCalls.{mode_of}
-use Rattle.pe_c.specs.Images.{all_directories, or_absent}
-use Rattle.pe_c.specs.Modes.{mode_of_number}
+use Rattle.calls_base.specs.Images.{all_directories, or_absent}
+use Rattle.calls_base.specs.Modes.{mode_of_number}
 
 -- ---- what is accepted
 

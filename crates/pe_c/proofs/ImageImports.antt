@@ -23,15 +23,15 @@ use Rattle.pe_image.specs.Layout.{alignment, is_64}
 use Rattle.pe_image.specs.Layout as layout
 use Rattle.pe_c.proofs.ImageFields.{IsThere, Says, same_map, there}
 use Rattle.pe_c.proofs.ImportRuns.{imports_in_turn, libraries_in_turn, refused_in_turn}
-use Rattle.pe_c.specs.ImageParts.{AreImports, AreImportsAfter, AreImportsBy, AreImportsOf, IsLibrary, in_turn}
-use Rattle.pe_c.specs.Images.{import_directory, is_absent, map_of_image, or_absent}
-use Rattle.pe_c.specs.Imports.{libraries_at, libraries_from}
-use Rattle.pe_c.specs.Parts.{ReportsImport, ReportsLibrary}
-use Rattle.pe_c.specs.Ranges.{IsRange}
-use Rattle.pe_c.specs.declared.headers.image.Image.{Image}
-use Rattle.pe_c.specs.declared.names.imports.Import.{Import}
-use Rattle.pe_c.specs.declared.names.imports.Libraries.{Libraries}
-use Rattle.pe_c.specs.declared.names.imports.Library.{Library}
+use Rattle.calls_failures.specs.ImageParts.{AreImports, AreImportsAfter, AreImportsBy, AreImportsOf, IsLibrary, in_turn}
+use Rattle.calls_base.specs.Images.{import_directory, is_absent, map_of_image, or_absent}
+use Rattle.calls_directories.specs.Imports.{libraries_at, libraries_from}
+use Rattle.calls_directories.specs.Parts.{ReportsImport, ReportsLibrary}
+use Rattle.calls_base.specs.Ranges.{IsRange}
+use Rattle.calls_base.specs.declared.image.Image.{Image}
+use Rattle.calls_directories.specs.declared.names.imports.Import.{Import}
+use Rattle.calls_directories.specs.declared.names.imports.Libraries.{Libraries}
+use Rattle.calls_directories.specs.declared.names.imports.Library.{Library}
 
 -- ---- the DLL of an import is that of its record
 

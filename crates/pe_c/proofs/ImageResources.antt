@@ -33,17 +33,17 @@ use Rattle.pe_resource.specs.declared.content.ResourceDataEntry.{ResourceDataEnt
 use Rattle.pe_resource.specs.declared.directory.ImageResourceDirectory.{ImageResourceDirectory}
 use Rattle.pe_resource.specs.declared.version.VsFixedFileInfo.{VsFixedFileInfo}
 use Rattle.pe_c.proofs.ImageFields.{IsThere as HasDirectory, Says, part_of, plain, there}
-use Rattle.pe_c.proofs.ResourceRoots.{some_inside, tested}
-use Rattle.pe_c.specs.DirectoryTables.{root_at, root_of}
-use Rattle.pe_c.specs.ImageParts.{AreResources, AreResourcesBy, AreResourcesUnless, AreStrings, HasOption, IsVersionAt, IsVersionBy, is_left_out, resources_at}
-use Rattle.pe_c.specs.Images.{directory, is_absent, or_absent}
-use Rattle.pe_c.specs.Images as images
-use Rattle.pe_c.specs.Modes.{options_of}
-use Rattle.pe_c.specs.Ranges.{IsRange, range_of}
-use Rattle.pe_c.specs.ResourceLeaves.{walk_at}
-use Rattle.pe_c.specs.Versions.{IsContentBy, IsContentOf, content_at, fixed_at, fixed_in, value_at}
-use Rattle.pe_c.specs.declared.directories.tables.ResourceDirectory.{ResourceDirectory}
-use Rattle.pe_c.specs.declared.headers.image.Image.{Image}
+use Rattle.calls_base.proofs.ResourceRoots.{some_inside, tested}
+use Rattle.calls_directories.specs.DirectoryTables.{root_at, root_of}
+use Rattle.calls_failures.specs.ImageParts.{AreResources, AreResourcesBy, AreResourcesUnless, AreStrings, HasOption, IsVersionAt, IsVersionBy, is_left_out, resources_at}
+use Rattle.calls_base.specs.Images.{directory, is_absent, or_absent}
+use Rattle.calls_base.specs.Images as images
+use Rattle.calls_base.specs.Modes.{options_of}
+use Rattle.calls_base.specs.Ranges.{IsRange, range_of}
+use Rattle.calls_directories.specs.ResourceLeaves.{walk_at}
+use Rattle.calls_directories.specs.Versions.{IsContentBy, IsContentOf, content_at, fixed_at, fixed_in, value_at}
+use Rattle.calls_directories.specs.declared.directories.tables.ResourceDirectory.{ResourceDirectory}
+use Rattle.calls_base.specs.declared.image.Image.{Image}
 
 -- ---- a content lies in the bytes
 

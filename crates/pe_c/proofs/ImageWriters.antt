@@ -8,12 +8,12 @@ use Rattle.pe_image.specs.Fields.{certificate_field, list_by_mode}
 use Rattle.pe_image.specs.Image.{ImageView, IsImage}
 use Rattle.pe_image.specs.Writing.{certificates_written, image_length, image_written, whole_length, whole_written}
 use Rattle.pe_c.specs.ImageOfCalls.{mode_of}
-use Rattle.pe_c.specs.ImageWrites.{IsViewOf, certificates_of, certificates_written_at, image_length_at, image_written_at, parts_of, whole_length_at, whole_written_at}
-use Rattle.pe_c.specs.Images.{image_at, image_info_by, image_info_of}
-use Rattle.pe_c.specs.Modes.{mode_of_number, options_of}
-use Rattle.pe_c.specs.Signing.{headers_of}
-use Rattle.pe_c.specs.declared.headers.image.Image.{Image}
-use Rattle.pe_c.specs.declared.base.view.View.{View}
+use Rattle.calls_write.specs.ImageWrites.{IsViewOf, certificates_of, certificates_written_at, image_length_at, image_written_at, parts_of, whole_length_at, whole_written_at}
+use Rattle.calls_base.specs.Images.{image_at, image_info_by, image_info_of}
+use Rattle.calls_base.specs.Modes.{mode_of_number, options_of}
+use Rattle.calls_write.specs.Signing.{headers_of}
+use Rattle.calls_base.specs.declared.image.Image.{Image}
+use Rattle.calls_base.specs.declared.view.View.{View}
 use Rattle.pe_c.proofs.ImageFields.{same_mode}
 
 -- the law of pe_image, for each part

@@ -27,11 +27,11 @@ use Rattle.pe_c.proofs.ImageFields.{Says, part_of, same_mode, says}
 use Rattle.pe_c.proofs.ImageHeaders.{headers_are}
 use Rattle.pe_c.proofs.ImageImports.{imports_are, imports_part}
 use Rattle.pe_c.proofs.ImageResources.{resources_are}
-use Rattle.pe_c.specs.Headers.{headers_of}
+use Rattle.calls_headers.specs.Headers.{headers_of}
 use Rattle.pe_c.specs.HeadersRead.{header_of}
 use Rattle.pe_c.specs.ImageOfCalls.{AreParts, IsImageAfter, IsImageOfCalls, IsImageWith, Parts, image_of_parts, mode_of, part_by_mode}
-use Rattle.pe_c.specs.Images.{image_info_by, image_info_of}
-use Rattle.pe_c.specs.declared.headers.image.Image.{Image}
+use Rattle.calls_base.specs.Images.{image_info_by, image_info_of}
+use Rattle.calls_base.specs.declared.image.Image.{Image}
 
 -- ---- the parts
 

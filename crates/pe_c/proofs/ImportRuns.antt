@@ -21,23 +21,24 @@ use Rattle.pe_core.specs.SectionMap.{mapped}
 use Rattle.pe_core.specs.Text.{text_at}
 use Rattle.pe_core.specs.declared.import.ImportDirectoryEntry.{ImportDirectoryEntry}
 use Rattle.pe_core.specs.declared.section_table.SectionTable.{SectionTable}
-use Rattle.pe_c.specs.declared.headers.image.Image.{Image}
-use Rattle.pe_c.specs.declared.names.imports.Import.{Import}
-use Rattle.pe_c.specs.declared.names.imports.Imports.{Imports}
-use Rattle.pe_c.specs.declared.names.imports.Libraries.{Libraries}
-use Rattle.pe_c.specs.declared.names.imports.Library.{Library}
-use Rattle.pe_c.specs.declared.base.ranges.Range.{Range}
-use Rattle.pe_c.specs.Images.{import_directory, is_absent, map_of_image}
-use Rattle.pe_c.specs.Imports.{import_at, import_by, import_left, import_step, import_reported, StepsImports, StepsLibraries, libraries_at, libraries_from, library_by, library_step, library_reported, no_imports, no_libraries, slot_entry}
-use Rattle.pe_c.specs.Parts.{ImportsInTurn, ReportsImport, ReportsLibrary}
-use Rattle.pe_c.specs.Ranges.{IsRange, no_bytes, range_from}
-use Rattle.pe_c.specs.Runs.{ReturnsItems, IsOver, ReturnsReported}
-use Rattle.pe_c.specs.Walks.{left_entry}
-use Rattle.pe_c.proofs.Runs.{makes_by, reports_more, reports_none, reports_refused}
-use Rattle.pe_c.proofs.ExportParts.{text_stands}
+use Rattle.calls_base.specs.declared.image.Image.{Image}
+use Rattle.calls_directories.specs.declared.names.imports.Import.{Import}
+use Rattle.calls_directories.specs.declared.names.imports.Imports.{Imports}
+use Rattle.calls_directories.specs.declared.names.imports.Libraries.{Libraries}
+use Rattle.calls_directories.specs.declared.names.imports.Library.{Library}
+use Rattle.calls_base.specs.declared.ranges.Range.{Range}
+use Rattle.calls_base.specs.Images.{import_directory, is_absent, map_of_image}
+use Rattle.calls_directories.specs.Imports.{import_at, import_by, import_left, import_step, import_reported, StepsImports, StepsLibraries, libraries_at, libraries_from, library_by, library_step, library_reported, no_imports, no_libraries, slot_entry}
+use Rattle.calls_directories.specs.Parts.{ImportsInTurn, ReportsImport, ReportsLibrary}
+use Rattle.calls_base.specs.Ranges.{IsRange, no_bytes, range_from}
+use Rattle.calls_base.specs.Runs.{ReturnsItems, IsOver, ReturnsReported}
+use Rattle.calls_base.specs.Walks.{left_entry}
+use Rattle.calls_base.proofs.Runs.{makes_by, reports_more, reports_none, reports_refused}
+use Rattle.calls_base.proofs.TextRanges.{text_stands}
 use Rattle.pe_core.proofs.Steps.{given, same_inside}
 use Rattle.pe_image.proofs.StandingLists.{held, le_of_range, list_inside, not_last, rows_front, some_inside}
 use Rattle.pe_core.proofs.EntryLists.{some_size}
+use Rattle.calls_directories.proofs.LastImports.{over, step_last}
 
 -- ---- an import
 
@@ -84,10 +85,6 @@ agrees offset w b dll entry rva = agrees_by_kind offset b dll entry rva (nat_le 
 
 -- ---- the imports of a library
 
--- a walk that has the bytes from q on left
-abbrev pub over : ℕ → ℕ → ℕ → Imports
-over q n rva = record { left = record { offset = q; length = n }; rva = rva }
-
 -- the entries from q on
 abbrev slots : ℕ → List ℕ → List ℕ → ℕ → ℕ → ℕ → EntryView
 slots w b dll q rva k = record { dll = dll; entry = le b (q + w * k) w; rva = rva + w * k }
@@ -101,12 +98,6 @@ step_first offset w b q m rva some h i =
     let at_start : q + 0 ≡ q = omega arith in
     let entry : le (range b q m) 0 w ≡ le b q w = le_of_range b q m 0 w i (omega (arith, h)) ∙ ap (λ (k : ℕ). le b k w) at_start in
     ap (import_left offset w b (over q m rva)) (entry_left w b q m some h i) ∙ ap (λ (e : ℕ). import_by w (over q m rva) (import_at offset w b e rva)) entry
-
-pub step_last : (offset : ℕ → Option ℕ) (w : ℕ) (b : List ℕ) (q rva : ℕ) → q ≤ length b → import_step offset w b (over q 0 rva) ≡ (Ok None, over q 0 rva)
-unfolding import_step
-step_last offset w b q rva h =
-    let left : left_entry w b (record { offset = q; length = 0 }) ≡ Ok None = grind (arith, nat_tests) in
-    ap (import_left offset w b (over q 0 rva)) left
 
 -- the first import and those after it
 one : (offset : ℕ → Option ℕ) (w : ℕ) (b : List ℕ) (walk next : Imports) (r : Result ImportView Refusal) (x : Result Import Refusal) (rest : List (Result ImportView Refusal)) →

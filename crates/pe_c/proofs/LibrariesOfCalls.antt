@@ -15,18 +15,18 @@ use Rattle.pe_core.specs.declared.section_table.SectionTable.{SectionTable}
 use Rattle.pe_image.specs.Core.{AreLibrariesOf}
 use Rattle.pe_image.specs.Image.{ImageView, IsImage}
 use Rattle.pe_c.proofs.ImagesByCalls.{SomeResource, image_of_calls}
-use Rattle.pe_c.proofs.OneImports.{libraries_move}
-use Rattle.pe_c.proofs.OneParts.{one_range}
-use Rattle.pe_c.proofs.OneRun.{ReportsOne, one_run, one_zip, same_values}
+use Rattle.calls_failures.proofs.OneImports.{libraries_move}
+use Rattle.calls_failures.proofs.OneParts.{one_range}
+use Rattle.calls_failures.proofs.OneRun.{ReportsOne, one_run, one_zip, same_values}
 use Rattle.pe_c.specs.HeadersRead.{header_of}
 use Rattle.pe_c.specs.ImageOfCalls.{IsImageAfter, IsImageWith, Parts, image_of_parts, mode_of, part_by_mode}
-use Rattle.pe_c.specs.ImageParts.{AreImportsAfter, AreImportsBy, IsLibrary, in_turn}
-use Rattle.pe_c.specs.Images.{image_at, map_of_image}
-use Rattle.pe_c.specs.Imports.{StepsLibraries, libraries_at}
+use Rattle.calls_failures.specs.ImageParts.{AreImportsAfter, AreImportsBy, IsLibrary, in_turn}
+use Rattle.calls_base.specs.Images.{image_at, map_of_image}
+use Rattle.calls_directories.specs.Imports.{StepsLibraries, libraries_at}
 use Rattle.pe_c.specs.LibrariesOfCalls.{AreLibrariesOfCalls, AreNamesAfter, AreNamesBy, IsNameOf}
-use Rattle.pe_c.specs.declared.headers.image.Image.{Image}
-use Rattle.pe_c.specs.declared.names.imports.Libraries.{Libraries}
-use Rattle.pe_c.specs.declared.names.imports.Library.{Library}
+use Rattle.calls_base.specs.declared.image.Image.{Image}
+use Rattle.calls_directories.specs.declared.names.imports.Libraries.{Libraries}
+use Rattle.calls_directories.specs.declared.names.imports.Library.{Library}
 
 -- records and imports
 abbrev Found : Type 0

@@ -8,11 +8,11 @@ use Rattle.pe_records.specs.DebugRecords as records
 use Rattle.pe_records.specs.declared.debug.ImageDebugDirectory.{ImageDebugDirectory}
 use Rattle.pe_records.specs.declared.debug.records.ExDllCharacteristicsInfo.{ExDllCharacteristicsInfo}
 use Rattle.pe_records.specs.declared.debug.records.VCFeatureInfo.{VCFeatureInfo}
-use Rattle.pe_c.proofs.OneParts.{one_range}
-use Rattle.pe_c.proofs.OneRun.{ReportsOne, one_option, one_result}
+use Rattle.calls_failures.proofs.OneParts.{one_range}
+use Rattle.calls_failures.proofs.OneRun.{ReportsOne, one_option, one_result}
 use Rattle.pe_c.specs.ImageDebug.{AreDebugData, IsDebugData, IsKey, IsPdb20, IsPogo, IsRepro, debug_results}
-use Rattle.pe_c.specs.ImageParts.{HasOption}
-use Rattle.pe_c.specs.declared.headers.image.Image.{Image}
+use Rattle.calls_failures.specs.ImageParts.{HasOption}
+use Rattle.calls_base.specs.declared.image.Image.{Image}
 
 one_key : (b : List ℕ) → ReportsOne (IsKey b)
 one_key b y r s g h =

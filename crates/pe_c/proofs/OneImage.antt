@@ -16,15 +16,15 @@ use Rattle.pe_resource.specs.Resources.{ResourceView}
 use Rattle.pe_unwind.specs.ExceptionTable.{ExceptionView}
 use Rattle.pe_c.proofs.ImagesByCalls.{SomeResource, image_of_calls}
 use Rattle.pe_c.proofs.OneDebugData.{one_debug_data}
-use Rattle.pe_c.proofs.OneImports.{one_imports}
-use Rattle.pe_c.proofs.OneParts.{one_certificates, one_exceptions, one_exports, one_relocations}
-use Rattle.pe_c.proofs.OneResources.{OneContent, one_resources}
-use Rattle.pe_c.specs.Headers.{headers_at}
+use Rattle.calls_failures.proofs.OneImports.{one_imports}
+use Rattle.calls_failures.proofs.OneParts.{one_certificates, one_exceptions, one_exports, one_relocations}
+use Rattle.calls_failures.proofs.OneResources.{OneContent, one_resources}
+use Rattle.calls_headers.specs.Headers.{headers_at}
 use Rattle.pe_c.specs.HeadersRead.{header_of}
 use Rattle.pe_c.specs.ImageOfCalls.{AreParts, IsImageAfter, IsImageOfCalls, IsImageWith, Parts, image_of_parts, mode_of}
-use Rattle.pe_c.specs.Images.{image_at}
-use Rattle.pe_c.specs.declared.headers.Headers.{Headers}
-use Rattle.pe_c.specs.declared.headers.image.Image.{Image}
+use Rattle.calls_base.specs.Images.{image_at}
+use Rattle.calls_headers.specs.declared.headers.Headers.{Headers}
+use Rattle.calls_base.specs.declared.image.Image.{Image}
 
 one_parts : OneContent → (b : List ℕ) (o : ParseOptions) (image : Image) (sections : List SectionTable) (p q : Parts) → AreParts b o image sections p → AreParts b o image sections q → p ≡ q
 one_parts law b o image sections p q g h =

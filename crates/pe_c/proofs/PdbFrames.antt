@@ -8,12 +8,12 @@ use Rattle.pe_pdb.specs.declared.inline_rows.InlineRow.{InlineRow}
 use Rattle.pe_pdb.specs.declared.inlinee.InlineeLine.{InlineeLine}
 use Rattle.pe_pdb.specs.declared.inlinee.SourceLine.{SourceLine}
 use Rattle.pe_c.specs.PdbFrames.{all_named, all_placed, named, placed, with_lines}
-use Rattle.pe_c.specs.PdbInlined.{bare, inlined_by, inlined_functions, inlinee_in, inlinees_at, line_put, name_found, name_put, source_put, stack_at}
-use Rattle.pe_c.specs.declared.pdb.inlined.FunctionName.{FunctionName}
-use Rattle.pe_c.specs.declared.pdb.inlined.PdbInlined.{PdbInlined}
-use Rattle.pe_c.specs.declared.pdb.modules.PdbModule.{PdbModule}
-use Rattle.pe_c.specs.declared.pdb.symbols.PdbSymbol.{PdbSymbol}
-use Rattle.pe_c.specs.declared.base.ranges.Range.{Range}
+use Rattle.calls_pdb.specs.PdbInlined.{bare, inlined_by, inlined_functions, inlinee_in, inlinees_at, line_put, name_found, name_put, source_put, stack_at}
+use Rattle.calls_pdb.specs.declared.inlined.FunctionName.{FunctionName}
+use Rattle.calls_pdb.specs.declared.inlined.PdbInlined.{PdbInlined}
+use Rattle.calls_pdb.specs.declared.modules.PdbModule.{PdbModule}
+use Rattle.calls_pdb.specs.declared.symbols.PdbSymbol.{PdbSymbol}
+use Rattle.calls_base.specs.declared.ranges.Range.{Range}
 
 -- ---- one function
 

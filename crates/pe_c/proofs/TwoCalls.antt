@@ -5,24 +5,21 @@ use Rattle.pe_core.specs.Offsets.{IsWithin}
 use Rattle.pe_core.specs.Refusals.{Refusal, Memory, Short, BadMagic, HeaderPointer, ImportName, StringTable, CertificateRevision, CertificateType, CertificateSize, CertificateTable, Unmapped, DebugBounds, DebugSize, DebugData, PogoSize, PogoName, ExceptionSize, ExceptionOffset, ExceptionBounds, FunctionIndex, FunctionLink, FunctionCycle, UnwindVersion, UnwindCode, Arm64Version, Arm64Stream, Arm64Cut, ResourceBounds, ResourceCycle, ResourceString, TeSize, NoOptionalHeader, WriteAlignment, WriteSymbols, WriteOverlap, WriteSection, WriteFit, ImportsLimit, ◌>>=◌}
 use Rattle.pe_core.specs.declared.byte_range.ByteRange.{ByteRange}
 use Rattle.pe_core.specs.declared.section_table.SectionTable.{SectionTable}
-use Rattle.pe_records.specs.DebugRecords.{of_entry}
-use Rattle.pe_records.specs.declared.debug.ImageDebugDirectory.{ImageDebugDirectory}
 use Rattle.pe_resource.specs.Contents.{IsContentRange}
 use Rattle.pe_core.specs.SectionMap.{section_map}
 use Rattle.pe_resource.specs.Resources.{FirstDirectoryView, IsOfFirst, first_directory}
 use Rattle.pe_resource.specs.declared.version.VersionName.{VersionName}
 use Rattle.pe_resource.specs.declared.version.VsFixedFileInfo.{VsFixedFileInfo}
 use Rattle.pe_c.proofs.ImageResources.{content_is, content_within}
-use Rattle.pe_c.specs.Debug.{first_entry}
-use Rattle.pe_c.specs.HandsOut.{HandsOutIf, result_number}
-use Rattle.pe_c.specs.TwoCalls.{GoesOn, Joins, ReadsFirst}
-use Rattle.pe_c.specs.VersionBlocks.{HandsOutBlocks}
-use Rattle.pe_c.specs.Versions.{HandsOutFixed, HandsOutText, IsContentBy, IsContentOf, content_at, fixed_at, fixed_in, text_in, value_at}
-use Rattle.pe_c.specs.Images.{is_absent, resource_directory}
-use Rattle.pe_c.specs.Modes.{options_of}
-use Rattle.pe_c.specs.Ranges.{range_of}
-use Rattle.pe_c.specs.declared.headers.image.Image.{Image}
-use Rattle.pe_c.specs.declared.base.ranges.Range.{Range}
+use Rattle.calls_base.specs.HandsOut.{HandsOutIf, result_number}
+use Rattle.pe_c.specs.TwoCalls.{GoesOn, Joins}
+use Rattle.calls_directories.specs.VersionBlocks.{HandsOutBlocks}
+use Rattle.calls_directories.specs.Versions.{HandsOutFixed, HandsOutText, IsContentBy, IsContentOf, content_at, fixed_at, fixed_in, text_in, value_at}
+use Rattle.calls_base.specs.Images.{is_absent, resource_directory}
+use Rattle.calls_base.specs.Modes.{options_of}
+use Rattle.calls_base.specs.Ranges.{range_of}
+use Rattle.calls_base.specs.declared.image.Image.{Image}
+use Rattle.calls_base.specs.declared.ranges.Range.{Range}
 
 -- the number of a refusal is not that of a call that is done
 refused_number : (r : Refusal) → (result_number r == 0) ≡ false
@@ -74,22 +71,6 @@ ended : {X Y : Type 0} (Second : X → ℕ → Y → Y → Type 0) (n k : ℕ) (
 ended Second n k found number old new e not h =
     let at_k = subst (λ (m : ℕ). GoesOn Second (m == 0) m found number old new) e h in
     subst (λ (t : Bool). GoesOn Second t k found number old new) not at_k
-
--- a value that may be absent, and what is read of it
-joined : {X Y : Type 0} (a : Result (Option X) Refusal) (read : X → Result (Option Y) Refusal) (of : Option X → Result (Option Y) Refusal) (number : ℕ) (old new : Y) →
-    of None ≡ Ok None → ((x : X) → of (Some x) ≡ read x) →
-    Joins (λ n x y. HandsOutIf n x y a) (λ found n k l. HandsOutIf n k l (read found)) number old new → HandsOutIf number old new (a >>= of)
-joined {X} {Y} (Ok (Some x)) read of number old new none some h =
-    let second = done (λ (found : X) (n : ℕ) (k l : Y). HandsOutIf n k l (read found)) h.0 h.2 number old new h.3.0 h.4 in
-    subst (HandsOutIf number old new) (ap read h.3.1 ∙ sym (some x)) second
-joined {X} {Y} (Ok None) read of number old new none some h =
-    subst (HandsOutIf number old new) (sym none) (ended (λ (found : X) (n : ℕ) (k l : Y). HandsOutIf n k l (read found)) h.0 100 h.2 number old new h.3.0 refl h.4)
-joined {X} {Y} (Err e) read of number old new none some h =
-    ended (λ (found : X) (n : ℕ) (k l : Y). HandsOutIf n k l (read found)) h.0 (result_number e) h.2 number old new h.3.0 (refused_number e) h.4
-
-pub reads_first : {Y : Type 0} (read : List ℕ → ℕ → ImageDebugDirectory → Result (Option Y) Refusal) → ReadsFirst read
-reads_first read b image sections kind number old new h =
-    joined (first_entry b image sections kind) (read b image.mode) (of_entry (read b image.mode)) number old new refl (λ e. refl) h
 
 -- ---- version information
 

@@ -9,12 +9,12 @@ use Rattle.pe_core.specs.declared.section_table.SectionTable.{SectionTable}
 use Rattle.pe_records.specs.DebugDirectory.{directory_table, whole_debug_entries}
 use Rattle.pe_records.specs.DebugRecords.{DebugFields, debug_data, record_offset}
 use Rattle.pe_records.specs.declared.debug.ImageDebugDirectory.{ImageDebugDirectory}
-use Rattle.pe_c.specs.Debug.{first_entry, read_first}
-use Rattle.pe_c.specs.Images.{debug_directory, is_absent}
-use Rattle.pe_c.specs.Modes.{options_of, resolves}
-use Rattle.pe_c.specs.Ranges.{IsPart}
-use Rattle.pe_c.specs.declared.headers.image.Image.{Image}
-use Rattle.pe_c.specs.declared.base.ranges.Range.{Range}
+use Rattle.calls_headers.specs.Debug.{first_entry, read_first}
+use Rattle.calls_base.specs.Images.{debug_directory, is_absent}
+use Rattle.calls_base.specs.Modes.{options_of, resolves}
+use Rattle.calls_base.specs.Ranges.{IsPart}
+use Rattle.calls_base.specs.declared.image.Image.{Image}
+use Rattle.calls_base.specs.declared.ranges.Range.{Range}
 
 -- ---- the bytes of a record, as many from its offset on
 

@@ -5,8 +5,8 @@ use Rattle.pe_minidump.specs.Dumps.{stream}
 use Rattle.pe_minidump.specs.Refusals.{DumpRefusal}
 use Rattle.pe_minidump.specs.declared.dump.DumpHeader.{DumpHeader}
 use Rattle.pe_frame.specs.declared.memory_list.MemoryPiece.{MemoryPiece}
-use Rattle.pe_c.specs.Ranges.{IsRange}
-use Rattle.pe_c.specs.declared.base.ranges.Range.{Range}
+use Rattle.calls_base.specs.Ranges.{IsRange}
+use Rattle.calls_base.specs.declared.ranges.Range.{Range}
 
 -- the range of a piece of memory in the bytes of a dump
 abbrev pub memory_range : MemoryPiece → Range

@@ -6,10 +6,10 @@ use Rattle.pe_core.specs.Bytes.{bytes_of, range}
 use Rattle.pe_core.specs.Header.{HeaderView, OptionalHeaderView}
 use Rattle.pe_core.specs.declared.optional_header.StandardFields.{StandardFields}
 use Rattle.pe_core.specs.declared.optional_header.WindowsFields.{WindowsFields}
-use Rattle.pe_c.specs.Coff.{coff_header_of}
-use Rattle.pe_c.specs.declared.headers.DosFields.{DosFields}
-use Rattle.pe_c.specs.declared.headers.Headers.{Headers}
-use Rattle.pe_c.specs.declared.headers.OptionalFields.{OptionalFields}
+use Rattle.calls_headers.specs.Coff.{coff_header_of}
+use Rattle.calls_headers.specs.declared.headers.DosFields.{DosFields}
+use Rattle.calls_headers.specs.declared.headers.Headers.{Headers}
+use Rattle.calls_headers.specs.declared.headers.OptionalFields.{OptionalFields}
 
 -- the numbers of a DOS header between its signature and its pointer, in the order in which they stand, 16 bits each
 abbrev pub dos_numbers : DosFields → List ℕ

@@ -8,15 +8,15 @@ use Rattle.pe_records.specs.DebugRecords as records
 use Rattle.pe_records.specs.declared.debug.ImageDebugDirectory.{ImageDebugDirectory}
 use Rattle.pe_records.specs.declared.debug.constants.TheConstants.{CODEVIEW_PDB20_MAGIC, CODEVIEW_PDB70_MAGIC}
 use Rattle.pe_records.specs.declared.debug.records.VCFeatureInfo.{VCFeatureInfo}
-use Rattle.pe_c.specs.Debug.{characteristics_of, debug_entries_range, features_of, first_entry, key_of, pdb20_of, pogo_of, read_first, repro_of}
-use Rattle.pe_c.specs.ImageParts.{HasOption, Reports}
-use Rattle.pe_c.specs.Ranges.{IsRange}
-use Rattle.pe_c.specs.declared.debug.records.Pdb20.{Pdb20}
-use Rattle.pe_c.specs.declared.debug.records.Pogo.{Pogo}
-use Rattle.pe_c.specs.declared.debug.records.Repro.{Repro}
-use Rattle.pe_c.specs.declared.debug.records.SymbolKey.{SymbolKey}
-use Rattle.pe_c.specs.declared.headers.image.Image.{Image}
-use Rattle.pe_c.specs.declared.base.ranges.Range.{Range}
+use Rattle.calls_headers.specs.Debug.{characteristics_of, debug_entries_range, features_of, first_entry, key_of, pdb20_of, pogo_of, read_first, repro_of}
+use Rattle.calls_failures.specs.ImageParts.{HasOption, Reports}
+use Rattle.calls_base.specs.Ranges.{IsRange}
+use Rattle.calls_headers.specs.declared.debug.records.Pdb20.{Pdb20}
+use Rattle.calls_headers.specs.declared.debug.records.Pogo.{Pogo}
+use Rattle.calls_headers.specs.declared.debug.records.Repro.{Repro}
+use Rattle.calls_headers.specs.declared.debug.records.SymbolKey.{SymbolKey}
+use Rattle.calls_base.specs.declared.image.Image.{Image}
+use Rattle.calls_base.specs.declared.ranges.Range.{Range}
 
 -- what the calls return: the range of the entries, the records, and the entry of the hash
 pub record DebugResults : Type 0 where

@@ -17,13 +17,13 @@ use Rattle.pe_records.specs.Certificates.{CertificateView}
 use Rattle.pe_records.specs.DebugRecords.{DebugFields}
 use Rattle.pe_resource.specs.Resources.{ResourceView}
 use Rattle.pe_unwind.specs.ExceptionTable.{ExceptionView}
-use Rattle.pe_c.specs.Headers.{headers_at}
+use Rattle.calls_headers.specs.Headers.{headers_at}
 use Rattle.pe_c.specs.HeadersRead.{header_of}
 use Rattle.pe_c.specs.ImageDebug.{AreDebugData}
-use Rattle.pe_c.specs.ImageParts.{AreCertificates, AreExceptions, AreExports, AreImports, AreRelocations, AreResources}
-use Rattle.pe_c.specs.Images.{image_at}
-use Rattle.pe_c.specs.declared.headers.Headers.{Headers}
-use Rattle.pe_c.specs.declared.headers.image.Image.{Image}
+use Rattle.calls_failures.specs.ImageParts.{AreCertificates, AreExceptions, AreExports, AreImports, AreRelocations, AreResources}
+use Rattle.calls_base.specs.Images.{image_at}
+use Rattle.calls_headers.specs.declared.headers.Headers.{Headers}
+use Rattle.calls_base.specs.declared.image.Image.{Image}
 
 -- the number of a way to read: bit 0 is permissive mode, bit 1 an image as loaded, whose RVAs are not mapped
 abbrev pub number_of_mode : ParseMode → Bool → ℕ

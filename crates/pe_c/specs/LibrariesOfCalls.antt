@@ -5,13 +5,13 @@ use Rattle.pe_core.specs.Imports.{AreLibraries, entry_size}
 use Rattle.pe_core.specs.Refusals.{Refusal}
 use Rattle.pe_core.specs.declared.options.ParseOptions.{ParseOptions}
 use Rattle.pe_core.specs.declared.section_table.SectionTable.{SectionTable}
-use Rattle.pe_c.specs.Images.{map_of_image}
-use Rattle.pe_c.specs.Imports.{StepsLibraries, libraries_at}
-use Rattle.pe_c.specs.Ranges.{IsRange}
-use Rattle.pe_c.specs.Runs.{ReturnsItems}
-use Rattle.pe_c.specs.declared.headers.image.Image.{Image}
-use Rattle.pe_c.specs.declared.names.imports.Libraries.{Libraries}
-use Rattle.pe_c.specs.declared.names.imports.Library.{Library}
+use Rattle.calls_base.specs.Images.{map_of_image}
+use Rattle.calls_directories.specs.Imports.{StepsLibraries, libraries_at}
+use Rattle.calls_base.specs.Ranges.{IsRange}
+use Rattle.calls_base.specs.Runs.{ReturnsItems}
+use Rattle.calls_base.specs.declared.image.Image.{Image}
+use Rattle.calls_directories.specs.declared.names.imports.Libraries.{Libraries}
+use Rattle.calls_directories.specs.declared.names.imports.Library.{Library}
 
 -- the range that is the name of a library has these bytes
 abbrev pub IsNameOf : List ℕ → Library → List ℕ → Type 0

@@ -2,9 +2,9 @@
 use Rattle.std.specs.Prelude.{ℕ, List, map, Result, Ok}
 use Rattle.pe_core.specs.Refusals.{◌>>=◌}
 use Rattle.pe_pdb.specs.Refusals.{PdbRefusal}
-use Rattle.pe_c.specs.declared.pdb.inlined.PdbInlined.{PdbInlined}
-use Rattle.pe_c.specs.declared.pdb.modules.PdbModule.{PdbModule}
-use Rattle.pe_c.specs.declared.base.ranges.Range.{Range}
+use Rattle.calls_pdb.specs.declared.inlined.PdbInlined.{PdbInlined}
+use Rattle.calls_pdb.specs.declared.modules.PdbModule.{PdbModule}
+use Rattle.calls_base.specs.declared.ranges.Range.{Range}
 
 -- where an inlined function is: all of it but its name
 pub record Placed : Type 0 where

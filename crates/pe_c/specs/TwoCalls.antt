@@ -1,17 +1,14 @@
 -- Functions of pe.h that make two calls, the second over what the first writes.
-use Rattle.std.specs.Prelude.{◌≡◌, ℕ, ◌==◌, Bool, true, false, List, Option, Some, Result}
-use Rattle.pe_core.specs.Refusals.{Refusal}
+use Rattle.std.specs.Prelude.{◌≡◌, ℕ, ◌==◌, Bool, true, false, List, Some}
 use Rattle.pe_core.specs.declared.section_table.SectionTable.{SectionTable}
-use Rattle.pe_records.specs.declared.debug.ImageDebugDirectory.{ImageDebugDirectory}
 use Rattle.pe_resource.specs.declared.version.VersionName.{VersionName}
 use Rattle.pe_resource.specs.declared.version.VsFixedFileInfo.{VsFixedFileInfo}
-use Rattle.pe_c.specs.Debug.{first_entry, read_first}
-use Rattle.pe_c.specs.HandsOut.{HandsOutIf}
-use Rattle.pe_c.specs.VersionBlocks.{HandsOutBlocks}
-use Rattle.pe_c.specs.Versions.{HandsOutFixed, HandsOutText, fixed_in, text_in}
-use Rattle.pe_c.specs.declared.headers.image.Image.{Image}
-use Rattle.pe_c.specs.declared.base.ranges.Range.{Range}
-use Rattle.pe_c.specs.declared.base.results.TheConstants.{DONE}
+use Rattle.calls_base.specs.HandsOut.{HandsOutIf}
+use Rattle.calls_directories.specs.VersionBlocks.{HandsOutBlocks}
+use Rattle.calls_directories.specs.Versions.{HandsOutFixed, HandsOutText, fixed_in, text_in}
+use Rattle.calls_base.specs.declared.image.Image.{Image}
+use Rattle.calls_base.specs.declared.ranges.Range.{Range}
+use Rattle.calls_base.specs.declared.results.TheConstants.{DONE}
 
 -- by whether the first call is done: the second over what that wrote, else its number, and nothing is written
 abbrev pub GoesOn : {X Y : Type 0} → (X → ℕ → Y → Y → Type 0) → Bool → ℕ → X → ℕ → Y → Y → Type 0
@@ -21,13 +18,6 @@ GoesOn Second false n found number old new = (number ≡ n) × (new ≡ old)
 -- what such a function returns, and what it writes
 abbrev pub Joins : {X Y : Type 0} → (ℕ → X → X → Type 0) → (X → ℕ → Y → Y → Type 0) → ℕ → Y → Y → Type 0
 Joins {X} First Second number old new = (n : ℕ) × (before : X) × (found : X) × First n before found × GoesOn Second (n == DONE) n found number old new
-
--- the first debug entry of a type, and then what is read of it, is what is read of the first entry of that type
-abbrev pub ReadsFirst : {Y : Type 0} → (List ℕ → ℕ → ImageDebugDirectory → Result (Option Y) Refusal) → Type 0
-ReadsFirst {Y} read =
-    (b : List ℕ) (image : Image) (sections : List SectionTable) (kind number : ℕ) (old new : Y) →
-    Joins (λ n before found. HandsOutIf n before found (first_entry b image sections kind)) (λ found n k l. HandsOutIf n k l (read b image.mode found)) number old new →
-    HandsOutIf number old new (read_first read kind b image sections)
 
 -- the first version information, and then its fixed file information
 abbrev pub ReadsFixed : Type 0

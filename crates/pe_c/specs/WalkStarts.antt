@@ -10,16 +10,16 @@ use Rattle.pe_directories.specs.Tls.{callback_table}
 use Rattle.pe_directories.specs.declared.clr.ClrHeader.{ClrHeader}
 use Rattle.pe_directories.specs.declared.delay_import.DelayImport.{DelayImport}
 use Rattle.pe_directories.specs.declared.tls.TlsDirectory.{TlsDirectory}
-use Rattle.pe_c.specs.Clr.{clr_metadata_at}
-use Rattle.pe_c.specs.DelayImports.{function_of, functions_of, library_of}
-use Rattle.pe_c.specs.Directories.{callbacks_at, image_parts, table_at}
-use Rattle.pe_c.specs.DirectoryRuns.{StepsDelayLibraries, StepsDelayedFunctions}
-use Rattle.pe_c.specs.Images.{directory, map_of_image}
-use Rattle.pe_c.specs.Runs.{ReturnsItems, read_items}
-use Rattle.pe_c.specs.declared.directories.clr.Metadata.{Metadata}
-use Rattle.pe_c.specs.declared.directories.delay_imports.DelayedFunctions.{DelayedFunctions}
-use Rattle.pe_c.specs.declared.headers.image.Image.{Image}
-use Rattle.pe_c.specs.declared.base.ranges.Range.{Range}
+use Rattle.calls_directories.specs.Clr.{clr_metadata_at}
+use Rattle.calls_directories.specs.DelayImports.{function_of, functions_of, library_of}
+use Rattle.calls_base.specs.Directories.{callbacks_at, image_parts, table_at}
+use Rattle.calls_directories.specs.DirectoryRuns.{StepsDelayLibraries, StepsDelayedFunctions}
+use Rattle.calls_base.specs.Images.{directory, map_of_image}
+use Rattle.calls_base.specs.Runs.{ReturnsItems, read_items}
+use Rattle.calls_directories.specs.declared.directories.clr.Metadata.{Metadata}
+use Rattle.calls_directories.specs.declared.directories.delay_imports.DelayedFunctions.{DelayedFunctions}
+use Rattle.calls_base.specs.declared.image.Image.{Image}
+use Rattle.calls_base.specs.declared.ranges.Range.{Range}
 
 -- the walk over the directory with this index, and the bytes of its table
 pub record StartsTable (index : ℕ) (b : List ℕ) (image : Image) (sections : List SectionTable) (walk : Range) (table : List ℕ) : Type 0 where

@@ -22,39 +22,39 @@ pub mod two_calls;
 pub mod version_blocks;
 pub mod walks;
 
-ghost use Rattle.pe_c.specs.Arm64.{StepsArm64Codes, arm64_function_in, arm64_walk_at, flat_arm64_item, flat_info, flat_scope_at, left_of_stream};
-ghost use Rattle.pe_c.specs.Certificates.{StepsCertificates, ReportsCertificate, listed};
-ghost use Rattle.pe_c.specs.DebugWalks.{StepsPogoEntries, entries_reported};
-ghost use Rattle.pe_c.specs.ExportAddresses.{address_table, addresses_in, exported_with, exported_at};
-ghost use Rattle.pe_c.specs.Exports.{StepsExports, count_of, tables_or_short, reported_entry, reported_from, walk_over, with_tables};
+ghost use Rattle.calls_unwind.specs.Arm64.{StepsArm64Codes, arm64_function_in, arm64_walk_at, flat_arm64_item, flat_info, flat_scope_at, left_of_stream};
+ghost use Rattle.calls_directories.specs.Certificates.{StepsCertificates, ReportsCertificate, listed};
+ghost use Rattle.calls_headers.specs.DebugWalks.{StepsPogoEntries, entries_reported};
+ghost use Rattle.calls_directories.specs.ExportAddresses.{address_table, addresses_in, exported_with, exported_at};
+ghost use Rattle.calls_directories.specs.Exports.{StepsExports, count_of, tables_or_short, reported_entry, reported_from, walk_over, with_tables};
 ghost use Rattle.pe_c.specs.ImageOfCalls.{IsImageOfCalls, mode_of};
-ghost use Rattle.pe_c.specs.Images.{image_at, map_of_image};
-ghost use Rattle.pe_c.specs.Imports.{libraries_at};
+ghost use Rattle.calls_base.specs.Images.{image_at, map_of_image};
+ghost use Rattle.calls_directories.specs.Imports.{libraries_at};
 ghost use Rattle.pe_c.specs.LibrariesOfCalls.{AreLibrariesOfCalls};
-ghost use Rattle.pe_c.specs.Parts.{HasTables, ImportsInTurn, ReportsExport, ReportsLibraries, ReportsLibrariesUntil, import_records_at};
-ghost use Rattle.pe_c.specs.Modes.{options_of};
-ghost use Rattle.pe_c.specs.Plans.{HandsOutAfter, ReturnsInTurn, ReportsUnwindRecord, ending_of, plan_from};
-ghost use Rattle.pe_c.specs.Ranges.{IsPart, IsRange, bytes_at};
-ghost use Rattle.pe_c.specs.ResourceLeaves.{IsNameOf, name_reported};
-ghost use Rattle.pe_c.specs.RichHeaders.{rich_entry_at};
-ghost use Rattle.pe_c.specs.Runs.{ReturnsItems};
-ghost use Rattle.pe_c.specs.Signing.{CoversDigest, digest_at, headers_of};
-ghost use Rattle.pe_c.specs.Unwinding.{StepsCodes, exception_table_at, image_exceptions, links_at, flat_item, flat_record, function_in, code_stream_at};
-ghost use Rattle.pe_c.specs.Versions.{ReportsFixed, ReportsManifest, ReportsValue};
-ghost use Rattle.pe_c.specs.Walks.{StepsEntries, walk_items, indexed};
-ghost use Rattle.pe_c.specs.declared.arm64.codes.Arm64CodeWalk.{Arm64CodeWalk};
-ghost use Rattle.pe_c.specs.declared.directories.certificates.Certificate.{Certificate};
-ghost use Rattle.pe_c.specs.declared.names.export_addresses.AddressTable.{AddressTable};
-ghost use Rattle.pe_c.specs.declared.names.exports.Export.{Export};
-ghost use Rattle.pe_c.specs.declared.names.exports.Exports.{Exports};
-ghost use Rattle.pe_c.specs.declared.headers.image.Image.{Image};
-ghost use Rattle.pe_c.specs.declared.names.imports.Libraries.{Libraries};
-ghost use Rattle.pe_c.specs.declared.names.imports.Library.{Library};
-ghost use Rattle.pe_c.specs.declared.unwinding.plan.Plan.{Plan};
-ghost use Rattle.pe_c.specs.declared.base.ranges.Range.{Range};
-ghost use Rattle.pe_c.specs.declared.write.signing.Digest.{Digest};
-ghost use Rattle.pe_c.specs.declared.unwinding.CodeWalk.{CodeWalk};
-ghost use Rattle.pe_c.specs.declared.unwinding.UnwindRecord.{UnwindRecord};
+ghost use Rattle.calls_directories.specs.Parts.{HasTables, ImportsInTurn, ReportsExport, ReportsLibraries, ReportsLibrariesUntil, import_records_at};
+ghost use Rattle.calls_base.specs.Modes.{options_of};
+ghost use Rattle.calls_unwind.specs.Plans.{HandsOutAfter, ReturnsInTurn, ReportsUnwindRecord, ending_of, plan_from};
+ghost use Rattle.calls_base.specs.Ranges.{IsPart, IsRange, bytes_at};
+ghost use Rattle.calls_directories.specs.ResourceLeaves.{IsNameOf, name_reported};
+ghost use Rattle.calls_headers.specs.RichHeaders.{rich_entry_at};
+ghost use Rattle.calls_base.specs.Runs.{ReturnsItems};
+ghost use Rattle.calls_write.specs.Signing.{CoversDigest, digest_at, headers_of};
+ghost use Rattle.calls_unwind.specs.Unwinding.{StepsCodes, exception_table_at, image_exceptions, links_at, flat_item, flat_record, function_in, code_stream_at};
+ghost use Rattle.calls_directories.specs.Versions.{ReportsFixed, ReportsManifest, ReportsValue};
+ghost use Rattle.calls_base.specs.Walks.{StepsEntries, walk_items, indexed};
+ghost use Rattle.calls_unwind.specs.declared.arm64.codes.Arm64CodeWalk.{Arm64CodeWalk};
+ghost use Rattle.calls_directories.specs.declared.directories.certificates.Certificate.{Certificate};
+ghost use Rattle.calls_directories.specs.declared.names.export_addresses.AddressTable.{AddressTable};
+ghost use Rattle.calls_directories.specs.declared.names.exports.Export.{Export};
+ghost use Rattle.calls_directories.specs.declared.names.exports.Exports.{Exports};
+ghost use Rattle.calls_base.specs.declared.image.Image.{Image};
+ghost use Rattle.calls_directories.specs.declared.names.imports.Libraries.{Libraries};
+ghost use Rattle.calls_directories.specs.declared.names.imports.Library.{Library};
+ghost use Rattle.calls_unwind.specs.declared.unwinding.plan.Plan.{Plan};
+ghost use Rattle.calls_base.specs.declared.ranges.Range.{Range};
+ghost use Rattle.calls_write.specs.declared.signing.Digest.{Digest};
+ghost use Rattle.calls_unwind.specs.declared.unwinding.CodeWalk.{CodeWalk};
+ghost use Rattle.calls_unwind.specs.declared.unwinding.UnwindRecord.{UnwindRecord};
 ghost use Rattle.pe_core.specs.Bytes.{AreBytes, holds};
 ghost use Rattle.pe_core.specs.ExportAddresses.{AddressesView, address_with, forwarder_text};
 ghost use Rattle.pe_core.specs.Exports.{ExportDataView, export_at, export_data_at, exports};
@@ -139,7 +139,7 @@ pub fn ranges_of_arm64_records()
 
 /// The range that `pe_c_function_table` returns leads to the links of the image's exception data: plans and records by it are
 /// those of the image, as pe_unwind and pe_plan define them.
-#[tactic(auto, using(crate::proofs::TableLinks::links_of_tables))]
+#[tactic(auto, using(calls_unwind::proofs::TableLinks::links_of_tables))]
 pub fn function_tables_have_their_links()
     ensures { (b : List ℕ) (image : Image) (sections : List SectionTable) (table : Range) →
         exception_table_at COFF_MACHINE_X86_64 12 b image sections image.mode ≡ Ok (Some table) →
@@ -148,7 +148,7 @@ pub fn function_tables_have_their_links()
         × (links_at (map_of_image image sections) b table ≡ Ok (links_of v sections (options_of image.mode))) }
 {}
 
-/// The plan that `pe_c_plan_from` starts for a function of a table, one record a step, is that of pe_plan. Where a step
+/// The plan that `pe_c_plan_from` of `pe.h` starts for a function of a table, one record a step, is that of pe_plan. Where a step
 /// returns nothing, the records before it are those of the function's plan, one for one. The error of a step is the error
 /// of the plan, so it is a cycle only where the function's chain never ends. Each step returns a record, or ends as the
 /// plan of pe_plan does. Where the table is not inside the bytes, the first step returns that error.
@@ -174,7 +174,7 @@ pub fn plans_are_those_of_functions()
 
 /// A plan that `pe_c_plan_from` starts returns at most three times as many records as there are RVAs: so it comes to
 /// the root, or to an error.
-#[tactic(auto, using(crate::proofs::PlanEnds::plans_end))]
+#[tactic(auto, using(calls_unwind::proofs::PlanEnds::plans_end))]
 pub fn plans_end()
     ensures { (b : List ℕ) (links : Result Table Refusal) (unwind : ℕ)
         (given : List UnwindRecord) (p : Plan) → AreBytes b → unwind < 2 ^ 32 →
@@ -182,7 +182,7 @@ pub fn plans_end()
 {}
 
 /// The functions of a table by their indices, from 0 on, are its whole entries in their order, and there are no others.
-#[tactic(auto, using(crate::proofs::Indices::functions_by_index, crate::proofs::Indices::arm64_functions_by_index))]
+#[tactic(auto, using(calls_unwind::proofs::Indices::functions_by_index, calls_unwind::proofs::Indices::arm64_functions_by_index))]
 pub fn indices_give_the_functions()
     ensures x64 { (b : List ℕ) (table : Range) (bytes : List ℕ) (i : ℕ) →
         bytes_at b table ≡ Ok bytes → function_in b table i ≡ indexed (functions bytes) i }
@@ -194,7 +194,7 @@ pub fn indices_give_the_functions()
 /// A walk over entries of one width returns those of its range, one a step and in their order: each whole entry, one
 /// error where the last is truncated, and then nothing. A range that is not inside the bytes is one error alone. So the
 /// walks over scope tables, over epilog scopes, over debug entries and over those of a Rich header leave nothing out, and end.
-#[tactic(auto, using(crate::proofs::EntryRuns::scopes_in_turn, crate::proofs::EntryRuns::arm64_scopes_in_turn, crate::proofs::EntryRuns::debug_entries_in_turn, crate::proofs::EntryRuns::rich_entries_in_turn))]
+#[tactic(auto, using(calls_stacks::proofs::TableRuns::scopes_in_turn, calls_stacks::proofs::TableRuns::arm64_scopes_in_turn, calls_stacks::proofs::TableRuns::debug_entries_in_turn, calls_stacks::proofs::TableRuns::rich_entries_in_turn))]
 pub fn walks_give_their_entries()
     ensures scopes { (b : List ℕ) (walk : Range) →
         ReturnsItems (StepsEntries scope_at 16 b) walk (walk_items scope_at 16 b walk) }
@@ -209,7 +209,7 @@ pub fn walks_give_their_entries()
 /// A walk over unwind codes returns, one a step, the items of the stream of its bytes, and then nothing: the codes that
 /// follow one another, and one error where no code starts what is left. So the walk of an unwind record returns the
 /// codes of the record. A range that is not inside the bytes is one error alone.
-#[tactic(auto, using(crate::proofs::CodeRuns::codes_in_turn, crate::proofs::CodeRuns::codes_of_record_in_turn, crate::proofs::CodeRuns::lies_once))]
+#[tactic(auto, using(calls_unwind::proofs::CodeRuns::codes_in_turn, calls_unwind::proofs::CodeRuns::codes_of_record_in_turn, calls_unwind::proofs::CodeRuns::lies_once))]
 pub fn walks_give_the_codes()
     ensures items { (b : List ℕ)
         (walk : CodeWalk) (bytes : List ℕ) (items : List (Result UnwindCode Error)) →
@@ -227,7 +227,7 @@ pub fn walks_give_the_codes()
 /// A walk over ARM64 unwind codes returns, one a step, the items that tile its stream from its start on, and then
 /// nothing. So the walk over the codes of an unwind record returns those of the record. Bytes that can be no stream are
 /// one error alone.
-#[tactic(auto, using(crate::proofs::Arm64CodeRuns::codes_in_turn, crate::proofs::Arm64CodeRuns::codes_of_info_in_turn))]
+#[tactic(auto, using(calls_unwind::proofs::Arm64CodeRuns::codes_in_turn, calls_unwind::proofs::Arm64CodeRuns::codes_of_info_in_turn))]
 pub fn walks_give_the_arm64_codes()
     ensures items { (b : List ℕ) (codes : Range) (start : ℕ)
         (stream : List ℕ) (walk : Arm64CodeWalk) (items : List (Result Arm64UnwindCodeData Error)) →
@@ -246,7 +246,7 @@ pub fn walks_give_the_arm64_codes()
 /// A walk over the entries of a POGO record returns, one a step, the entries of the stream of its bytes, and then
 /// nothing; the range of each name follows the entry's two numbers. A range that is not inside the bytes is one error
 /// alone.
-#[tactic(auto, using(crate::proofs::PogoRuns::entries_in_turn, crate::proofs::PogoRuns::lies_once))]
+#[tactic(auto, using(calls_headers::proofs::PogoRuns::entries_in_turn, calls_headers::proofs::PogoRuns::lies_once))]
 pub fn walks_give_the_pogo_entries()
     ensures items { (b : List ℕ) (walk : Range)
         (bytes : List ℕ) (items : List (Result Entry Refusal)) → bytes_at b walk ≡ Ok bytes →
@@ -258,7 +258,7 @@ pub fn walks_give_the_pogo_entries()
 /// A walk over certificates returns, one a step and in their order, exactly the certificates that its table lists, each
 /// with the range of its body, and then nothing; where reading the table fails, it returns certificates and then that
 /// error.
-#[tactic(auto, using(crate::proofs::CertificateRuns::certificates_in_turn, crate::proofs::CertificateRuns::refused_in_turn))]
+#[tactic(auto, using(calls_stacks::proofs::CertificateRuns::certificates_in_turn, calls_stacks::proofs::CertificateRuns::refused_in_turn))]
 pub fn walks_give_the_certificates()
     ensures certificates { (b : List ℕ) (walk : Range) (cs : List CertificateView) →
         listed b walk ≡ Ok cs → (reported : List Certificate)
@@ -272,7 +272,7 @@ pub fn walks_give_the_certificates()
 
 /// The ranges of a digest that `pe_c_digest_ranges` returns have, one after the other, the bytes that pe_sign defines the
 /// digest of the image to cover, and the same zeros follow. The headers are those of the bytes.
-#[tactic(auto, using(crate::proofs::DigestParts::digest_covers))]
+#[tactic(auto, using(calls_write::proofs::DigestParts::digest_covers))]
 pub fn ranges_of_digests_are_what_they_cover()
     ensures { (b : List ℕ) (image : Image) (d : Digest) → digest_at b image ≡ Ok d →
         (h : HeaderView) × ((headers_of b image ≡ Ok h) × CoversDigest b h d) }
@@ -280,7 +280,7 @@ pub fn ranges_of_digests_are_what_they_cover()
 
 /// The ranges of a walk over exports are the tables of the export data, and what the walk returns for an entry of the
 /// name table is the export that the entry has.
-#[tactic(auto, using(crate::proofs::ExportParts::reports))]
+#[tactic(auto, using(calls_directories::proofs::ExportParts::reports))]
 pub fn walks_report_the_exports()
     ensures tables { (offset : ℕ → Option ℕ) (b : List ℕ) (rva : ℕ) (directory : DataDirectory)
         (d : ExportDataView) → export_data_at offset b rva ≡ Ok d →
@@ -295,7 +295,7 @@ pub fn walks_report_the_exports()
 /// its entries that of a forwarder's text. The index that a walk over exports returns with a name is that of the entry
 /// which has the export's RVA; where both were read of one directory, the two say the same of whether it is a forwarder and of
 /// where its text is.
-#[tactic(auto, using(crate::proofs::AddressEntries::entries))]
+#[tactic(auto, using(calls_directories::proofs::AddressEntries::entries))]
 pub fn exports_by_index_are_those_by_name()
     ensures addresses { (offset : ℕ → Option ℕ) (b : List ℕ) (rva : ℕ) (directory : DataDirectory)
         (d : ExportDataView) → export_data_at offset b rva ≡ Ok d →
@@ -344,7 +344,7 @@ pub fn walks_report_the_imports()
 /// A walk over exports returns, one a step and in their order, the exports that the entries of its name table have from
 /// its next index on, and then nothing. So the walk over an export directory returns exactly the exports that the
 /// directory lists. Where entries are left of tables that are not inside the bytes it returns one error alone.
-#[tactic(auto, using(crate::proofs::ExportRuns::exports_in_turn, crate::proofs::ExportRuns::lies_once))]
+#[tactic(auto, using(calls_directories::proofs::ExportRuns::exports_in_turn, calls_directories::proofs::ExportRuns::lies_once))]
 pub fn walks_give_the_exports()
     ensures entries { (offset : ℕ → Option ℕ) (b : List ℕ) (walk : Exports) (d : ExportDataView) →
         tables_or_short b walk ≡ Ok d → ReturnsItems (StepsExports offset b) walk
@@ -369,7 +369,7 @@ pub fn versions_are_those_of_resources()
 
 /// The names that a walk over the leaves of a resource tree reports lie in the bytes, and are the units that the entries of the
 /// tree have.
-#[tactic(auto, using(crate::proofs::LeafRuns::names_are_theirs))]
+#[tactic(auto, using(calls_directories::proofs::LeafRuns::names_are_theirs))]
 pub fn names_of_leaves_are_their_units()
     ensures { (b : List ℕ) (tree : Range) (d : List ℕ)
         (e : ResourceEntry) (units : Option (List ℕ)) → bytes_at b tree ≡ Ok d →

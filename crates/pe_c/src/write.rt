@@ -1,6 +1,4 @@
-//! What is written: images and their sections, resources and version information, certificates and checksums. A call that refuses
-//! writes nothing.
-//! https://learn.microsoft.com/windows/win32/debug/pe-format#overview
+//! The calls of `write` in the rooms.
 
 pub mod image;
 pub mod resources;

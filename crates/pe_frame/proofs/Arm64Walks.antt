@@ -7,7 +7,7 @@ use Rattle.pe_unwind.specs.Arm64Record.{Arm64InfoView}
 use Rattle.pe_unwind.specs.Arm64Unwinding.{info_by}
 use Rattle.pe_unwind.specs.ExceptionTable.{ExceptionView}
 use Rattle.pe_unwind.specs.declared.arm64.function.Arm64RuntimeFunction.{Arm64RuntimeFunction}
-use Rattle.pe_frame.specs.AddressRanges.{has_address}
+use Rattle.pe_lookup.specs.AddressRanges.{has_address}
 use Rattle.pe_frame.specs.Arm64Walks.{AreSortedModules, Calls, CallsBy, CallsByInfo, CallsFound, CallsIn, HasSortedTable, IsSortedModule, frame_after, lookup_address, place_of}
 use Rattle.pe_frame.specs.FrameWalks.{Process}
 use Rattle.pe_frame.specs.Modules.{map_of_module, module_at, module_base, module_size}

@@ -3,7 +3,6 @@ pub mod FrequentCodes
 pub mod Records
 pub mod OneStep
 pub mod StepsOut
-pub mod Lookups
 pub mod Pieces
 pub mod Words
 pub mod Runs
@@ -13,8 +12,6 @@ pub mod Begun
 pub mod PiecesShow
 pub mod ListsShow
 pub mod OnePiece
-pub mod Halving
-pub mod IndexSearches
 pub mod Searches
 pub mod SectionsAsked
 pub mod NoCode
@@ -52,3 +49,4 @@ pub mod Arm64Found
 pub mod Arm64Walks
 pub mod SomeArm64Walk
 pub mod Arm64Samples
+pub mod InModules

@@ -8,7 +8,7 @@ use Rattle.pe_frame.specs.MemoryLists.{AreListed, ArePieces, IsPiece, list_byte,
 use Rattle.pe_frame.specs.MemoryPieces.{byte_in, has_byte, known_bytes, known_word, piece_size, pieces_word}
 use Rattle.pe_frame.specs.declared.memory.Stack.{Stack}
 use Rattle.pe_frame.specs.declared.memory_list.MemoryPiece.{MemoryPiece}
-use Rattle.pe_frame.proofs.Lookups.{is_within}
+use Rattle.pe_lookup.proofs.Lookups.{is_within}
 use Rattle.pe_frame.proofs.PiecesShow.{first_shown, word_known}
 
 -- ---- a machine's memory

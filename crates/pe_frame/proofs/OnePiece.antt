@@ -2,12 +2,12 @@
 use Rattle.std.proofs.Common.{◌≡◌, ℕ, suc, ◌+◌, ◌-◌, ◌^◌, ◌<◌, ◌≤◌, Bool, true, false, cond, List, [], ◌∷◌, length, Option, Some, get_or, refl, ap, sym, ◌∙◌, subst, arith}
 use Rattle.std.specs.List.{find}
 use Rattle.pe_core.specs.Bytes.{le}
-use Rattle.pe_frame.specs.AddressRanges.{AreAscending, has_address}
+use Rattle.pe_lookup.specs.AddressRanges.{AreAscending, has_address}
 use Rattle.pe_frame.specs.Machine.{loaded}
 use Rattle.pe_frame.specs.MemoryLists.{listed_byte, listed_word, lists_byte}
 use Rattle.pe_frame.specs.declared.memory_list.MemoryPiece.{MemoryPiece}
 use Rattle.pe_frame.proofs.Begun.{number_shown}
-use Rattle.pe_frame.proofs.Lookups.{ends_before, has_it}
+use Rattle.pe_lookup.proofs.Lookups.{ends_before, has_it}
 use Rattle.pe_frame.proofs.PiecesShow.{word_known}
 
 -- ---- the range that has an address

@@ -9,7 +9,7 @@ use Rattle.pe_unwind.specs.Links.{links_with}
 use Rattle.pe_unwind.specs.UnwindRecord.{UnwindInfoView}
 use Rattle.pe_unwind.specs.declared.function_table.RuntimeFunction.{RuntimeFunction}
 use Rattle.pe_plan.proofs.RecordLaw.{RecordLaw}
-use Rattle.pe_frame.specs.AddressRanges.{has_address}
+use Rattle.pe_lookup.specs.AddressRanges.{has_address}
 use Rattle.pe_frame.specs.Epilogs.{epilog_at}
 use Rattle.pe_frame.specs.FrameWalks.{Process}
 use Rattle.pe_frame.specs.Modules.{module_at, module_base, module_size, map_of_module}

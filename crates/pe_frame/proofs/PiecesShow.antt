@@ -12,7 +12,7 @@ use Rattle.pe_frame.specs.Memory.{stack_word}
 use Rattle.pe_frame.specs.MemoryPieces.{ArePiecesOf, byte_in, has_byte, have_byte, known_bytes, known_word, piece_size, pieces_word}
 use Rattle.pe_frame.specs.declared.memory.Stack.{Stack}
 use Rattle.pe_frame.proofs.Begun.{number_shown, word_shown}
-use Rattle.pe_frame.proofs.Lookups.{ends_before, has_it, is_within, starts_after}
+use Rattle.pe_lookup.proofs.Lookups.{ends_before, has_it, is_within, starts_after}
 use Rattle.pe_frame.proofs.Pieces.{byte_missing, still_unknown}
 
 -- ---- a byte

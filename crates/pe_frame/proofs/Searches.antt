@@ -11,16 +11,16 @@ use Rattle.pe_core.specs.Rows.{each}
 use Rattle.pe_core.proofs.EntryItems.{get_or-each}
 use Rattle.pe_core.proofs.Equality.{both}
 use Rattle.pe_core.proofs.Map.{found_passes}
-use Rattle.pe_frame.specs.AddressRanges.{AreAscending, IsCountUpTo}
+use Rattle.pe_lookup.specs.AddressRanges.{AreAscending, IsCountUpTo}
 use Rattle.pe_frame.specs.Machine.{loaded}
 use Rattle.pe_frame.specs.MemoryLists.{AreListed, are_inside, ascend, has_word, listed_byte, listed_word, lists_byte}
 use Rattle.pe_frame.specs.MemoryPieces.{known_bytes, known_word}
 use Rattle.pe_frame.specs.SearchedMemory.{no_piece, piece_found, piece_shown, pieces_started, searched_byte, searched_word, shows_byte, word_by}
 use Rattle.pe_frame.specs.declared.memory_list.MemoryPiece.{MemoryPiece}
-use Rattle.pe_frame.proofs.Halving.{counted}
+use Rattle.pe_lookup.proofs.Halving.{counted}
 use Rattle.pe_frame.proofs.Begun.{number_shown}
 use Rattle.pe_frame.proofs.ListsShow.{byte_here, same_word}
-use Rattle.pe_frame.proofs.Lookups.{ends_before, found_of_all, has_it, is_within, none_starts, range_found, range_missed, starts_rise, test_ascends}
+use Rattle.pe_lookup.proofs.Lookups.{ends_before, found_of_all, has_it, is_within, none_starts, range_found, range_missed, starts_rise, test_ascends}
 use Rattle.pe_frame.proofs.OnePiece.{word_in_piece}
 
 abbrev start_of : MemoryPiece → ℕ

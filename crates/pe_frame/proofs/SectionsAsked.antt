@@ -6,12 +6,12 @@ use Rattle.std.proofs.lemmas.List.{get_or_default}
 use Rattle.std.proofs.lemmas.List.Folds.{list_any_at}
 use Rattle.std.specs.List.{list_any}
 use Rattle.pe_core.specs.declared.section_table.SectionTable.{SectionTable}
-use Rattle.pe_frame.specs.AddressRanges.{AreAscending, IsCountUpTo, has_address}
+use Rattle.pe_lookup.specs.AddressRanges.{AreAscending, IsCountUpTo, has_address}
 use Rattle.pe_frame.specs.Modules.{executes, is_executable}
-use Rattle.pe_frame.specs.SectionIndexes.{numbered}
-use Rattle.pe_frame.specs.SectionSearch.{memory_size, no_section, section_start, sections_started}
-use Rattle.pe_frame.proofs.Halving.{counted}
-use Rattle.pe_frame.proofs.Lookups.{ends_before, starts_after, starts_rise}
+use Rattle.pe_lookup.specs.SectionIndexes.{numbered}
+use Rattle.pe_lookup.specs.SectionSearch.{memory_size, no_section, section_start, sections_started}
+use Rattle.pe_lookup.proofs.Halving.{counted}
+use Rattle.pe_lookup.proofs.Lookups.{ends_before, starts_after, starts_rise}
 
 fails : (b t : Bool) → t ≡ false → (b && t) ≡ false
 fails true t h = h

@@ -15,7 +15,7 @@ use Rattle.pe_unwind.specs.Arm64Unwinding.{info_at_offset, info_by}
 use Rattle.pe_unwind.specs.Arm64Words.{bits}
 use Rattle.pe_unwind.specs.ExceptionTable.{ExceptionView, table_of}
 use Rattle.pe_unwind.specs.declared.arm64.function.Arm64RuntimeFunction.{Arm64RuntimeFunction}
-use Rattle.pe_frame.specs.AddressRanges.{has_address}
+use Rattle.pe_lookup.specs.AddressRanges.{has_address}
 use Rattle.pe_frame.specs.Arm64Walks.{AreModulesOfBytes, Calls, CallsBy, CallsByInfo, CallsFound, CallsIn, HasBytes, IsModuleOfBytes, caller_in_code, caller_outside, caller_without_table, leaf_is_guess, frame_after, length_in, lookup_address, place_of, stepped_out_packed}
 use Rattle.pe_frame.specs.FrameWalks.{Process}
 use Rattle.pe_frame.specs.Modules.{map_of_module, module_at, module_base, module_size}

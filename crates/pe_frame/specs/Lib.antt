@@ -1,10 +1,7 @@
-pub mod AddressRanges
 pub mod Memory
 pub mod MemoryPieces
 pub mod MemoryLists
 pub mod SearchedMemory
-pub mod SectionIndexes
-pub mod SectionSearch
 pub mod Undoing
 pub mod Steps
 pub mod InPlace

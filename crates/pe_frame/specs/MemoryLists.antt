@@ -4,7 +4,7 @@ use Rattle.std.specs.List.{find, list_all, list_any, AllByRecursion}
 use Rattle.std.specs.Option.{option_map}
 use Rattle.pe_core.specs.Bytes.{holds, range}
 use Rattle.pe_core.specs.Refusals.{Refusal, Short, outcome}
-use Rattle.pe_frame.specs.AddressRanges.{has_address, rise_from}
+use Rattle.pe_lookup.specs.AddressRanges.{has_address, rise_from}
 use Rattle.pe_frame.specs.MemoryPieces.{known_word}
 use Rattle.pe_frame.specs.declared.memory.Stack.{Stack}
 use Rattle.pe_frame.specs.declared.memory_list.MemoryPiece.{MemoryPiece}

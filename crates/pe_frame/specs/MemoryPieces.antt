@@ -4,7 +4,7 @@ use Rattle.std.specs.List.{find, list_any, AllByRecursion}
 use Rattle.std.specs.Option.{option_map, option_and_then}
 use Rattle.pe_core.specs.Bytes.{le}
 use Rattle.pe_frame.specs.declared.memory.Stack.{Stack}
-use Rattle.pe_frame.specs.AddressRanges.{has_address}
+use Rattle.pe_lookup.specs.AddressRanges.{has_address}
 
 -- how many bytes a piece has
 abbrev pub piece_size : Stack → ℕ

@@ -6,11 +6,11 @@ use Rattle.pe_core.specs.Bytes.{holds, range}
 use Rattle.pe_core.specs.SectionMap.{section_map}
 use Rattle.pe_core.specs.declared.section_table.SectionTable.{SectionTable}
 use Rattle.pe_unwind.specs.ExceptionTable.{ExceptionView}
-use Rattle.pe_frame.specs.AddressRanges.{has_address}
+use Rattle.pe_lookup.specs.AddressRanges.{has_address}
 use Rattle.pe_frame.specs.Arm64CallForms.{is_call_arm64}
 use Rattle.pe_frame.specs.CallForms.{is_call, call_sizes, near_target}
-use Rattle.pe_frame.specs.SectionIndexes.{sections_by}
-use Rattle.pe_frame.specs.SectionSearch.{memory_size, section_start, section_started}
+use Rattle.pe_lookup.specs.SectionIndexes.{sections_by}
+use Rattle.pe_lookup.specs.SectionSearch.{memory_size, section_start, section_started}
 use Rattle.pe_frame.specs.declared.modules.Module.{Module}
 
 -- the first address, and how many bytes follow from it on

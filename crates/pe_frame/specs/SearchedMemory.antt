@@ -2,7 +2,7 @@
 use Rattle.std.specs.Prelude.{ℕ, ◌+◌, ◌-◌, ◌==◌, ◌&&◌, Bool, List, length, slice_index, slice_index_or, Option, Some, None, if◌then◌else◌}
 use Rattle.std.specs.Option.{option_map}
 use Rattle.pe_core.specs.Bytes.{holds, le}
-use Rattle.pe_frame.specs.AddressRanges.{started}
+use Rattle.pe_lookup.specs.AddressRanges.{started}
 use Rattle.pe_frame.specs.MemoryLists.{has_word, lists_byte}
 use Rattle.pe_frame.specs.MemoryPieces.{known_word}
 use Rattle.pe_frame.specs.declared.memory_list.MemoryPiece.{MemoryPiece}

@@ -14,7 +14,7 @@ ghost use Rattle.pe_frame.specs.declared.error.FrameError.{FrameError};
 ghost use Rattle.pe_frame.specs.declared.registers.Registers.{Registers};
 ghost use Rattle.pe_frame.specs.Memory.{stack_word};
 ghost use Rattle.pe_frame.specs.MemoryPieces.{ArePiecesOf, have_byte, pieces_word};
-ghost use Rattle.pe_frame.specs.AddressRanges.{AreAscending};
+ghost use Rattle.pe_lookup.specs.AddressRanges.{AreAscending};
 ghost use Rattle.pe_frame.specs.MemoryLists.{AreListed, ArePieces, are_inside, ascend, list_byte, listed_word};
 ghost use Rattle.pe_frame.specs.SearchedMemory.{searched_word};
 ghost use Rattle.pe_frame.specs.declared.memory.Stack.{Stack};

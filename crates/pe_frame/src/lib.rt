@@ -14,9 +14,7 @@
 //! where that returns `None` of an entry, or [`leaf_arm64`]. How ARM64 differs is said in `arm64`.
 #![tactic(auto)]
 
-mod address_ranges;
 mod arm64;
-mod bits;
 mod call;
 mod chain;
 mod epilog;
@@ -37,17 +35,13 @@ mod record;
 mod registers;
 mod scan;
 mod searched_memory;
-mod section_index;
-mod section_search;
 mod undo;
 mod walk;
 
-pub use address_ranges::{AddressRange, first_overlap, first_with};
 pub use arm64::{
     Arm64Registers, Arm64StackFrame, Arm64StackFrames, caller_in_module_arm64,
     caller_outside_arm64, leaf_arm64, step_arm64, step_arm64_packed, step_out_arm64,
 };
-pub use bits::{bits_of, power_of_two};
 pub use error::FrameError;
 pub use frame::{leaf, step, step_out, step_with_code};
 pub use function_step::{step_in_function, step_in_function_in_place};
@@ -61,5 +55,4 @@ pub use position::{WalkFrame, WalkPosition};
 pub use process::{CallSites, LoadedModules};
 pub use registers::Registers;
 pub use searched_memory::SearchedMemory;
-pub use section_index::{IndexEntry, number_found, numbered, sections_by, start_by};
 pub use walk::{StackFrame, StackFrames, WalkEnd, Way, caller_in_module, caller_outside};

@@ -4,8 +4,8 @@ ghost use Rattle.std.specs.Prelude.{◌≡◌, ℕ, Option};
 ghost use Rattle.pe_frame.specs.Memory.{stack_word};
 ghost use Rattle.pe_frame.specs.MemoryPieces.{known_word};
 
-use crate::address_ranges::AddressRange;
 use pe_core::u64_at;
+use pe_lookup::AddressRange;
 
 /// The bytes of a word, which is what a push stores.
 pub(crate) const SIZE_OF_WORD: u64 = 8;

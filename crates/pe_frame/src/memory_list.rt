@@ -6,13 +6,13 @@ ghost use Rattle.std.specs.Option.{option_map};
 ghost use Rattle.std.specs.List.{find};
 ghost use Rattle.pe_core.specs.Bytes.{holds, le};
 ghost use Rattle.pe_core.specs.Refusals.{Short, answer_by, answer_of, outcome};
-ghost use Rattle.pe_frame.specs.AddressRanges.{AreAscending};
+ghost use Rattle.pe_lookup.specs.AddressRanges.{AreAscending};
 ghost use Rattle.pe_frame.specs.MemoryLists.{are_inside, ascend, has_word, listed_byte, lists_byte, memory_of};
 ghost use Rattle.pe_frame.specs.declared.memory_list.MemoryPiece.{MemoryPiece};
 
-use crate::address_ranges::{AddressRange, first_overlap, first_with, range_with};
 use crate::memory::{KnownBytes, Memory, SIZE_OF_WORD, known_word};
 use pe_core::{Result, read_u64, slice_at};
+use pe_lookup::{AddressRange, first_overlap, first_with, range_with};
 
 /// A piece of memory: its address, and where its bytes are.
 #[repr(C)]

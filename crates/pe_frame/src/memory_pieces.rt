@@ -3,11 +3,11 @@
 ghost use Rattle.std.specs.Prelude.{◌≡◌, ◌-◌, Some, slice_index, IsTrue};
 ghost use Rattle.std.specs.Option.{option_map};
 ghost use Rattle.std.specs.List.{find};
-ghost use Rattle.pe_frame.specs.AddressRanges.{AreAscending};
+ghost use Rattle.pe_lookup.specs.AddressRanges.{AreAscending};
 ghost use Rattle.pe_frame.specs.MemoryPieces.{piece_size, has_byte, byte_in};
 
-use crate::address_ranges::{first_overlap, first_with};
 use crate::memory::{KnownBytes, Memory, Stack, known_word};
+use pe_lookup::{first_overlap, first_with};
 
 /// Memory in pieces. The byte at an address is that of the first piece that has one there, and a word is known if each of its
 /// eight bytes is: pieces that touch hold a word together.

@@ -4,16 +4,16 @@ ghost use Rattle.std.specs.Prelude.{◌≡◌, ◌+◌, ◌-◌, ◌≤◌, Matc
 ghost use Rattle.std.specs.List.{list_any};
 ghost use Rattle.std.specs.Option.{option_map};
 ghost use Rattle.pe_core.specs.SectionMap.{offset_in};
-ghost use Rattle.pe_frame.specs.AddressRanges.{AreAscending, IsOverlap};
-ghost use Rattle.pe_frame.specs.SectionIndexes.{sections_by};
+ghost use Rattle.pe_lookup.specs.AddressRanges.{AreAscending, IsOverlap};
+ghost use Rattle.pe_lookup.specs.SectionIndexes.{sections_by};
 ghost use Rattle.pe_frame.specs.Modules.{bytes_or_none, module_base, module_size, module_at, map_of_module, code_alignment, code_at, code_in, follows_call, is_after_call_in, is_after_call, is_after_call_arm64_in, is_after_call_arm64, executes, is_executable, is_code_of, is_code_return, is_code_return_of, is_code_return_arm64, is_code_return_arm64_of, is_code, is_in_unknown, is_unknown, call_target, call_target_of};
 
-use crate::address_ranges::{AddressRange, first_overlap, has_address, range_with};
 use crate::arm64::is_call_arm64;
 use crate::call::{SIZE_OF_CALL_REL32, is_call, near_target};
-use crate::section_index::{IndexEntry, sections_by};
-use crate::section_search::section_started;
 use pe_core::{ParseOptions, RvaMap, SectionMap, SectionTable, slice_at};
+use pe_lookup::{
+    AddressRange, IndexEntry, first_overlap, has_address, range_with, section_started, sections_by,
+};
 use pe_unwind::ExceptionData;
 use std::ops::Range;
 

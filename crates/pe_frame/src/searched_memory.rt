@@ -10,9 +10,9 @@ ghost use Rattle.std.specs.Prelude.{◌≡◌, ◌+◌, ◌-◌, ◌≤◌, leng
 ghost use Rattle.std.specs.Option.{option_map};
 ghost use Rattle.pe_frame.specs.SearchedMemory.{piece_shown, pieces_started, searched_byte, shows_byte};
 
-use crate::address_ranges::{has_address, started};
 use crate::memory::{KnownBytes, Memory, known_word};
 use crate::memory_list::{MemoryPiece, byte_of, has_word, lies_in, word_of};
+use pe_lookup::{has_address, started};
 
 /// Memory by a list of its pieces in some bytes, of which none was tested. The piece for an address is the last that starts at or
 /// before it, as a search by halving finds it; it counts if it has the address and lies in the bytes. Nothing is copied.

@@ -18,7 +18,7 @@
 ghost use Rattle.std.specs.Prelude.{◌≡◌, ◌≤◌, ◌<◌, ◌+◌, ◌-◌, ◌^◌, Ok, Err, IsTrue, OnErr, true};
 ghost use Rattle.std.specs.Option.{is_none, option_map};
 ghost use Rattle.std.specs.Iterator.{at_most};
-ghost use Rattle.pe_frame.specs.AddressRanges.{has_address};
+ghost use Rattle.pe_lookup.specs.AddressRanges.{has_address};
 ghost use Rattle.pe_frame.specs.InPlace.{changed_with};
 ghost use Rattle.pe_frame.specs.FrameWalks.{frame_left};
 ghost use Rattle.pe_frame.specs.Modules.{may_end_call, module_base, module_size};

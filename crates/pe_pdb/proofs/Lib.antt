@@ -9,6 +9,7 @@ pub mod SymbolEntries
 pub mod NearestEntries
 pub mod EntriesOfRecords
 pub mod LineWalks
+pub mod SkippedRecords
 pub mod SortedEntries
 pub mod NamedStreams
 pub mod ModuleRanges

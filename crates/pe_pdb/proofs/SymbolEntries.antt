@@ -108,6 +108,20 @@ gathers_more rva b start p s q P Q so lt is end next =
           ∙ with_joined xs (option_to_list o) (addresses_of rva (symbols b q));
     }
 
+-- a record without an entry
+pub entries_other : (rva : Symbol → Option ℕ) (b : List ℕ) (p : ℕ) (s : Symbol) (q : ℕ) → p < length b → symbol_at b p ≡ Ok s → q ≡ s.offset + 4 + length s.content → rva s ≡ None →
+    addresses_of rva (symbols b p) ≡ addresses_of rva (symbols b q)
+entries_other rva b p s q lt is end none =
+    ap (addresses_of rva) (symbols_more b p s lt is ∙ ap (λ n. Ok s ∷ symbols b n) (sym end))
+    ∙ entries_step rva s (symbols b q)
+    ∙ ap (λ (o : Option ℕ). with_rest (option_to_list (option_map (λ x. address x s.offset) o)) (addresses_of rva (symbols b q))) none
+    ∙ with_none (addresses_of rva (symbols b q))
+
+-- records without entries before those that are left
+pub gathers_skipped : (rva : Symbol → Option ℕ) (b : List ℕ) (start p q : ℕ) (P : List ℕ → Type 0) →
+    Gathers rva b start p P → addresses_of rva (symbols b p) ≡ addresses_of rva (symbols b q) → Gathers rva b start q P
+gathers_skipped rva b start p q P so same = record { sofar = so.sofar; holds = so.holds; left = so.left ∙ ap (with_rest so.sofar) same }
+
 entries_none : (rva : Symbol → Option ℕ) → addresses_of rva [] ≡ Ok []
 unfolding addresses_of
 entries_none rva = refl

@@ -2,7 +2,7 @@
 //! which an inlined function says which code is of which line: operations and their operands, compressed numbers of one, two or
 //! four bytes.
 
-ghost use Rattle.std.specs.Prelude.{◌≡◌, ◌+◌, ◌<◌, ◌≤◌, ◌^◌, length, IfOk};
+ghost use Rattle.std.specs.Prelude.{◌≡◌, ◌+◌, ◌<◌, ◌≤◌, ◌^◌, length, IfOk, IfSome, Ok};
 ghost use Rattle.pe_core.specs.Bytes.{le};
 ghost use Rattle.pe_pdb.specs.Annotations.{annotation_at, number_at, number_size, number_value};
 ghost use Rattle.pe_pdb.specs.Refusals.{PdbReturns};
@@ -79,6 +79,27 @@ fn number_at(bytes: &[u8], offset: usize) -> Result<(u32, usize)>
     Ok((number_value(bytes, offset), offset + size))
 }
 
+/// An annotation with one operand, where both numbers have one byte, as most have. `None` of others.
+#[inline(always)]
+#[tactic(auto, unfolding(crate::specs::Annotations::annotation_at, crate::specs::Annotations::number_at))]
+fn short_at(bytes: &[u8], offset: usize) -> Option<Annotation>
+    ensures value { IfSome result (λ a. annotation_at bytes.now offset ≡ Ok (a, offset + 2)) }
+    ensures inside { IfSome result (λ a. offset + 2 ≤ length bytes.now) }
+{
+    if bytes.len() < 2 || offset > bytes.len() - 2 {
+        return None;
+    }
+    let (operation, first) = (read_u8(bytes, offset), read_u8(bytes, offset + 1));
+    if operation == 0 || operation >= LENGTH_AND_OFFSET as u8 || first >= 0x80 {
+        return None;
+    }
+    Some(Annotation {
+        operation: u32::from(operation),
+        first: u32::from(first),
+        second: 0,
+    })
+}
+
 impl Annotation {
     /// The annotation at an offset, and where it ends: at the end of the bytes where it ends them. Error: `Annotation` if it is
     /// truncated, or of an operation that is not known.
@@ -88,6 +109,9 @@ impl Annotation {
         ensures inside { IfOk result (λ a. a.1 ≤ length bytes.now) }
         ensures after { IfOk result (λ a. offset < a.1) }
     {
+        if let Some(short) = short_at(bytes, offset) {
+            return Ok((short, offset + 2));
+        }
         let (operation, next) = number_at(bytes, offset)?;
         if operation == 0 {
             let end = Annotation {

@@ -12,8 +12,9 @@ ghost use Rattle.pe_pdb.specs.Refusals.{PdbReturns};
 ghost use Rattle.pe_pdb.specs.Symbols.{symbol_view};
 
 use crate::error::{PdbError, Result};
+use crate::record_text::record_text;
 use crate::symbol::SymbolRecord;
-use pe_core::{read_u32, text_at};
+use pe_core::read_u32;
 
 /// The index of the stream of types.
 pub const TYPE_STREAM: u32 = 2;
@@ -169,7 +170,7 @@ impl<'a> FunctionId<'a> {
                 length: content.len(),
             });
         }
-        match text_at(content, FUNCTION_NAME) {
+        match record_text(content, FUNCTION_NAME) {
             Some(name) => Ok(FunctionId {
                 scope: read_u32(content, 0),
                 type_index: read_u32(content, 4),
@@ -192,7 +193,7 @@ pub fn string_id(content: &[u8]) -> Result<&str>
             length: content.len(),
         });
     }
-    match text_at(content, STRING) {
+    match record_text(content, STRING) {
         Some(text) => Ok(text),
         None => Err(PdbError::Name(STRING)),
     }

@@ -2,8 +2,9 @@
 //! `DEBUG_S_INLINEELINES` of a module. The lines of `InlineRow` count from the line of the function's record, whose file is that of
 //! rows without one.
 
-ghost use Rattle.std.specs.Prelude.{◌≡◌, ◌+◌, ◌≤◌, ◌<◌, length, IfOk};
-ghost use Rattle.pe_pdb.specs.Inlinees.{inline_line, inlinee_at, inlinee_of, inlinee_row};
+ghost use Rattle.std.specs.Prelude.{◌≡◌, ◌==◌, ◌+◌, ◌≤◌, ◌<◌, length, IfOk};
+ghost use Rattle.pe_core.specs.Bytes.{le};
+ghost use Rattle.pe_pdb.specs.Inlinees.{first_inlinee, inline_line, inlinee_at, inlinee_of, inlinee_row, inlinees};
 ghost use Rattle.pe_pdb.specs.Refusals.{PdbReturns};
 
 use crate::error::{PdbError, Result};
@@ -16,6 +17,9 @@ pub const DEBUG_S_INLINEELINES: u32 = 0xF6;
 
 /// The size of a record without other files, in bytes.
 const SIZE_OF_RECORD: usize = 12;
+
+/// Where the first record starts.
+const FIRST: usize = 4;
 
 /// Where an inlined function is in the source.
 #[repr(C)]
@@ -71,6 +75,24 @@ fn record_end(extended: bool, bytes: &[u8], offset: usize) -> Result<usize>
     Ok(start + 4 + size)
 }
 
+/// From where on the records are that may be the first with an id: where they have no other files, those before it are read up to their
+/// ids.
+#[inline(always)]
+fn skip_others(extended: bool, content: &[u8], inlinee: u32) -> usize
+    requires { extended ≡ (le content.now 0 4 == 1) }
+    ensures { first_inlinee inlinee (inlinees content.now 4) ≡ first_inlinee inlinee (inlinees content.now result) }
+{
+    let mut next = FIRST;
+    if extended || content.len() < SIZE_OF_RECORD {
+        return next;
+    }
+    let last = content.len() - SIZE_OF_RECORD;
+    while next <= last && read_u32(content, next) != inlinee {
+        next += SIZE_OF_RECORD;
+    }
+    next
+}
+
 impl InlineeLine {
     /// The record at an offset, whose 12 bytes are known to be there.
     #[tactic(auto, unfolding(crate::specs::Inlinees::inlinee_row))]
@@ -98,7 +120,7 @@ impl InlineeLine {
             });
         }
         let extended = read_u32(content, 0) == 1;
-        let mut next = 4;
+        let mut next = skip_others(extended, content, inlinee);
         while next < content.len() {
             let end = record_end(extended, content, next)?;
             let line = InlineeLine::at(content, next);

@@ -55,6 +55,7 @@ mod names;
 mod omap;
 mod procedure;
 mod public;
+mod record_text;
 mod sections;
 mod stream;
 mod stream_bytes;

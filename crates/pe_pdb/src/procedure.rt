@@ -7,9 +7,10 @@ ghost use Rattle.pe_pdb.specs.Refusals.{PdbReturns};
 ghost use Rattle.pe_pdb.specs.Symbols.{symbol_view};
 
 use crate::error::{PdbError, Result};
+use crate::record_text::record_text;
 use crate::sections::SectionHeaders;
 use crate::symbol::SymbolRecord;
-use pe_core::{read_u8, read_u16, read_u32, text_at};
+use pe_core::{read_u8, read_u16, read_u32};
 
 /// A procedure that only its own object sees.
 pub const S_LPROC32: u16 = 0x110F;
@@ -65,7 +66,7 @@ impl<'a> ProcedureSymbol<'a> {
                 length: content.len(),
             });
         }
-        match text_at(content, NAME) {
+        match record_text(content, NAME) {
             Some(name) => Ok(ProcedureSymbol {
                 parent: read_u32(content, 0),
                 end: read_u32(content, 4),
@@ -93,6 +94,7 @@ pub(crate) fn is_procedure(kind: u16) -> bool
 
 /// The RVA of a procedure that has code. `None` of other records, of one that is too short, and where it is in no section.
 #[tactic(auto, unfolding(crate::specs::Procedures::procedure_rva))]
+#[inline(always)]
 pub(crate) fn procedure_rva(sections: &SectionHeaders<'_>, record: &SymbolRecord<'_>) -> Option<u32>
     ensures { result ≡ procedure_rva sections.now.bytes.now (symbol_view record.now) }
 {

@@ -8,9 +8,10 @@ ghost use Rattle.pe_pdb.specs.Refusals.{PdbReturns};
 ghost use Rattle.pe_pdb.specs.Symbols.{symbol_view};
 
 use crate::error::{PdbError, Result};
+use crate::record_text::record_text;
 use crate::sections::SectionHeaders;
 use crate::symbol::SymbolRecord;
-use pe_core::{read_u16, read_u32, text_at};
+use pe_core::{read_u16, read_u32};
 
 /// The kind of the records of public symbols.
 pub const S_PUB32: u16 = 0x110E;
@@ -43,7 +44,7 @@ impl<'a> PublicSymbol<'a> {
                 length: content.len(),
             });
         }
-        match text_at(content, NAME) {
+        match record_text(content, NAME) {
             Some(name) => Ok(PublicSymbol {
                 flags: read_u32(content, 0),
                 offset: read_u32(content, 4),
@@ -57,6 +58,7 @@ impl<'a> PublicSymbol<'a> {
 
 /// The RVA of a public function. `None` of other records, of one that is too short, and where it is in no section.
 #[tactic(auto, unfolding(crate::specs::Publics::public_function_rva))]
+#[inline(always)]
 pub(crate) fn public_function_rva(
     sections: &SectionHeaders<'_>,
     record: &SymbolRecord<'_>,

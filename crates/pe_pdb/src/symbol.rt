@@ -12,7 +12,7 @@ use crate::error::{PdbError, Result};
 use pe_core::read_u16;
 
 /// The size of what comes before a record's content, in bytes.
-const SIZE_OF_PREFIX: usize = 4;
+pub(crate) const SIZE_OF_PREFIX: usize = 4;
 
 /// A record of a symbol.
 #[derive(Clone, Copy, Debug, PartialEq)]

@@ -24,6 +24,7 @@ pub enum SymbolClass {
 }
 
 /// The RVA of a symbol of a class. `None` of other records.
+#[inline(always)]
 pub(crate) fn rva_by(
     class: SymbolClass,
     sections: &SectionHeaders<'_>,

@@ -10,7 +10,7 @@ use Rattle.pe_core.specs.Bytes.{le}
 use Rattle.pe_frame.specs.MemoryLists.{listed_byte, listed_word, lists_byte}
 use Rattle.pe_frame.specs.MemoryPieces.{known_bytes, known_word}
 use Rattle.pe_frame.specs.declared.memory_list.MemoryPiece.{MemoryPiece}
-use Rattle.pe_frame.proofs.Lookups.{is_within}
+use Rattle.pe_lookup.proofs.Lookups.{is_within}
 use Rattle.pe_minidump.proofs.Sums.{pieces_more, pieces_none}
 use Rattle.pe_minidump.specs.Dumps.{DumpView, read_stream}
 use Rattle.pe_minidump.specs.Memory64.{Listed64, memory64_of, piece64, pieces_from, size_of_piece}

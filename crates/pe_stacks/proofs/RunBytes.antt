@@ -8,10 +8,10 @@ use Rattle.pe_core.proofs.Equality.{and_true, both}
 use Rattle.pe_core.proofs.Map.{found_passes}
 use Rattle.pe_core.proofs.Ranges.{byte_of_range, inside_if_held, length_range}
 use Rattle.pe_core.specs.Bytes.{holds}
-use Rattle.pe_frame.specs.AddressRanges.{AreAscending}
+use Rattle.pe_lookup.specs.AddressRanges.{AreAscending}
 use Rattle.pe_frame.specs.MemoryLists.{are_inside, listed_byte, lists_byte}
 use Rattle.pe_frame.specs.declared.memory_list.MemoryPiece.{MemoryPiece}
-use Rattle.pe_frame.proofs.Lookups.{ends_before, found_at, found_of_all, has_it, is_within}
+use Rattle.pe_lookup.proofs.Lookups.{ends_before, found_at, found_of_all, has_it, is_within}
 use Rattle.pe_stacks.specs.MemoryRuns.{AreRuns, bytes_at, bytes_in, end_low, offset_at, offset_in}
 
 -- the index of what is found

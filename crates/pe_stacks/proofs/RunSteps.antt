@@ -10,10 +10,10 @@ use Rattle.std.specs.List.{find, list_all}
 use Rattle.std.specs.Option.{option_map, option_or}
 use Rattle.pe_core.proofs.Equality.{both}
 use Rattle.pe_core.proofs.Map.{found_passes}
-use Rattle.pe_frame.specs.AddressRanges.{AreAscending}
+use Rattle.pe_lookup.specs.AddressRanges.{AreAscending}
 use Rattle.pe_frame.specs.MemoryLists.{lists_byte}
 use Rattle.pe_frame.specs.declared.memory_list.MemoryPiece.{MemoryPiece}
-use Rattle.pe_frame.proofs.Lookups.{ends_before, found_none, has_it, is_within, starts_after}
+use Rattle.pe_lookup.proofs.Lookups.{ends_before, found_none, has_it, is_within, starts_after}
 use Rattle.pe_stacks.specs.MemoryRuns.{AreApart, AreRuns, IsBefore, IsRunOf, addresses_of, appended, continued, end_low, is_followed, joined, no_run, offset_in, part_of}
 use Rattle.pe_core.specs.RangeIndexes.{Indexes, Rises, number_at}
 use Rattle.pe_core.specs.declared.range_index.RangeEntry.{RangeEntry}

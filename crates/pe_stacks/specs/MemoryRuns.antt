@@ -3,7 +3,7 @@ use Rattle.std.specs.Prelude.{◌≡◌, ℕ, ◌+◌, ◌-◌, ◌*◌, ◌<◌
 use Rattle.std.specs.List.{find, list_all}
 use Rattle.std.specs.Option.{option_map}
 use Rattle.pe_core.specs.Bytes.{range}
-use Rattle.pe_frame.specs.AddressRanges.{AreAscending}
+use Rattle.pe_lookup.specs.AddressRanges.{AreAscending}
 use Rattle.pe_frame.specs.MemoryLists.{are_inside, lists_byte}
 use Rattle.pe_frame.specs.declared.memory_list.MemoryPiece.{MemoryPiece}
 use Rattle.pe_core.specs.declared.range_index.RangeEntry.{RangeEntry}

@@ -5,11 +5,11 @@ ghost use Rattle.std.specs.Prelude.{◌≡◌, ◌<◌, length, IfErr, IfOk, IfS
 ghost use Rattle.std.specs.List.{find};
 ghost use Rattle.std.specs.Option.{option_map};
 ghost use Rattle.pe_core.specs.RangeIndexes.{Indexes};
-ghost use Rattle.pe_frame.specs.AddressRanges.{has_address};
+ghost use Rattle.pe_lookup.specs.AddressRanges.{has_address};
 
 use crate::range_index::Stated;
 use pe_core::{RangeEntry, index_of, number_at};
-use pe_frame::AddressRange;
+use pe_lookup::AddressRange;
 use std::alloc::{AllocError, Allocator};
 
 /// Ranges of addresses with an index of them.

@@ -6,14 +6,15 @@ ghost use Rattle.std.specs.List.{find};
 ghost use Rattle.std.specs.Option.{option_map};
 ghost use Rattle.pe_core.specs.Bytes.{holds, range};
 ghost use Rattle.pe_core.specs.Refusals.{Memory, ReturnsUnlessMemory, Short, kind_of, outcome};
-ghost use Rattle.pe_frame.specs.AddressRanges.{AreAscending};
+ghost use Rattle.pe_lookup.specs.AddressRanges.{AreAscending};
 ghost use Rattle.pe_frame.specs.MemoryLists.{are_inside, lists_byte};
 ghost use Rattle.pe_stacks.specs.MemoryRuns.{AreRuns, bytes_at};
 
 use crate::range_index::Stated;
 use crate::runs::put_runs;
 use pe_core::{Result, index_of};
-use pe_frame::{MemoryList, MemoryPiece, first_with};
+use pe_frame::{MemoryList, MemoryPiece};
+use pe_lookup::first_with;
 use std::alloc::Allocator;
 
 /// The memory of a dump: runs of addresses whose bytes follow one another in its file too, in ascending order.

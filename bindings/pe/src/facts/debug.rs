@@ -149,34 +149,24 @@ impl Debug<'_> {
     }
 }
 
-/// `IMAGE_DEBUG_TYPE_` of these three.
+/// `IMAGE_DEBUG_TYPE_REPRO`.
 const REPRO: u32 = 16;
-const EMBEDDED_PDB: u32 = 17;
-const PDB_CHECKSUM: u32 = 19;
 
 /// `LTCG`, the other signature of POGO records is `PGU`.
 const LTCG: u32 = 0x4C54_4347;
 
 pub fn of<'a>(image: &'a Image<'_>) -> Debug<'a> {
+    let records = image.debug_records();
     Debug {
         entries: entries_of(image),
-        pdb: pdb_of(image.symbol_key()),
-        pdb20: image
-            .pdb20()
-            .map(|it| {
-                it.map(|record| Pdb20 {
-                    name: Name(record.name()),
-                    stamp: Stamp::of(record.signature),
-                    age: record.age,
-                })
-            })
-            .into(),
-        repro: image.repro().map(|it| it.map(repro_of)).into(),
-        pogo: image.pogo().map(|it| it.map(pogo_of)).into(),
-        vc_features: image.vc_features().map(|it| it.map(features_of)).into(),
-        extended: image.debug_characteristics().map(|it| it.map(extended_of)).into(),
-        embedded_pdb: embedded_of(image).into(),
-        pdb_checksum: checksum_of(image).into(),
+        pdb: pdb_of(records.symbol_key),
+        pdb20: records.pdb20.map(|it| it.map(pdb20_of)).into(),
+        repro: records.repro.map(|it| it.map(repro_of)).into(),
+        pogo: records.pogo.map(|it| it.map(pogo_of)).into(),
+        vc_features: records.vc_features.map(|it| it.map(features_of)).into(),
+        extended: records.debug_characteristics.map(|it| it.map(extended_of)).into(),
+        embedded_pdb: records.embedded_pdb.map(|it| it.map(embedded_of)).into(),
+        pdb_checksum: records.pdb_checksum.map(|it| it.map(checksum_of)).into(),
     }
 }
 
@@ -199,16 +189,16 @@ pub fn of_te<'a>(te: &Te<'a>) -> Debug<'a> {
     }
 }
 
-fn embedded_of(image: &Image<'_>) -> Result<Option<EmbeddedPdb>, Error> {
-    let Some(entry) = image.debug_entry(EMBEDDED_PDB)? else { return Ok(None) };
-    let found = image.embedded_pdb_of(&entry)?;
-    Ok(found.map(|it| EmbeddedPdb { size: it.uncompressed_size, compressed_size: it.compressed.len() }))
+fn pdb20_of(record: pe_c::Pdb20<'_>) -> Pdb20<'_> {
+    Pdb20 { name: Name(record.name()), stamp: Stamp::of(record.signature), age: record.age }
 }
 
-fn checksum_of<'a>(image: &'a Image<'_>) -> Result<Option<PdbChecksum<'a>>, Error> {
-    let Some(entry) = image.debug_entry(PDB_CHECKSUM)? else { return Ok(None) };
-    let found = image.pdb_checksum_of(&entry)?;
-    Ok(found.map(|it| PdbChecksum { algorithm: Name(it.algorithm), checksum_hex: hex_of(it.checksum) }))
+fn embedded_of(record: pe_c::EmbeddedPdb<'_>) -> EmbeddedPdb {
+    EmbeddedPdb { size: record.uncompressed_size, compressed_size: record.compressed.len() }
+}
+
+fn checksum_of(record: pe_c::PdbChecksum<'_>) -> PdbChecksum<'_> {
+    PdbChecksum { algorithm: Name(record.algorithm), checksum_hex: hex_of(record.checksum) }
 }
 
 fn extended_of(flags: u32) -> Extended {

@@ -585,12 +585,13 @@ static int is_open(Image *self)
     }
 
 /* The record of the first debug entry of a type. */
-#define FIRST(name, Item, type, call, row) \
+#define FIRST(name, Item, field, row) \
     static uint32_t first_##name(Image *self, Item *out) \
     { \
-        pe_c_debug_entry entry = PE_C_EMPTY; \
-        uint32_t result = pe_c_first_debug_entry(VIEW, type, &entry); \
-        return result == PE_C_DONE ? call(BYTES, self->info.mode, &entry, out) : result; \
+        pe_c_debug_records found = PE_C_EMPTY; \
+        pe_c_debug_data(VIEW, &found); \
+        *out = found.field; \
+        return found.field##_result; \
     } \
     ONE(name, Item, first_##name(self, &item), row)
 
@@ -642,9 +643,17 @@ LIST(certificates, pe_c_range, certificate_table(self, &walk), pe_c_certificate,
 
 static uint32_t first_te_key(Image *self, pe_c_key *out)
 {
+    pe_c_range walk = PE_C_EMPTY;
     pe_c_debug_entry entry = PE_C_EMPTY;
-    uint32_t result = pe_c_te_first_debug_entry(BYTES, &self->te, 2, &entry);
-    return result == PE_C_DONE ? pe_c_symbol_key_of(BYTES, PE_C_MAPPED, &entry, out) : result;
+    pe_c_debug_records found = PE_C_EMPTY;
+    uint32_t result = pe_c_te_debug_entries(BYTES, &self->te, &walk);
+    if (result != PE_C_DONE)
+        return result;
+    while (pe_c_next_te_debug_entry(BYTES, &self->te, &walk, &entry) == PE_C_DONE && entry.data_type != 2)
+        continue;
+    pe_c_debug_record(BYTES, PE_C_MAPPED, &entry, &found);
+    *out = found.key;
+    return found.key_result;
 }
 
 ONE(te_symbol_key, pe_c_key, first_te_key(self, &item), ROW_OF(key))
@@ -1444,6 +1453,8 @@ static uint32_t headers_of(Image *self, unsigned int mode)
                                                  : PE_C_DONE;
     if (self->kind == KIND_IMAGE && result == PE_C_DONE && pe_c_headers(BYTES, mode, &all) == PE_C_DONE)
         self->coff = all.coff;
+    if (self->kind == KIND_OBJECT)
+        self->info.sections_offset = 20u + self->coff.size_of_optional_header;
     if (self->kind != KIND_IMAGE)
         self->info.number_of_sections = self->kind == KIND_TE ? self->te.number_of_sections : self->coff.number_of_sections;
     return result;
@@ -1452,9 +1463,8 @@ static uint32_t headers_of(Image *self, unsigned int mode)
 /* Reads the section headers, and makes an index of many. */
 static uint32_t sections_of(Image *self, size_t most)
 {
-    uint32_t result = self->kind == KIND_OBJECT ? pe_c_coff_sections(BYTES, &self->coff, SECTIONS)
-                      : self->kind == KIND_TE   ? pe_c_te_sections(BYTES, &self->te, SECTIONS)
-                                                : pe_c_sections(BYTES, &self->info, SECTIONS);
+    uint32_t result = self->kind == KIND_TE ? pe_c_te_sections(BYTES, &self->te, SECTIONS)
+                                            : pe_c_sections(BYTES, &self->info, SECTIONS);
     if (self->index && result == PE_C_DONE)
         result = pe_c_index(VIEW, self->index, most, &self->entries);
     uint32_t strings = self->kind == KIND_OBJECT ? pe_c_coff_strings(BYTES, &self->coff, &self->strings)

@@ -2041,7 +2041,7 @@ static PyStructSequence_Field row_dump_module_fields[] = {
     {"module_name", "its path, for pe_c_dump_text"},
     {"module_name_rva", "its path, for pe_c_dump_text"},
     {"version_info", "its version"},
-    {"cv_record", "its CodeView record: pe_c_dump_range, then pe_c_codeview. No bytes where there is none"},
+    {"cv_record", "its CodeView record, which pe_c_codeview reads as a range. No bytes where there is none"},
     {"misc_record", "its IMAGE_DEBUG_MISC"},
     {NULL, NULL}};
 

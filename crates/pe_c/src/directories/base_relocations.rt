@@ -1,42 +1,14 @@
-//! Base relocations: what to change in an image that is not at its preferred base. They stand in blocks, one for each page.
-//! https://learn.microsoft.com/windows/win32/debug/pe-format#the-reloc-section-image-only
+//! The calls of `directories::base_relocations` in calls_directories.
 
-ghost use Rattle.std.specs.Prelude.{◌≡◌};
-ghost use Rattle.pe_directories.specs.BaseRelocations.{first_block, first_relocation};
-ghost use Rattle.pe_directories.specs.DirectoryRefusals.{directory_answer};
-ghost use Rattle.pe_c.specs.Directories.{DirectoryHandsOut, block_reported, first_in, left_after, relocation_reported, step_of, table_at};
-ghost use Rattle.pe_c.specs.Views.{directory_sections};
+ghost use Rattle.calls_base.specs.Directories.{table_at};
+ghost use Rattle.calls_base.specs.DirectoryResults.{DirectoryHandsOut};
+ghost use Rattle.calls_base.specs.Views.{directory_sections};
 
-use crate::base::ranges::{NO_BYTES, Range, slice_of};
-use crate::base::results::hand_out_found;
-use crate::base::view::View;
-use crate::directories::{Result, range_left, table_at};
-use crate::headers::image::BASE_RELOCATION_TABLE;
-use pe_directories::{RelocationBlock as Block, RelocationBlocks};
-
-/// A block of base relocations.
-#[repr(C)]
-#[derive(Clone, Copy)]
-pub struct RelocationBlock {
-    /// The entries, 2 bytes each; a walk through the relocations of the block.
-    pub entries: Range,
-    /// The RVA of the page that the relocations count from.
-    pub page_rva: u32,
-    /// 0.
-    pub spare: u32,
-}
-
-/// A base relocation.
-#[repr(C)]
-#[derive(Clone, Copy)]
-pub struct Relocation {
-    /// The RVA of what to change. In a hostile block it may pass 32 bits.
-    pub rva: u64,
-    /// The type, `IMAGE_REL_BASED_*` of winnt.h, below 16.
-    pub kind: u32,
-    /// The low 16 bits of the number that an `IMAGE_REL_BASED_HIGHADJ` (4) changes; 0 of another type.
-    pub argument: u32,
-}
+use calls_base::directories::table_at;
+use calls_base::image::BASE_RELOCATION_TABLE;
+use calls_base::ranges::Range;
+use calls_base::results::hand_out_found;
+use calls_base::view::View;
 
 /// Returns a walk through the blocks of the base relocations, the bytes of the directory: `NOTHING` where it is absent. Strict
 /// and permissive mode make no difference.
@@ -48,53 +20,4 @@ pub extern "C" fn pe_c_relocation_blocks(view: &View, out: &mut Range) -> u32
         (table_at 5 view.now.bytes.now view.now.image.now (directory_sections view.now 5)) }
 {
     hand_out_found(table_at(view, BASE_RELOCATION_TABLE), out)
-}
-
-/// The next block of a walk. It is over after an error.
-pub fn next_block(bytes: &[u8], walk: &mut Range) -> Result<Option<RelocationBlock>>
-    ensures block { directory_answer (λ x. x) result
-        ≡ step_of (block_reported walk.old) (first_in first_block bytes.now walk.old) }
-    ensures walk { walk.new ≡ left_after walk.old (first_in first_block bytes.now walk.old) }
-{
-    let range = *walk;
-    *walk = NO_BYTES;
-    let mut blocks = RelocationBlocks::new(slice_of(bytes, &range)?);
-    let Some(block) = blocks.next() else {
-        *walk = range;
-        return Ok(None);
-    };
-    let block = block?;
-    *walk = range_left(range, blocks.rest());
-    Ok(Some(RelocationBlock {
-        entries: Range {
-            offset: range.offset + 8,
-            length: block.entries.len() as u64,
-        },
-        page_rva: block.page_rva,
-        spare: 0,
-    }))
-}
-
-/// The next relocation of a walk through the entries of a page. It is over after an error.
-pub fn next_relocation(bytes: &[u8], page_rva: u32, walk: &mut Range) -> Result<Option<Relocation>>
-    ensures relocation { directory_answer (λ x. x) result
-        ≡ step_of relocation_reported (first_in (first_relocation page_rva) bytes.now walk.old) }
-    ensures walk { walk.new
-        ≡ left_after walk.old (first_in (first_relocation page_rva) bytes.now walk.old) }
-{
-    let range = *walk;
-    *walk = NO_BYTES;
-    let entries = slice_of(bytes, &range)?;
-    let mut relocations = Block { page_rva, entries }.relocations();
-    let Some(relocation) = relocations.next() else {
-        *walk = range;
-        return Ok(None);
-    };
-    let relocation = relocation?;
-    *walk = range_left(range, relocations.rest());
-    Ok(Some(Relocation {
-        rva: relocation.rva as u64,
-        kind: u32::from(relocation.kind),
-        argument: u32::from(relocation.argument.unwrap_or(0)),
-    }))
 }

@@ -1,21 +1,12 @@
-//! Which image is that of a module of a dump. A dump says of a module the time stamp and the size of its image, by which a symbol
-//! server files images too. The name says nothing: any file may have it.
+//! The calls of `dump::images` in calls_stacks.
 
 ghost use Rattle.std.specs.Prelude.{◌≡◌};
-ghost use Rattle.pe_c.specs.DumpImages.{fits, fits_number};
+ghost use Rattle.calls_stacks.specs.DumpImages.{fits, fits_number};
 
-use crate::base::results::{DONE, NOTHING};
-use crate::dump::lists::DumpModule;
-use crate::headers::image::Image;
-
-/// Whether an image is that of a module.
-fn fits(image: &Image, module: &DumpModule) -> bool
-    ensures { result ≡ fits image.now module.now }
-{
-    image.width != 0
-        && image.time_date_stamp == module.time_date_stamp
-        && image.size_of_image == module.size_of_image
-}
+use calls_base::image::Image;
+use calls_base::results::{DONE, NOTHING};
+use calls_stacks::dump::images::fits;
+use calls_stacks::dump::lists::DumpModule;
 
 /// Returns `DONE` where an image is that of a module: its time stamp and its size are those of the module. `NOTHING` where it is
 /// another one, or has no optional header. The checksum is not asked.

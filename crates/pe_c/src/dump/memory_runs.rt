@@ -1,32 +1,16 @@
-//! The memory of a dump for many walks. Its pieces stand in no order and may overlap, so that a walk over them tests all for each
-//! word. Runs are the same memory in ascending order, as long as can be, in which an address is looked up by binary search; an image
-//! that the dump has whole lies in one of them.
+//! The calls of `dump::memory_runs` in calls_stacks.
 
-ghost use Rattle.std.specs.Prelude.{◌≡◌, ◌+◌, ◌-◌, ◌≤◌, ◌^◌, IsTrue, Some, drop, length, map, nat_le, take};
-ghost use Rattle.pe_core.specs.Bytes.{holds};
-ghost use Rattle.pe_frame.specs.MemoryLists.{are_inside, ascend, lists_byte};
-ghost use Rattle.pe_c.specs.DumpRuns.{FindsRanges, HandsOutRuns, part_in, range_in};
+ghost use Rattle.std.specs.Prelude.{◌-◌, ◌^◌, Some};
+ghost use Rattle.pe_frame.specs.MemoryLists.{ascend};
+ghost use Rattle.calls_stacks.specs.DumpRuns.{FindsRanges, HandsOutRuns};
 ghost use Rattle.pe_stacks.specs.MemoryRuns.{end_low};
 
-use crate::base::ranges::{NO_BYTES, Range};
-use crate::base::results::{DONE, OUT_OF_ORDER, ROOM, number_of};
+use calls_base::ranges::Range;
+use calls_base::results::{DONE, OUT_OF_ORDER, ROOM, number_of};
+use calls_stacks::dump::memory_runs::{ascend, end_low, put_ranges};
 use pe_core::Error;
-use pe_frame::{MemoryList, MemoryPiece, first_overlap, first_with};
+use pe_frame::{MemoryList, MemoryPiece};
 use pe_stacks::{RangeEntry, put_memory_runs};
-
-/// Whether a piece ends below offset 2^64.
-fn ends_low(piece: &MemoryPiece) -> bool
-    ensures { result ≡ nat_le (piece.now.offset + piece.now.length) (2 ^ 64 - 1) }
-{
-    piece.offset.checked_add(piece.length).is_some()
-}
-
-/// Whether all do.
-fn end_low(pieces: &[MemoryPiece]) -> bool
-    ensures { result ≡ end_low pieces.now }
-{
-    pieces.iter().all(|piece| ends_low(piece))
-}
 
 /// Writes the memory of pieces in any order to `runs`, as pieces that ascend and do not overlap, and to `written` how many there
 /// are: an address is that of the first of the pieces that has it. Two that follow one another in memory and in the file are one.
@@ -53,52 +37,6 @@ pub extern "C" fn pe_c_memory_runs(
             DONE
         }
         None => ROOM,
-    }
-}
-
-/// What a piece that has the address of a range has of the range.
-fn part_of(memory: &[u8], piece: &MemoryPiece, asked: &Range) -> Range
-    requires has { IsTrue (lists_byte asked.now.offset piece.now) }
-    requires inside { IsTrue (holds memory.now piece.now.offset piece.now.length) }
-    ensures { result ≡ part_in asked.now (Some piece.now) }
-{
-    let skipped = asked.offset - piece.start;
-    Range {
-        offset: piece.offset + skipped,
-        length: asked.length.min(piece.length - skipped),
-    }
-}
-
-/// Whether each piece starts at or after the end of the one before it.
-#[tactic(auto, using(pe_frame::proofs::Lookups::decided))]
-fn ascend(pieces: &[MemoryPiece]) -> bool
-    ensures { result ≡ ascend pieces.now }
-{
-    first_overlap(pieces).is_none()
-}
-
-/// Where the bytes of a range of addresses are.
-fn range_in(memory: &[u8], pieces: &[MemoryPiece], asked: &Range) -> Range
-    requires ascending { IsTrue (ascend pieces.now) }
-    requires inside { IsTrue (are_inside memory.now pieces.now) }
-    ensures { result ≡ range_in pieces.now asked.now }
-{
-    match first_with(pieces, true, asked.offset) {
-        Some(piece) => part_of(memory, piece, asked),
-        None => NO_BYTES,
-    }
-}
-
-/// Writes to `found` where the bytes of each of these ranges of addresses are.
-fn put_ranges(memory: &[u8], pieces: &[MemoryPiece], asked: &[Range], found: &mut [Range])
-    requires ascending { IsTrue (ascend pieces.now) }
-    requires inside { IsTrue (are_inside memory.now pieces.now) }
-    requires room { length asked.now ≤ length found.old }
-    ensures found { take (length asked.now) found.new ≡ map (range_in pieces.now) asked.now }
-    ensures rest { drop (length asked.now) found.new ≡ drop (length asked.now) found.old }
-{
-    for i in 0..asked.len() {
-        found[i] = range_in(memory, pieces, &asked[i]);
     }
 }
 

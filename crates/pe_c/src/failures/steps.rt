@@ -1,16 +1,16 @@
-//! Why a step of a walk is refused, or an item that is read by its key, with the numbers of the error: which RVA is unmapped, which
-//! code is invalid. The result of a call is one number. These calls read the item again, by a copy of the walk, and say the rest.
+//! The calls of `steps` in calls_failures.
 
-ghost use Rattle.std.specs.Prelude.{◌≡◌, ◌==◌, ◌<◌, Ok};
+ghost use Rattle.std.specs.Prelude.{◌==◌, Ok};
 ghost use Rattle.pe_core.specs.Imports.{entry_size};
 ghost use Rattle.pe_directories.specs.BaseRelocations.{first_block, first_relocation};
-ghost use Rattle.pe_c.specs.Certificates.{certificate_step};
-ghost use Rattle.pe_c.specs.Directories.{block_reported, first_in, relocation_reported, step_of};
-ghost use Rattle.pe_c.specs.FailureNumbers.{directory_refused, failure_by, refused};
-ghost use Rattle.pe_c.specs.HandsOut.{HandsOutIf};
-ghost use Rattle.pe_c.specs.Imports.{import_step, library_step};
-ghost use Rattle.pe_c.specs.StepFailures.{block_numbers, certificate_numbers, end_of_list, hint_rva, import_numbers, library_numbers, relocation_numbers};
-ghost use Rattle.pe_c.specs.Views.{map_of};
+ghost use Rattle.calls_directories.specs.Certificates.{certificate_step};
+ghost use Rattle.calls_base.specs.Directories.{first_in, step_of};
+ghost use Rattle.calls_directories.specs.Relocations.{block_reported, relocation_reported};
+ghost use Rattle.calls_base.specs.FailureNumbers.{directory_refused, failure_by, refused};
+ghost use Rattle.calls_base.specs.HandsOut.{HandsOutIf};
+ghost use Rattle.calls_directories.specs.Imports.{import_step, library_step};
+ghost use Rattle.calls_failures.specs.StepFailures.{block_numbers, certificate_numbers, import_numbers, library_numbers, relocation_numbers};
+ghost use Rattle.calls_base.specs.Views.{map_of};
 
 pub mod arm64;
 pub mod bound_imports;
@@ -19,86 +19,18 @@ pub mod resources;
 pub mod symbols;
 pub mod unwinding;
 
-use crate::base::kept_sections::NO_SECTIONS;
-use crate::base::named_view::NamedView;
-use crate::base::ranges::{Range, bytes_there};
-use crate::base::view::{View, map_by};
-use crate::directories::base_relocations::{next_block, next_relocation};
-use crate::directories::certificates::step as certificate_step;
-use crate::failures::headers::{Failure, hand_out_failure};
-use crate::failures::numbers::{
-    BLOCK_SIZE, BLOCK_TRUNCATED, CERTIFICATE_REVISION, CERTIFICATE_SIZE, CERTIFICATE_TABLE,
-    CERTIFICATE_TYPE, ErrorNumbers, IMPORT_NAME, NO_ARGUMENT, SHORT, UNMAPPED, directory_refused,
-    failure_with, needed_at, needed_in, no_numbers, numbers, refused, refused_value, u16_there,
-    u32_there,
+use calls_base::numbers::{
+    Failure, IMPORT_NAME, SHORT, UNMAPPED, directory_refused, numbers, refused,
 };
-use crate::names::imports::{Imports, Libraries, import_by_view, library_step_kept};
-use pe_core::{ImportDirectoryEntry, lookup_number, lookup_size, require_bytes};
-
-/// The size of a record of the import directory in bytes.
-const SIZE_OF_RECORD: u64 = 20;
-
-/// The size of a hint in bytes.
-const SIZE_OF_HINT: u64 = 2;
-
-/// The size of the header of a certificate in bytes.
-const SIZE_OF_HEADER: u64 = 8;
-
-/// Where in that header the revision is.
-const REVISION_IN_HEADER: usize = 4;
-
-/// Where in that header the type is.
-const TYPE_IN_HEADER: usize = 6;
-
-/// The size of the header of a block of base relocations in bytes.
-const SIZE_OF_BLOCK_HEADER: u64 = 8;
-
-/// Where in that header the size of the block is.
-const SIZE_IN_BLOCK: usize = 4;
-
-/// The size of a relocation in bytes, without an argument.
-const SIZE_OF_RELOCATION: u64 = 2;
-
-/// That an entry of so many bytes is needed after the last whole one of a list from an offset on.
-fn end_of_list(bytes: &[u8], list: Option<usize>, width: usize) -> ErrorNumbers
-    requires { 0 < width }
-    ensures { result ≡ end_of_list width bytes.now list }
-{
-    let start = list.unwrap_or(0);
-    let whole = bytes.len().saturating_sub(start) / width * width;
-    needed_at((start + whole) as u64, width as u64)
-}
-
-/// The numbers of the failure of the library that a walk is at.
-#[tactic(auto, unfolding(crate::specs::StepFailures::library_numbers))]
-fn library_numbers(view: &View, walk: &Libraries, number: u32) -> ErrorNumbers
-    ensures { result ≡ library_numbers (map_of view.now)
-        (entry_size (view.now.image.now.width == 64)) view.now.bytes.now walk.now number }
-{
-    let Ok(entry) = ImportDirectoryEntry::parse(view.bytes, walk.next as usize) else {
-        return needed_at(walk.next, SIZE_OF_RECORD);
-    };
-    match number {
-        SHORT => {
-            let list = map_by(view, entry.lookups_rva());
-            end_of_list(view.bytes, list, lookup_size(view.image.width == 64))
-        }
-        UNMAPPED | IMPORT_NAME => refused_value(u64::from(entry.name_rva)),
-        _ => no_numbers(),
-    }
-}
-
-fn library_failure(view: &View, walk: &Libraries) -> Option<Failure>
-    ensures { result ≡ failure_by (library_numbers (map_of view.now)
-        (entry_size (view.now.image.now.width == 64)) view.now.bytes.now walk.now)
-        (refused (library_step (map_of view.now)
-        (entry_size (view.now.image.now.width == 64)) view.now.bytes.now walk.now).0) }
-{
-    match refused(library_step_kept(&NamedView::alone(view), NO_SECTIONS, *walk).0) {
-        Some(number) => Some(failure_with(number, library_numbers(view, walk, number))),
-        None => None,
-    }
-}
+use calls_base::ranges::Range;
+use calls_base::view::View;
+use calls_directories::directories::certificates::step as certificate_step;
+use calls_directories::names::imports::{Imports, Libraries};
+use calls_failures::headers::hand_out_failure;
+use calls_failures::steps::{
+    block_failure, block_numbers, certificate_failure, certificate_numbers, import_failure,
+    import_numbers, library_failure, library_numbers, relocation_failure, relocation_numbers,
+};
 
 /// Returns why `pe_c_next_library` refuses the library that a walk is at, which does not move: the same result, and the numbers of
 /// that error. `NOTHING` where it does not refuse it.
@@ -115,53 +47,6 @@ pub extern "C" fn pe_c_library_failure(view: &View, walk: &Libraries, out: &mut 
     hand_out_failure(library_failure(view, walk), out)
 }
 
-/// The RVA of the hint to which the entry leads that a walk over imports is at.
-pub fn hint_rva(view: &View, walk: &Imports) -> u32
-    ensures { result ≡ hint_rva
-        (entry_size (view.now.image.now.width == 64)) view.now.bytes.now walk.now }
-{
-    let is_64 = view.image.width == 64;
-    let left = bytes_there(view.bytes, &walk.left);
-    match require_bytes(left, 0, lookup_size(is_64)) {
-        Ok(()) => (lookup_number(left, 0, is_64) % 0x8000_0000) as u32,
-        Err(_) => 0,
-    }
-}
-
-/// The numbers of the failure of the import that a walk is at.
-#[tactic(auto, unfolding(crate::specs::StepFailures::import_numbers))]
-fn import_numbers(view: &View, walk: &Imports, number: u32) -> ErrorNumbers
-    ensures { result ≡ import_numbers (map_of view.now)
-        (entry_size (view.now.image.now.width == 64)) view.now.bytes.now walk.now number }
-{
-    let rva = hint_rva(view, walk);
-    let width = lookup_size(view.image.width == 64) as u64;
-    match number {
-        SHORT if walk.left.length < width => {
-            needed_in(view.bytes, &walk.left, walk.left.offset, width)
-        }
-        SHORT => {
-            let hint = map_by(view, rva).unwrap_or(0);
-            needed_in(view.bytes, &walk.left, hint as u64, SIZE_OF_HINT)
-        }
-        UNMAPPED | IMPORT_NAME => refused_value(u64::from(rva)),
-        _ => no_numbers(),
-    }
-}
-
-fn import_failure(view: &View, walk: &Imports) -> Option<Failure>
-    ensures { result ≡ failure_by (import_numbers (map_of view.now)
-        (entry_size (view.now.image.now.width == 64)) view.now.bytes.now walk.now)
-        (refused (import_step (map_of view.now)
-        (entry_size (view.now.image.now.width == 64)) view.now.bytes.now walk.now).0) }
-{
-    let mut after = *walk;
-    match refused(import_by_view(&NamedView::alone(view), &mut after)) {
-        Some(number) => Some(failure_with(number, import_numbers(view, walk, number))),
-        None => None,
-    }
-}
-
 /// The same of the import that a walk is at, which `pe_c_next_import` refuses.
 ///
 /// The RVA of `UNMAPPED` and of `IMPORT_NAME` is that of the hint before the import's name.
@@ -175,36 +60,6 @@ pub extern "C" fn pe_c_import_failure(view: &View, walk: &Imports, out: &mut Fai
     hand_out_failure(import_failure(view, walk), out)
 }
 
-/// The numbers of the failure of the certificate that a walk is at.
-#[tactic(auto, unfolding(crate::specs::StepFailures::certificate_numbers))]
-pub fn certificate_numbers(bytes: &[u8], walk: &Range, number: u32) -> ErrorNumbers
-    ensures { result ≡ certificate_numbers bytes.now walk.now number }
-{
-    let range = Range {
-        offset: walk.offset,
-        length: SIZE_OF_HEADER,
-    };
-    let header = bytes_there(bytes, &range);
-    match number {
-        SHORT => needed_at(walk.offset, SIZE_OF_HEADER),
-        CERTIFICATE_TABLE => numbers(walk.offset.saturating_add(walk.length), 0, 0),
-        CERTIFICATE_SIZE => numbers(0, u64::from(u32_there(header, 0)), 0),
-        CERTIFICATE_REVISION => refused_value(u64::from(u16_there(header, REVISION_IN_HEADER))),
-        CERTIFICATE_TYPE => refused_value(u64::from(u16_there(header, TYPE_IN_HEADER))),
-        _ => no_numbers(),
-    }
-}
-
-fn certificate_failure(bytes: &[u8], walk: &Range) -> Option<Failure>
-    ensures { result ≡ failure_by (certificate_numbers bytes.now walk.now)
-        (refused (certificate_step bytes.now walk.now).0) }
-{
-    match refused(certificate_step(bytes, *walk).0) {
-        Some(number) => Some(failure_with(number, certificate_numbers(bytes, walk, number))),
-        None => None,
-    }
-}
-
 /// The same of the certificate that a walk is at, which `pe_c_next_certificate` refuses.
 #[unsafe(no_mangle)]
 pub extern "C" fn pe_c_certificate_failure(bytes: &[u8], walk: &Range, out: &mut Failure) -> u32
@@ -213,31 +68,6 @@ pub extern "C" fn pe_c_certificate_failure(bytes: &[u8], walk: &Range, out: &mut
         (refused (certificate_step bytes.now walk.now).0))) }
 {
     hand_out_failure(certificate_failure(bytes, walk), out)
-}
-
-/// The numbers of the failure of the block that a walk is at.
-#[tactic(auto, unfolding(crate::specs::StepFailures::block_numbers))]
-fn block_numbers(bytes: &[u8], walk: &Range, number: u32) -> ErrorNumbers
-    ensures { result ≡ block_numbers bytes.now walk.now number }
-{
-    let size = u32_there(bytes_there(bytes, walk), SIZE_IN_BLOCK);
-    match number {
-        SHORT => needed_in(bytes, walk, walk.offset, SIZE_OF_BLOCK_HEADER),
-        BLOCK_SIZE => refused_value(u64::from(size)),
-        BLOCK_TRUNCATED => numbers(0, u64::from(size), walk.length),
-        _ => no_numbers(),
-    }
-}
-
-fn block_failure(bytes: &[u8], walk: &Range) -> Option<Failure>
-    ensures { result ≡ failure_by (block_numbers bytes.now walk.now) (directory_refused
-        (step_of (block_reported walk.now) (first_in first_block bytes.now walk.now))) }
-{
-    let mut after = *walk;
-    match directory_refused(next_block(bytes, &mut after)) {
-        Some(number) => Some(failure_with(number, block_numbers(bytes, walk, number))),
-        None => None,
-    }
 }
 
 /// The same of the block that a walk is at, which `pe_c_next_relocation_block` refuses.
@@ -252,33 +82,6 @@ pub extern "C" fn pe_c_relocation_block_failure(
         (step_of (block_reported walk.now) (first_in first_block bytes.now walk.now))))) }
 {
     hand_out_failure(block_failure(bytes, walk), out)
-}
-
-/// The numbers of the failure of the relocation that a walk is at.
-#[tactic(auto, unfolding(crate::specs::StepFailures::relocation_numbers))]
-fn relocation_numbers(bytes: &[u8], page_rva: u32, walk: &Range, number: u32) -> ErrorNumbers
-    ensures { result ≡ relocation_numbers bytes.now page_rva walk.now number }
-{
-    let entry = u16_there(bytes_there(bytes, walk), 0);
-    match number {
-        SHORT => needed_in(bytes, walk, walk.offset, SIZE_OF_RELOCATION),
-        NO_ARGUMENT => refused_value(u64::from(page_rva) + u64::from(entry % 4096)),
-        _ => no_numbers(),
-    }
-}
-
-fn relocation_failure(bytes: &[u8], page_rva: u32, walk: &Range) -> Option<Failure>
-    ensures { result ≡ failure_by (relocation_numbers bytes.now page_rva walk.now) (directory_refused
-        (step_of relocation_reported (first_in (first_relocation page_rva) bytes.now walk.now))) }
-{
-    let mut after = *walk;
-    match directory_refused(next_relocation(bytes, page_rva, &mut after)) {
-        Some(number) => {
-            let numbers = relocation_numbers(bytes, page_rva, walk, number);
-            Some(failure_with(number, numbers))
-        }
-        None => None,
-    }
 }
 
 /// The same of the relocation that a walk is at, which `pe_c_next_relocation` refuses. `page_rva` is that of the block.

@@ -7,14 +7,14 @@ ghost use Rattle.pe_unwind.specs.Arm64Lookup.{length_by, length_of_arm64};
 ghost use Rattle.pe_unwind.specs.Arm64Unwinding.{info_by, info_of_function};
 ghost use Rattle.pe_unwind.specs.ExceptionTable.{ExceptionView};
 ghost use Rattle.pe_unwind.specs.declared.arm64.function.Arm64RuntimeFunction.{Arm64RuntimeFunction};
-ghost use Rattle.pe_c.specs.Arm64.{arm64_record_in, arm64_record_of};
-ghost use Rattle.pe_c.specs.Images.{map_of_image};
-ghost use Rattle.pe_c.specs.Modes.{options_of};
-ghost use Rattle.pe_c.specs.declared.headers.image.Image.{Image};
+ghost use Rattle.calls_unwind.specs.Arm64.{arm64_record_in, arm64_record_of};
+ghost use Rattle.calls_base.specs.Images.{map_of_image};
+ghost use Rattle.calls_base.specs.Modes.{options_of};
+ghost use Rattle.calls_base.specs.declared.image.Image.{Image};
 
 /// By the map of an image's sections the length of an ARM64 function, its record, and the record that a step of a stack walk reads,
 /// are those of pe_unwind.
-#[tactic(auto, using(crate::proofs::Arm64Maps::records_of_sections, crate::proofs::Arm64Maps::infos_of_sections))]
+#[tactic(auto, using(calls_unwind::proofs::Arm64Maps::records_of_sections, calls_unwind::proofs::Arm64Maps::infos_of_sections))]
 pub fn arm64_records_are_those_of_the_image()
     ensures lengths { (b : List ℕ) (image : Image) (sections : List SectionTable) (f : Arm64RuntimeFunction) →
         length_by (map_of_image image sections) b f

@@ -3,15 +3,15 @@
 ghost use Rattle.std.specs.Prelude.{◌≡◌, ℕ, List, Ok, Err, Some, [], ◌∷◌, map};
 ghost use Rattle.pe_core.specs.Refusals.{Refusal};
 ghost use Rattle.pe_core.specs.Symbols.{AreSymbols, SymbolItem, symbol_in, symbol_name};
-ghost use Rattle.pe_c.specs.Coff.{StepsSymbols, symbol_name_at, symbol_reported};
-ghost use Rattle.pe_c.specs.Ranges.{IsRange, bytes_at};
-ghost use Rattle.pe_c.specs.Runs.{ReturnsItems};
-ghost use Rattle.pe_c.specs.declared.headers.coff.SymbolWalk.{SymbolWalk};
-ghost use Rattle.pe_c.specs.declared.base.ranges.Range.{Range};
+ghost use Rattle.calls_headers.specs.Coff.{StepsSymbols, symbol_name_at, symbol_reported};
+ghost use Rattle.calls_base.specs.Ranges.{IsRange, bytes_at};
+ghost use Rattle.calls_base.specs.Runs.{ReturnsItems};
+ghost use Rattle.calls_headers.specs.declared.coff.SymbolWalk.{SymbolWalk};
+ghost use Rattle.calls_base.specs.declared.ranges.Range.{Range};
 
 /// A walk over symbols returns, one a step, those of its table from its entry on, and then nothing: auxiliary records are
 /// skipped. A table that is not inside the bytes is one error alone.
-#[tactic(auto, using(crate::proofs::SymbolRuns::symbols_in_turn, crate::proofs::SymbolRuns::outside))]
+#[tactic(auto, using(calls_headers::proofs::SymbolRuns::symbols_in_turn, calls_headers::proofs::SymbolRuns::outside))]
 pub fn walks_give_the_symbols()
     ensures symbols { (b : List ℕ) (walk : SymbolWalk) (table : List ℕ)
         (items : List SymbolItem) → bytes_at b walk.table ≡ Ok table →
@@ -23,7 +23,7 @@ pub fn walks_give_the_symbols()
 {}
 
 /// The range that `pe_c_symbol_name` returns lies in the bytes, and is the name of the symbol in that entry.
-#[tactic(auto, using(crate::proofs::SymbolTexts::names_are_parts))]
+#[tactic(auto, using(calls_headers::proofs::SymbolTexts::names_are_parts))]
 pub fn ranges_of_symbol_names()
     ensures { (b : List ℕ) (table strings : Range) (index : ℕ) (t s : List ℕ) (r : Range) →
         bytes_at b table ≡ Ok t → bytes_at b strings ≡ Ok s →

@@ -1,6 +1,6 @@
 //! Laws of debug data: a record is read by itself, and where calls return a part of it, that is the part.
 
-ghost use Rattle.pe_c.specs.Debug.{characteristics_of, checksum_of, embedded_of, features_of, key_of, pdb20_of, pogo_of, repro_of};
+ghost use Rattle.calls_headers.specs.Debug.{characteristics_of, checksum_of, embedded_of, features_of, key_of, pdb20_of, pogo_of, repro_of};
 ghost use Rattle.pe_c.specs.DebugLaws.{ReadsItsBytes, ReportsPart, ReturnsRecord, StandsAlone, by_kind, by_length, by_signature, by_size};
 ghost use Rattle.pe_records.specs.DebugRecords as records;
 ghost use Rattle.pe_records.specs.ManagedDebug as managed;

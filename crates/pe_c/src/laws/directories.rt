@@ -1,15 +1,15 @@
 //! Laws of the ranges that calls return of directories which pe_directories reads.
 
-ghost use Rattle.pe_c.specs.Clr.{content_of, first_stream_in, metadata_reported, stream_reported};
-ghost use Rattle.pe_c.specs.DelayImports.{dll_range, function_of, functions_of};
-ghost use Rattle.pe_c.specs.DelayLaws.{dll_reported, import_reported, table_reported};
-ghost use Rattle.pe_c.specs.Directories.{image_parts};
-ghost use Rattle.pe_c.specs.Images.{map_of_image};
-ghost use Rattle.pe_c.specs.Ranges.{IsRange, bytes_at, range_of};
-ghost use Rattle.pe_c.specs.declared.directories.clr.MetadataStreams.{MetadataStreams};
-ghost use Rattle.pe_c.specs.declared.directories.delay_imports.DelayedFunction.{DelayedFunction};
-ghost use Rattle.pe_c.specs.declared.headers.image.Image.{Image};
-ghost use Rattle.pe_c.specs.declared.base.ranges.Range.{Range};
+ghost use Rattle.calls_directories.specs.Clr.{content_of, first_stream_in, metadata_reported, stream_reported};
+ghost use Rattle.calls_directories.specs.DelayImports.{dll_range, function_of, functions_of};
+ghost use Rattle.calls_directories.specs.DelayLaws.{dll_reported, import_reported, table_reported};
+ghost use Rattle.calls_base.specs.Directories.{image_parts};
+ghost use Rattle.calls_base.specs.Images.{map_of_image};
+ghost use Rattle.calls_base.specs.Ranges.{IsRange, bytes_at, range_of};
+ghost use Rattle.calls_directories.specs.declared.directories.clr.MetadataStreams.{MetadataStreams};
+ghost use Rattle.calls_directories.specs.declared.directories.delay_imports.DelayedFunction.{DelayedFunction};
+ghost use Rattle.calls_base.specs.declared.image.Image.{Image};
+ghost use Rattle.calls_base.specs.declared.ranges.Range.{Range};
 ghost use Rattle.pe_core.specs.Bytes.{range};
 ghost use Rattle.pe_core.specs.declared.byte_range.ByteRange.{ByteRange};
 ghost use Rattle.pe_core.specs.declared.section_table.SectionTable.{SectionTable};
@@ -32,7 +32,7 @@ pub fn ranges_of_metadata_are_its_parts()
 {}
 
 /// The ranges of the stream that stands first in a walk lie in the bytes, and are its name and its part of the metadata.
-#[tactic(auto, using(crate::proofs::DirectoryParts::name_of_stream_stands, crate::proofs::DirectoryParts::content_stands))]
+#[tactic(auto, using(calls_directories::proofs::DirectoryParts::name_of_stream_stands, calls_directories::proofs::DirectoryParts::content_stands))]
 pub fn ranges_of_streams_are_their_parts()
     ensures name { (b : List ℕ) (w : MetadataStreams) (s : Stream) (left : ℕ × List ℕ) →
         first_stream_in b w ≡ Some (Ok (s, left)) → IsRange b (stream_reported w s).name s.name }
@@ -55,7 +55,7 @@ pub fn ranges_of_delay_imports_are_their_names()
 
 /// Where RVAs are mapped by the sections of the image, steps over delay imports return what pe_directories defines, or the same
 /// refusal: the name of a DLL, the table of what is imported of it, and what a number of the table imports.
-#[tactic(auto, using(crate::proofs::DelayAddresses::same_dll, crate::proofs::DelayAddresses::same_function, crate::proofs::DelayAddresses::same_table))]
+#[tactic(auto, using(calls_directories::proofs::DelayAddresses::same_dll, calls_directories::proofs::DelayAddresses::same_function, calls_directories::proofs::DelayAddresses::same_table))]
 pub fn delay_imports_are_those_of_the_image()
     ensures dll { (b : List ℕ) (image : Image) (sections : List SectionTable) (e : DelayImport) →
         dll_range (map_of_image image sections) b image e

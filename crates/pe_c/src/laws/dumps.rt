@@ -18,23 +18,23 @@ ghost use Rattle.pe_minidump.specs.declared.thread.Thread.{Thread};
 ghost use Rattle.pe_stacks.specs.Images.{is_image_of};
 ghost use Rattle.pe_stacks.specs.MemoryRuns.{AreRuns, bytes_at};
 ghost use Rattle.pe_stacks.specs.ThreadContexts.{thread_context};
-ghost use Rattle.pe_c.specs.Arm64StackWalks.{arm64_stack_walks};
-ghost use Rattle.pe_c.specs.Arm64StackWalks as arm64_walks;
-ghost use Rattle.pe_c.specs.DumpContexts.{arm64_reported, context_arm64_at, context_x64_at, thread_context_at, x64_reported};
-ghost use Rattle.pe_c.specs.DumpImages.{fits};
+ghost use Rattle.calls_stacks.specs.Arm64StackWalks.{arm64_stack_walks};
+ghost use Rattle.calls_stacks.specs.Arm64StackWalks as arm64_walks;
+ghost use Rattle.calls_stacks.specs.DumpContexts.{arm64_reported, context_arm64_at, context_x64_at, thread_context_at, x64_reported};
+ghost use Rattle.calls_stacks.specs.DumpImages.{fits};
 ghost use Rattle.pe_c.specs.DumpLaws.{IsStreamOf, as_reported, memory_range};
-ghost use Rattle.pe_c.specs.DumpMemory.{piece_reported};
-ghost use Rattle.pe_c.specs.DumpRecords.{module_reported};
-ghost use Rattle.pe_c.specs.DumpRuns.{range_in};
-ghost use Rattle.pe_c.specs.Dumps.{dump_stream_at};
-ghost use Rattle.pe_c.specs.FrameCalls.{HandsOutFrame};
-ghost use Rattle.pe_c.specs.Images.{image_info_of};
-ghost use Rattle.pe_c.specs.Ranges.{IsRange};
-ghost use Rattle.pe_c.specs.StackWalks.{marked, stack_walks};
-ghost use Rattle.pe_c.specs.declared.arm64.stack_walk.Arm64StackWalk.{Arm64StackWalk};
-ghost use Rattle.pe_c.specs.declared.base.ranges.Range.{Range};
-ghost use Rattle.pe_c.specs.declared.stack.walk.ModuleView.{ModuleView};
-ghost use Rattle.pe_c.specs.declared.stack.walk.StackWalk.{StackWalk};
+ghost use Rattle.calls_stacks.specs.DumpMemory.{piece_reported};
+ghost use Rattle.calls_stacks.specs.DumpRecords.{module_reported};
+ghost use Rattle.calls_stacks.specs.DumpRuns.{range_in};
+ghost use Rattle.calls_stacks.specs.Dumps.{dump_stream_at};
+ghost use Rattle.calls_stacks.specs.FrameCalls.{HandsOutFrame};
+ghost use Rattle.calls_base.specs.Images.{image_info_of};
+ghost use Rattle.calls_base.specs.Ranges.{IsRange};
+ghost use Rattle.calls_stacks.specs.StackWalks.{marked, stack_walks};
+ghost use Rattle.calls_stacks.specs.declared.arm64.stack_walk.Arm64StackWalk.{Arm64StackWalk};
+ghost use Rattle.calls_base.specs.declared.ranges.Range.{Range};
+ghost use Rattle.calls_stacks.specs.declared.stack.walk.ModuleView.{ModuleView};
+ghost use Rattle.calls_stacks.specs.declared.stack.walk.StackWalk.{StackWalk};
 
 /// The range that `pe_c_dump_stream` returns lies in the bytes, and these are the bytes of the stream of the kind, as `Dump::stream`
 /// returns it of a dump with this directory.
@@ -54,8 +54,8 @@ pub fn pieces_of_dumps_are_inside()
         (bytes_from b offset size) }
 {}
 
-/// Where `pe_c_dump_exception` returns the exception of a dump, the registers that a thread has by it are those that count by
-/// pe_stacks.
+/// Where `pe_c_dump_exception` returns the exception of a dump, the registers that a thread has by it, as `pe_c_dump_thread_context` of
+/// `pe.h` reads them by `pe_c_dump_context`, are those that count by pe_stacks.
 #[tactic(auto, using(crate::proofs::DumpStacks::counts))]
 pub fn contexts_of_threads_count()
     ensures x64 { (d : DumpView) (t : Thread) (e : Exception) → exception d ≡ Ok (Some e) →

@@ -11,45 +11,46 @@ ghost use Rattle.pe_directories.specs.BaseRelocations.{first_block, first_reloca
 ghost use Rattle.pe_records.specs.declared.debug.ImageDebugDirectory.{ImageDebugDirectory};
 ghost use Rattle.pe_unwind.specs.Links.{Table};
 ghost use Rattle.pe_unwind.specs.declared.arm64.function.Arm64RuntimeFunction.{Arm64RuntimeFunction};
-ghost use Rattle.pe_c.specs.Arm64.{AnswersArm64Code, StepsArm64Codes, arm64_record_of};
-ghost use Rattle.pe_c.specs.BoundImports.{bound_imports_at, first_bound};
-ghost use Rattle.pe_c.specs.Certificates.{certificate_step};
-ghost use Rattle.pe_c.specs.Clr.{clr_header_at};
-ghost use Rattle.pe_c.specs.Coff.{symbol_name_at};
-ghost use Rattle.pe_c.specs.Debug.{characteristics_of, checksum_of, debug_entries_range, embedded_of, features_of, key_of, pdb20_of, pogo_of, repro_of};
-ghost use Rattle.pe_c.specs.DebugFailures.{record_refusal};
-ghost use Rattle.pe_c.specs.DelayImports.{first_library_in, first_of_walk};
-ghost use Rattle.pe_c.specs.Directories.{block_reported, first_in, relocation_reported, step_of, table_at, tls_at};
-ghost use Rattle.pe_c.specs.DirectoryFailures.{certificate_table, directory_refusal};
-ghost use Rattle.pe_c.specs.Exports.{tables_at};
-ghost use Rattle.pe_c.specs.FailureNumbers.{Agrees, AllAgree, DirectoriesAgree, TreesAgree, directory_refused, refused, tree_refused};
-ghost use Rattle.pe_c.specs.Failures.{Explains, first_failure, image_failure, object_section_failures, section_failures, te_failures, te_section_failures};
-ghost use Rattle.pe_c.specs.Images.{for_directory, image_at, map_by};
-ghost use Rattle.pe_c.specs.Imports.{import_step, libraries_at, library_step};
-ghost use Rattle.pe_c.specs.LoadConfigs.{load_config_at};
-ghost use Rattle.pe_c.specs.ResourceLeaves.{first_item, items_left, leaves_start};
-ghost use Rattle.pe_c.specs.Te.{te_image_at, te_section};
-ghost use Rattle.pe_c.specs.UnwindFailures.{LinksEnd};
-ghost use Rattle.pe_c.specs.Unwinding.{FollowsToRecord, HandsOutCode, HandsOutRecord, StepsCodes, exception_table_at};
-ghost use Rattle.pe_c.specs.declared.arm64.codes.Arm64Code.{Arm64Code};
-ghost use Rattle.pe_c.specs.declared.arm64.codes.Arm64CodeWalk.{Arm64CodeWalk};
-ghost use Rattle.pe_c.specs.declared.directories.delay_imports.DelayedFunctions.{DelayedFunctions};
-ghost use Rattle.pe_c.specs.declared.headers.CoffFields.{CoffFields};
-ghost use Rattle.pe_c.specs.declared.headers.image.Image.{Image};
-ghost use Rattle.pe_c.specs.declared.names.imports.Imports.{Imports};
-ghost use Rattle.pe_c.specs.declared.names.imports.Libraries.{Libraries};
-ghost use Rattle.pe_c.specs.declared.base.ranges.Range.{Range};
-ghost use Rattle.pe_c.specs.declared.resources.leaves.ResourceLeaves.{ResourceLeaves};
-ghost use Rattle.pe_c.specs.declared.headers.te.TeImage.{TeImage};
-ghost use Rattle.pe_c.specs.declared.unwinding.Code.{Code};
-ghost use Rattle.pe_c.specs.declared.unwinding.CodeWalk.{CodeWalk};
-ghost use Rattle.pe_c.specs.declared.unwinding.UnwindRecord.{UnwindRecord};
+ghost use Rattle.calls_unwind.specs.Arm64.{AnswersArm64Code, StepsArm64Codes, arm64_record_of};
+ghost use Rattle.calls_directories.specs.BoundImports.{bound_imports_at, first_bound};
+ghost use Rattle.calls_directories.specs.Certificates.{certificate_step};
+ghost use Rattle.calls_directories.specs.Clr.{clr_header_at};
+ghost use Rattle.calls_headers.specs.Coff.{symbol_name_at};
+ghost use Rattle.calls_headers.specs.Debug.{characteristics_of, checksum_of, debug_entries_range, embedded_of, features_of, key_of, pdb20_of, pogo_of, repro_of};
+ghost use Rattle.calls_failures.specs.DebugFailures.{record_refusal};
+ghost use Rattle.calls_directories.specs.DelayImports.{first_library_in, first_of_walk};
+ghost use Rattle.calls_base.specs.Directories.{first_in, step_of, table_at, tls_at};
+ghost use Rattle.calls_directories.specs.Relocations.{block_reported, relocation_reported};
+ghost use Rattle.calls_failures.specs.DirectoryFailures.{certificate_table, directory_refusal};
+ghost use Rattle.calls_directories.specs.Exports.{tables_at};
+ghost use Rattle.calls_base.specs.FailureNumbers.{Agrees, AllAgree, DirectoriesAgree, TreesAgree, directory_refused, refused, tree_refused};
+ghost use Rattle.calls_failures.specs.Failures.{Explains, first_failure, image_failure, object_section_failures, section_failures, te_failures, te_section_failures};
+ghost use Rattle.calls_base.specs.Images.{for_directory, image_at, map_by};
+ghost use Rattle.calls_directories.specs.Imports.{import_step, libraries_at, library_step};
+ghost use Rattle.calls_directories.specs.LoadConfigs.{load_config_at};
+ghost use Rattle.calls_directories.specs.ResourceLeaves.{first_item, items_left, leaves_start};
+ghost use Rattle.calls_headers.specs.Te.{te_image_at, te_section};
+ghost use Rattle.calls_failures.specs.UnwindFailures.{LinksEnd};
+ghost use Rattle.calls_unwind.specs.Unwinding.{FollowsToRecord, HandsOutCode, HandsOutRecord, StepsCodes, exception_table_at};
+ghost use Rattle.calls_unwind.specs.declared.arm64.codes.Arm64Code.{Arm64Code};
+ghost use Rattle.calls_unwind.specs.declared.arm64.codes.Arm64CodeWalk.{Arm64CodeWalk};
+ghost use Rattle.calls_directories.specs.declared.directories.delay_imports.DelayedFunctions.{DelayedFunctions};
+ghost use Rattle.calls_headers.specs.declared.headers.CoffFields.{CoffFields};
+ghost use Rattle.calls_base.specs.declared.image.Image.{Image};
+ghost use Rattle.calls_directories.specs.declared.names.imports.Imports.{Imports};
+ghost use Rattle.calls_directories.specs.declared.names.imports.Libraries.{Libraries};
+ghost use Rattle.calls_base.specs.declared.ranges.Range.{Range};
+ghost use Rattle.calls_directories.specs.declared.resources.leaves.ResourceLeaves.{ResourceLeaves};
+ghost use Rattle.calls_headers.specs.declared.te.TeImage.{TeImage};
+ghost use Rattle.calls_unwind.specs.declared.unwinding.Code.{Code};
+ghost use Rattle.calls_unwind.specs.declared.unwinding.CodeWalk.{CodeWalk};
+ghost use Rattle.calls_unwind.specs.declared.unwinding.UnwindRecord.{UnwindRecord};
 
 /// `pe_c_image_failure` has a failure exactly where `pe_c_image` refuses the headers, with the number of its error; so have
-/// `pe_c_sections_failure` where the section headers are refused that `pe_c_sections` reads, `pe_c_te_sections_failure` and
-/// `pe_c_coff_sections_failure` where those are that `pe_c_te_sections` and `pe_c_coff_sections` read, and `pe_c_te_failure` where
-/// `pe_c_te` refuses the header.
-#[tactic(auto, using(crate::proofs::FailureParts::failures_of_images, crate::proofs::FailureParts::failures_of_rows, crate::proofs::FailureParts::failures_of_te_images))]
+/// `pe_c_sections_failure` where the section headers are refused that `pe_c_sections` reads, also of an object (`object_sections`), or
+/// those that `pe_c_te_sections` reads (`te_sections`), by an image that says where they are, and `pe_c_te_failure` where `pe_c_te`
+/// refuses the header.
+#[tactic(auto, using(calls_failures::proofs::FailureParts::failures_of_images, calls_failures::proofs::FailureParts::failures_of_rows, calls_failures::proofs::FailureParts::failures_of_te_images))]
 pub fn failures_are_those_of_the_calls()
     ensures images { (b : List ℕ) (mode : ℕ) → Explains (image_at b mode) (image_failure b mode) }
     ensures sections { (b : List ℕ) (image : Image)
@@ -63,7 +64,7 @@ pub fn failures_are_those_of_the_calls()
 {}
 
 /// `pe_c_directory_failure` has a failure exactly where the call that reads the directory returns an error, with its number.
-#[tactic(auto, using(crate::proofs::DirectoryFailures::agree, crate::proofs::DirectoryFailures::directories_agree), unfolding(crate::specs::DirectoryFailures::directory_refusal))]
+#[tactic(auto, using(calls_base::proofs::DirectoryFailures::agree, calls_base::proofs::DirectoryFailures::directories_agree), unfolding(calls_failures::specs::DirectoryFailures::directory_refusal))]
 pub fn directory_failures_are_those_of_the_calls()
     ensures exports { (b : List ℕ) (image : Image) (may_map : ℕ → List SectionTable)
         → AllAgree (tables_at b image (map_by image may_map))
@@ -110,7 +111,7 @@ pub fn directory_failures_are_those_of_the_calls()
 {}
 
 /// `pe_c_debug_failure` has a failure exactly where the call that reads the record returns an error, with its number.
-#[tactic(auto, using(crate::proofs::DirectoryFailures::agree), unfolding(crate::specs::DebugFailures::record_refusal))]
+#[tactic(auto, using(calls_base::proofs::DirectoryFailures::agree), unfolding(calls_failures::specs::DebugFailures::record_refusal))]
 pub fn debug_failures_are_those_of_the_calls()
     ensures symbol_keys { (b : List ℕ) (mode : ℕ) (e : ImageDebugDirectory)
         → AllAgree (key_of b mode e) (record_refusal 0 b mode e) }
@@ -134,7 +135,7 @@ pub fn debug_failures_are_those_of_the_calls()
 /// returns an error, with its number. Where a definition says what a step returns, both calls have that one: the clause says that the
 /// number is its refusal's. Where a relation does, it is of any two answers; and the RVA at which links end, by which the numbers of
 /// unwind records are, is one.
-#[tactic(auto, using(crate::proofs::UnwindFailures::links_end_once, crate::proofs::DirectoryFailures::agree, crate::proofs::DirectoryFailures::directories_agree, crate::proofs::DirectoryFailures::trees_agree))]
+#[tactic(auto, using(calls_failures::proofs::UnwindFailures::links_end_once, calls_base::proofs::DirectoryFailures::agree, calls_base::proofs::DirectoryFailures::directories_agree, calls_base::proofs::DirectoryFailures::trees_agree))]
 pub fn step_failures_are_those_of_the_calls()
     ensures libraries { (offset : ℕ → Option ℕ) (w : ℕ) (b : List ℕ) (walk : Libraries)
         → AllAgree (library_step offset w b walk).0 (refused (library_step offset w b walk).0) }

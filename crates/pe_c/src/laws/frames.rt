@@ -1,6 +1,6 @@
 //! The laws of whole stack walks, a frame a call.
 
-ghost use Rattle.std.specs.Prelude.{◌≡◌, ◌↔◌, ℕ, List, Ok, Some, true};
+ghost use Rattle.std.specs.Prelude.{◌≡◌, ◌↔◌, ℕ, List, [], ◌∷◌, Ok, Some, true};
 ghost use Rattle.std.specs.List.{list_all};
 ghost use Rattle.pe_core.specs.SectionMap.{map_view, offset_in};
 ghost use Rattle.pe_frame.specs.Arm64Walks as arm64;
@@ -13,25 +13,25 @@ ghost use Rattle.pe_frame.specs.declared.memory_list.MemoryPiece.{MemoryPiece};
 ghost use Rattle.pe_frame.specs.declared.walk.StackFrame.{StackFrame};
 ghost use Rattle.pe_frame.specs.declared.walk.WalkEnd.{WalkEnd};
 ghost use Rattle.pe_unwind.specs.ExceptionTable.{ExceptionView};
-ghost use Rattle.pe_c.specs.Arm64StackWalks.{arm64_stack_walks};
-ghost use Rattle.pe_c.specs.Arm64StackWalks as arm64_walks;
-ghost use Rattle.pe_c.specs.FrameCalls.{CallsReturn, HandsOutFrame, HandsOutFrames, HasEnd, IsOpen, ReturnsFrames, state_in};
-ghost use Rattle.pe_c.specs.Images.{map_of_image};
-ghost use Rattle.pe_c.specs.Modes.{options_of};
-ghost use Rattle.pe_c.specs.StackFrames.{exceptions_by};
-ghost use Rattle.pe_c.specs.StackWalks.{marked, stack_walks};
-ghost use Rattle.pe_c.specs.Views.{map_of};
-ghost use Rattle.pe_c.specs.WalkModules.{exceptions_of, has_table, module_of, modules_of};
-ghost use Rattle.pe_c.specs.declared.arm64.stack_walk.Arm64StackWalk.{Arm64StackWalk};
-ghost use Rattle.pe_c.specs.declared.base.ranges.Range.{Range};
-ghost use Rattle.pe_c.specs.declared.stack.walk.ModuleView.{ModuleView};
-ghost use Rattle.pe_c.specs.declared.stack.walk.StackWalk.{StackWalk};
-ghost use Rattle.pe_c.specs.declared.base.view.View.{View};
+ghost use Rattle.calls_stacks.specs.Arm64StackWalks.{arm64_stack_walks};
+ghost use Rattle.calls_stacks.specs.Arm64StackWalks as arm64_walks;
+ghost use Rattle.calls_stacks.specs.FrameCalls.{CallsReturn, HandsOutFrame, HandsOutFrames, HasEnd, IsOpen, ReturnsFrames, state_in};
+ghost use Rattle.calls_base.specs.Images.{map_of_image};
+ghost use Rattle.calls_base.specs.Modes.{options_of};
+ghost use Rattle.calls_stacks.specs.StackFrames.{exceptions_by};
+ghost use Rattle.calls_stacks.specs.StackWalks.{marked, stack_walks};
+ghost use Rattle.calls_base.specs.Views.{map_of};
+ghost use Rattle.calls_stacks.specs.WalkModules.{exceptions_of, has_table, module_of, modules_of};
+ghost use Rattle.calls_stacks.specs.declared.arm64.stack_walk.Arm64StackWalk.{Arm64StackWalk};
+ghost use Rattle.calls_base.specs.declared.ranges.Range.{Range};
+ghost use Rattle.calls_stacks.specs.declared.stack.walk.ModuleView.{ModuleView};
+ghost use Rattle.calls_stacks.specs.declared.stack.walk.StackWalk.{StackWalk};
+ghost use Rattle.calls_base.specs.declared.view.View.{View};
 
 /// The sections of a view map RVAs as the section map of its exception data does (`steps`), and a walk maps those of a module as its
 /// view does (`walks`). So by a view without an index, or with one that `pe_c_index` made (`laws::indexes`), steps and walks read
 /// the records that pe_unwind reads.
-#[tactic(auto, using(crate::proofs::StepMaps::maps_of_steps, crate::proofs::StepMaps::maps_of_walks))]
+#[tactic(auto, using(calls_stacks::proofs::StepMaps::maps_of_steps, calls_stacks::proofs::StepMaps::maps_of_walks))]
 pub fn steps_map_as_walks()
     ensures steps { (v : View) (table : Range) (e : ExceptionView) → exceptions_by v table ≡ Ok e →
         map_of_image v.image.now v.sections.now
@@ -40,10 +40,23 @@ pub fn steps_map_as_walks()
         map_of_module (module_of v) e ≡ map_of v.image }
 {}
 
+/// `pe_c_next_frames` with room for one frame returns the next frame of a walk, which `pe_c_next_frame` of `pe.h` makes of it: what
+/// the laws below say of that (`x64`). So does `pe_c_next_arm64_frames`, of which `pe_c_next_arm64_frame` is made (`arm64`).
+pub fn one_of_frames_is_the_next()
+    ensures x64 { (views : List ModuleView) (memory : List ℕ) (pieces : List MemoryPiece)
+        (number count : ℕ) (slot : StackWalk) (filled : List StackWalk × ℕ) (w new : StackWalk) →
+        HandsOutFrames Calls stack_walks views memory pieces number (slot ∷ [], count) filled w new →
+        HandsOutFrame Calls stack_walks views memory pieces number w new }
+    ensures arm64 { (views : List ModuleView) (memory : List ℕ) (pieces : List MemoryPiece)
+        (number count : ℕ) (slot : Arm64StackWalk) (filled : List Arm64StackWalk × ℕ) (w new : Arm64StackWalk) →
+        HandsOutFrames arm64.Calls arm64_stack_walks views memory pieces number (slot ∷ [], count) filled w new →
+        HandsOutFrame arm64.Calls arm64_stack_walks views memory pieces number w new }
+{}
+
 /// Calls of `pe_c_next_frame` return, in turn, exactly the frames of a walk as pe_frame defines it, over the memory and the
 /// modules that are passed, at most as many as were asked for; the walk is then over for the reason for which that walk is,
 /// whose numbers it has (`x64`). So do calls of `pe_c_next_arm64_frame` (`arm64`).
-#[tactic(auto, using(crate::proofs::FrameRuns::whole, crate::proofs::WalkFrames::keep_walks, crate::proofs::Arm64WalkFrames::keep_walks))]
+#[tactic(auto, using(calls_stacks::proofs::FrameRuns::whole, calls_stacks::proofs::WalkFrames::keep_walks, calls_stacks::proofs::Arm64WalkFrames::keep_walks))]
 pub fn walks_give_the_frames()
     ensures x64 { (p : Process) (w last : StackWalk) (frames : List StackFrame) →
         IsOpen stack_walks w → ReturnsFrames Calls stack_walks p w frames last →
@@ -88,7 +101,7 @@ pub fn marks_change_nothing()
 /// the frames of a walk over the memory of these pieces, and then nothing: also where the first call sets the mark, and the later
 /// ones search the pieces. The function table of each module lies in its bytes, and each piece in the memory (`x64`). So do calls of
 /// `pe_c_next_arm64_frame` (`arm64`).
-#[tactic(auto, using(crate::proofs::CallWalks::whole_by_calls, crate::proofs::MarkedWalks::unmarked, crate::proofs::WalkFrames::keep_marks, crate::proofs::WalkFrames::keep_walks, crate::proofs::Arm64WalkFrames::keep_walks, crate::proofs::Arm64WalkFrames::keep_marks))]
+#[tactic(auto, using(calls_stacks::proofs::CallWalks::whole_by_calls, calls_stacks::proofs::MarkedWalks::unmarked, calls_stacks::proofs::WalkFrames::keep_marks, calls_stacks::proofs::WalkFrames::keep_walks, calls_stacks::proofs::Arm64WalkFrames::keep_walks, calls_stacks::proofs::Arm64WalkFrames::keep_marks))]
 pub fn calls_give_the_frames()
     ensures x64 { (views : List ModuleView) (memory : List ℕ) (pieces : List MemoryPiece) (w last : StackWalk) (frames : List StackFrame) →
         list_all has_table views ≡ true → are_inside memory pieces ≡ true →

@@ -6,13 +6,13 @@ ghost use Rattle.pe_directories.specs.DirectoryRefusals.{DirectoryRefusal};
 ghost use Rattle.pe_directories.specs.GuardTables.{Guarded, first_guarded};
 ghost use Rattle.pe_directories.specs.Walks.{Items};
 ghost use Rattle.pe_directories.specs.declared.load_config.LoadConfig.{LoadConfig};
-ghost use Rattle.pe_c.specs.Directories.{directory_number};
-ghost use Rattle.pe_c.specs.GuardTables.{ReturnsEntries, StartsEntries, StepsGuardEntries, entries_in, place_of};
-ghost use Rattle.pe_c.specs.Lists.{GiveLists};
-ghost use Rattle.pe_c.specs.Ranges.{bytes_at};
-ghost use Rattle.pe_c.specs.Runs.{ReturnsItems};
-ghost use Rattle.pe_c.specs.declared.directories.guard_tables.GuardEntries.{GuardEntries};
-ghost use Rattle.pe_c.specs.declared.headers.image.Image.{Image};
+ghost use Rattle.calls_base.specs.DirectoryResults.{directory_number};
+ghost use Rattle.calls_directories.specs.GuardTables.{ReturnsEntries, StartsEntries, StepsGuardEntries, entries_in, place_of};
+ghost use Rattle.calls_base.specs.Lists.{GiveLists};
+ghost use Rattle.calls_base.specs.Ranges.{bytes_at};
+ghost use Rattle.calls_base.specs.Runs.{ReturnsItems};
+ghost use Rattle.calls_directories.specs.declared.directories.guard_tables.GuardEntries.{GuardEntries};
+ghost use Rattle.calls_base.specs.declared.image.Image.{Image};
 
 /// A walk over a table returns its entries, as many as the load configuration says, each with its RVA and the range of its
 /// flags, and `SHORT` where the bytes end before that. The list call returns what the steps do.

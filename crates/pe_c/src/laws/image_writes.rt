@@ -5,8 +5,8 @@ ghost use Rattle.pe_core.specs.declared.options.ParseOptions.{ParseOptions};
 ghost use Rattle.pe_image.specs.Image.{ImageView, IsImage};
 ghost use Rattle.pe_image.specs.Writing.{certificates_written, image_length, image_written, whole_length, whole_written};
 ghost use Rattle.pe_c.specs.ImageOfCalls.{mode_of};
-ghost use Rattle.pe_c.specs.ImageWrites.{IsViewOf, certificates_written_at, image_length_at, image_written_at, whole_length_at, whole_written_at};
-ghost use Rattle.pe_c.specs.declared.base.view.View.{View};
+ghost use Rattle.calls_write.specs.ImageWrites.{IsViewOf, certificates_written_at, image_length_at, image_written_at, whole_length_at, whole_written_at};
+ghost use Rattle.calls_base.specs.declared.view.View.{View};
 
 /// Where `PE::parse_with_opts` of pe_image returns an image with its certificates, and a view has what `pe_c_image` and
 /// `pe_c_sections` return of the same bytes in the same mode, `pe_c_write_certificates`, `pe_c_write_image` and `pe_c_write_whole`

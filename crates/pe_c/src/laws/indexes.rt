@@ -5,29 +5,29 @@ ghost use Rattle.pe_core.specs.Refusals.{Refusal};
 ghost use Rattle.pe_core.specs.declared.byte_range.ByteRange.{ByteRange};
 ghost use Rattle.pe_directories.specs.declared.clr.ClrHeader.{ClrHeader};
 ghost use Rattle.pe_directories.specs.declared.tls.TlsDirectory.{TlsDirectory};
-ghost use Rattle.pe_c.specs.Clr.{clr_header_at, clr_metadata_at};
-ghost use Rattle.pe_c.specs.Debug.{debug_entries_range, first_entry};
-ghost use Rattle.pe_c.specs.Directories.{callbacks_at, table_at, tls_at};
-ghost use Rattle.pe_c.specs.DirectoryFailures.{directory_refusal};
-ghost use Rattle.pe_c.specs.DirectoryTables.{root_at};
-ghost use Rattle.pe_c.specs.GuardTables.{guard_table_at};
-ghost use Rattle.pe_c.specs.Images.{map_of_image};
-ghost use Rattle.pe_c.specs.LoadConfigs.{load_config_at, numbered_field_at};
-ghost use Rattle.pe_c.specs.Loaded.{relocated_by};
-ghost use Rattle.pe_c.specs.MapRanges.{range_at};
-ghost use Rattle.pe_c.specs.Maps.{section_at};
-ghost use Rattle.pe_c.specs.ResourceLeaves.{image_tree, leaves_start};
-ghost use Rattle.pe_c.specs.SectionIndexes.{HasIndex, SameByAny, SameByIndex, section_by};
-ghost use Rattle.pe_c.specs.Unwinding.{exception_table_at};
-ghost use Rattle.pe_c.specs.Versions.{IsContentOf};
-ghost use Rattle.pe_c.specs.Views.{map_of, may_map};
-ghost use Rattle.pe_c.specs.declared.base.view.View.{View};
+ghost use Rattle.calls_directories.specs.Clr.{clr_header_at, clr_metadata_at};
+ghost use Rattle.calls_headers.specs.Debug.{debug_entries_range, first_entry};
+ghost use Rattle.calls_base.specs.Directories.{callbacks_at, table_at, tls_at};
+ghost use Rattle.calls_failures.specs.DirectoryFailures.{directory_refusal};
+ghost use Rattle.calls_directories.specs.DirectoryTables.{root_at};
+ghost use Rattle.calls_directories.specs.GuardTables.{guard_table_at};
+ghost use Rattle.calls_base.specs.Images.{map_of_image};
+ghost use Rattle.calls_directories.specs.LoadConfigs.{load_config_at, numbered_field_at};
+ghost use Rattle.calls_base.specs.Loaded.{relocated_by};
+ghost use Rattle.calls_base.specs.MapRanges.{range_at};
+ghost use Rattle.calls_base.specs.Maps.{section_at};
+ghost use Rattle.calls_directories.specs.ResourceLeaves.{image_tree, leaves_start};
+ghost use Rattle.calls_base.specs.SectionIndexes.{HasIndex, SameByAny, SameByIndex, section_by};
+ghost use Rattle.calls_unwind.specs.Unwinding.{exception_table_at};
+ghost use Rattle.calls_directories.specs.Versions.{IsContentOf};
+ghost use Rattle.calls_base.specs.Views.{map_of, may_map};
+ghost use Rattle.calls_base.specs.declared.view.View.{View};
 
 /// Where a view has an index of its sections, as `pe_c_index` writes it, its map of RVAs is that of the sections: so every call
 /// whose definition takes a map returns what it returns without the index. The section of an RVA and the bytes from it on are the
 /// same too. Each of these clauses is a field of `IsIndexOf`, said of the view. A view without entries counts as one that has an index:
 /// so these laws lead from the contract of any call to what is defined over all sections.
-#[tactic(auto, using(crate::proofs::IndexMaps::without_entries))]
+#[tactic(auto, using(calls_base::proofs::IndexMaps::without_entries))]
 pub fn indexes_change_nothing()
     ensures without { (v : View) → v.index.now ≡ [] → HasIndex v }
     ensures maps { (v : View) → HasIndex v →
@@ -42,7 +42,7 @@ pub fn indexes_change_nothing()
 /// Of such a view the calls for directories return what they return without the index: where the table of a directory is, and what
 /// is read at the RVA of the directory. (The definitions of exports and imports take a map.)
 
-#[tactic(auto, using(crate::proofs::IndexedCalls::clr_headers, crate::proofs::IndexedCalls::debug_entries, crate::proofs::IndexedCalls::fields, crate::proofs::IndexedCalls::first_entries, crate::proofs::IndexedCalls::functions, crate::proofs::IndexedCalls::leaves, crate::proofs::IndexedCalls::load_configs, crate::proofs::IndexedCalls::relocations, crate::proofs::IndexedCalls::roots, crate::proofs::IndexedCalls::tables, crate::proofs::IndexedCalls::tls, crate::proofs::IndexedCalls::trees))]
+#[tactic(auto, using(calls_failures::proofs::IndexedCalls::clr_headers, calls_failures::proofs::IndexedCalls::debug_entries, calls_failures::proofs::IndexedCalls::fields, calls_failures::proofs::IndexedCalls::first_entries, calls_failures::proofs::IndexedCalls::functions, calls_failures::proofs::IndexedCalls::leaves, calls_failures::proofs::IndexedCalls::load_configs, calls_failures::proofs::IndexedCalls::relocations, calls_failures::proofs::IndexedCalls::roots, calls_failures::proofs::IndexedCalls::tables, calls_failures::proofs::IndexedCalls::tls, calls_failures::proofs::IndexedCalls::trees))]
 pub fn directories_are_those_of_all_sections()
     ensures tables { (i : ℕ) → SameByIndex (table_at i) i }
     ensures relocations { (difference : ℕ) (old : List ℕ) →
@@ -64,7 +64,7 @@ pub fn directories_are_those_of_all_sections()
 /// The same of calls that map more than the RVA of a directory: the callbacks of TLS, the metadata of a CLR header, the tables of the
 /// load configuration, the content of a resource, and why a directory is refused.
 
-#[tactic(auto, using(crate::proofs::IndexedCalls::callbacks, crate::proofs::IndexedCalls::contents, crate::proofs::IndexedCalls::guard_tables, crate::proofs::IndexedCalls::metadata, crate::proofs::IndexedCalls::refusals))]
+#[tactic(auto, using(calls_failures::proofs::IndexedCalls::callbacks, calls_failures::proofs::IndexedCalls::contents, calls_failures::proofs::IndexedCalls::guard_tables, calls_failures::proofs::IndexedCalls::metadata, calls_failures::proofs::IndexedCalls::refusals))]
 pub fn parts_are_those_of_all_sections()
     ensures callbacks { (tls : TlsDirectory) →
         SameByAny (λ b image may_map. callbacks_at b image may_map tls) }

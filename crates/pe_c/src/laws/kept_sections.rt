@@ -2,29 +2,29 @@
 
 ghost use Rattle.std.specs.Prelude.{◌≡◌, ◌==◌, ◌<◌, length};
 ghost use Rattle.pe_core.specs.Imports.{entry_size};
-ghost use Rattle.pe_c.specs.DirectoryRuns.{StepsDelayLibraries, StepsDelayedFunctions};
-ghost use Rattle.pe_c.specs.Exports.{StepsExports};
-ghost use Rattle.pe_c.specs.Imports.{StepsImports, StepsLibraries};
-ghost use Rattle.pe_c.specs.KeptSections.{ChangeNothing, ReturnsAsItKeeps, map_kept, no_sections};
-ghost use Rattle.pe_c.specs.Plans.{StepsPlan};
-ghost use Rattle.pe_c.specs.ResourceLeaves.{StepsLeaves};
-ghost use Rattle.pe_c.specs.Unwinding.{links_at};
-ghost use Rattle.pe_c.specs.Views.{map_of};
-ghost use Rattle.pe_c.specs.declared.directories.delay_imports.DelayWalk.{DelayWalk};
-ghost use Rattle.pe_c.specs.declared.directories.delay_imports.DelayedFunctionWalk.{DelayedFunctionWalk};
-ghost use Rattle.pe_c.specs.declared.names.exports.ExportWalk.{ExportWalk};
-ghost use Rattle.pe_c.specs.declared.names.imports.ImportWalk.{ImportWalk};
-ghost use Rattle.pe_c.specs.declared.names.imports.LibraryWalk.{LibraryWalk};
-ghost use Rattle.pe_c.specs.declared.base.kept_sections.KeptSections.{KeptSections};
-ghost use Rattle.pe_c.specs.declared.unwinding.plan.PlanWalk.{PlanWalk};
-ghost use Rattle.pe_c.specs.declared.base.ranges.Range.{Range};
-ghost use Rattle.pe_c.specs.declared.resources.leaves.LeafWalk.{LeafWalk};
-ghost use Rattle.pe_c.specs.declared.base.view.View.{View};
+ghost use Rattle.calls_directories.specs.DirectoryRuns.{StepsDelayLibraries, StepsDelayedFunctions};
+ghost use Rattle.calls_directories.specs.Exports.{StepsExports};
+ghost use Rattle.calls_directories.specs.Imports.{StepsImports, StepsLibraries};
+ghost use Rattle.calls_base.specs.KeptSections.{ChangeNothing, ReturnsAsItKeeps, map_kept, no_sections};
+ghost use Rattle.calls_unwind.specs.Plans.{StepsPlan};
+ghost use Rattle.calls_directories.specs.ResourceLeaves.{StepsLeaves};
+ghost use Rattle.calls_unwind.specs.Unwinding.{links_at};
+ghost use Rattle.calls_base.specs.Views.{map_of};
+ghost use Rattle.calls_directories.specs.declared.directories.delay_imports.DelayWalk.{DelayWalk};
+ghost use Rattle.calls_directories.specs.declared.directories.delay_imports.DelayedFunctionWalk.{DelayedFunctionWalk};
+ghost use Rattle.calls_directories.specs.declared.names.exports.ExportWalk.{ExportWalk};
+ghost use Rattle.calls_directories.specs.declared.names.imports.ImportWalk.{ImportWalk};
+ghost use Rattle.calls_directories.specs.declared.names.imports.LibraryWalk.{LibraryWalk};
+ghost use Rattle.calls_base.specs.declared.kept_sections.KeptSections.{KeptSections};
+ghost use Rattle.calls_unwind.specs.declared.unwinding.plan.PlanWalk.{PlanWalk};
+ghost use Rattle.calls_base.specs.declared.ranges.Range.{Range};
+ghost use Rattle.calls_directories.specs.declared.resources.leaves.LeafWalk.{LeafWalk};
+ghost use Rattle.calls_base.specs.declared.view.View.{View};
 
 /// A walk keeps no section at its start, and what changes no offset after each step (`StepsKept`, `KeepsOn`), whatever the sections are.
 /// Such a walk maps RVAs as its view does: so each step returns what the laws of walks, of lists and of failures say of the view's map.
 /// A number past the last section is as none.
-#[tactic(auto, using(crate::proofs::KeptSections::none_past_the_last, crate::proofs::KeptSections::same_map))]
+#[tactic(auto, using(calls_base::proofs::KeptSections::none_past_the_last, calls_base::proofs::KeptSections::same_map))]
 pub fn kept_sections_change_nothing()
     ensures none { (v : View) → ChangeNothing v no_sections }
     ensures maps { (v : View) (k : KeptSections) → ChangeNothing v k → map_kept v k ≡ map_of v }
@@ -33,7 +33,7 @@ pub fn kept_sections_change_nothing()
 {}
 
 /// So the steps of a whole walk, one after the other, return the items that the laws of walks say for where it stands.
-#[tactic(auto, using(crate::proofs::KeptWalks::returns_too))]
+#[tactic(auto, using(calls_base::proofs::KeptWalks::returns_too))]
 pub fn walks_return_as_they_keep()
     ensures exports { ReturnsAsItKeeps (λ (w : ExportWalk). w.exports) (λ w. w.kept)
         (λ v m. StepsExports m v.bytes.now) }

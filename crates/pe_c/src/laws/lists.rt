@@ -2,27 +2,28 @@
 
 ghost use Rattle.std.specs.Prelude.{ℕ, Option, List};
 ghost use Rattle.pe_core.specs.declared.section_table.SectionTable.{SectionTable};
-ghost use Rattle.pe_c.specs.Arm64.{StepsArm64Codes, arm64_function_in};
-ghost use Rattle.pe_c.specs.DebugWalks.{StepsPogoEntries};
-ghost use Rattle.pe_c.specs.Directories.{directory_number};
-ghost use Rattle.pe_c.specs.DirectoryRuns.{StepsBlocks, StepsBoundImports, StepsForwarders, StepsRelocations};
-ghost use Rattle.pe_c.specs.ExportAddresses.{exported_at};
-ghost use Rattle.pe_c.specs.HandsOut.{result_number};
-ghost use Rattle.pe_c.specs.KeptWalks.{StepsKeptDelayLibraries, StepsKeptExports, StepsKeptFunctions, StepsKeptImports, StepsKeptLeaves, StepsKeptLibraries};
-ghost use Rattle.pe_c.specs.LibraryFunctions.{StepsLibraryFunctions};
-ghost use Rattle.pe_c.specs.LibraryImports.{StepsLibraryImports};
-ghost use Rattle.pe_c.specs.Lists.{GiveLists, StepsByIndex, StepsVersionBlocks, if_there};
-ghost use Rattle.pe_c.specs.NamedSymbols.{StepsNamedSymbols};
-ghost use Rattle.pe_c.specs.PdbModules.{StepsModules};
-ghost use Rattle.pe_c.specs.PdbSymbols.{StepsPdbSymbols};
-ghost use Rattle.pe_c.specs.Pdbs.{pdb_number};
-ghost use Rattle.pe_c.specs.ResourceLeaves.{tree_number};
-ghost use Rattle.pe_c.specs.SectionNames.{long_name_by_index};
-ghost use Rattle.pe_c.specs.Unwinding.{StepsCodes, function_in};
-ghost use Rattle.pe_c.specs.declared.names.export_addresses.AddressTable.{AddressTable};
-ghost use Rattle.pe_c.specs.declared.headers.image.Image.{Image};
-ghost use Rattle.pe_c.specs.declared.base.ranges.Range.{Range};
-ghost use Rattle.pe_c.specs.declared.base.view.View.{View};
+ghost use Rattle.calls_unwind.specs.Arm64.{StepsArm64Codes, arm64_function_in};
+ghost use Rattle.calls_headers.specs.DebugWalks.{StepsPogoEntries};
+ghost use Rattle.calls_base.specs.DirectoryResults.{directory_number};
+ghost use Rattle.calls_directories.specs.DirectoryRuns.{StepsBlocks, StepsBoundImports, StepsForwarders, StepsRelocations};
+ghost use Rattle.calls_directories.specs.ExportAddresses.{exported_at};
+ghost use Rattle.calls_base.specs.HandsOut.{result_number};
+ghost use Rattle.calls_directories.specs.KeptWalks.{StepsKeptDelayLibraries, StepsKeptExports, StepsKeptFunctions, StepsKeptImports, StepsKeptLeaves, StepsKeptLibraries};
+ghost use Rattle.calls_directories.specs.LibraryFunctions.{StepsLibraryFunctions};
+ghost use Rattle.calls_directories.specs.LibraryImports.{StepsLibraryImports};
+ghost use Rattle.calls_base.specs.Lists.{GiveLists, StepsByIndex, if_there};
+ghost use Rattle.calls_directories.specs.VersionBlocks.{StepsVersionBlocks};
+ghost use Rattle.calls_headers.specs.NamedSymbols.{StepsNamedSymbols};
+ghost use Rattle.calls_pdb.specs.PdbModules.{StepsModules};
+ghost use Rattle.calls_pdb.specs.PdbSymbols.{StepsPdbSymbols};
+ghost use Rattle.calls_pdb.specs.Pdbs.{pdb_number};
+ghost use Rattle.calls_base.specs.TreeResults.{tree_number};
+ghost use Rattle.calls_headers.specs.SectionNames.{long_name_by_index};
+ghost use Rattle.calls_unwind.specs.Unwinding.{StepsCodes, function_in};
+ghost use Rattle.calls_directories.specs.declared.names.export_addresses.AddressTable.{AddressTable};
+ghost use Rattle.calls_base.specs.declared.image.Image.{Image};
+ghost use Rattle.calls_base.specs.declared.ranges.Range.{Range};
+ghost use Rattle.calls_base.specs.declared.view.View.{View};
 
 /// Where the steps of a walk return some items, which the laws of walks say for each of them, a list call with room for `n`
 /// entries returns the first `n`, or all that come before the end or before an error, and the walk after it has the other items

@@ -2,16 +2,16 @@
 
 ghost use Rattle.std.specs.Prelude.{◌≡◌, ◌+◌, ◌<◌, ◌≤◌, ℕ, false, length, List, Some};
 ghost use Rattle.pe_core.specs.Bytes.{range};
-ghost use Rattle.pe_c.specs.Loaded.{PutsImage};
-ghost use Rattle.pe_c.specs.Modes.{resolves};
-ghost use Rattle.pe_c.specs.Views.{map_of};
-ghost use Rattle.pe_c.specs.declared.base.results.TheConstants.{DONE};
-ghost use Rattle.pe_c.specs.declared.base.view.View.{View};
+ghost use Rattle.calls_base.specs.Loaded.{PutsImage};
+ghost use Rattle.calls_base.specs.Modes.{resolves};
+ghost use Rattle.calls_base.specs.Views.{map_of};
+ghost use Rattle.calls_base.specs.declared.results.TheConstants.{DONE};
+ghost use Rattle.calls_base.specs.declared.view.View.{View};
 
 /// By a view in a mode with `PE_C_MAPPED` each RVA is its own offset (`offsets`). After `pe_c_map` the room has there what the file has:
 /// where the file's view maps RVAs below `size_of_image` one after the other, as those of a part in one section, to bytes that the file
 /// has, the room has these bytes at the first of the RVAs (`bytes`).
-#[tactic(auto, using(crate::proofs::LoadedRooms::own_offset, crate::proofs::LoadedRooms::same_bytes))]
+#[tactic(auto, using(calls_base::proofs::LoadedRooms::own_offset, calls_base::proofs::LoadedRooms::same_bytes))]
 pub fn mapped_images_are_read_as_files()
     ensures offsets { (v : View) (x : ℕ) → resolves v.image.now.mode ≡ false → map_of v x ≡ Some x }
     ensures bytes { (v : View) (old new : List ℕ) (written rva p n : ℕ) →

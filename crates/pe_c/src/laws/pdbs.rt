@@ -9,15 +9,15 @@ ghost use Rattle.pe_pdb.specs.Refusals.{PdbRefusal};
 ghost use Rattle.pe_pdb.specs.declared.line_entries.CodeLine.{CodeLine};
 ghost use Rattle.pe_pdb.specs.declared.line_entries.LineEntry.{LineEntry};
 ghost use Rattle.pe_pdb.specs.declared.symbol_entries.SymbolClass.{SymbolClass};
-ghost use Rattle.pe_c.specs.PdbIndexes.{FindsSymbol, ReadsSymbol, indexed};
-ghost use Rattle.pe_c.specs.PdbInlined.{inlined_functions};
-ghost use Rattle.pe_c.specs.PdbLines.{FindsLine, ReadsLine, indexed_lines};
-ghost use Rattle.pe_c.specs.Pdbs.{stream_numbered, stream_range};
+ghost use Rattle.calls_pdb.specs.PdbIndexes.{FindsSymbol, ReadsSymbol, indexed};
+ghost use Rattle.calls_pdb.specs.PdbInlined.{inlined_functions};
+ghost use Rattle.calls_pdb.specs.PdbLines.{FindsLine, ReadsLine, indexed_lines};
+ghost use Rattle.calls_pdb.specs.Pdbs.{stream_numbered, stream_range};
 ghost use Rattle.pe_c.specs.PdbFrames.{all_named, all_placed, with_lines};
-ghost use Rattle.pe_c.specs.declared.pdb.inlined.PdbInlined.{PdbInlined};
-ghost use Rattle.pe_c.specs.declared.pdb.modules.PdbModule.{PdbModule};
-ghost use Rattle.pe_c.specs.declared.pdb.symbols.PdbSymbol.{PdbSymbol};
-ghost use Rattle.pe_c.specs.declared.base.ranges.Range.{Range};
+ghost use Rattle.calls_pdb.specs.declared.inlined.PdbInlined.{PdbInlined};
+ghost use Rattle.calls_pdb.specs.declared.modules.PdbModule.{PdbModule};
+ghost use Rattle.calls_pdb.specs.declared.symbols.PdbSymbol.{PdbSymbol};
+ghost use Rattle.calls_base.specs.declared.ranges.Range.{Range};
 
 /// Which functions are inlined at an RVA, and where, is read of the stream of their module, the one that the call takes. Whatever the stream
 /// of ids is, or the starts of its records, they have the same lines; whatever the lines of the module are, the same names. That other

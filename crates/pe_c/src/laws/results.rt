@@ -1,7 +1,7 @@
 //! The numbers of the results that are no error of a library below, by which definitions name them.
 
 ghost use Rattle.std.specs.Prelude.{◌≡◌};
-ghost use Rattle.pe_c.specs.declared.base.results.TheConstants.{BAD_ADDRESS, BAD_OPERATION, DONE, LONG_CHAIN, MISSING, NOTHING, NOT_RISING, OUT_OF_ORDER, ROOM};
+ghost use Rattle.calls_base.specs.declared.results.TheConstants.{BAD_ADDRESS, BAD_OPERATION, DONE, LONG_CHAIN, MISSING, NOTHING, NOT_RISING, OUT_OF_ORDER, ROOM};
 
 /// What a call returns that succeeded, that found nothing, or for which an array of the caller is too small; and the errors of a
 /// step of a stack walk.

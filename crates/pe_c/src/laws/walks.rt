@@ -21,37 +21,37 @@ ghost use Rattle.pe_directories.specs.declared.delay_import.DelayImport.{DelayIm
 ghost use Rattle.pe_directories.specs.declared.tls.TlsDirectory.{TlsDirectory};
 ghost use Rattle.pe_resource.specs.Leaves.{TreeRefusal};
 ghost use Rattle.pe_resource.specs.declared.leaves.ResourceLeaf as trees;
-ghost use Rattle.pe_c.specs.BoundImports.{bound_imports_at};
-ghost use Rattle.pe_c.specs.Clr.{streams_in};
-ghost use Rattle.pe_c.specs.DirectoryRuns.{HasBlock, HasBound, StepsBlocks, StepsBoundImports, StepsCallbacks, StepsDelayLibraries, StepsDelayedFunctions, StepsForwarders, StepsRelocations, StepsStreams, forwarders_reported, relocations_reported, ReturnsBlocks, ReturnsBounds, ReturnsStreams};
-ghost use Rattle.pe_c.specs.Images.{directory, map_of_image};
-ghost use Rattle.pe_c.specs.Imports.{StepsImports, StepsLibraries};
-ghost use Rattle.pe_c.specs.LibraryFunctions.{AreFunctionsOf, StepsLibraryFunctions};
-ghost use Rattle.pe_c.specs.LibraryFunctions as delayed;
-ghost use Rattle.pe_c.specs.LibraryImports.{AreImportsOf, StepsLibraryImports, before_first, of_libraries, of_library, then_items};
-ghost use Rattle.pe_c.specs.Ranges.{bytes_at};
-ghost use Rattle.pe_c.specs.ResourceLeaves.{StartsTree, StepsLeaves, item_reported, items_left};
-ghost use Rattle.pe_c.specs.Runs.{ReturnsItems, read_items};
+ghost use Rattle.calls_directories.specs.BoundImports.{bound_imports_at};
+ghost use Rattle.calls_directories.specs.Clr.{streams_in};
+ghost use Rattle.calls_directories.specs.DirectoryRuns.{HasBlock, HasBound, StepsBlocks, StepsBoundImports, StepsCallbacks, StepsDelayLibraries, StepsDelayedFunctions, StepsForwarders, StepsRelocations, StepsStreams, forwarders_reported, relocations_reported, ReturnsBlocks, ReturnsBounds, ReturnsStreams};
+ghost use Rattle.calls_base.specs.Images.{directory, map_of_image};
+ghost use Rattle.calls_directories.specs.Imports.{StepsImports, StepsLibraries};
+ghost use Rattle.calls_directories.specs.LibraryFunctions.{AreFunctionsOf, StepsLibraryFunctions};
+ghost use Rattle.calls_directories.specs.LibraryFunctions as delayed;
+ghost use Rattle.calls_directories.specs.LibraryImports.{AreImportsOf, StepsLibraryImports, before_first, of_libraries, of_library, then_items};
+ghost use Rattle.calls_base.specs.Ranges.{bytes_at};
+ghost use Rattle.calls_directories.specs.ResourceLeaves.{StartsTree, StepsLeaves, item_reported, items_left};
+ghost use Rattle.calls_base.specs.Runs.{ReturnsItems, read_items};
 ghost use Rattle.pe_c.specs.WalkStarts.{ReturnsDelayLibraries, ReturnsFunctions, StartsCallbacks, StartsFunctions, StartsStreams, StartsTable};
-ghost use Rattle.pe_c.specs.declared.directories.base_relocations.RelocationBlock.{RelocationBlock};
-ghost use Rattle.pe_c.specs.declared.directories.bound_imports.BoundImport.{BoundImport};
-ghost use Rattle.pe_c.specs.declared.directories.clr.Metadata.{Metadata};
-ghost use Rattle.pe_c.specs.declared.directories.clr.MetadataStreams.{MetadataStreams};
-ghost use Rattle.pe_c.specs.declared.directories.delay_imports.DelayLibrary.{DelayLibrary};
-ghost use Rattle.pe_c.specs.declared.directories.delay_imports.DelayedFunction.{DelayedFunction};
-ghost use Rattle.pe_c.specs.declared.directories.delay_imports.DelayedFunctions.{DelayedFunctions};
-ghost use Rattle.pe_c.specs.declared.headers.image.Image.{Image};
-ghost use Rattle.pe_c.specs.declared.names.imports.Import.{Import};
-ghost use Rattle.pe_c.specs.declared.names.imports.Libraries.{Libraries};
-ghost use Rattle.pe_c.specs.declared.names.imports.Library.{Library};
-ghost use Rattle.pe_c.specs.declared.directories.all_delay_imports.LibraryFunctions.{LibraryFunctions};
-ghost use Rattle.pe_c.specs.declared.names.all_imports.LibraryImports.{LibraryImports};
-ghost use Rattle.pe_c.specs.declared.base.ranges.Range.{Range};
-ghost use Rattle.pe_c.specs.declared.resources.leaves.ResourceLeaves.{ResourceLeaves};
+ghost use Rattle.calls_directories.specs.declared.directories.base_relocations.RelocationBlock.{RelocationBlock};
+ghost use Rattle.calls_directories.specs.declared.directories.bound_imports.BoundImport.{BoundImport};
+ghost use Rattle.calls_directories.specs.declared.directories.clr.Metadata.{Metadata};
+ghost use Rattle.calls_directories.specs.declared.directories.clr.MetadataStreams.{MetadataStreams};
+ghost use Rattle.calls_directories.specs.declared.directories.delay_imports.DelayLibrary.{DelayLibrary};
+ghost use Rattle.calls_directories.specs.declared.directories.delay_imports.DelayedFunction.{DelayedFunction};
+ghost use Rattle.calls_directories.specs.declared.directories.delay_imports.DelayedFunctions.{DelayedFunctions};
+ghost use Rattle.calls_base.specs.declared.image.Image.{Image};
+ghost use Rattle.calls_directories.specs.declared.names.imports.Import.{Import};
+ghost use Rattle.calls_directories.specs.declared.names.imports.Libraries.{Libraries};
+ghost use Rattle.calls_directories.specs.declared.names.imports.Library.{Library};
+ghost use Rattle.calls_directories.specs.declared.directories.all_delay_imports.LibraryFunctions.{LibraryFunctions};
+ghost use Rattle.calls_directories.specs.declared.names.all_imports.LibraryImports.{LibraryImports};
+ghost use Rattle.calls_base.specs.declared.ranges.Range.{Range};
+ghost use Rattle.calls_directories.specs.declared.resources.leaves.ResourceLeaves.{ResourceLeaves};
 
 /// A walk over TLS callbacks returns the numbers of its table up to the first zero, and `SHORT` where the bytes end before that.
 /// The range without bytes at offset 0 stands for a walk that is over.
-#[tactic(auto, using(crate::proofs::NumberLists::callbacks_in_turn, crate::proofs::NumberLists::callbacks_of_image, crate::proofs::NumberLists::callbacks_outside))]
+#[tactic(auto, using(calls_directories::proofs::NumberLists::callbacks_in_turn, calls_directories::proofs::NumberLists::callbacks_of_image, calls_directories::proofs::NumberLists::callbacks_outside))]
 pub fn walks_give_the_callbacks()
     ensures of_image { (b : List ℕ) (image : Image) (sections : List SectionTable)
         (tls : TlsDirectory) (walk : Range) (table : List ℕ)
@@ -70,7 +70,7 @@ pub fn walks_give_the_callbacks()
 
 /// A walk over base relocations returns the blocks of its bytes, each with its page and the range of its entries. A walk over
 /// the entries of a block returns its relocations.
-#[tactic(auto, using(crate::proofs::DirectoryLists::relocations_of_block))]
+#[tactic(auto, using(calls_directories::proofs::DirectoryLists::relocations_of_block))]
 pub fn walks_give_the_relocations()
     ensures of_image { (b : List ℕ) (image : Image) (sections : List SectionTable) (walk : Range)
         (table : List ℕ) (items : List (Result Block DirectoryRefusal)) →
@@ -118,7 +118,7 @@ pub fn walks_give_the_streams()
 /// A walk over delay imports returns the entries of its bytes up to one without a name, each with the range of its DLL's name
 /// and a walk over what is imported of it, up to the first entry of which one of them is refused. That walk returns what the
 /// numbers of the DLL's table import, up to the first zero, and to the first that is refused.
-#[tactic(auto, using(crate::proofs::NumberLists::functions_in_turn))]
+#[tactic(auto, using(calls_directories::proofs::NumberLists::functions_in_turn))]
 pub fn walks_give_the_delay_imports()
     ensures of_image { (b : List ℕ) (image : Image) (sections : List SectionTable) (walk : Range)
         (table : List ℕ) (items : List (Result DelayImport DirectoryRefusal)) →
@@ -152,7 +152,7 @@ pub fn walks_give_the_delay_imports()
 /// library that the walk over libraries has left, what the walk over its imports returns: each import with the name and the index
 /// of its library, up to the first error of either walk. So the walk that starts with all libraries returns the
 /// imports of all.
-#[tactic(auto, using(crate::proofs::LibraryImportRuns::all_in_turn, crate::proofs::LibraryImportRuns::from_first))]
+#[tactic(auto, using(calls_directories::proofs::LibraryImportRuns::all_in_turn, calls_directories::proofs::LibraryImportRuns::from_first))]
 pub fn walks_give_all_imports()
     ensures from_first { (offset : ℕ → Option ℕ) (w : ℕ) (b : List ℕ) (libraries : List (Result Library Refusal))
         (imports : Library → List (Result Import Refusal)) (start : Libraries) →
@@ -173,7 +173,7 @@ pub fn walks_give_all_imports()
 /// A walk over the functions of all delay-loaded DLLs returns what the walk over the functions of its DLL has left, and then, for
 /// each DLL that the walk over DLLs has left, what the walk over its functions returns: each function with the name and the index
 /// of its DLL, up to the first error of either walk. So the walk that starts with all DLLs returns those of all.
-#[tactic(auto, using(crate::proofs::LibraryFunctionRuns::all_in_turn, crate::proofs::LibraryFunctionRuns::from_first))]
+#[tactic(auto, using(calls_directories::proofs::LibraryFunctionRuns::all_in_turn, calls_directories::proofs::LibraryFunctionRuns::from_first))]
 pub fn walks_give_all_delayed_functions()
     ensures from_first { (offset : ℕ → Option ℕ) (b : List ℕ) (image : Image)
         (libraries : List (Result DelayLibrary DirectoryRefusal))
@@ -196,7 +196,7 @@ pub fn walks_give_all_delayed_functions()
 
 /// A walk over bound imports returns the DLLs of its bytes up to one without a name, each with the ranges of its name and of
 /// its forwarders, up to the first whose name is refused. A walk over forwarders returns each of them in the same way.
-#[tactic(auto, using(crate::proofs::DirectoryLists::forwarders_in_turn))]
+#[tactic(auto, using(calls_directories::proofs::DirectoryLists::forwarders_in_turn))]
 pub fn walks_give_the_bound_imports()
     ensures of_image { (b : List ℕ) (image : Image) (walk : Range) (table : List ℕ)
         (items : List (Result Bound DirectoryRefusal)) →

@@ -1,29 +1,15 @@
-//! Lists of bound imports, and of the DLLs that they forward to. A hostile file lets all of their names start in one long text.
+//! The calls of `lists::bound_imports` in calls_directories.
 
-ghost use Rattle.std.specs.Prelude.{◌≡◌};
-ghost use Rattle.pe_c.specs.Directories.{directory_number};
-ghost use Rattle.pe_c.specs.DirectoryRuns.{StepsBoundImports, StepsForwarders};
-ghost use Rattle.pe_c.specs.Lists.{HandsOutList, Numbered};
+ghost use Rattle.calls_base.specs.DirectoryResults.{directory_number};
+ghost use Rattle.calls_directories.specs.DirectoryRuns.{StepsBoundImports, StepsForwarders};
+ghost use Rattle.calls_base.specs.Lists.{HandsOutList, Numbered};
 
-use crate::base::ranges::Range;
-use crate::base::results::number_of_directory;
-use crate::base::text_runs::{Run, first_runs};
-use crate::directories::bound_imports::{
-    BoundForwarder, BoundImport, BoundNames, next_bound_import, next_forwarder,
-    put_bound_forwarders, put_bound_names,
+use calls_base::lists::{Steps, hand_out_list};
+use calls_base::ranges::Range;
+use calls_base::text_runs::{Run, first_runs};
+use calls_directories::directories::bound_imports::{
+    BoundForwarder, BoundImport, BoundNames, put_bound_forwarders, put_bound_names,
 };
-use crate::lists::{Steps, hand_out_list};
-
-impl<'a, 'b> Steps<Range, BoundImport> for BoundNames<'a, 'b> {
-    ghost steps = { λ s. Numbered directory_number (StepsBoundImports s.bytes.now s.table) };
-
-    fn step(&self, walk: &mut Range) -> Result<Option<BoundImport>, u32> {
-        match next_bound_import(self, walk) {
-            Ok(import) => Ok(import),
-            Err(error) => Err(number_of_directory(&error)),
-        }
-    }
-}
 
 /// Lists bound imports, as `pe_c_next_bound_import` returns them, and moves the walk past them and their forwarders. Names are read
 /// together: with one of `runs` for each of `entries`, or more, a call takes about as long as to sort these and to read each byte of
@@ -47,17 +33,6 @@ pub extern "C" fn pe_c_list_bound_imports(
     let count = put_bound_names(bytes, walk, room);
     let imports = BoundNames::together(bytes, *table, &mut room[..count]);
     hand_out_list(&imports, walk, entries, written)
-}
-
-impl<'a, 'b> Steps<Range, BoundForwarder> for BoundNames<'a, 'b> {
-    ghost steps = { λ s. Numbered directory_number (StepsForwarders s.bytes.now s.table) };
-
-    fn step(&self, walk: &mut Range) -> Result<Option<BoundForwarder>, u32> {
-        match next_forwarder(self, walk) {
-            Ok(forwarder) => Ok(forwarder),
-            Err(error) => Err(number_of_directory(&error)),
-        }
-    }
 }
 
 /// Lists what `pe_c_next_bound_forwarder` returns, and moves the walk past it. Names are read together, as by

@@ -1,27 +1,13 @@
-//! Lists of the entries of a POGO record.
+//! The calls of `lists::debug` in calls_headers.
 
-ghost use Rattle.std.specs.Prelude.{◌≡◌};
-ghost use Rattle.pe_c.specs.DebugWalks.{StepsPogoEntries};
-ghost use Rattle.pe_c.specs.HandsOut.{result_number};
-ghost use Rattle.pe_c.specs.Lists.{HandsOutList, Numbered};
+ghost use Rattle.calls_headers.specs.DebugWalks.{StepsPogoEntries};
+ghost use Rattle.calls_base.specs.HandsOut.{result_number};
+ghost use Rattle.calls_base.specs.Lists.{HandsOutList, Numbered};
 
-use crate::base::ranges::Range;
-use crate::debug::walks::{PogoEntry, next_pogo_reported};
-use crate::lists::{Steps, hand_out_list, numbered};
-
-/// Steps over the entries of a POGO record.
-#[derive(Clone, Copy)]
-struct PogoEntries<'a> {
-    bytes: &'a [u8],
-}
-
-impl<'a> Steps<Range, PogoEntry> for PogoEntries<'a> {
-    ghost steps = { λ s. Numbered result_number (StepsPogoEntries s.bytes.now) };
-
-    fn step(&self, walk: &mut Range) -> Result<Option<PogoEntry>, u32> {
-        numbered(next_pogo_reported(self.bytes, walk))
-    }
-}
+use calls_base::lists::{Steps, hand_out_list};
+use calls_base::ranges::Range;
+use calls_headers::debug::walks::PogoEntry;
+use calls_headers::lists::debug::PogoEntries;
 
 /// Lists the entries of a POGO record, as `pe_c_next_pogo_entry` returns them, and moves the walk past them.
 ///

@@ -1,72 +1,15 @@
-//! The list of all exports by their index. The texts of forwarders among them are read together: `KERNEL32.DLL` has some hundred, and a
-//! hostile file lets all its exports be forwarders with one text.
+//! The calls of `lists::forwarders` in calls_directories.
 
-ghost use Rattle.std.specs.Prelude.{◌≡◌, ◌≤◌, length};
-ghost use Rattle.pe_c.specs.ExportAddresses.{exported_at};
-ghost use Rattle.pe_c.specs.HandsOut.{result_number};
-ghost use Rattle.pe_c.specs.Lists.{HandsOutList, Numbered, StepsByIndex};
-ghost use Rattle.pe_c.specs.Views.{map_of};
+ghost use Rattle.calls_directories.specs.ExportAddresses.{exported_at};
+ghost use Rattle.calls_base.specs.HandsOut.{result_number};
+ghost use Rattle.calls_base.specs.Lists.{HandsOutList, Numbered, StepsByIndex};
+ghost use Rattle.calls_base.specs.Views.{map_of};
 
-use crate::base::named_view::NamedView;
-use crate::base::near_map::{map_in, window_at};
-use crate::base::ranges::slice_of;
-use crate::base::text_runs::{Run, end_of_next};
-use crate::base::view::View;
-use crate::lists::exports::list_addresses;
-use crate::names::export_addresses::{AddressTable, Exported};
-use pe_core::{lies_in, read_u32};
-
-/// Writes the offsets of the texts of the forwarders among the next entries, of so many at most, to a room, as starts, as far as it
-/// has room, and returns how many they are.
-fn put_forwarders(
-    view: &View,
-    table: &AddressTable,
-    next: u64,
-    most: usize,
-    room: &mut [Run],
-) -> usize
-    ensures { result ≤ length room.new }
-{
-    let mut count = 0;
-    if room.is_empty() {
-        return count;
-    }
-    let Ok(addresses) = slice_of(view.bytes, &table.addresses) else {
-        return count;
-    };
-    let near = window_at(view, table.directory.virtual_address);
-    for i in next as usize..end_of_next(next, most, addresses.len() / 4) {
-        if count == room.len() {
-            break;
-        }
-        let rva = read_u32(addresses, 4 * i);
-        if !lies_in(table.directory, rva) {
-            continue;
-        }
-        if let Some(offset) = map_in(view, rva, &near) {
-            room[count] = Run::at(offset);
-            count += 1;
-        }
-    }
-    count
-}
-
-/// An image of which the texts of the forwarders among the next entries, of so many at most, are read together.
-fn named_forwarders<'a>(
-    view: &'a View<'a>,
-    table: &AddressTable,
-    next: u64,
-    most: usize,
-    room: &'a mut [Run],
-) -> NamedView<'a>
-    ensures { result.view.now ≡ view.entry.now }
-{
-    if room.is_empty() {
-        return NamedView::alone(view);
-    }
-    let count = put_forwarders(view, table, next, most, room);
-    NamedView::together(view, &mut room[..count])
-}
+use calls_base::text_runs::Run;
+use calls_base::view::View;
+use calls_directories::lists::exports::list_addresses;
+use calls_directories::lists::forwarders::named_forwarders;
+use calls_directories::names::export_addresses::{AddressTable, Exported};
 
 /// Lists the entries of an address table from an index on, as `pe_c_export_at` reads them, and moves `next` past them. The texts of
 /// forwarders are read together: with one of `runs` for each of `entries`, or more, a call takes about as long as to sort these and to

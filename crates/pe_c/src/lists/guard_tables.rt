@@ -1,30 +1,12 @@
-//! Lists of the entries of the tables to which a load configuration leads.
+//! The calls of `lists::guard_tables` in calls_directories.
 
-ghost use Rattle.std.specs.Prelude.{◌≡◌};
-ghost use Rattle.pe_c.specs.Directories.{directory_number};
-ghost use Rattle.pe_c.specs.GuardTables.{StepsGuardEntries};
-ghost use Rattle.pe_c.specs.Lists.{HandsOutList, Numbered};
+ghost use Rattle.calls_base.specs.DirectoryResults.{directory_number};
+ghost use Rattle.calls_directories.specs.GuardTables.{StepsGuardEntries};
+ghost use Rattle.calls_base.specs.Lists.{HandsOutList, Numbered};
 
-use crate::base::results::number_of_directory;
-use crate::directories::guard_tables::{GuardEntries, GuardEntry, next_entry};
-use crate::lists::{Steps, hand_out_list};
-
-/// Steps over the entries of a table.
-#[derive(Clone, Copy)]
-struct Entries<'a> {
-    bytes: &'a [u8],
-}
-
-impl<'a> Steps<GuardEntries, GuardEntry> for Entries<'a> {
-    ghost steps = { λ s. Numbered directory_number (StepsGuardEntries s.bytes.now) };
-
-    fn step(&self, walk: &mut GuardEntries) -> Result<Option<GuardEntry>, u32> {
-        match next_entry(self.bytes, walk) {
-            Ok(entry) => Ok(entry),
-            Err(error) => Err(number_of_directory(&error)),
-        }
-    }
-}
+use calls_base::lists::{Steps, hand_out_list};
+use calls_directories::directories::guard_tables::{GuardEntries, GuardEntry};
+use calls_directories::lists::guard_tables::Entries;
 
 /// Lists the entries of a table, as `pe_c_next_guard_entry` returns them, and moves the walk past them.
 ///

@@ -1,71 +1,18 @@
-//! The list of the imports of all libraries.
+//! The calls of `lists::library_imports` in calls_directories.
 
-ghost use Rattle.std.specs.Prelude.{◌≡◌, ◌==◌};
+ghost use Rattle.std.specs.Prelude.{◌==◌};
 ghost use Rattle.pe_core.specs.Imports.{entry_size};
-ghost use Rattle.pe_c.specs.HandsOut.{result_number};
-ghost use Rattle.pe_c.specs.LibraryImports.{StepsLibraryImports};
-ghost use Rattle.pe_c.specs.Lists.{HandsOutList, Numbered};
-ghost use Rattle.pe_c.specs.NearLists.{StepsNearLibraryImports};
-ghost use Rattle.pe_c.specs.Views.{map_of};
+ghost use Rattle.calls_base.specs.HandsOut.{result_number};
+ghost use Rattle.calls_directories.specs.LibraryImports.{StepsLibraryImports};
+ghost use Rattle.calls_base.specs.Lists.{HandsOutList, Numbered};
+ghost use Rattle.calls_base.specs.Views.{map_of};
 
-use crate::base::kept_sections::NO_SECTIONS;
-use crate::base::named_view::NamedView;
-use crate::base::near_map::NO_WINDOW;
-use crate::base::text_runs::Run;
-use crate::base::view::View;
-use crate::lists::{Steps, hand_out_list, numbered};
-use crate::names::all_imports::{LibraryImport, LibraryImports, put_names, step};
-use crate::names::near_imports::NearLibraryImports;
-
-/// Steps over the imports of all libraries in a list.
-#[derive(Clone, Copy)]
-struct InLibraries;
-
-impl<'a> Steps<NearLibraryImports<'a>, LibraryImport> for InLibraries {
-    ghost steps = { λ s. Numbered result_number StepsNearLibraryImports };
-
-    fn step(&self, near: &mut NearLibraryImports<'a>) -> Result<Option<LibraryImport>, u32> {
-        let NearLibraryImports {
-            names,
-            mut walk,
-            mut hints,
-            mut kept,
-            ..
-        } = *near;
-        let given = step(&names, &mut walk, &mut hints, &mut kept);
-        *near = NearLibraryImports {
-            names,
-            walk,
-            hints,
-            kept,
-        };
-        numbered(given)
-    }
-}
-
-/// Lists the imports of a walk.
-#[tactic(auto, using(crate::proofs::NearMaps::no_window))]
-fn list_library_imports(
-    names: &NamedView<'_>,
-    walk: &mut LibraryImports,
-    entries: &mut [LibraryImport],
-    written: &mut u64,
-) -> u32
-    ensures { HandsOutList (Numbered result_number (StepsLibraryImports
-        (map_of names.now.view.now)
-        (entry_size (names.now.view.now.image.now.width == 64)) names.now.view.now.bytes.now))
-        result walk.old walk.new entries.old entries.new written.old written.new }
-{
-    let mut near = NearLibraryImports {
-        names: *names,
-        walk: *walk,
-        hints: NO_WINDOW,
-        kept: NO_SECTIONS,
-    };
-    let number = hand_out_list(&InLibraries, &mut near, entries, written);
-    *walk = near.walk;
-    number
-}
+use calls_base::lists::Steps;
+use calls_base::named_view::NamedView;
+use calls_base::text_runs::Run;
+use calls_base::view::View;
+use calls_directories::lists::library_imports::list_library_imports;
+use calls_directories::names::all_imports::{LibraryImport, LibraryImports, put_names};
 
 /// Lists the imports of all libraries, as `pe_c_next_library` returns these and `pe_c_next_import` the imports of each, one library
 /// after the other, and moves the walk past them. Libraries without an import are read too. Names are read together, those of the

@@ -1,33 +1,13 @@
-//! Lists of the blocks of base relocations, and of the relocations of each.
+//! The calls of `lists::relocations` in calls_directories.
 
-ghost use Rattle.std.specs.Prelude.{◌≡◌};
-ghost use Rattle.pe_c.specs.Directories.{directory_number};
-ghost use Rattle.pe_c.specs.DirectoryRuns.{StepsBlocks, StepsRelocations};
-ghost use Rattle.pe_c.specs.Lists.{HandsOutList, Numbered};
+ghost use Rattle.calls_base.specs.DirectoryResults.{directory_number};
+ghost use Rattle.calls_directories.specs.DirectoryRuns.{StepsBlocks, StepsRelocations};
+ghost use Rattle.calls_base.specs.Lists.{HandsOutList, Numbered};
 
-use crate::base::ranges::Range;
-use crate::base::results::number_of_directory;
-use crate::directories::base_relocations::{
-    Relocation, RelocationBlock, next_block, next_relocation,
-};
-use crate::lists::{Steps, hand_out_list};
-
-/// Steps over the blocks of base relocations.
-#[derive(Clone, Copy)]
-struct Blocks<'a> {
-    bytes: &'a [u8],
-}
-
-impl<'a> Steps<Range, RelocationBlock> for Blocks<'a> {
-    ghost steps = { λ s. Numbered directory_number (StepsBlocks s.bytes.now) };
-
-    fn step(&self, walk: &mut Range) -> Result<Option<RelocationBlock>, u32> {
-        match next_block(self.bytes, walk) {
-            Ok(block) => Ok(block),
-            Err(error) => Err(number_of_directory(&error)),
-        }
-    }
-}
+use calls_base::lists::{Steps, hand_out_list};
+use calls_base::ranges::Range;
+use calls_directories::directories::base_relocations::{Relocation, RelocationBlock};
+use calls_directories::lists::relocations::{Blocks, Relocations};
 
 /// Lists the blocks of a walk, as `pe_c_next_relocation_block` returns them, and moves the walk past them.
 ///
@@ -43,24 +23,6 @@ pub extern "C" fn pe_c_list_relocation_blocks(
         result walk.old walk.new entries.old entries.new written.old written.new }
 {
     hand_out_list(&Blocks { bytes }, walk, entries, written)
-}
-
-/// Steps over the relocations of a block.
-#[derive(Clone, Copy)]
-struct Relocations<'a> {
-    bytes: &'a [u8],
-    page_rva: u32,
-}
-
-impl<'a> Steps<Range, Relocation> for Relocations<'a> {
-    ghost steps = { λ s. Numbered directory_number (StepsRelocations s.page_rva s.bytes.now) };
-
-    fn step(&self, walk: &mut Range) -> Result<Option<Relocation>, u32> {
-        match next_relocation(self.bytes, self.page_rva, walk) {
-            Ok(relocation) => Ok(relocation),
-            Err(error) => Err(number_of_directory(&error)),
-        }
-    }
 }
 
 /// Lists the relocations of a block, as `pe_c_next_relocation` returns them, and moves the walk past them. `page_rva` is that

@@ -1,36 +1,12 @@
-//! Section contributions of a PDB: which module has which code. They are a part of the DBI stream.
-//! https://llvm.org/docs/PDB/DbiStream.html#section-contribution-substream
+//! The calls of `contributions` in calls_pdb.
 
-ghost use Rattle.std.specs.Prelude.{◌≡◌};
-ghost use Rattle.pe_pdb.specs.Contributions.{contributions_view};
-ghost use Rattle.pe_pdb.specs.Refusals.{PdbReturns};
-ghost use Rattle.pe_c.specs.PdbContributions.{HandsOutRanges, contributions_at, module_rows};
+ghost use Rattle.calls_pdb.specs.PdbContributions.{HandsOutRanges, module_rows};
 
-use crate::base::ranges::Range;
-use crate::base::results::{DONE, ROOM};
-use crate::pdb::{number_of_pdb, part_of};
-use pe_pdb::{ModuleRange, Result, SectionContributions, SectionHeaders};
-
-/// The contributions in a range of the DBI stream.
-fn contributions_at<'a>(dbi: &'a [u8], contributions: &Range) -> Result<SectionContributions<'a>>
-    ensures { PdbReturns contributions_view result (contributions_at dbi.entry.now contributions.now) }
-{
-    SectionContributions::parse(part_of(dbi, contributions)?)
-}
-
-/// Both, whichever is refused first.
-fn module_rows<'a>(
-    dbi: &'a [u8],
-    contributions: &Range,
-    sections: &'a [u8],
-) -> Result<(SectionHeaders<'a>, SectionContributions<'a>)>
-    ensures { PdbReturns (λ x. (x.0.bytes.now, contributions_view x.1)) result
-        (module_rows dbi.entry.now contributions.now sections.entry.now) }
-{
-    let sections = SectionHeaders::parse(sections)?;
-    let rows = contributions_at(dbi, contributions)?;
-    Ok((sections, rows))
-}
+use calls_base::ranges::Range;
+use calls_base::results::{DONE, ROOM};
+use calls_pdb::contributions::module_rows;
+use calls_pdb::pdb::number_of_pdb;
+use pe_pdb::ModuleRange;
 
 /// Writes to the start of `room` which RVAs are of which module: a range for each section contribution, in their order, of no RVAs where
 /// it is in no section; `written` is how many. The rest of the room is unchanged. Ranges ascend and do not overlap in what linkers

@@ -1,55 +1,12 @@
-//! An index of symbols by their RVAs, which a caller makes once in an array of its own: each RVA is looked up in it by halves, however
-//! many symbols there are.
+//! The calls of `index` in calls_pdb.
 
-ghost use Rattle.std.specs.Prelude.{◌≡◌};
-ghost use Rattle.pe_pdb.specs.Refusals.{PdbReturns};
-ghost use Rattle.pe_pdb.specs.Scans.{found_in};
-ghost use Rattle.pe_pdb.specs.SymbolIndexes.{PutsIndex};
-ghost use Rattle.pe_c.specs.PdbIndexes.{FindsAddress, FindsSymbol, HandsOutIndex, ReadsSymbol, class_of, indexed, symbol_found, symbol_with, up_to};
-ghost use Rattle.pe_c.specs.Pdbs.{pdb_answer};
+ghost use Rattle.calls_pdb.specs.PdbIndexes.{FindsSymbol, HandsOutIndex, ReadsSymbol, class_of, indexed};
 
-use crate::base::ranges::Range;
-use crate::base::results::{DONE, NOTHING, ROOM};
-use crate::pdb::symbols::{PdbSymbol, symbol_reported};
-use crate::pdb::{hand_out_pdb, number_of_pdb, part_of};
-use pe_pdb::{
-    Result, SectionHeaders, SymbolAddress, SymbolClass, SymbolRecord, covering_address,
-    find_symbol, if_reaches, nearest_address, put_symbol_index,
-};
-
-/// The class with a number: 0 is that of public functions, any other that of procedures.
-fn class_of(number: u32) -> SymbolClass
-    ensures { result ≡ class_of number }
-{
-    if number == 0 {
-        SymbolClass::PublicFunctions
-    } else {
-        SymbolClass::Procedures
-    }
-}
-
-/// The bytes up to the end of a range. `Short` where it is not inside them.
-pub fn up_to<'a>(bytes: &'a [u8], range: &Range) -> Result<&'a [u8]>
-    ensures { PdbReturns (λ s. s.now) result (up_to bytes.entry.now range.now) }
-{
-    let part = part_of(bytes, range)?;
-    Ok(bytes.split_at(range.offset as usize + part.len()).0)
-}
-
-/// Makes the index of the symbols of a class in a range of the bytes at the start of a room, and returns how many entries it has.
-fn put_index(
-    class: SymbolClass,
-    bytes: &[u8],
-    symbols: &Range,
-    sections: &[u8],
-    room: &mut [u64],
-) -> Result<std::result::Result<usize, usize>>
-    ensures { PutsIndex (indexed class bytes.now symbols.now sections.now) room.old room.new result }
-{
-    let sections = SectionHeaders::parse(sections)?;
-    let records = up_to(bytes, symbols)?;
-    put_symbol_index(class, records, symbols.offset as usize, &sections, room)
-}
+use calls_base::ranges::Range;
+use calls_base::results::{DONE, NOTHING, ROOM};
+use calls_pdb::index::{class_of, found, put_index, read_symbol, symbol_at};
+use calls_pdb::pdb::{hand_out_pdb, number_of_pdb};
+use calls_pdb::symbols::PdbSymbol;
 
 /// Makes an index of symbols by their RVAs at the start of `room`, sorted, and writes to `written` how many entries it has; the rest of the
 /// room is unchanged. An entry is the RVA times 2^32, plus the offset of the record in the bytes. `kind` is 0 for the public functions
@@ -82,25 +39,6 @@ pub extern "C" fn pe_c_pdb_index(
     }
 }
 
-/// What an index finds for an RVA.
-fn found(class: SymbolClass, bytes: &[u8], index: &[u64], rva: u32) -> Option<SymbolAddress>
-    ensures { FindsAddress class index.now bytes.now rva result }
-{
-    match class {
-        SymbolClass::PublicFunctions => nearest_address(index, rva),
-        SymbolClass::Procedures => covering_address(index, bytes, rva),
-    }
-}
-
-/// The record at an offset as callers get it.
-fn symbol_at(bytes: &[u8], sections: &[u8], offset: u32) -> Result<PdbSymbol>
-    ensures { pdb_answer result ≡ symbol_found bytes.now sections.now offset }
-{
-    let sections = SectionHeaders::parse(sections)?;
-    let record = SymbolRecord::parse(bytes, offset as usize)?;
-    Ok(symbol_reported(u64::from(offset), &record, &sections))
-}
-
 /// Finds the symbol of an RVA by an index: of kind 0 the last public function that starts at or before it, which may be one that ends
 /// before the RVA; of kind 1 the procedure whose code has the RVA. `NOTHING` without one. `bytes` and `sections` are those that
 /// `pe_c_pdb_index` read, and `index` what it wrote. Of several at one RVA it is that of the last record. With other entries some
@@ -121,26 +59,6 @@ pub extern "C" fn pe_c_find_pdb_symbol(
     match found(class_of(kind), bytes, index, rva) {
         Some(address) => hand_out_pdb(symbol_at(bytes, sections, address.record_offset), out),
         None => NOTHING,
-    }
-}
-
-/// The symbol of an RVA, of the records in a range of the bytes.
-fn read_symbol(
-    class: SymbolClass,
-    bytes: &[u8],
-    symbols: &Range,
-    sections: &[u8],
-    rva: u32,
-) -> Result<Option<SymbolAddress>>
-    ensures { PdbReturns (λ o. o) result
-        (found_in (λ xs. symbol_with class xs bytes.now rva) (indexed class bytes.now symbols.now sections.now)) }
-{
-    let sections = SectionHeaders::parse(sections)?;
-    let records = up_to(bytes, symbols)?;
-    let nearest = find_symbol(class, records, symbols.offset as usize, &sections, rva)?;
-    match class {
-        SymbolClass::PublicFunctions => Ok(nearest),
-        SymbolClass::Procedures => Ok(if_reaches(bytes, rva, nearest)),
     }
 }
 

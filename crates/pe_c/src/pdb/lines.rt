@@ -1,44 +1,14 @@
-//! Lines of a module, in its stream after its symbols: rows that say of code of which line of which source file it is. Rows stand in no
-//! order, and one reaches to the next by RVA: so an index has them sorted. A row names its file by an offset in the source files of
-//! the module; these have offsets in the names of all source files, the stream that the info stream names `/names`.
-//! https://llvm.org/docs/PDB/ModiStream.html
+//! The calls of `lines` in calls_pdb.
 
-ghost use Rattle.std.specs.Prelude.{◌≡◌, ◌≤◌, IfOk, IfSome, length};
-ghost use Rattle.pe_c.specs.PdbLines.{FindsLine, HandsOutLines, ReadsLine, file_name, files_at, first_files, indexed_lines};
-ghost use Rattle.pe_c.specs.Pdbs.{PdbHandsOut, PdbHandsOutIf, pdb_answer};
-ghost use Rattle.pe_pdb.specs.Frames.{line_with};
-ghost use Rattle.pe_pdb.specs.LineIndexes.{PutsLineIndex};
-ghost use Rattle.pe_pdb.specs.Lines.{subsections};
+ghost use Rattle.calls_pdb.specs.PdbLines.{FindsLine, HandsOutLines, ReadsLine, file_name, files_at, indexed_lines};
+ghost use Rattle.calls_pdb.specs.Pdbs.{PdbHandsOut, PdbHandsOutIf};
 ghost use Rattle.pe_pdb.specs.Names.{named_stream};
-ghost use Rattle.pe_pdb.specs.Refusals.{PdbReturns};
-ghost use Rattle.pe_pdb.specs.Scans.{found_in};
 
-use crate::base::ranges::Range;
-use crate::base::results::{DONE, NOTHING, ROOM};
-use crate::pdb::{hand_out_pdb, hand_out_pdb_if, number_of_pdb, part_of};
-use pe_pdb::{
-    CodeLine, DEBUG_S_FILECHKSMS, FileChecksum, LineEntry, Names, Result, SectionHeaders,
-    Subsection, find_line, line_in, named_stream, put_line_index,
-};
-
-/// The size of what comes before the content of a subsection in bytes.
-const SIZE_OF_PREFIX: u64 = 8;
-
-/// Where the texts of the names start.
-const FIRST_NAME: u64 = 12;
-
-/// Makes the index of the lines in a range of the stream of a module.
-fn put_lines(
-    bytes: &[u8],
-    lines: &Range,
-    sections: &[u8],
-    room: &mut [LineEntry],
-) -> Result<std::result::Result<usize, usize>>
-    ensures { PutsLineIndex (indexed_lines bytes.now lines.now sections.now) room.old room.new result }
-{
-    let sections = SectionHeaders::parse(sections)?;
-    put_line_index(part_of(bytes, lines)?, &sections, room)
-}
+use calls_base::ranges::Range;
+use calls_base::results::{DONE, NOTHING, ROOM};
+use calls_pdb::lines::{file_name, files_at, put_lines, read_line};
+use calls_pdb::pdb::{hand_out_pdb, hand_out_pdb_if, number_of_pdb};
+use pe_pdb::{CodeLine, LineEntry, line_in, named_stream};
 
 /// Makes an index of the lines of a module by their RVAs at the start of `room`, sorted, and writes to `written` how many entries it has;
 /// the rest of the room is unchanged. `bytes` are those of the stream of the module, and `lines` is its range of lines. Rows outside of
@@ -86,15 +56,6 @@ pub extern "C" fn pe_c_find_pdb_line(index: &[LineEntry], rva: u32, out: &mut Co
     }
 }
 
-/// The line of an RVA, of the lines in a range of the stream of a module.
-fn read_line(bytes: &[u8], lines: &Range, sections: &[u8], rva: u32) -> Result<Option<CodeLine>>
-    ensures { PdbReturns (λ o. o) result
-        (found_in (λ xs. line_with xs rva) (indexed_lines bytes.now lines.now sections.now)) }
-{
-    let sections = SectionHeaders::parse(sections)?;
-    find_line(part_of(bytes, lines)?, &sections, rva)
-}
-
 /// Finds the line of an RVA without an index, as `pe_c_find_pdb_line` by one that `pe_c_pdb_lines` made of the same arguments. It reads all
 /// rows once: for a few RVAs that takes less than to make an index.
 ///
@@ -119,32 +80,6 @@ pub extern "C" fn pe_c_read_pdb_line(
     }
 }
 
-/// The range of the source files in the lines of a module.
-fn files_in(lines: &[u8]) -> Result<Option<Range>>
-    ensures value { pdb_answer result ≡ first_files (subsections lines.now 0) }
-    ensures inside { IfOk result (λ o. IfSome o (λ r. r.offset ≤ length lines.now)) }
-{
-    match Subsection::find(lines, DEBUG_S_FILECHKSMS)? {
-        Some(files) => Ok(Some(Range {
-            offset: files.offset as u64 + SIZE_OF_PREFIX,
-            length: files.content.len() as u64,
-        })),
-        None => Ok(None),
-    }
-}
-
-fn files_at(bytes: &[u8], lines: &Range) -> Result<Option<Range>>
-    ensures { pdb_answer result ≡ files_at bytes.now lines.now }
-{
-    match files_in(part_of(bytes, lines)?)? {
-        Some(files) => Ok(Some(Range {
-            offset: lines.offset + files.offset,
-            length: files.length,
-        })),
-        None => Ok(None),
-    }
-}
-
 /// Returns the range of the source files of a module in its stream, for `pe_c_pdb_file_name`: `NOTHING` without any. `lines` is its range
 /// of lines.
 ///
@@ -154,17 +89,6 @@ pub extern "C" fn pe_c_pdb_files(bytes: &[u8], lines: &Range, out: &mut Range) -
     ensures { PdbHandsOutIf result out.old out.new (files_at bytes.now lines.now) }
 {
     hand_out_pdb_if(files_at(bytes, lines), out)
-}
-
-fn file_name(bytes: &[u8], files: &Range, names: &[u8], file: u32) -> Result<Range>
-    ensures { pdb_answer result ≡ file_name bytes.now files.now names.now file }
-{
-    let record = FileChecksum::parse(part_of(bytes, files)?, file as usize)?;
-    let name = Names::parse(names)?.name_at(record.name_offset)?;
-    Ok(Range {
-        offset: FIRST_NAME + u64::from(record.name_offset),
-        length: name.len() as u64,
-    })
 }
 
 /// Returns the range of the name of a source file in `names`, the bytes of the stream `/names`, without its final zero. `files` is what

@@ -5,10 +5,10 @@
 ghost use Rattle.std.specs.Prelude.{◌≡◌, Ok};
 ghost use Rattle.std.specs.List.Sorted.{IsNonDecreasingBy};
 ghost use Rattle.pe_pdb.specs.Omap.{moved_to, omap};
-ghost use Rattle.pe_c.specs.HandsOut.{HandsOutIf};
-ghost use Rattle.pe_c.specs.declared.base.results.TheConstants.{DONE, NOTHING};
+ghost use Rattle.calls_base.specs.HandsOut.{HandsOutIf};
+ghost use Rattle.calls_base.specs.declared.results.TheConstants.{DONE, NOTHING};
 
-use crate::base::results::{DONE, NOTHING};
+use calls_base::results::{DONE, NOTHING};
 use pe_pdb::moved_to;
 
 /// Returns where the code at an RVA is by an OMAP table, which is a stream of the PDB: by `omap_to_source` where an RVA of the image was

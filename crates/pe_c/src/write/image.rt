@@ -1,44 +1,14 @@
-//! Images written: headers, sections and certificates, by themselves or over the whole file. The sections are those that are
-//! passed, as `pe_c_sections` returned them or changed. Headers and certificates are read from the bytes, in the mode of the
-//! image that is passed: a caller that wants another header changes it in the bytes.
-//! https://learn.microsoft.com/windows/win32/debug/pe-format#overview
+//! The calls of `image` in calls_write.
 
-ghost use Rattle.std.specs.Prelude.{◌≡◌};
-ghost use Rattle.pe_core.specs.Header.{header_view};
-ghost use Rattle.pe_core.specs.Refusals.{ReturnsAs, answer_of};
-ghost use Rattle.pe_image.specs.CertificateLists.{certificate_views};
-ghost use Rattle.pe_image.specs.Writing.{ReturnsWritten};
-ghost use Rattle.pe_c.specs.HandsOut.{HandsOutWritten};
-ghost use Rattle.pe_c.specs.ImageWrites.{certificates_of, certificates_written_at, image_length_at, image_written_at, whole_length_at, whole_written_at};
-ghost use Rattle.pe_c.specs.WrittenFiles.{HandsOutImage};
+ghost use Rattle.calls_base.specs.HandsOut.{HandsOutWritten};
+ghost use Rattle.calls_write.specs.ImageWrites.{certificates_written_at, image_length_at, image_written_at, whole_length_at, whole_written_at};
+ghost use Rattle.calls_base.specs.WrittenFiles.{HandsOutImage};
 
-use crate::base::results::{ROOM, hand_out, number_of, options};
-use crate::base::view::View;
-use crate::write::signing::headers_of;
-use pe_core::{Header, Result};
-use pe_image::{CertificateList, ImageWriter};
-
-/// The certificates of an image with these headers, in its mode.
-fn certificates_of<'a>(view: &View<'a>, header: &Header<'_>) -> Result<CertificateList<'a>>
-    ensures { ReturnsAs certificate_views result
-        (certificates_of view.now (header_view header.now)) }
-{
-    CertificateList::of_image(view.bytes, header, &options(view.image.mode))
-}
-
-fn write_certificates(view: &View, room: &mut [u8]) -> Result<u64>
-    ensures { ReturnsWritten result
-        (certificates_written_at view.now room.old) room.old room.new }
-{
-    let header = headers_of(view)?;
-    let writer = ImageWriter {
-        source: view.bytes,
-        header: &header,
-        sections: view.sections,
-        certificates: certificates_of(view, &header)?,
-    };
-    Ok(writer.write_certificates(room)? as u64)
-}
+use calls_base::results::{ROOM, hand_out, number_of};
+use calls_base::view::View;
+use calls_write::image::{
+    image_length, whole_length, write_certificates, write_image, write_whole,
+};
 
 /// Writes the certificates to the room, one after the other from the offset of their directory on, each with zeros up to a multiple
 /// of 8 bytes. Puts the offset after the last one to `out`, 0 where none is written.
@@ -51,33 +21,6 @@ pub extern "C" fn pe_c_write_certificates(view: &View, room: &mut [u8], out: &mu
         (certificates_written_at view.now room.old) }
 {
     hand_out(write_certificates(view, room), out)
-}
-
-/// How many bytes of a room the image needs: the greatest end of what is written.
-fn image_length(view: &View) -> Result<u64>
-    ensures { answer_of result ≡ image_length_at view.now }
-{
-    let header = headers_of(view)?;
-    let writer = ImageWriter {
-        source: view.bytes,
-        header: &header,
-        sections: view.sections,
-        certificates: certificates_of(view, &header)?,
-    };
-    Ok(writer.written_len()? as u64)
-}
-
-fn write_image(view: &View, room: &mut [u8]) -> Result<u64>
-    ensures { ReturnsWritten result (image_written_at view.now room.old) room.old room.new }
-{
-    let header = headers_of(view)?;
-    let writer = ImageWriter {
-        source: view.bytes,
-        header: &header,
-        sections: view.sections,
-        certificates: certificates_of(view, &header)?,
-    };
-    Ok(writer.write_into(room)? as u64)
 }
 
 /// Writes the image to the room: the headers, the sections as `pe_c_write_sections` does, padded to the file alignment, with
@@ -106,33 +49,6 @@ pub extern "C" fn pe_c_write_image(view: &View, room: &mut [u8], written: &mut u
         }
         Err(error) => number_of(&error),
     }
-}
-
-/// How many bytes of a room the whole file needs.
-fn whole_length(view: &View) -> Result<u64>
-    ensures { answer_of result ≡ whole_length_at view.now }
-{
-    let header = headers_of(view)?;
-    let writer = ImageWriter {
-        source: view.bytes,
-        header: &header,
-        sections: view.sections,
-        certificates: certificates_of(view, &header)?,
-    };
-    Ok(writer.whole_len()? as u64)
-}
-
-fn write_whole(view: &View, room: &mut [u8]) -> Result<u64>
-    ensures { ReturnsWritten result (whole_written_at view.now room.old) room.old room.new }
-{
-    let header = headers_of(view)?;
-    let writer = ImageWriter {
-        source: view.bytes,
-        header: &header,
-        sections: view.sections,
-        certificates: certificates_of(view, &header)?,
-    };
-    Ok(writer.write_whole(room)? as u64)
 }
 
 /// Writes the whole file to the room, and over it the headers, the sections without zeros after them, and the certificates. So

@@ -1,51 +1,13 @@
-//! Version information written: whole, of records with their names and texts as ranges of one array of bytes; or a block at a
-//! time, where a caller writes the innermost blocks first, one after the other, and passes their bytes to the block that has them.
-//! https://learn.microsoft.com/windows/win32/menurc/vs-versioninfo
+//! The calls of `version` in calls_write.
 
-ghost use Rattle.std.specs.Prelude.{◌≡◌};
-ghost use Rattle.pe_version.specs.VersionRefusals.{block_view, version_kind_of};
-ghost use Rattle.pe_c.specs.VersionWrites.{block_at, block_with, version_numbered, version_number};
-ghost use Rattle.pe_c.specs.WrittenFiles.{HandsOutFile, NumberReturns, NumberReturnsWritten, length_numbered, written_numbered};
-ghost use Rattle.pe_version.specs.VersionRecords.{records_version, version_at};
+ghost use Rattle.calls_write.specs.VersionWrites.{block_at, block_with, version_numbered};
+ghost use Rattle.calls_base.specs.WrittenFiles.{HandsOutFile};
+ghost use Rattle.pe_version.specs.VersionRecords.{version_at};
 
-use crate::base::results::{DONE, WRITE_FIT, hand_out_length, number_of};
+use calls_base::results::{DONE, WRITE_FIT, hand_out_length};
+use calls_write::version::{block_length, version_length, version_to, write_to};
 use pe_resource::VsFixedFileInfo;
-use pe_version::{
-    LanguageRecord, NewBlock, StringRecord, TableRecord, VersionError, VersionRecords, block_len,
-    version_len, write_block, write_version,
-};
-
-/// The number of an error of a version block. It stays the same from version to version. `tools/make_errors` writes the arms.
-fn number_of_version(error: &VersionError) -> u32
-    ensures { result ≡ version_number (version_kind_of error.now) }
-{
-    match error {
-        VersionError::Image(error) => number_of(error),
-        VersionError::Key => 468,
-        VersionError::Text => 469,
-        VersionError::TooLong(_) => 470,
-    }
-}
-
-/// The length of a block.
-fn block_length(block: &NewBlock<'_>) -> Result<u64, u32>
-    ensures { NumberReturns (λ n. n) result (length_numbered (block_at (block_view block.now))) }
-{
-    match block_len(block) {
-        Ok(length) => Ok(length as u64),
-        Err(error) => Err(number_of_version(&error)),
-    }
-}
-
-fn write_to(block: &NewBlock<'_>, room: &mut [u8]) -> Result<usize, u32>
-    ensures { NumberReturnsWritten result
-        (written_numbered (block_at (block_view block.now)) room.old) room.old room.new }
-{
-    match write_block(block, room) {
-        Ok(length) => Ok(length),
-        Err(error) => Err(number_of_version(&error)),
-    }
-}
+use pe_version::{LanguageRecord, NewBlock, StringRecord, TableRecord, VersionRecords};
 
 /// Writes a block to the start of `room`, with zeros up to a multiple of four, where the next one starts, and its length with
 /// them to `written`. The rest of the room is unchanged. Where the room is too small all of it is, and `written` has the length that is needed.
@@ -88,29 +50,6 @@ pub extern "C" fn pe_c_write_block(
                 number
             }
         }
-    }
-}
-
-/// The length of version information.
-#[tactic(auto, using(crate::proofs::ResourceEdits::version_length_refused))]
-fn version_length(value: &VersionRecords) -> Result<u64, u32>
-    ensures { NumberReturns
-        (λ n. n) result (length_numbered (version_numbered (records_version value.now))) }
-{
-    match version_len(value) {
-        Ok(length) => Ok(length as u64),
-        Err(error) => Err(number_of_version(&error)),
-    }
-}
-
-fn version_to(value: &VersionRecords, room: &mut [u8]) -> Result<usize, u32>
-    ensures { NumberReturnsWritten result
-        (written_numbered (version_numbered (records_version value.now)) room.old)
-        room.old room.new }
-{
-    match write_version(value, room) {
-        Ok(length) => Ok(length),
-        Err(error) => Err(number_of_version(&error)),
     }
 }
 

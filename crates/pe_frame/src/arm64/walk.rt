@@ -15,7 +15,7 @@ ghost use Rattle.std.specs.Iterator.{at_most};
 ghost use Rattle.pe_core.specs.Refusals.{answer_by};
 ghost use Rattle.pe_unwind.specs.Arm64Record.{info_view};
 ghost use Rattle.pe_unwind.specs.Arm64Unwinding.{info_by};
-ghost use Rattle.pe_frame.specs.AddressRanges.{has_address};
+ghost use Rattle.pe_lookup.specs.AddressRanges.{has_address};
 ghost use Rattle.pe_frame.specs.Arm64Walks.{frame_of, code_return, scanned, scanned_by, leaf_frame, leaf_without_image, without_records, lookup_address, place_of, jumped_frame, record_return, chained, caller_in_code, caller_of_leaf, found_outside, found_by_ranges, caller_outside, caller_without_table, leaf_is_guess, is_bottom, called_frame, frame_after, stepped_out_packed, CallsByInfo, CallsFound, CallsIn};
 ghost use Rattle.pe_frame.specs.Modules.{map_of_module, module_base, module_size};
 

@@ -3,9 +3,9 @@
 ghost use Rattle.std.specs.Prelude.{◌≡◌, ℕ, List};
 ghost use Rattle.std.specs.List.{list_any};
 ghost use Rattle.pe_core.specs.declared.section_table.SectionTable.{SectionTable};
-ghost use Rattle.pe_frame.specs.AddressRanges.{AreAscending};
+ghost use Rattle.pe_lookup.specs.AddressRanges.{AreAscending};
 ghost use Rattle.pe_frame.specs.Modules.{executes, is_executable};
-ghost use Rattle.pe_frame.specs.SectionSearch.{memory_size, section_start};
+ghost use Rattle.pe_lookup.specs.SectionSearch.{memory_size, section_start};
 
 /// Where the sections are in ascending order and do not overlap in memory, as in a valid image, to ask the section that halving finds
 /// of an RVA is to ask all of them.

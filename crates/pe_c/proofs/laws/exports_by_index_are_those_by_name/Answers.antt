@@ -1,4 +1,4 @@
-use Rattle.pe_c.proofs.AddressEntries as entries
+use Rattle.calls_directories.proofs.AddressEntries as entries
 use Rattle.pe_c.proofs.laws.exports_by_index_are_those_by_name.Goals as goal
 
 pub returns-clause-addresses : goal.returns-clause-addresses

@@ -1,4 +1,4 @@
-use Rattle.pe_c.proofs.RecordRanges.{codes_of_record, handler_of_record}
+use Rattle.calls_unwind.proofs.RecordRanges.{codes_of_record, handler_of_record}
 use Rattle.pe_c.proofs.laws.ranges_of_records.Goals as goal
 
 pub returns-clause-codes : goal.returns-clause-codes

@@ -1,4 +1,4 @@
-use Rattle.pe_c.proofs.VersionsReported.{manifest_reported, fixed_reported, value_reported}
+use Rattle.calls_directories.proofs.VersionsReported.{manifest_reported, fixed_reported, value_reported}
 use Rattle.pe_c.proofs.laws.versions_are_those_of_resources.Goals as goal
 
 pub returns-clause-manifest : goal.returns-clause-manifest

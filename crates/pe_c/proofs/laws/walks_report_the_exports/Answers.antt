@@ -1,4 +1,4 @@
-use Rattle.pe_c.proofs.ExportParts.{tables_stand}
+use Rattle.calls_directories.proofs.ExportParts.{tables_stand}
 use Rattle.pe_c.proofs.laws.walks_report_the_exports.Goals as goal
 
 pub returns-clause-tables : goal.returns-clause-tables

@@ -4,8 +4,8 @@ use Rattle.std.specs.Prelude.{drop}
 use Rattle.pe_core.specs.Bytes.{range, splice}
 use Rattle.pe_pdb.specs.Streams.{stream_bytes, stream_view}
 use Rattle.pe_pdb.proofs.StreamBytes.{length_stream}
-use Rattle.pe_c.specs.Pdbs.{stream_numbered}
-use Rattle.pe_c.proofs.PdbStreams.{whole_put}
+use Rattle.calls_pdb.specs.Pdbs.{stream_numbered}
+use Rattle.calls_pdb.proofs.PdbStreams.{whole_put}
 use Rattle.pe_c.proofs.pdb.pe_c_pdb_stream.Goals as goal
 
 pub returns-in-Ok-read_at : goal.returns-in-Ok-read_at

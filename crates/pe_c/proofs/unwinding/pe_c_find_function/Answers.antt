@@ -1,6 +1,6 @@
 use Rattle.std.proofs.Common.{Err, Ok, refl}
 use Rattle.pe_core.specs.Refusals.{kind_of}
-use Rattle.pe_c.proofs.TableLookups.{found_in, refused_in}
+use Rattle.calls_unwind.proofs.TableLookups.{found_in, refused_in}
 use Rattle.pe_c.proofs.unwinding.pe_c_find_function.Goals as goal
 
 pub returns-in-Ok : goal.returns-in-Ok

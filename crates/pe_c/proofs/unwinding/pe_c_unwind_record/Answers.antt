@@ -1,4 +1,4 @@
-use Rattle.pe_c.proofs.EvenRecords.{near_done}
+use Rattle.calls_unwind.proofs.EvenRecords.{near_done}
 use Rattle.pe_c.proofs.unwinding.pe_c_unwind_record.Goals as goal
 
 pub returns-then-put_plain : goal.returns-then-put_plain

@@ -1,4 +1,4 @@
-use Rattle.pe_frame.proofs.Lookups.{test_ascends, test_passed}
+use Rattle.pe_lookup.proofs.Lookups.{test_ascends, test_passed}
 use Rattle.pe_frame.proofs.Searches.{word_listed, word_right}
 use Rattle.pe_frame.proofs.laws.searched_memory_is_listed.Goals as goal
 

@@ -3,7 +3,7 @@ use Rattle.std.proofs.lemmas.List.{get_or_default}
 use Rattle.std.proofs.lemmas.List.Folds.{list_all_more}
 use Rattle.pe_core.specs.Bytes.{holds}
 use Rattle.pe_frame.specs.declared.memory_list.MemoryPiece.{MemoryPiece}
-use Rattle.pe_frame.proofs.Lookups.{one_more}
+use Rattle.pe_lookup.proofs.Lookups.{one_more}
 use Rattle.pe_frame.proofs.memory_list.are_in_order.Goals as goal
 
 pub loop-piece-preserved : goal.loop-piece-preserved

@@ -1,8 +1,8 @@
 use Rattle.std.proofs.Common.{◌≡◌, ◌+◌, true, take}
 use Rattle.std.specs.List.{list_all}
 use Rattle.pe_core.specs.Bytes.{holds}
-use Rattle.pe_frame.specs.AddressRanges.{FirstAscend}
-use Rattle.pe_frame.proofs.Lookups.{EndsAt}
+use Rattle.pe_lookup.specs.AddressRanges.{FirstAscend}
+use Rattle.pe_lookup.proofs.Lookups.{EndsAt}
 use Rattle.pe_frame.proofs.memory_list.are_in_order.Given as goal
 
 -- the pieces so far lie in the bytes, and ascend

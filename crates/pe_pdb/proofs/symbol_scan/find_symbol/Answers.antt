@@ -9,7 +9,7 @@ use Rattle.pe_pdb.specs.Symbols.{symbol_view}
 use Rattle.pe_pdb.specs.declared.symbol_lookup.SymbolAddress.{SymbolAddress}
 use Rattle.pe_pdb.proofs.RecordWalks.{symbol_offset}
 use Rattle.pe_pdb.proofs.Scans.{no_address}
-use Rattle.pe_pdb.proofs.SymbolEntries.{addresses_small, gathers_all, gathers_more, gathers_none, gathers_refused}
+use Rattle.pe_pdb.proofs.SymbolEntries.{addresses_small, gathers_all, gathers_more, gathers_none, gathers_refused, gathers_skipped}
 use Rattle.pe_pdb.proofs.symbol_scan.find_symbol.Goals as goal
 
 pub returns-in_err-record : goal.returns-in_err-record
@@ -28,13 +28,16 @@ loop-next-init c = gathers_none (rva_by c.args.class c.args.sections.now.bytes.n
 pub loop-next-smaller : goal.loop-next-smaller
 loop-next-smaller c =
     let at = symbol_offset c.args.bytes.now c.loop-next.next (symbol_view c.in_ok-record.record) c.in_ok-record.ensures.value in
-    omega (arith, at, c.end-next.ensures, c.loop-next-test.true)
+    omega (arith, at, c.end.ensures, c.skip_others-next.ensures.after, c.loop-next-test.true)
 
 pub loop-next-preserved : goal.loop-next-preserved
 loop-next-preserved c =
-    gathers_more (rva_by c.args.class c.args.sections.now.bytes.now) c.args.bytes.now c.args.start c.loop-next.next (symbol_view c.in_ok-record.record) c.end-next.result
+    let b = c.args.bytes.now in
+    let sections = c.args.sections.now.bytes.now in
+    gathers_skipped (rva_by c.args.class sections) b c.args.start c.end.result c.skip_others-next.result (λ xs. c.later_address-found.result ≡ address_before c.args.rva xs)
+    (gathers_more (rva_by c.args.class sections) b c.args.start c.loop-next.next (symbol_view c.in_ok-record.record) c.end.result
     (λ xs. c.loop-next.found ≡ address_before c.args.rva xs) (λ xs. c.later_address-found.result ≡ address_before c.args.rva xs)
-    c.loop-next.invariant c.loop-next-test.true c.in_ok-record.ensures.value c.end-next.ensures (search rules)
+    c.loop-next.invariant c.loop-next-test.true c.in_ok-record.ensures.value c.end.ensures (search rules)) (c.skip_others-next.ensures.same sections)
 
 pub returns-in-Some : goal.returns-in-Some
 returns-in-Some c =

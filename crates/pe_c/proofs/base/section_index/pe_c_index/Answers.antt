@@ -1,5 +1,5 @@
 use Rattle.std.proofs.Common.{rules}
-use Rattle.pe_c.proofs.IndexMaps.{searched_all, unsearched}
+use Rattle.calls_base.proofs.IndexMaps.{searched_all, unsearched}
 use Rattle.pe_c.proofs.base.section_index.pe_c_index.Goals as goal
 
 pub returns-then-not-is_searched : goal.returns-then-not-is_searched

@@ -1,4 +1,4 @@
-use Rattle.pe_c.proofs.DirectoryParts.{name_of_dll_stands, name_of_function_stands}
+use Rattle.calls_directories.proofs.DirectoryParts.{name_of_dll_stands, name_of_function_stands}
 use Rattle.pe_c.proofs.laws.directories.ranges_of_delay_imports_are_their_names.Goals as goal
 
 pub returns-clause-dll : goal.returns-clause-dll

@@ -1,4 +1,4 @@
-use Rattle.pe_c.proofs.DirectoryParts.{version_stands, headers_stand, metadata_stand}
+use Rattle.calls_directories.proofs.DirectoryParts.{version_stands, headers_stand, metadata_stand}
 use Rattle.pe_c.proofs.laws.directories.ranges_of_metadata_are_its_parts.Goals as goal
 
 pub returns-clause-version : goal.returns-clause-version

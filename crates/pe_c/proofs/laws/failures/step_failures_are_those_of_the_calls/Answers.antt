@@ -1,4 +1,4 @@
-use Rattle.pe_c.proofs.StepFailures.{arm64_codes_agree, codes_agree, records_agree}
+use Rattle.calls_unwind.proofs.StepFailures.{arm64_codes_agree, codes_agree, records_agree}
 use Rattle.pe_c.proofs.laws.failures.step_failures_are_those_of_the_calls.Goals as goal
 
 pub returns-clause-unwind_records : goal.returns-clause-unwind_records

@@ -1,12 +1,12 @@
 use Rattle.std.proofs.Common.{◌≡◌, nat_lt, length, if◌then◌else◌}
 use Rattle.pe_frame.specs.Arm64Walks as arm64
 use Rattle.pe_frame.specs.Walks.{Calls}
-use Rattle.pe_c.specs.Arm64StackWalks as arm64_walks
-use Rattle.pe_c.specs.FrameCalls.{FillsFrames, HandsOutNext}
-use Rattle.pe_c.specs.StackWalks.{marked, stack_walks}
-use Rattle.pe_c.proofs.Arm64WalkFrames as arm64_frames
-use Rattle.pe_c.proofs.MarkedWalks.{same_over, unmarked}
-use Rattle.pe_c.proofs.WalkFrames.{keep_marks}
+use Rattle.calls_stacks.specs.Arm64StackWalks as arm64_walks
+use Rattle.calls_stacks.specs.FrameCalls.{FillsFrames, HandsOutNext}
+use Rattle.calls_stacks.specs.StackWalks.{marked, stack_walks}
+use Rattle.calls_stacks.proofs.Arm64WalkFrames as arm64_frames
+use Rattle.calls_stacks.proofs.MarkedWalks.{same_over, unmarked}
+use Rattle.calls_stacks.proofs.WalkFrames.{keep_marks}
 use Rattle.pe_c.proofs.laws.frames.marks_change_nothing.Goals as goal
 
 pub returns : goal.returns

@@ -1,22 +1,23 @@
-use Rattle.pe_c.specs.PdbModules.{StepsModules}
-use Rattle.pe_c.specs.PdbSymbols.{StepsPdbSymbols}
-use Rattle.pe_c.specs.Pdbs.{pdb_number}
-use Rattle.pe_c.proofs.ListRuns.{give_lists}
+use Rattle.calls_pdb.specs.PdbModules.{StepsModules}
+use Rattle.calls_pdb.specs.PdbSymbols.{StepsPdbSymbols}
+use Rattle.calls_pdb.specs.Pdbs.{pdb_number}
+use Rattle.calls_base.proofs.ListRuns.{give_lists}
 use Rattle.pe_c.proofs.laws.lists.lists_are_what_steps_return.Goals as goal
-use Rattle.pe_c.specs.Arm64.{StepsArm64Codes, arm64_function_in}
-use Rattle.pe_c.specs.DebugWalks.{StepsPogoEntries}
-use Rattle.pe_c.specs.Directories.{directory_number}
-use Rattle.pe_c.specs.DirectoryRuns.{StepsBlocks, StepsBoundImports, StepsForwarders, StepsRelocations}
-use Rattle.pe_c.specs.ExportAddresses.{exported_at}
-use Rattle.pe_c.specs.HandsOut.{result_number}
-use Rattle.pe_c.specs.KeptWalks.{StepsKeptDelayLibraries, StepsKeptExports, StepsKeptFunctions, StepsKeptImports, StepsKeptLeaves, StepsKeptLibraries}
-use Rattle.pe_c.specs.LibraryFunctions.{StepsLibraryFunctions}
-use Rattle.pe_c.specs.LibraryImports.{StepsLibraryImports}
-use Rattle.pe_c.specs.Lists.{StepsByIndex, StepsVersionBlocks, if_there}
-use Rattle.pe_c.specs.NamedSymbols.{StepsNamedSymbols}
-use Rattle.pe_c.specs.ResourceLeaves.{tree_number}
-use Rattle.pe_c.specs.SectionNames.{long_name_by_index}
-use Rattle.pe_c.specs.Unwinding.{StepsCodes, function_in}
+use Rattle.calls_unwind.specs.Arm64.{StepsArm64Codes, arm64_function_in}
+use Rattle.calls_headers.specs.DebugWalks.{StepsPogoEntries}
+use Rattle.calls_base.specs.DirectoryResults.{directory_number}
+use Rattle.calls_directories.specs.DirectoryRuns.{StepsBlocks, StepsBoundImports, StepsForwarders, StepsRelocations}
+use Rattle.calls_directories.specs.ExportAddresses.{exported_at}
+use Rattle.calls_base.specs.HandsOut.{result_number}
+use Rattle.calls_directories.specs.KeptWalks.{StepsKeptDelayLibraries, StepsKeptExports, StepsKeptFunctions, StepsKeptImports, StepsKeptLeaves, StepsKeptLibraries}
+use Rattle.calls_directories.specs.LibraryFunctions.{StepsLibraryFunctions}
+use Rattle.calls_directories.specs.LibraryImports.{StepsLibraryImports}
+use Rattle.calls_base.specs.Lists.{StepsByIndex, if_there}
+use Rattle.calls_directories.specs.VersionBlocks.{StepsVersionBlocks}
+use Rattle.calls_headers.specs.NamedSymbols.{StepsNamedSymbols}
+use Rattle.calls_base.specs.TreeResults.{tree_number}
+use Rattle.calls_headers.specs.SectionNames.{long_name_by_index}
+use Rattle.calls_unwind.specs.Unwinding.{StepsCodes, function_in}
 
 pub returns-clause-codes : goal.returns-clause-codes
 returns-clause-codes c b = give_lists result_number (StepsCodes b)

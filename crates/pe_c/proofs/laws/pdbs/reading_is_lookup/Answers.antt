@@ -1,4 +1,4 @@
-use Rattle.pe_c.proofs.PdbReadings.{line_is_read, symbol_is_read}
+use Rattle.calls_pdb.proofs.PdbReadings.{line_is_read, symbol_is_read}
 use Rattle.pe_c.proofs.laws.pdbs.reading_is_lookup.Goals as goal
 
 pub returns-clause-symbols : goal.returns-clause-symbols

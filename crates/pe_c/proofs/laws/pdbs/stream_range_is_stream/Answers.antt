@@ -1,4 +1,4 @@
-use Rattle.pe_c.proofs.PdbRanges.{range_is_stream}
+use Rattle.calls_pdb.proofs.PdbRanges.{range_is_stream}
 use Rattle.pe_c.proofs.laws.pdbs.stream_range_is_stream.Goals as goal
 
 pub returns : goal.returns

@@ -1,5 +1,5 @@
-use Rattle.pe_c.proofs.DirectoryLists.{bounds_in_turn, bounds_outside, forwarders_of_import, forwarders_outside}
-use Rattle.pe_c.proofs.ListStarts.{bounds_of_image}
+use Rattle.calls_directories.proofs.DirectoryLists.{bounds_in_turn, bounds_outside, forwarders_of_import, forwarders_outside}
+use Rattle.calls_directories.proofs.ListStarts.{bounds_of_image}
 use Rattle.pe_c.proofs.laws.walks.walks_give_the_bound_imports.Goals as goal
 
 pub returns-clause-imports : goal.returns-clause-imports

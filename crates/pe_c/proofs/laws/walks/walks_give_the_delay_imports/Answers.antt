@@ -1,6 +1,6 @@
-use Rattle.pe_c.proofs.DirectoryLists.{libraries_in_turn, libraries_outside}
-use Rattle.pe_c.proofs.ListStarts.{libraries_of_image}
-use Rattle.pe_c.proofs.NumberLists.{functions_of_library, functions_outside}
+use Rattle.calls_directories.proofs.DirectoryLists.{libraries_in_turn, libraries_outside}
+use Rattle.calls_directories.proofs.ListStarts.{libraries_of_image}
+use Rattle.calls_directories.proofs.NumberLists.{functions_of_library, functions_outside}
 use Rattle.pe_c.proofs.laws.walks.walks_give_the_delay_imports.Goals as goal
 
 pub returns-clause-libraries : goal.returns-clause-libraries

@@ -1,4 +1,4 @@
-use Rattle.pe_c.proofs.LeafRuns.{leaves_in_turn, leaves_of_tree}
+use Rattle.calls_directories.proofs.LeafRuns.{leaves_in_turn, leaves_of_tree}
 use Rattle.pe_c.proofs.laws.walks.walks_give_the_leaves.Goals as goal
 
 pub returns-clause-leaves : goal.returns-clause-leaves

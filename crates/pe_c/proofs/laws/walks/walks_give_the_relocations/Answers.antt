@@ -1,5 +1,5 @@
-use Rattle.pe_c.proofs.DirectoryLists.{blocks_in_turn, blocks_outside, relocations_in_turn, relocations_outside}
-use Rattle.pe_c.proofs.ListStarts.{blocks_of_image}
+use Rattle.calls_directories.proofs.DirectoryLists.{blocks_in_turn, blocks_outside, relocations_in_turn, relocations_outside}
+use Rattle.calls_directories.proofs.ListStarts.{blocks_of_image}
 use Rattle.pe_c.proofs.laws.walks.walks_give_the_relocations.Goals as goal
 
 pub returns-clause-blocks : goal.returns-clause-blocks

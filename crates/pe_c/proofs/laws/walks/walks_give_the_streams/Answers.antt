@@ -1,5 +1,5 @@
-use Rattle.pe_c.proofs.ListStarts.{streams_of_image}
-use Rattle.pe_c.proofs.StreamLists.{streams_in_turn, streams_outside}
+use Rattle.calls_directories.proofs.ListStarts.{streams_of_image}
+use Rattle.calls_directories.proofs.StreamLists.{streams_in_turn, streams_outside}
 use Rattle.pe_c.proofs.laws.walks.walks_give_the_streams.Goals as goal
 
 pub returns-clause-of_image : goal.returns-clause-of_image

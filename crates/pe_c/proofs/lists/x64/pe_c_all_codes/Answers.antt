@@ -1,6 +1,6 @@
 use Rattle.std.proofs.Common.{sym}
 use Rattle.std.proofs.lemmas.Bool.{eqb-true}
-use Rattle.pe_c.proofs.PutCodes.{all_done}
+use Rattle.calls_unwind.proofs.PutCodes.{all_done}
 use Rattle.pe_c.proofs.lists.x64.pe_c_all_codes.Goals as goal
 
 pub returns-then-is_empty : goal.returns-then-is_empty

@@ -1,4 +1,4 @@
-use Rattle.pe_c.proofs.CodeBytes.{lists_functions}
+use Rattle.calls_unwind.proofs.CodeBytes.{lists_functions}
 use Rattle.pe_c.proofs.lists.x64.pe_c_list_functions.Goals as goal
 
 pub returns-in-Ok : goal.returns-in-Ok

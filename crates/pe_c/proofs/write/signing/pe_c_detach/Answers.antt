@@ -1,7 +1,7 @@
 use Rattle.std.proofs.Common.{sym}
 use Rattle.std.proofs.lemmas.Bool.{eqb-true}
-use Rattle.pe_c.specs.Signing.{detached_at}
-use Rattle.pe_c.proofs.WrittenFiles.{file_asked}
+use Rattle.calls_write.specs.Signing.{detached_at}
+use Rattle.calls_base.proofs.WrittenFiles.{file_asked}
 use Rattle.pe_c.proofs.write.signing.pe_c_detach.Goals as goal
 
 pub returns-then-is_empty : goal.returns-then-is_empty

@@ -1,7 +1,7 @@
 use Rattle.std.proofs.Common.{sym}
 use Rattle.std.proofs.lemmas.Bool.{eqb-true}
-use Rattle.pe_c.specs.VersionWrites.{block_at, block_with}
-use Rattle.pe_c.proofs.WrittenFiles.{file_asked, file_short_after}
+use Rattle.calls_write.specs.VersionWrites.{block_at, block_with}
+use Rattle.calls_base.proofs.WrittenFiles.{file_asked, file_short_after}
 use Rattle.pe_c.proofs.write.version.pe_c_write_block.Goals as goal
 
 pub returns-then-is_empty : goal.returns-then-is_empty

@@ -1,8 +1,8 @@
 use Rattle.std.proofs.Common.{sym}
 use Rattle.std.proofs.lemmas.Bool.{eqb-true}
 use Rattle.pe_version.specs.VersionRecords.{version_at}
-use Rattle.pe_c.specs.VersionWrites.{version_numbered}
-use Rattle.pe_c.proofs.WrittenFiles.{file_asked}
+use Rattle.calls_write.specs.VersionWrites.{version_numbered}
+use Rattle.calls_base.proofs.WrittenFiles.{file_asked}
 use Rattle.pe_c.proofs.write.version.pe_c_write_version.Goals as goal
 
 pub returns-then-is_empty : goal.returns-then-is_empty

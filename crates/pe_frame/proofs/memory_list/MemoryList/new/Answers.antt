@@ -2,7 +2,7 @@ use Rattle.std.proofs.Common.{◌≡◌, ◌∙◌, rules, Bool, true, false, []
 use Rattle.std.specs.Option.{is_none}
 use Rattle.pe_core.specs.Refusals.{Short, outcome}
 use Rattle.pe_frame.specs.MemoryLists.{are_inside}
-use Rattle.pe_frame.proofs.Lookups.{ascends, decided, test_passed}
+use Rattle.pe_lookup.proofs.Lookups.{ascends, decided, test_passed}
 use Rattle.pe_frame.proofs.memory_list.MemoryList.new.Goals as goal
 
 passed : (t : Bool) (x : Unit {0}) → outcome ((t, Short) ∷ []) x ≡ Ok x → t ≡ true

@@ -3,7 +3,7 @@ use Rattle.std.proofs.lemmas.Bool.Decides.{nat_tests}
 use Rattle.pe_core.specs.Bytes.{holds}
 use Rattle.pe_core.proofs.Map.{found_passes}
 use Rattle.pe_frame.specs.MemoryLists.{has_word, lists_byte}
-use Rattle.pe_frame.proofs.Lookups.{found_of_all, is_within}
+use Rattle.pe_lookup.proofs.Lookups.{found_of_all, is_within}
 use Rattle.pe_frame.proofs.OnePiece.{word_in_piece}
 use Rattle.pe_frame.proofs.memory_list.MemoryListMemory.u64_at.Goals as goal
 

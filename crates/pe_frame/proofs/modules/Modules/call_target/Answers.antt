@@ -1,5 +1,5 @@
 use Rattle.std.proofs.Common.{sym, arith}
-use Rattle.pe_frame.proofs.Lookups.{in_module}
+use Rattle.pe_frame.proofs.InModules.{in_module}
 use Rattle.pe_frame.proofs.modules.Modules.call_target.Goals as goal
 
 pub call_target-requires : goal.call_target-requires

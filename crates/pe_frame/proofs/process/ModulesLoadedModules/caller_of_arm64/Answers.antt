@@ -1,6 +1,6 @@
 use Rattle.std.proofs.Common.{◌≡◌, ℕ, Some, subst, sym}
 use Rattle.std.specs.List.{find}
-use Rattle.pe_frame.specs.AddressRanges.{has_address}
+use Rattle.pe_lookup.specs.AddressRanges.{has_address}
 use Rattle.pe_frame.specs.Modules.{module_base, module_size}
 use Rattle.pe_frame.specs.Arm64Walks.{lookup_address}
 use Rattle.pe_frame.proofs.process.ModulesLoadedModules.caller_of_arm64.Goals as goal

@@ -1,5 +1,5 @@
 use Rattle.std.proofs.Common.{sym, arith}
-use Rattle.pe_frame.proofs.Lookups.{in_module}
+use Rattle.pe_frame.proofs.InModules.{in_module}
 use Rattle.pe_stacks.proofs.modules.IndexedModulesCallSites.target_of_call.Goals as goal
 
 pub call_target-requires : goal.call_target-requires

@@ -2,7 +2,7 @@ use Rattle.std.proofs.Common.{sym}
 use Rattle.pe_core.proofs.Map.{found_passes}
 use Rattle.pe_core.specs.Bytes.{holds}
 use Rattle.pe_frame.specs.MemoryLists.{lists_byte}
-use Rattle.pe_frame.proofs.Lookups.{found_of_all}
+use Rattle.pe_lookup.proofs.Lookups.{found_of_all}
 use Rattle.pe_stacks.proofs.run_memory.MemoryRuns.bytes_at.Goals as goal
 
 pub bytes_of-requires-clause-has : goal.bytes_of-requires-clause-has

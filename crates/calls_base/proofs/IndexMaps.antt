@@ -1,0 +1,141 @@
+-- An index of the sections of an image maps RVAs as the sections do.
+use Rattle.std.proofs.Common.{◌≡◌, ℕ, zero, suc, ◌+◌, ◌-◌, ◌*◌, ◌^◌, ◌<◌, ◌≤◌, inl, inr, Bool, true, false, not, cond, List, [], ◌∷◌, length, take, drop, filter, Option, Some, None, refl, ap, sym, ◌∙◌, arith}
+use Rattle.std.specs.Prelude.{nat_lt}
+use Rattle.std.specs.Int.{is_power_of_two}
+use Rattle.std.specs.List.{position, position_or_len, slice_get}
+use Rattle.std.specs.Option.{option_and_then, option_map}
+use Rattle.std.proofs.lemmas.Bool.Decides.{nat_tests}
+use Rattle.pe_core.specs.declared.section_table.SectionTable.{SectionTable}
+use Rattle.pe_core.specs.SectionMap.{covers, first, offset_of, raw_start}
+use Rattle.calls_base.specs.declared.image.Image.{Image}
+use Rattle.calls_base.specs.declared.view.View.{View}
+use Rattle.pe_lookup.specs.declared.section_index.IndexEntry.{IndexEntry}
+use Rattle.calls_base.specs.MapRanges.{range_at, range_in}
+use Rattle.calls_base.specs.Maps.{section_at}
+use Rattle.calls_base.specs.Modes.{resolves}
+use Rattle.pe_lookup.specs.SectionIndexes.{number_found, numbered, sections_by}
+use Rattle.calls_base.specs.SectionIndexes.{entries_needed, first_number, is_searched, HasIndex, IsIndexOf, MakesIndex, Maps, WritesIndex}
+use Rattle.calls_base.proofs.IndexFound.{Covers, covers_of, found_at, numbered_first, numbered_none, numbered_some}
+use Rattle.pe_core.proofs.Equality.{both}
+
+offset_same : (resolve : Bool) (alignment x : ℕ) (s t : List SectionTable) → first (filter (covers alignment x) s) ≡ first (filter (covers alignment x) t) → offset_of resolve alignment s x ≡ offset_of resolve alignment t x
+unfolding offset_of
+offset_same resolve alignment x s t e =
+    ap (λ (o : Option SectionTable). cond (not resolve) (Some x) (cond (is_power_of_two alignment) (option_map (λ s. x - s.virtual_address + raw_start s) o) None)) e
+
+-- the index of the section that covers an RVA
+index_in : ℕ → ℕ → List SectionTable → Option ℕ
+index_in alignment x s = position (covers alignment x) s
+
+at : (n i len : ℕ) → n ≡ i → i < len → cond (nat_lt n len) (Some n) None ≡ Some i
+at n i len e h = let t : nat_lt n len ≡ true = grind (arith, nat_tests) in rw t (ap (λ (k : ℕ). Some k) e)
+
+past : (n len : ℕ) → n ≡ len → cond (nat_lt n len) (Some n) None ≡ None
+past n len e = let t : nat_lt n len ≡ false = grind (arith, nat_tests) in rw t refl
+
+one_section : (alignment x : ℕ) (s : SectionTable) → covers alignment x s ≡ true → index_in alignment x (s ∷ []) ≡ Some 0
+unfolding index_in
+one_section alignment x s e = rw e refl
+
+named_index : (alignment x n : ℕ) (ss : List SectionTable) → n ≡ first_number alignment x 0 ss → Covers alignment x 0 (first_number alignment x 0 ss) ss → option_map (λ i. n - 1) (index_in alignment x (numbered ss n)) ≡ index_in alignment x ss
+unfolding index_in
+named_index alignment x n ss e (inl none) =
+    ap (λ l. option_map (λ i. n - 1) (index_in alignment x l)) (numbered_none ss n (e ∙ none.number)) ∙ sym (past (position_or_len (covers alignment x) ss) (length ss) none.past)
+named_index alignment x n ss e (inr (i, s, one)) =
+    let less : n - 1 ≡ i = omega (arith, e, one.number) in
+    ap (λ l. option_map (λ i. n - 1) (index_in alignment x l)) (numbered_some ss i n (e ∙ one.number) one.inside ∙ one.named)
+    ∙ ap (option_map (λ i. n - 1)) (one_section alignment x s one.covered)
+    ∙ ap (λ (k : ℕ). Some k) less
+    ∙ sym (at (position_or_len (covers alignment x) ss) i (length ss) one.position one.inside)
+
+-- the section at an index
+got : (ss : List SectionTable) (i : ℕ) (s : SectionTable) → take 1 (drop i ss) ≡ s ∷ [] → slice_get ss i ≡ Some s
+got [] zero s e = absurd cc
+got [] (suc i) s e = absurd cc
+got (t ∷ ss) zero s e = cc
+got (t ∷ ss) (suc i) s e = got ss i s e
+
+-- what is read of the first section that covers an RVA
+picked : {Y : Type 0} → (SectionTable → Option Y) → ℕ → ℕ → List SectionTable → Option Y
+picked f alignment x ss = option_and_then (λ i. option_and_then f (slice_get ss i)) (index_in alignment x ss)
+
+named_picked : {Y : Type 0} (f : SectionTable → Option Y) (alignment x n : ℕ) (ss : List SectionTable) → n ≡ first_number alignment x 0 ss → Covers alignment x 0 (first_number alignment x 0 ss) ss → picked f alignment x (numbered ss n) ≡ picked f alignment x ss
+unfolding picked index_in
+named_picked f alignment x n ss e (inl none) =
+    ap (λ l. picked f alignment x l) (numbered_none ss n (e ∙ none.number))
+    ∙ sym (ap (option_and_then (λ i. option_and_then f (slice_get ss i))) (past (position_or_len (covers alignment x) ss) (length ss) none.past))
+named_picked f alignment x n ss e (inr (i, s, one)) =
+    ap (λ l. picked f alignment x l) (numbered_some ss i n (e ∙ one.number) one.inside ∙ one.named)
+    ∙ ap (option_and_then (λ k. option_and_then f (slice_get (s ∷ []) k))) (one_section alignment x s one.covered)
+    ∙ sym (ap (option_and_then f) (got ss i s one.named))
+    ∙ sym (ap (option_and_then (λ k. option_and_then f (slice_get ss k))) (at (position_or_len (covers alignment x) ss) i (length ss) one.position one.inside))
+
+range_of_picked : (b : List ℕ) (image : Image) (s : List SectionTable) (x : ℕ) → is_searched image ≡ true → range_at b image s x ≡ picked (range_in b image.file_alignment x) image.file_alignment x s
+unfolding picked index_in
+range_of_picked b image s x e =
+    let tests : (resolves image.mode ≡ true) × (is_power_of_two image.file_alignment ≡ true) = both (resolves image.mode) (is_power_of_two image.file_alignment) e in
+    rw (tests.0, tests.1) refl
+
+section_in : (image : Image) (s : List SectionTable) (x : ℕ) → is_searched image ≡ true → section_at image s x ≡ index_in image.file_alignment x s
+unfolding index_in
+section_in image s x e =
+    let tests : (resolves image.mode ≡ true) × (is_power_of_two image.file_alignment ≡ true) = both (resolves image.mode) (is_power_of_two image.file_alignment) e in
+    rw (tests.0, tests.1) refl
+
+-- no entries are an index of any sections: all of them are tested
+pub none_made : (image : Image) (sections : List SectionTable) (es : List IndexEntry) → es ≡ [] → IsIndexOf image sections es
+unfolding sections_by
+none_made image sections es e = rw e (record { maps = λ x. refl; owners = λ x. refl; ranges = λ b x. refl })
+
+some_made : (image : Image) (sections : List SectionTable) (e : IndexEntry) (es : List IndexEntry) → is_searched image ≡ true → ((x : ℕ) → number_found (e ∷ es) x ≡ first_number image.file_alignment x 0 sections) → IsIndexOf image sections (e ∷ es)
+unfolding sections_by
+some_made image sections e es searched numbers = record {
+  maps = λ x. offset_same (resolves image.mode) image.file_alignment x (numbered sections (number_found (e ∷ es) x)) sections (numbered_first image.file_alignment x (number_found (e ∷ es) x) sections (numbers x));
+  owners = λ x.
+      let n : ℕ = number_found (e ∷ es) x in
+      ap (option_map (λ i. n - 1)) (section_in image (numbered sections n) x searched)
+      ∙ named_index image.file_alignment x n sections (numbers x) (covers_of image.file_alignment x 0 sections)
+      ∙ sym (section_in image sections x searched);
+  ranges = λ b x.
+      let n : ℕ = number_found (e ∷ es) x in
+      range_of_picked b image (numbered sections n) x searched
+      ∙ named_picked (range_in b image.file_alignment x) image.file_alignment x n sections (numbers x) (covers_of image.file_alignment x 0 sections)
+      ∙ sym (range_of_picked b image sections x searched);
+}
+
+-- the entries that are made are an index
+pub made : (image : Image) (sections : List SectionTable) (es : List IndexEntry) → is_searched image ≡ true → Maps image.file_alignment 0 sections es → length es < 2 ^ 64 → IsIndexOf image sections es
+made image sections [] searched maps small = none_made image sections [] refl
+made image sections (e ∷ es) searched maps small = some_made image sections e es searched (λ x. found_at (e ∷ es) x maps.rises small ∙ maps.numbers x)
+
+finished : (image : Image) (sections : List SectionTable) (old new : List IndexEntry) (written : ℕ) → nat_lt (length old) (entries_needed image sections) ≡ false → WritesIndex image sections 0 old new written → MakesIndex image sections 0 old new written
+finished image sections old new written e w = rw e w
+
+-- no section is searched
+pub unsearched : (image : Image) (sections : List SectionTable) (room : List IndexEntry) → is_searched image ≡ false → MakesIndex image sections 0 room room 0
+unsearched image sections room e =
+    let needed : entries_needed image sections ≡ 0 = ap (λ b. cond b (4 * length sections) 0) e in
+    let fits : nat_lt (length room) (entries_needed image sections) ≡ false = grind (arith, nat_tests) in
+    finished image sections room room 0 fits (record {
+      done = refl;
+      count = omega (arith, needed);
+      index = none_made image sections (take 0 room) refl;
+      rest = refl;
+    })
+
+-- the index is made
+pub searched_all : (image : Image) (sections : List SectionTable) (old new : List IndexEntry) (n : ℕ) → is_searched image ≡ true → n < 2 ^ 64 → 4 * length sections ≤ length old → n ≡ 2 * length sections → Maps image.file_alignment 0 sections (take n new) → drop (2 * n) new ≡ drop (2 * n) old → MakesIndex image sections 0 old new n
+searched_all image sections old new n e small room is maps rest =
+    let needed : entries_needed image sections ≡ 4 * length sections = ap (λ b. cond b (4 * length sections) 0) e in
+    let fits : nat_lt (length old) (entries_needed image sections) ≡ false = grind (arith, nat_tests) in
+    finished image sections old new n fits (record {
+      done = refl;
+      count = omega (arith, needed, is);
+      index = made image sections (take n new) e maps (omega (arith, maps.count, is, small));
+      rest = rest;
+    })
+
+-- ---- without entries
+
+pub without_entries : (v : View) → v.index.now ≡ [] → HasIndex v
+without_entries v none = none_made v.image.now v.sections.now v.index.now none

@@ -1,0 +1,11 @@
+use Rattle.std.proofs.Common.{length, ◌-◌}
+use Rattle.pe_core.specs.Imports.{entry_size}
+use Rattle.pe_core.proofs.EntryLists.{NoneIsZero}
+use Rattle.calls_base.proofs.entry_lists.zero_entry.Given as goal
+
+-- no entry so far is zero
+abbrev pub invariant-loop-start : goal.invariant-loop-start
+invariant-loop-start l = NoneIsZero (entry_size l.is_64) l.bytes l.start l.end
+
+abbrev pub decreases-loop-start : goal.decreases-loop-start
+decreases-loop-start l = length l.bytes - l.end

@@ -1,0 +1,6 @@
+use Rattle.std.proofs.Common.{arith}
+use Rattle.calls_base.proofs.LastText.{text_past}
+use Rattle.calls_base.proofs.texts.refusal_text.Goals as goal
+
+pub returns-in_default : goal.returns-in_default
+returns-in_default c = text_past c.args.number (omega arith)

@@ -1,0 +1,13 @@
+use Rattle.std.proofs.Common.{◌≤◌, length, ◌≡◌}
+use Rattle.calls_directories.proofs.names.all_imports.put_names.Given as goal
+use Rattle.calls_base.specs.NearMaps.{IsWindow}
+use Rattle.calls_base.specs.Views.{map_of}
+
+-- as many as there is room for
+abbrev pub invariant-loop-i : goal.invariant-loop-i
+invariant-loop-i l = record {
+  few : l.count ≤ length l.room;
+  same : length l.room ≡ length l.initial.room;
+  hints : IsWindow (map_of l.view) l.hints;
+  near : IsWindow (map_of l.view) l.near;
+}

@@ -1,0 +1,11 @@
+pub mod Failures
+pub mod DirectoryFailures
+pub mod DebugFailures
+pub mod ImageParts
+pub mod StepFailures
+pub mod ResourceFailures
+pub mod DelayFailures
+pub mod BoundFailures
+pub mod SymbolFailures
+pub mod UnwindFailures
+pub mod Arm64Failures

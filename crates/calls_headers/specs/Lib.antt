@@ -1,0 +1,9 @@
+pub mod Debug
+pub mod DebugWalks
+pub mod RichHeaders
+pub mod SectionNames
+pub mod Overlays
+pub mod Headers
+pub mod Coff
+pub mod Te
+pub mod NamedSymbols

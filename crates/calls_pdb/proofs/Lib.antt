@@ -1,0 +1,3 @@
+pub mod PdbStreams
+pub mod PdbRanges
+pub mod PdbReadings

@@ -1,0 +1,7 @@
+pub mod Pdbs
+pub mod PdbModules
+pub mod PdbSymbols
+pub mod PdbIndexes
+pub mod PdbLines
+pub mod PdbInlined
+pub mod PdbContributions

@@ -1,0 +1,2 @@
+pub mod SignatureRuns
+pub mod SoughtAttributes

@@ -1,0 +1,14 @@
+pub mod CertificateRuns
+pub mod Parts
+pub mod MarkedWalks
+pub mod CallWalks
+pub mod OneFrames
+pub mod RunWalks
+pub mod StepMaps
+pub mod ViewedModules
+pub mod WalkFrames
+pub mod Arm64WalkFrames
+pub mod NextFrames
+pub mod FrameRuns
+pub mod DumpEntries
+pub mod TableRuns

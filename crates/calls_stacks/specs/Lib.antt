@@ -1,0 +1,13 @@
+pub mod Arm64Frames
+pub mod StackFrames
+pub mod WalkModules
+pub mod FrameCalls
+pub mod FunctionNames
+pub mod StackWalks
+pub mod Arm64StackWalks
+pub mod Dumps
+pub mod DumpImages
+pub mod DumpRecords
+pub mod DumpRuns
+pub mod DumpMemory
+pub mod DumpContexts

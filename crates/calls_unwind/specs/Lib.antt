@@ -1,0 +1,6 @@
+pub mod Arm64
+pub mod Plans
+pub mod Unwinding
+pub mod RecordCodes
+pub mod CodeBytes
+pub mod NearRecords

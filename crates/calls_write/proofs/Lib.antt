@@ -1,0 +1,3 @@
+pub mod DigestParts
+pub mod ResourceEdits
+pub mod SignedFiles

@@ -1,0 +1,6 @@
+use Rattle.pe_version.specs.VersionRefusals.{block_view, version_kind_of}
+use Rattle.calls_write.proofs.ResourceEdits.{block_length_refused}
+use Rattle.calls_write.proofs.version.block_length.Goals as goal
+
+pub returns-in-Err : goal.returns-in-Err
+returns-in-Err c = block_length_refused (block_view c.args.block.now) (version_kind_of c.in-Err.error) c.number_of_version.result c.in-Err.ensures c.number_of_version.ensures

@@ -1,6 +1,0 @@
-use Rattle.std.proofs.Common.{arith}
-use Rattle.pe_c.proofs.LastText.{text_past}
-use Rattle.pe_c.proofs.base.texts.refusal_text.Goals as goal
-
-pub returns-in_default : goal.returns-in_default
-returns-in_default c = text_past c.args.number (omega arith)

@@ -1,9 +1,0 @@
-use Rattle.std.proofs.Common.{◌≤◌, length, ◌≡◌}
-use Rattle.pe_c.proofs.directories.bound_imports.put_bound_names.Given as goal
-
--- as many as there is room for
-abbrev pub invariant-loop-i : goal.invariant-loop-i
-invariant-loop-i l = record {
-  few : l.count ≤ length l.room;
-  same : length l.room ≡ length l.initial.room;
-}

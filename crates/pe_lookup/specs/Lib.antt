@@ -1,0 +1,3 @@
+pub mod AddressRanges
+pub mod SectionIndexes
+pub mod SectionSearch
