@@ -145,8 +145,9 @@ export class Dump extends File {
     try {
       const raised = this.exception();
       if (raised?.thread_id === thread.thread_id) return this.context(raised.thread_context);
-    } catch {
-      // A stream that is damaged names no thread.
+    } catch (error) {
+      // A stream that is damaged names no thread: `exception` says so, and `context` of its `thread_context`.
+      if (!(error instanceof PeError)) throw error;
     }
     return this.context(thread.thread_context);
   }

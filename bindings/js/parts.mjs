@@ -1,5 +1,6 @@
 // The parts of an image as values: what its lists and records say, with texts in place of ranges. A hostile image may have as
 // many rows as it likes, so each list ends where its rows are more than the bytes of the file account for, and says so.
+import { memoryOf } from './calls.mjs';
 import { constants } from './layouts.mjs';
 import { PeError } from './memory.mjs';
 import { algorithmOf, signerOf } from './signatures.mjs';
@@ -142,17 +143,21 @@ function versionOf(image, { language, content }) {
   };
 }
 
-/** Version information in each language. In a hostile image all may be the same bytes. */
+/** Version information in each language. In a hostile image all may be the same bytes. One whose content is not in the file is left out:
+ * the first is the error of all. */
 export function versionsOf(image) {
-  let left = image.length;
-  const isVersion = ({ resource_type: type, content_result: result }) => (
-    !type.has_name && type.id === RT_VERSION && result === constants.PE_C_DONE);
+  let left = image.length, refused = null;
   const found = rows(image.list('resourceLeaves'), (leaf) => {
-    if (!isVersion(leaf)) return {};
+    const { resource_type: type, content_result: result } = leaf;
+    if (type.has_name || type.id !== RT_VERSION) return {};
+    if (result !== constants.PE_C_DONE) {
+      refused ??= memoryOf(image).error('pe_c_next_resource_leaf', result);
+      return {};
+    }
     left -= Number(leaf.content.length) + FIXED;
     return left < 0 ? null : versionOf(image, leaf);
   });
-  return Object.assign(found.filter((it) => it.strings), { error: found.error, isLimited: found.isLimited });
+  return Object.assign(found.filter((it) => it.strings), { error: refused ?? found.error, isLimited: found.isLimited });
 }
 
 /** The text of the first manifest, or null. XML is UTF-8 unless it starts with a byte order mark. */

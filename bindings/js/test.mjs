@@ -1214,6 +1214,12 @@ test('the stacks of minidumps, on x64 and on ARM64', () => {
     const [thread] = found.list('threads'), none = { ...thread, thread_context: {} };
     assert.deepEqual([found.contextOf(thread).registers, found.contextOf(none).registers], [registers, registers]);
     assert.equal(refused(() => found.contextOf({ ...none, thread_id: 1 })).constant, 'PE_C_DUMP_CONTEXT_SIZE');
+    // Where those of the exception cannot be read, the thread's own stand there, and `context` says why.
+    const own = Buffer.from(bytes);
+    own.writeUInt32LE(1, Number(found.stream(constants.PE_C_EXCEPTION_STREAM).offset) + 160);
+    const other = library.openDump(own);
+    assert.equal(refused(() => other.context(other.exception().thread_context)).constant, 'PE_C_DUMP_CONTEXT_SIZE');
+    assert.deepEqual(other.contextOf(thread), other.context(thread.thread_context));
     // An exception that is damaged names no thread, so that each has its own registers alone.
     const damaged = library.openDump(withoutException(bytes));
     assert.ok(refused(() => damaged.exception()));
@@ -1485,6 +1491,11 @@ test('version information and the manifest as values', () => {
   const key = Buffer.from('StringFileInfo', 'utf16le'), upper = file('resources');
   upper.set(Buffer.from('STRINGFILEINFO', 'utf16le'), upper.indexOf(key));
   assert.deepEqual(library.open(upper, { mode: 1 }).versions()[0].strings, version.strings);
+  // One whose content is not in the file.
+  const leaf = [...image.list('resourceLeaves')].find((it) => it.resource_type.id === 16), moved = file('resources');
+  moved.writeUInt32LE(0x7FFF0000, moved.indexOf(Buffer.from(Uint32Array.of(leaf.rva, leaf.size).buffer)));
+  const none = library.open(moved, { mode: 1 }).versions();
+  assert.deepEqual([none.length, none.error.constant], [0, 'PE_C_UNMAPPED']);
   assert.ok(image.manifest() === null || image.manifest().startsWith('<'));
   assert.deepEqual([...opened('imports').versions(), opened('imports').manifest()], [null]);
 });

@@ -89,6 +89,7 @@ function sayDamage(said, dump, process, modules) {
 export function dumpFacts(library, bytes) {
   const said = [], dump = library.openDump(bytes), runs = attempt(said, 'memory', () => dump.runs()) ?? [];
   const modules = modulesOf(library, dump, bytes, runs, said), raised = attempt(said, 'exception', () => dump.exception());
+  if (raised) attempt(said, "registers of the exception, in whose place stand the thread's own", () => dump.context(raised.thread_context));
   const known = modules.map(({ bytes: image, size, base_va: base }) => (image ? { bytes: image, base, mode: MODE } : { size, base }));
   const process = attempt(said, 'memory', () => library.process({ modules: known, memory: bytes, pieces: runs }));
   sayDamage(said, dump, process, modules);

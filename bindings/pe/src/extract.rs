@@ -2,7 +2,7 @@
 //! files that other programs open.
 
 use crate::facts::resources::LEAVES;
-use crate::facts::{languages, overlay, sections, Refusal};
+use crate::facts::{counted, languages, overlay, sections, Refusal};
 use crate::files::{self, Report};
 use crate::names::{name_of, RESOURCE_TYPES};
 use crate::new_file::Target;
@@ -22,7 +22,7 @@ pub enum ExtractedPart {
     Certificate,
     /// All certificates: the entries of their table, as attach takes them
     Certificates,
-    /// A resource as it is in the image, by its type, its name and its language
+    /// A resource as it is in the image, the first with its type, its name and its language
     Resource,
     /// An icon as an .ico file, by its name and its language
     Icon,
@@ -131,20 +131,29 @@ fn by_id<'a>(leaves: Vec<ResourceLeaf<'a>>, language: ResourceName<'_>) -> BTree
 }
 
 /// A file of the images of a group, those that are there: what a group says of each, and the resource with its identifier in the
-/// language of the group.
-fn file_of_group(image: &Image<'_>, group: &ResourceLeaf<'_>, kind: u16) -> Result<Option<Vec<u8>>, Error> {
+/// language of the group. How many it has not is added to `left_out`.
+fn file_of_group(
+    image: &Image<'_>,
+    group: &ResourceLeaf<'_>,
+    kind: u16,
+    left_out: &mut usize,
+) -> Result<Option<Vec<u8>>, Error> {
     let content = group.content()?;
     let any = Which { kind: None, name: None, language: None, number: None };
     let parts = by_id(leaves_of(image, &any, Some(kind))?, group.language);
     let mut images = Vec::new();
     let mut left = image.bytes().len();
     for entry in content.get(HEADER..).unwrap_or_default().chunks_exact(GROUP_ENTRY) {
-        let Some(leaf) = parts.get(&word_at(entry, GROUP_ENTRY - 2).unwrap_or_default()) else { continue };
-        let bytes = leaf.content()?;
+        let leaf = parts.get(&word_at(entry, GROUP_ENTRY - 2).unwrap_or_default());
+        let bytes = leaf.map(ResourceLeaf::content).transpose()?;
         // Entries may share an image: the file has no more bytes than the executable.
-        let Some(rest) = left.checked_sub(bytes.len()) else { break };
-        left = rest;
-        images.push((entry, bytes));
+        match bytes.and_then(|bytes| Some((bytes, left.checked_sub(bytes.len())?))) {
+            Some((bytes, rest)) => {
+                left = rest;
+                images.push((entry, bytes));
+            }
+            None => *left_out += 1,
+        }
     }
     if images.is_empty() || images.len() > usize::from(u16::MAX) {
         return Ok(None);
@@ -189,7 +198,13 @@ fn entry_of(entry: &[u8], bytes: &[u8], kind: u16) -> [u8; 8] {
 }
 
 impl ExtractedPart {
-    fn bytes_of<'a>(self, image: &Image<'a>, which: &Which) -> Result<Option<Cow<'a, [u8]>>, Error> {
+    /// The bytes of a file, if the image has the part. How many images of a group are not in it is added to `left_out`.
+    fn bytes_of<'a>(
+        self,
+        image: &Image<'a>,
+        which: &Which,
+        left_out: &mut usize,
+    ) -> Result<Option<Cow<'a, [u8]>>, Error> {
         let kind = match self {
             ExtractedPart::Manifest => return Ok(image.manifest()?.map(Cow::from)),
             ExtractedPart::Certificate => return certificate_of(image, which.number),
@@ -204,7 +219,7 @@ impl ExtractedPart {
             ExtractedPart::Cursor | ExtractedPart::Resources => CURSOR,
         };
         match leaves_of(image, which, Some(kind + GROUP))?.first() {
-            Some(group) => Ok(file_of_group(image, group, kind)?.map(Cow::from)),
+            Some(group) => Ok(file_of_group(image, group, kind, left_out)?.map(Cow::from)),
             None => Ok(None),
         }
     }
@@ -214,9 +229,17 @@ impl ExtractedPart {
         if let (ExtractedPart::Resources, Ok(image)) = (self, &image) {
             return write_resources((path, image), which, to);
         }
-        let found = image.and_then(|image| self.bytes_of(&image, which).map(|bytes| (bytes, image)));
+        let mut left_out = 0;
+        let found = image.and_then(|image| self.bytes_of(&image, which, &mut left_out).map(|bytes| (bytes, image)));
         match found {
-            Ok((Some(bytes), _)) => files::deliver(&bytes, to, Status::Done),
+            Ok((Some(bytes), _)) if left_out == 0 => files::deliver(&bytes, to, Status::Done),
+            Ok((Some(bytes), _)) => files::deliver(&bytes, to, Status::Done).and(Report::refused(
+                path,
+                format_args!(
+                    "{} of the group left out: no resource of the image, or too many bytes",
+                    counted(left_out, "image")
+                ),
+            )),
             Ok((None, image)) => {
                 let part = self.to_possible_value().map_or(String::new(), |it| it.get_name().to_string());
                 let is_open = self.is_of_resources() && has_more_leaves(&image);
@@ -308,14 +331,11 @@ fn write_resources((path, image): (&Path, &Image<'_>), which: &Which, to: &Targe
             Ok(bytes) => files::deliver(bytes, &target, Status::Done),
             Err(error) => Report::refused(path, format_args!("{name}: {}", Refusal::from(error))),
         };
-        report.complaints += &one.complaints;
-        report.status = report.status.max(one.status);
+        report = report.and(one);
     }
     if has_more_leaves(image) {
         let more = format!("it has more than {LEAVES} resources: only the first {LEAVES} are looked at");
-        let more = Report::refused(path, more);
-        report.complaints += &more.complaints;
-        report.status = report.status.max(more.status);
+        report = report.and(Report::refused(path, more));
     }
     report
 }

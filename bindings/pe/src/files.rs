@@ -51,6 +51,11 @@ impl Report {
     pub fn of(text: impl Into<Vec<u8>>, status: Status) -> Report {
         Report { head: String::new(), text: text.into(), complaints: String::new(), status, is_image: true }
     }
+
+    /// What is said of the file, and the complaints of another report.
+    pub fn and(self, other: Report) -> Report {
+        Report { complaints: self.complaints + &other.complaints, status: self.status.max(other.status), ..self }
+    }
 }
 
 /// What a command made, written to a file or for `-` to standard output.

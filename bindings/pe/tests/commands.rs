@@ -432,6 +432,11 @@ fn icons_are_changed() {
     };
     assert_eq!(extracted("b.exe", "b.ico"), icons(&[16, 24, 32]));
     assert_eq!(run(&["extract", &path("b.exe"), "manifest", "-"]).0, "<old/>");
+    // An image of a group that is not there is said, and the file has the others.
+    assert_eq!(run(&["remove-resource", &path("b.exe"), &path("less.exe"), "icon", "2"]).2, 0);
+    let (_, complaint, status) = run(&["extract", &path("less.exe"), "icon", &path("less.ico")]);
+    assert!(status == 1 && complaint.contains("1 image of the group left out"), "{complaint}");
+    assert_eq!(fs::read(path("less.ico")).unwrap(), icons(&[16, 32]));
     // Other icons take its name, its language and its identifiers; those that are left over go.
     assert_eq!(run(&["set-icon", &path("b.exe"), &path("c.exe"), &one]).2, 0);
     assert_eq!(extracted("c.exe", "c.ico"), icons(&[48]));

@@ -23,7 +23,7 @@ from unittest import mock
 
 import hostile
 import pe_c
-from pe_c import End, Kind, KnownOid, Way, _dump, _functions, _signature, pefile
+from pe_c import End, Kind, KnownOid, WarningKind, Way, _dump, _functions, _signature, pefile
 from pe_c._signature import dotted
 
 HERE = os.path.dirname(os.path.abspath(__file__))
@@ -144,6 +144,27 @@ class Signatures(unittest.TestCase):
         self.assertEqual((stamp.time, stamp.digest), ("2026-11-27T05:37:07Z", hashlib.new(stamp.digest_algorithm, signer.signature).digest()))
         self.assertEqual([str(it.certificate.subject) for it in stamp.signature.signers], ["CN=Stamps"])
         self.assertTrue(datetime.datetime.fromisoformat(stamp.time))
+
+    def test_what_ends_a_list_is_its_error(self):
+        """Without a length an element is refused: it ends certificates, and attributes, of which those after it are not known."""
+        whole, = pe_c.Image(signed()).signatures
+
+        def damaged(element):
+            body = bytearray(whole.memory)
+            body[element.whole.offset + 1] = 0x80
+            return _signature.Signature(bytes(body))
+        first, second = whole._elements(whole.row.certificates)
+        ended = damaged(second)
+        self.assertEqual((len(ended.certificates), ended.certificates.error.kind), (1, Kind.SIGNATURE_INDEFINITE_LENGTH))
+        row = whole.signers[0].row
+        signer, = damaged(whole._elements(row.unsigned_attributes)[0]).signers
+        for part in (signer.time_stamps, signer.nested):
+            self.assertEqual((part, part.error.kind), ((), Kind.SIGNATURE_INDEFINITE_LENGTH))
+        self.assertEqual(signer.signing_time, whole.signers[0].signing_time)
+        signer, = damaged(whole._elements(row.signed_attributes)[0]).signers
+        for name in ("signing_time", "message_digest", "program_name"):
+            with self.assertRaises(pe_c.Error, msg=name):
+                getattr(signer, name)
 
     def test_they_outlive_the_image(self):
         image = pe_c.Image(signed())
@@ -471,6 +492,18 @@ class Dumps(unittest.TestCase):
         self.assertEqual(dump.module_at(BASE + 5).module_name, "a.exe")
         arm64 = pe_c.Dump(bytes_of("arm64.dmp"))
         self.assertEqual(arm64.context(arm64.threads[0]).registers.pc, BASE + 0x5020)
+
+    def test_registers_of_the_exception_that_cannot_be_read(self):
+        dump, whole = bytearray(bytes_of("x64.dmp")), pe_c.Dump(bytes_of("x64.dmp"))
+        at, = (it.location.rva for it in whole.entries if it.stream_type == 6)
+        struct.pack_into("<I", dump, at + 160, 1)
+        changed = pe_c.Dump(bytes(dump), path="a.dmp")
+        stack = changed.stack(changed.threads[0])
+        self.assertEqual(stack.frames[0].registers, changed.context(changed.threads[0]).registers)
+        (warning,) = stack.warnings
+        self.assertEqual((warning.kind, warning.part, warning.error.kind, warning.path),
+                         (WarningKind.DAMAGED, "registers of the exception", Kind.DUMP_CONTEXT_SIZE, "a.dmp"))
+        self.assertEqual(whole.stack(whole.threads[0]).warnings, ())
 
     def test_an_image_in_memory(self):
         """The image of a module stands in the memory of the dump, as it was loaded."""

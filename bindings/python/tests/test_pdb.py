@@ -296,6 +296,14 @@ class Stacks(unittest.TestCase):
         self.assertEqual([(it.function, it.line, it.inlined) for it in self.dump.stacks(lambda _: self.image)[0].frames],
                          [(None, None, ())] * 4)
 
+    def test_a_record_of_a_pdb_that_is_refused(self):
+        data, module = bytearray(made("DUMP")), self.dump.modules[0]
+        place = struct.pack("<II", module.cv_record.size, module.cv_record.rva)
+        struct.pack_into("<I", data, data.index(place), 5)
+        (warning,) = pe_c.Dump(bytes(data)).stacks(symbols=self.folder)[0].warnings
+        self.assertEqual(warning.kind, WarningKind.SYMBOLS)
+        self.assertRegex(warning.text, "^the record that names its PDB is refused: ")
+
     def test_where_a_pdb_is_found(self):
         lower = KEY.lower()
         for path in (f"crash.pdb/{KEY}/crash.pdb", f"CRASH.PDB/{lower}/Crash.pdb", f"cr/crash.pdb/{KEY}/crash.pdb", "crash.pdb"):

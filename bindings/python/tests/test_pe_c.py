@@ -238,6 +238,14 @@ class Values(unittest.TestCase):
             image.attach(b"short")
         self.assertEqual((caught.exception.kind, caught.exception.part), (Kind.SHORT, "attach"))
 
+    def test_version_information_that_is_not_in_the_file(self):
+        data = bytearray(bytes_of("resources"))
+        leaf, = (it for it in made("resources").resources if it.type == 16)
+        struct.pack_into("<I", data, data.index(struct.pack("<II", leaf.rva, leaf.size)), 0x7FFF0000)
+        image = pe_c.Image(bytes(data))
+        self.assertEqual((image.versions, image.versions.error.kind), ((), Kind.UNMAPPED))
+        self.assertIn(("versions", Kind.UNMAPPED), [(it.part, it.error.kind) for it in image.warnings])
+
     def test_the_rich_header(self):
         image, data = made("rich_header"), bytes_of("rich_header")
         end = data.index(b"Rich")

@@ -68,9 +68,9 @@ class Stack(typing.NamedTuple):
     address: int
     """what the error of a step speaks of"""
     warnings: tuple[ImageWarning, ...] = ()
-    """of modules whose function table is damaged: of these the whole entries serve, frames of their code may be missing or wrong, and
-    have no names; of those whose symbols, strings or exports are damaged: these name no frame; and of each PDB that is looked for and
-    not read, or is damaged"""
+    """of the registers of the exception, where they cannot be read; of modules whose function table is damaged: of these the whole
+    entries serve, frames of their code may be missing or wrong, and have no names; of those whose symbols, strings or exports are
+    damaged: these name no frame; and of each PDB that is looked for and not read, or is damaged"""
 
 
 def _named(number: int, table: dict[int, str]) -> str:
@@ -282,19 +282,24 @@ class Dump(Reader):
     # ---- stacks
 
     def context(self, thread: DumpThread) -> Context | Arm64Context:
-        """The registers of a thread: where the exception names it, those as it crashed. Raises Error."""
+        """The registers of a thread: where the exception names it, and those can be read, as it crashed. Raises Error."""
+        return self._context(thread)[0]
+
+    def _context(self, thread: DumpThread) -> tuple[Context | Arm64Context, tuple[ImageWarning, ...]]:
+        """The same, and what is to be said where those of the crash cannot be read."""
         system, raised = self.system, self._kept_answer("dump_exception")[0]
         if system is None or system.processor_architecture not in (AMD64, ARM64):
             raise error_of(Kind.DUMP_MACHINE, "context", self.path)
         name = "dump_context" if system.processor_architecture == AMD64 else "dump_context_arm64"
-        places = [raised.thread_context] if raised and raised.thread_id == thread.thread_id else []
-        for at in places:
-            found, number, _ = self._read(name, at.size, at.rva)
+        warnings: tuple[ImageWarning, ...] = ()
+        if raised and raised.thread_id == thread.thread_id:
+            found, number, _ = self._read(name, raised.thread_context.size, raised.thread_context.rva)
             if not number:
-                crashed: Context | Arm64Context = found
-                return crashed
-        own: Context | Arm64Context = self._asked("context", name, thread.thread_context.size, thread.thread_context.rva)
-        return own
+                return found, ()
+            error = error_of(number, "registers of the exception", self.path)
+            text = f"{error.text}: the thread's own are taken, which may be those of the code that wrote the dump"
+            warnings = ImageWarning(WarningKind.DAMAGED, error.part, text, error, self.path),
+        return self._asked("context", name, thread.thread_context.size, thread.thread_context.rva), warnings
 
     def image_of(self, module: DumpModule) -> Image | None:
         """The image of a module in the dump's memory, as it was loaded: one with the time stamp and the size of the module."""
@@ -342,7 +347,7 @@ class Dump(Reader):
 
     def _stack(self, thread: DumpThread, look_up: typing.Callable[[DumpModule], Image | None] | None, most: int) -> Stack:
         """A stack whose frames have no names yet."""
-        registers = self.context(thread).registers
+        context, warnings = self._context(thread)
         if self._left <= 0:
             return self._no_frames()
         kept = self._kept.get("loaded")
@@ -352,9 +357,9 @@ class Dump(Reader):
             kept = self._kept["loaded"] = (look_up, _packed(images), sections, is_limited)
             self._left -= len(self.modules) // PACKED_A_FRAME
         _, packed, sections, is_limited = kept
-        walked = self._walked(registers, packed, 1 + sections // SECTIONS_A_FRAME, most)
+        walked = self._walked(context.registers, packed, 1 + sections // SECTIONS_A_FRAME, most)
         walked.frames.is_limited = walked.frames.is_limited or is_limited
-        return walked
+        return walked._replace(warnings=(*warnings, *walked.warnings))
 
     def _with_names(self, stacks: list[Stack], symbols: AnyFolders) -> list[Stack]:
         """The stacks of the modules that were packed last, with names, as long as these do not cost too much."""
@@ -404,9 +409,8 @@ class Dump(Reader):
                 continue
             module = self.modules[index]
             if index not in of_modules:
-                wanted = self._pdb_of(module, names.image_at(ip - is_return))
+                wanted, text = self._pdb_of(module, names.image_at(ip - is_return))
                 if wanted is None:
-                    text = "it names no PDB"
                     warnings.append(ImageWarning(WarningKind.SYMBOLS, f"module at 0x{module.base_of_image:x}", text, None, self.path))
                 else:
                     wanted = groups.setdefault((wanted.name.lower(), wanted.text), wanted)
@@ -416,18 +420,22 @@ class Dump(Reader):
                 wanted.frames.append((number, rva, names.image_at(ip - is_return)))
         return [*groups.values()], warnings
 
-    def _pdb_of(self, module: DumpModule, image: _core.Image | None) -> Wanted | None:
-        """The PDB that a module names: by its record in the dump, or else in its image."""
-        key = None
+    def _pdb_of(self, module: DumpModule, image: _core.Image | None) -> tuple[Wanted | None, str]:
+        """The PDB that a module names: by its record in the dump, or else in its image; and why there is none."""
+        key, text = None, "it names no PDB"
         try:
             key = self.symbol_key(module) if module.cv_record.size <= MOST_RECORD else None
-        except Error:
-            pass
+        except Error as error:
+            text = f"the record that names its PDB is refused: {error.text}"
+        if module.cv_record.size > MOST_RECORD:
+            text = f"the record that names its PDB has more than {MOST_RECORD} bytes"
         if key is None and image is not None:
             key, number, _ = image.symbol_key()
             key = None if number else key
-        path = key.symbol_path if key is not None and len(key.raw_name) <= MOST_RECORD else None
-        return None if key is None or path is None else Wanted(key, path)
+        if key is None:
+            return None, text
+        path = key.symbol_path if len(key.raw_name) <= MOST_RECORD else None
+        return (None, "the name of its PDB is that of no file") if path is None else (Wanted(key, path), "")
 
     def _name_frames(self, frames: list[AnyFrame], wanted: Wanted, pdb: Pdb, names: Names) -> None:
         """Puts their functions to the frames of a PDB, each address once, as long as the names do not cost too much."""

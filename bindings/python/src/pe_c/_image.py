@@ -24,7 +24,7 @@ if TYPE_CHECKING:
     import _typeshed
     from . import _signature
 
-RT_VERSION, RT_MANIFEST = 16, 24
+RT_VERSION = 16
 WIN_CERT_TYPE_PKCS_SIGNED_DATA = 2
 IMAGE_DIRECTORY_ENTRY_BASERELOC = 5
 IMAGE_FILE_DLL, IMAGE_FILE_EXECUTABLE_IMAGE = 0x2000, 0x2
@@ -373,26 +373,29 @@ class Image(Reader):
 
     @property
     def versions(self) -> Part[Version]:
-        """Version information in each language. What is damaged in one of them is the error of its `blocks`. It is limited where
-        it would have more bytes than the file."""
+        """Version information in each language. What is damaged in one of them is the error of its `blocks`; of one whose content is not
+        in the file, the first, it is the error of all. It is limited where it would have more bytes than the file."""
         def read() -> Part[Version]:
-            left, found, is_limited = len(self.memory), [], False
+            left, found, is_limited, refused = len(self.memory), [], self.resources.is_limited, self.resources.error
             for it in self.resources:
-                if it.type == RT_VERSION and it.content is not None:
+                if it.type == RT_VERSION and it.content is None:
+                    refused = refused or error_of(it.content_result, "versions", self.path)
+                elif it.type == RT_VERSION:
                     left -= len(it.content)
-                    is_limited = left < 0
-                    if is_limited:
+                    if left < 0:
+                        is_limited = True
                         break
                     found.append(self._version_of(it))
             part: Part[Version] = Part(found)
-            part.is_limited = is_limited
+            part.error, part.is_limited = refused, is_limited
             return part
         return self._once("versions", read)
 
     @property
     def manifest(self) -> memoryview | None:
-        """The first manifest, an XML text in UTF-8 as a rule."""
-        return next((it.content for it in self.resources if it.type == RT_MANIFEST and it.content is not None), None)
+        """The first manifest, an XML text in UTF-8 as a rule. Raises Error where it is damaged, or where what comes before it is."""
+        view: memoryview | None = self._one("manifest")
+        return view
 
     # ---- addresses
 
@@ -551,10 +554,12 @@ class Image(Reader):
     @property
     def warnings(self) -> tuple[ImageWarning, ...]:
         """What of the image is damaged, an error a part. Then what is no damage: the parts that are limited, and a file alignment
-        below 512. A directory of zeros is no warning."""
+        below 512. A directory of zeros is no warning. `symbols` and `signatures` are read when they are asked for alone, and have their
+        own `error`."""
         def read() -> tuple[ImageWarning, ...]:
             errors = [part.error for part in (self._part(name) for name in LISTS) if part.error]
             errors += [error for it in self.versions for error in (it.fixed_error, it.strings_error, it.blocks.error) if error]
+            errors += [it for it in (self.versions.error,) if it and not self.resources.error]
             # By a directory that is refused each of its records is.
             of_debug = () if self.debug_entries.error else DEBUG_RECORDS
             errors += [it for it in map(self._error_of, (*RECORDS, *of_debug)) if it]
@@ -589,7 +594,7 @@ class Image(Reader):
     @property
     def limited(self) -> tuple[str, ...]:
         """The parts of which there are more rows than the image's bytes account for, as only hostile images have."""
-        versions = ("versions",) if self.versions.is_limited else ()
+        versions = ("versions",) if self.versions.is_limited and not self.resources.is_limited else ()
         return (*(name for name in LISTS if self._part(name).is_limited), *versions)
 
     def to_dict(self) -> dict[str, Any]:

@@ -147,12 +147,14 @@ class X509(_Inside):
 
     @property
     def key_usage(self) -> int | None:
-        """What the key is for: 0x80 signatures, 4 certificates, .. as pe_c_key_usage has it; None where it does not say."""
-        for it in self._reader._elements(self.row.extensions):
-            extension, number, _ = self._reader._read("extension", it.whole.offset, it.whole.length)
-            if not number and extension.type.id == KnownOid.KEY_USAGE:
-                usage: int | None = self._reader._read("key_usage", it.whole.offset, it.whole.length)[0]
+        """What the key is for: 0x80 signatures, 4 certificates, .. as pe_c_key_usage has it; None where it does not say. Raises Error."""
+        extensions = self._reader._elements(self.row.extensions)
+        for it in extensions:
+            extension = self._reader._asked("extension", "extension", it.whole.offset, it.whole.length)
+            if extension.type.id == KnownOid.KEY_USAGE:
+                usage: int | None = self._reader._asked("key usage", "key_usage", it.whole.offset, it.whole.length)
                 return usage
+        extensions.check()
         return None
 
     def __repr__(self) -> str:
@@ -204,14 +206,19 @@ class Signer(_Inside):
         """That of the signer, if the signature has it."""
         return self._reader._certificate_of(self.row)
 
-    def _values(self, kind: KnownOid) -> list[Range]:
+    def _values(self, kind: KnownOid) -> Part[Range]:
         """The values of the attributes of a kind: those of the signed ones, then of the others, each up to the first that is refused."""
         walks = [it for it in (self.row.signed_attributes, self.row.unsigned_attributes) if it is not None]
-        found = [it for at in walks for it in self._reader._read("attributes", at.offset, at.length, kind)[0] or ()]
-        return [one.whole for it in found for one in self._reader._elements(it.values)]
+        found = [self._reader._part_of(self._reader._read("attributes", at.offset, at.length, kind), "attributes") for at in walks]
+        values = [self._reader._elements(it.values) for part in found for it in part]
+        part: Part[Range] = Part(one.whole for it in values for one in it)
+        part.error = next((it.error for it in (*found, *values) if it.error), None)
+        return part
 
     def _first(self, kind: KnownOid) -> Range | None:
-        return next(iter(self._values(kind)), None)
+        """The first value; None where there is none. Raises Error where what comes before it is refused."""
+        values = self._values(kind)
+        return values[0] if values else next(iter(values.check()), None)
 
     @property
     def signing_time(self) -> str | None:
@@ -223,13 +230,13 @@ class Signer(_Inside):
     def message_digest(self) -> bytes | None:
         """The digest of what is signed, as a signed attribute."""
         at = self._first(KnownOid.MESSAGE_DIGEST)
-        found = self._reader._elements(at)[0].content if at is not None and self._reader._elements(at) else None
+        found = None if at is None else self._reader._elements(at).check()[0].content
         return None if found is None else bytes(self._reader._bytes(found))
 
     @property
     def _program(self) -> Any:
         at = self._first(KnownOid.SPC_SP_OPUS_INFO)
-        return self._reader._read("opus_info", at.offset, at.length)[0] if at else None
+        return self._reader._asked("program", "opus_info", at.offset, at.length) if at else None
 
     @property
     def program_name(self) -> str | None:
@@ -262,8 +269,8 @@ class Signer(_Inside):
         return f"<pe_c.Signer {self.certificate.subject if self.certificate else self.serial}>"
 
 
-def _all_of(ranges: list[Range], make: typing.Callable[[Range], T]) -> Part[T]:
-    """What is made of each; the first that is refused is the error."""
+def _all_of(ranges: Part[Range], make: typing.Callable[[Range], T]) -> Part[T]:
+    """What is made of each; the first that is refused is the error, or what ended the ranges."""
     found, refused = [], None
     for at in ranges:
         try:
@@ -271,7 +278,7 @@ def _all_of(ranges: list[Range], make: typing.Callable[[Range], T]) -> Part[T]:
         except Error as error:
             refused = refused or error
     part: Part[T] = Part(found)
-    part.error = refused
+    part.error = refused or ranges.error
     return part
 
 
@@ -289,9 +296,8 @@ class Signature(Reader):
     def _bytes(self, at: Range) -> memoryview:
         return self.memory[at.offset:at.offset + at.length]
 
-    def _elements(self, at: Range) -> tuple[DerElement, ...]:
-        found: tuple[DerElement, ...] | None = self._read("elements", at.offset, at.length)[0]
-        return found or ()
+    def _elements(self, at: Range) -> Part[DerElement]:
+        return self._part_of(self._read("elements", at.offset, at.length), "elements")
 
     def _inner(self, at: Range) -> Signature:
         return Signature(self._bytes(at), path=self.path, depth=self._depth + 1)
@@ -320,7 +326,12 @@ class Signature(Reader):
         return self._indirect.digest if self._indirect else None
 
     def _members(self, name: str, walk: Range, make: typing.Callable[[Range], T]) -> Part[T]:
-        return self._once(name, lambda: _all_of([it.whole for it in self._elements(walk)], make))
+        def read() -> Part[T]:
+            elements = self._elements(walk)
+            ranges: Part[Range] = Part(it.whole for it in elements)
+            ranges.error = elements.error
+            return _all_of(ranges, make)
+        return self._once(name, read)
 
     @property
     def certificates(self) -> Part[X509]:
