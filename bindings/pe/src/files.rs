@@ -3,7 +3,7 @@
 //! few.
 
 use crate::arguments::{Arguments, Files};
-use crate::facts::{counted, kind_of, Topic, OTHERS};
+use crate::facts::{counted, kind_of, Topic, CUT, OTHERS};
 use crate::new_file::Target;
 use crate::streams::{complain, complaint};
 use crate::system::{ask_for_large_pages, is_folder, is_loop, Progress};
@@ -117,7 +117,7 @@ struct Below<'a> {
     skipped: &'a Skipped,
 }
 
-/// How much was skipped, how many of it are of the kinds that `pe FILE` shows, and whether each is named.
+/// How much was skipped, how many of it are of the kinds of `OTHERS`, and whether each is named.
 struct Skipped {
     count: Cell<usize>,
     shown: [Cell<usize>; OTHERS.len()],
@@ -290,8 +290,9 @@ fn said_of(found: &Found, report: &(impl Fn(&Path, &[u8]) -> Report + Sync)) -> 
             return Ok(Err(kind_of(&start)));
         }
     }
-    let said = report(&found.path, &whole(&found.path)?);
-    Ok(if said.is_image || !found.is_below { Ok(said) } else { Err(None) })
+    let bytes = whole(&found.path)?;
+    let said = report(&found.path, &bytes);
+    Ok(if said.is_image || !found.is_below { Ok(said) } else { Err(bytes.starts_with(b"MZ").then_some(CUT)) })
 }
 
 /// Writes what `report` says of each file, in their order. Returns the worst status.

@@ -14,7 +14,7 @@ use crate::facts::imports::Library;
 use crate::facts::load_config::LoadConfig;
 use crate::facts::resources::Resources;
 use crate::facts::rich::Rich;
-use crate::facts::sections::Section;
+use crate::facts::sections::{self, Section};
 use crate::facts::symbols::Symbol;
 use crate::facts::tls::Tls;
 use crate::facts::version::Version;
@@ -134,6 +134,7 @@ fn hashes_of(hashes: &Hashes, page: &mut Page) {
 fn sections_of(sections: &[Section], page: &mut Page) {
     page.heading("Sections");
     page.table(&tables::sections(sections));
+    sections::cut(sections).iter().for_each(|it| page.line(format_args!("  {it}")));
 }
 
 fn imports_of(libraries: &List<Library>, page: &mut Page) {

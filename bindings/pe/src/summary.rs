@@ -3,7 +3,7 @@
 use crate::escape::escaped;
 use crate::facts::hardening::word;
 use crate::facts::headers::Headers;
-use crate::facts::sections::Section;
+use crate::facts::sections::{self, Section};
 use crate::facts::{clr, count_of, counted, others, Facts, Part};
 use crate::page::{Page, Style};
 use crate::show::time_of;
@@ -165,6 +165,7 @@ fn sections_of(sections: &[Section], is_object: bool, page: &mut Page) {
         let label = if index == 0 { "sections" } else { "" };
         page.row(label, &forms[fitting(forms).max(usual.unwrap_or(0))]);
     }
+    sections::cut(sections).iter().for_each(|it| page.warning(it));
 }
 
 /// What a line may say of a section, from the longest form to the shortest.

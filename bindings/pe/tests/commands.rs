@@ -259,6 +259,8 @@ fn certificates_are_attached_and_detached() {
     // Signed data get a header of eight bytes.
     let data = folder.file("signature", &[0x30, 1, 2, 3, 4]);
     assert_eq!(run(&["attach", &bare, &data, &signed]).2, 0);
+    let short = folder.file("short.txt", b"short");
+    assert_eq!(run(&["attach", &bare, &short, "-"]).1, format!("pe: {short}: truncated (SHORT)\n"));
     let said = json_of("attached", &fs::read(&signed).unwrap());
     let pkcs7 = json!({"number": 2, "name": "PKCS #7 signed data"});
     assert_eq!(said["certificates"], json!([{"size": 13, "revision": 0x200, "type": pkcs7, "signer": null}]));
@@ -1000,7 +1002,8 @@ fn a_list_has_a_row_of_each_image() {
     folder.file("c.txt", b"no image");
     folder.file("d.exe", &made::SMALL[..0x100]);
     let (out, complaints, status) = run(&["list", "--csv", "-r", folder.0.to_str().unwrap()]);
-    assert_eq!((complaints.as_str(), status), ("pe: 2 files are no images, and skipped\n", 0));
+    let skipped = "pe: 2 files are no images, and skipped; by their start 1 truncated MZ file\n";
+    assert_eq!((complaints.as_str(), status), (skipped, 0));
     let mut rows = csv::Reader::from_reader(out.as_bytes());
     let heads = rows.headers().unwrap().clone();
     let rows: Vec<csv::StringRecord> = rows.records().map(Result::unwrap).collect();
@@ -1754,4 +1757,15 @@ fn assemblies_have_names_and_references() {
     bytes[own + 18] = 0xFF;
     let (_, error, status) = run(&[&folder.file("c.dll", &bytes)]);
     assert_eq!((error.as_str(), status), ("", 1));
+}
+
+#[test]
+fn a_truncated_file_says_how_many_sections_it_cuts() {
+    let (folder, whole) = (Folder::new("cut"), made::with_resources());
+    let says = |bytes: &[u8]| {
+        let file = folder.file("a.dll", bytes);
+        let said = "sections: 1 not whole: the file ends before they do";
+        [run(&[&file]), run(&["show", &file, "sections"])].map(|it| it.0.contains(said))
+    };
+    assert_eq!((says(&whole), says(&whole[..whole.len() - 1])), ([false; 2], [true; 2]));
 }

@@ -6,6 +6,7 @@ mod made;
 
 fn main() -> std::io::Result<()> {
     let folder = std::env::args().nth(1).unwrap_or_else(|| ".".to_owned());
+    std::fs::create_dir_all(&folder)?;
     for (name, bytes) in made::all().into_iter().chain(made::others()) {
         std::fs::write(format!("{folder}/{name}.bin"), bytes)?;
     }

@@ -26,7 +26,7 @@ impl fmt::Debug for Text<'_> {
     fn fmt(&self, f: &mut fmt::Formatter<'_>) -> fmt::Result {
         let Text(name) = *self;
         // A character is not cut: the first byte that is left out continues none.
-        let is_between = |end: &usize| name.get(*end).map_or(true, |next| next & 0xC0 != 0x80);
+        let is_between = |end: &usize| name.get(*end).is_none_or(|next| next & 0xC0 != 0x80);
         let end = (MOST - 3..=MOST).rev().find(is_between).unwrap_or(MOST).min(name.len());
         write(f, &String::from_utf8_lossy(&name[..end]), end < name.len(), name.len())
     }

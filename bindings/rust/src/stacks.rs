@@ -69,7 +69,7 @@ fn add_stacks(dump: &Dump<'_>, listed: &mut Vec<MemoryPiece>, lost: &mut u64) {
     for thread in dump.threads().ok().flatten().into_iter().flatten().filter(|it| it.stack.memory.rva != 0) {
         let (start, at) = (thread.stack.start_of_memory_range, thread.stack.memory);
         let there = (dump.bytes().len() as u64).saturating_sub(at.rva.into()).min(at.size.into());
-        if longest.get(&start).map_or(true, |it| *it < there) {
+        if longest.get(&start).is_none_or(|it| *it < there) {
             longest.insert(start, there);
             *lost = lost.saturating_add(u64::from(at.size) - there);
             listed.push(MemoryPiece { start, offset: at.rva.into(), length: there });

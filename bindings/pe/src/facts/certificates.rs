@@ -19,7 +19,7 @@ pub struct Certificate {
 /// By whom a signature is, as it says.
 #[derive(Clone, Debug, Serialize)]
 pub struct CertificateSigner {
-    /// Of the signer's certificate, as RFC 4514 has it. Null where that is not in the file.
+    /// Of the signer's certificate, as RFC 4514 has it. Null where it is not found in the signature.
     pub subject: Option<String>,
     /// Issuer and serial number of the certificate.
     pub issuer: String,

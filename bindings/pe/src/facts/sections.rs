@@ -30,6 +30,9 @@ pub struct Section<'a> {
     /// Of the same bytes. Null without bytes, where hashes are left out, and once the sections before have as many bytes as
     /// the file: in a hostile one each of many sections may be the whole file.
     pub sha256_hex: Option<String>,
+    /// Whether the file ends before its bytes do. For text.
+    #[serde(skip)]
+    pub is_cut: bool,
 }
 
 /// How many sections are looked up in the string table: as many as Windows loads. Many could lead to one long string.
@@ -40,6 +43,12 @@ impl<'a> Section<'a> {
     pub fn shown_name(&self) -> &Name<'a> {
         self.long_name.as_ref().unwrap_or(&self.name)
     }
+}
+
+/// Says how many sections pass the end of the file, if one does.
+pub fn cut(sections: &[Section]) -> Option<String> {
+    let count = sections.iter().filter(|it| it.is_cut).count();
+    (count > 0).then(|| format!("sections: {count} not whole: the file ends before they do"))
 }
 
 pub fn of<'a>(image: &'a Image<'_>, has_hashes: bool) -> Vec<Section<'a>> {
@@ -118,9 +127,10 @@ impl<'a> Content<'a> {
         Content { bytes, counts: ByteCounts::of(bytes), left: if has_hashes { bytes.len() } else { 0 } }
     }
 
-    /// The entropy and the hash of a section.
-    fn of_section(&mut self, range: Range<u64>) -> (Option<f64>, Option<String>) {
-        (self.counts.entropy_of(range.clone()), self.hash_of(range))
+    /// The entropy and the hash of a section, and whether it passes the end.
+    fn of_section(&mut self, range: Range<u64>) -> (Option<f64>, Option<String>, bool) {
+        let is_cut = !range.is_empty() && range.end > self.bytes.len() as u64;
+        (self.counts.entropy_of(range.clone()), self.hash_of(range), is_cut)
     }
 
     /// The hash of a section, if it has bytes and so many are left.
@@ -133,13 +143,13 @@ impl<'a> Content<'a> {
     }
 }
 
-/// What a section header becomes, by its long name and by its entropy and hash.
+/// What a section header becomes, by its long name and by what its bytes look like.
 fn with<'a>(
     mut long_name: impl FnMut(&'a pe_c::Section) -> Option<&'a str>,
-    mut content: impl FnMut(&'a pe_c::Section) -> (Option<f64>, Option<String>),
+    mut content: impl FnMut(&'a pe_c::Section) -> (Option<f64>, Option<String>, bool),
 ) -> impl FnMut(&'a pe_c::Section) -> Section<'a> {
     move |section| {
-        let (entropy, sha256_hex) = content(section);
+        let (entropy, sha256_hex, is_cut) = content(section);
         Section {
             name: Name(section.name()),
             long_name: long_name(section).map(Name::of),
@@ -151,6 +161,7 @@ fn with<'a>(
             flags: section.characteristics,
             entropy,
             sha256_hex,
+            is_cut,
         }
     }
 }

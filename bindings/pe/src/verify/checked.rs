@@ -29,8 +29,8 @@ impl Checked {
     }
 }
 
-pub const NO_CERTIFICATE: Checked = Checked::Not("its certificate is not in the file");
-pub const NO_ISSUER: Checked = Checked::Not("that of its issuer is not in the file");
+pub const NO_CERTIFICATE: Checked = Checked::Not("its certificate is not found in the signature");
+pub const NO_ISSUER: Checked = Checked::Not("that of its issuer is not found in the signature");
 pub const NO_ROOTS: Checked = Checked::Not("no roots are given");
 
 /// Whether a chain leads to a root, and where it is wrong why.

@@ -18,7 +18,7 @@ const CHARACTERS: usize = 1024;
 /// What is said of a signer.
 #[derive(Clone, Debug, Serialize)]
 pub struct Told {
-    /// Null where it is not in the file.
+    /// Null where it is not found in the signature.
     pub certificate: Option<Certificate>,
     pub issuer: String,
     pub serial_hex: String,

@@ -98,7 +98,7 @@ fn signer_of(signer: &Told, page: &mut Page) {
             page.row("  signer", escaped(&certificate.subject));
             page.row("  valid", format_args!("{} to {}", time(&certificate.not_before), time(&certificate.not_after)));
         }
-        None => page.row("  signer", "its certificate is not in the file"),
+        None => page.row("  signer", "its certificate is not found in the signature"),
     }
     page.row("  issuer", escaped(&signer.issuer));
     page.row("  serial", &signer.serial_hex);
@@ -130,14 +130,14 @@ fn claims_of(content_type: Option<&Checked>, key_purpose: &Checked, purpose: &st
 fn chain_of(signer: &Told, page: &mut Page) {
     let end = match signer.is_chain_whole {
         true => "up to one that is by its own word",
-        false => "whose issuer is not in the file",
+        false => "whose issuer is not found in the signature",
     };
     match signer.chain.get(1..).unwrap_or_default() {
         [] if signer.is_chain_whole => {
             let checked = signer.chain_signatures.text();
             page.row("  chain", format_args!("the certificate is by its own word; its signature {checked}"));
         }
-        [] => page.row("  chain", "the certificate of the issuer is not in the file"),
+        [] => page.row("  chain", "the certificate of the issuer is not found in the signature"),
         issuers => {
             let through: Vec<String> = issuers.iter().map(|it| escaped(it)).collect();
             let checked = signer.chain_signatures.text();
@@ -153,7 +153,7 @@ fn trust_of(trust: &Checked, why: &Option<String>) -> String {
 
 fn stamp_of(stamp: &Stamp, page: &mut Page) {
     let time = stamp.time.as_deref().unwrap_or("a time that is none");
-    let subject = stamp.subject.as_deref().map_or("a certificate that is not in the file".to_string(), escaped);
+    let subject = stamp.subject.as_deref().map_or("a certificate that is not found in the signature".to_string(), escaped);
     page.row("  time stamp", format_args!("{time}, {}, by {subject}", stamp.kind));
     page.row("", format_args!("digest of the signature {}", words_of_digest(&stamp.digest)));
     page.row("", format_args!("digest of the stamp {}", words_of_digest(&stamp.message_digest)));

@@ -60,12 +60,13 @@ def run(words: list[str]) -> int:
     asked = arguments(words)
     mode = (Mode.STRICT if asked.strict else Mode.PERMISSIVE) | (Mode.MAPPED if asked.mapped else Mode.STRICT)
     bar = Bar(sys.stderr, asked.recursive and sys.stderr.isatty() and not sys.stdout.isatty())
-    worst, skipped, out = DONE, 0, sys.stdout.buffer
+    worst, skipped, cut, out = DONE, 0, 0, sys.stdout.buffer
     try:
         for said in scan(asked.paths, recursive=asked.recursive, jobs=asked.jobs, how=How(int(mode), not asked.no_hashes)):
             bar.add(said.size)
             out.write(said.line.encode())
             worst, skipped = max(worst, said.status), skipped + said.is_skipped
+            cut += said.complaint.endswith(CUT)
             if said.complaint and (not said.is_skipped or asked.verbose):
                 bar.end()
                 print(f"pe_c: {said.complaint}", file=sys.stderr)
@@ -80,7 +81,8 @@ def run(words: list[str]) -> int:
     finally:
         bar.end()
     if skipped:
-        print(f"pe_c: {skipped} file{' is no image' if skipped == 1 else 's are no images'}, and skipped", file=sys.stderr)
+        more = f"; by their start {cut} truncated MZ file{'' if cut == 1 else 's'}" if cut else ""
+        print(f"pe_c: {skipped} file{' is no image' if skipped == 1 else 's are no images'}, and skipped{more}", file=sys.stderr)
     return worst
 
 

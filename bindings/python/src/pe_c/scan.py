@@ -30,6 +30,8 @@ START = 4096
 # A batch that a process gets has so many bytes or files, and so many batches wait for each process.
 BATCH_BYTES, BATCH_FILES, AHEAD = 16 << 20, 64, 4
 LIMIT = 1 << 32
+# What is skipped below a folder that starts as an image or a DOS program, and whose headers do not end in it.
+CUT = "it is a truncated MZ file, as it seems"
 
 
 class File(typing.NamedTuple):
@@ -128,7 +130,7 @@ def line_of(file: File, how: How = How()) -> Said:
         return Said("", f"{shown_text(file.path)}: {why}{hint}", FILE_ERROR, False, 0)
     facts, is_image = facts_of(data, file.path, Mode(how.mode), how.has_hashes) if data is not None else ({}, False)
     if file.is_below and not is_image:
-        return skipped("it is no image")
+        return skipped(CUT if data and data.startswith(b"MZ") else "it is no image")
     return Said(json_of(facts) + "\n", "", REFUSED if is_refused(facts) else DONE, False, len(data or b""))
 
 
