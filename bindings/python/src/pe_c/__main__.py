@@ -10,7 +10,7 @@ import time
 import typing
 
 from ._image import Mode
-from .scan import DONE, FILE_ERROR, How, scan
+from .scan import CUT, DONE, FILE_ERROR, How, scan
 
 
 def arguments(words: list[str]) -> argparse.Namespace:

@@ -378,14 +378,16 @@ class Image(Reader):
         def read() -> Part[Version]:
             left, found, is_limited, refused = len(self.memory), [], self.resources.is_limited, self.resources.error
             for it in self.resources:
-                if it.type == RT_VERSION and it.content is None:
+                if it.type != RT_VERSION:
+                    continue
+                if it.content is None:
                     refused = refused or error_of(it.content_result, "versions", self.path)
-                elif it.type == RT_VERSION:
-                    left -= len(it.content)
-                    if left < 0:
-                        is_limited = True
-                        break
-                    found.append(self._version_of(it))
+                    continue
+                left -= len(it.content)
+                if left < 0:
+                    is_limited = True
+                    break
+                found.append(self._version_of(it))
             part: Part[Version] = Part(found)
             part.error, part.is_limited = refused, is_limited
             return part

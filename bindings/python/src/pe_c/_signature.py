@@ -218,7 +218,7 @@ class Signer(_Inside):
     def _first(self, kind: KnownOid) -> Range | None:
         """The first value; None where there is none. Raises Error where what comes before it is refused."""
         values = self._values(kind)
-        return values[0] if values else next(iter(values.check()), None)
+        return next(iter(values or values.check()), None)
 
     @property
     def signing_time(self) -> str | None:
