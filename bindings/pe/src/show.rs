@@ -124,6 +124,9 @@ fn hardening_of(hardening: &Hardening, page: &mut Page) {
     for (label, value) in tables::hardening(hardening) {
         page.line(format_args!("  {label:22}{value}"));
     }
+    for part in &hardening.refused {
+        page.line(format_args!("  {part}: refused, so what it may say is a no here"));
+    }
 }
 
 fn hashes_of(hashes: &Hashes, page: &mut Page) {

@@ -1769,3 +1769,17 @@ fn a_truncated_file_says_how_many_sections_it_cuts() {
     };
     assert_eq!((says(&whole), says(&whole[..whole.len() - 1])), ([false; 2], [true; 2]));
 }
+
+#[test]
+fn hardening_says_which_part_is_refused() {
+    let (folder, mut data) = (Folder::new("hardening-refused"), made::with_load_config());
+    let optional = u32::from_le_bytes(data[60..64].try_into().unwrap()) as usize + 24;
+    let directories = optional + if data[optional + 1] == 2 { 112 } else { 96 };
+    let says = |data: &[u8]| {
+        let said = "load configuration: refused, so what it may say is a no here";
+        run(&["show", &folder.file("a.exe", data), "hardening"]).0.contains(said)
+    };
+    assert!(!says(&data));
+    data[directories + 80..directories + 84].copy_from_slice(&0x7FFF_0000u32.to_le_bytes());
+    assert!(says(&data));
+}

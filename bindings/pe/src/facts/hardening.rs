@@ -26,6 +26,9 @@ pub struct Hardening {
     pub signed: bool,
     /// No section may be written and executed.
     pub no_writable_code: bool,
+    /// The parts that are refused: what they would say is false here. For text.
+    #[serde(skip)]
+    pub refused: Vec<&'static str>,
 }
 
 const RELOCS_STRIPPED: u16 = 1;
@@ -49,12 +52,18 @@ const PKCS_SIGNED_DATA: u16 = 2;
 pub fn of(image: &Image<'_>) -> Hardening {
     let info = image.info();
     let has = |flag| info.dll_characteristics & flag != 0;
-    let config = image.load_config().ok().flatten();
+    let (config, extended) = (image.load_config(), image.debug_characteristics());
+    let refused = [
+        ("load configuration", config.is_err()),
+        ("debug data", extended.is_err()),
+        ("certificates", image.certificates().any(|it| it.is_err())),
+    ];
+    let config = config.ok().flatten();
     let is_guarded = config.as_ref().and_then(|it| it.guard_flags).is_some_and(|flags| flags & CF_INSTRUMENTED != 0);
     let has_table = config
         .as_ref()
         .is_some_and(|it| it.se_handler_table.unwrap_or(0) != 0 && it.se_handler_count.unwrap_or(0) != 0);
-    let extended = image.debug_characteristics().ok().flatten().unwrap_or(0);
+    let extended = extended.ok().flatten().unwrap_or(0);
     let aslr = has(DYNAMIC_BASE) && info.characteristics & RELOCS_STRIPPED == 0;
     Hardening {
         aslr,
@@ -66,6 +75,7 @@ pub fn of(image: &Image<'_>) -> Hardening {
         force_integrity: has(FORCE_INTEGRITY),
         signed: image.certificates().flatten().any(|it| it.kind == PKCS_SIGNED_DATA),
         no_writable_code: image.sections().iter().all(|it| it.characteristics & WRITABLE_CODE != WRITABLE_CODE),
+        refused: refused.into_iter().filter(|it| it.1).map(|it| it.0).collect(),
     }
 }
 

@@ -564,7 +564,7 @@ class Image(Reader):
             errors += [it for it in (self.versions.error,) if it and not self.resources.error]
             # By a directory that is refused each of its records is.
             of_debug = () if self.debug_entries.error else DEBUG_RECORDS
-            errors += [it for it in map(self._error_of, (*RECORDS, *of_debug)) if it]
+            errors += [it for it in map(self._error_of, ("rich_header", *RECORDS, *of_debug)) if it]
             found = [ImageWarning(WarningKind.DAMAGED, it.part, it.text, it, self.path) for it in errors]
             found += self._unmapped()
             found += [ImageWarning(WarningKind.LIMITED, it, "more entries than the file's bytes account for", None, self.path)
