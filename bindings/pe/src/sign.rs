@@ -50,9 +50,7 @@ pub fn attach(
     };
     match image.map(|it| (it.attach(&entry_of(&given), placement), has_its_certificates(&it))) {
         // What is refused of a certificate is that of the image itself, or the one that is given.
-        Ok((Err(error), true)) if is_of_certificate(error) || (error == Error::SHORT && given.len() < HEADER as usize) => {
-            Report::refused(certificate, Refusal::from(error))
-        }
+        Ok((Err(error), true)) if is_of_certificate(error, &given) => Report::refused(certificate, Refusal::from(error)),
         Ok((made, _)) => deliver(made, path, to),
         Err(error) => Report::refused(path, Refusal::from(error)),
     }
@@ -63,8 +61,9 @@ fn has_its_certificates(image: &Image<'_>) -> bool {
     image.certificates().all(|it| it.is_ok())
 }
 
-fn is_of_certificate(error: Error) -> bool {
-    Refusal::from(error).name.starts_with("CERTIFICATE")
+fn is_of_certificate(error: Error, given: &[u8]) -> bool {
+    let is_short = error == Error::SHORT && given.len() < HEADER as usize;
+    is_short || Refusal::from(error).name.starts_with("CERTIFICATE")
 }
 
 pub fn detach(path: &Path, image: Result<Image<'_>, Error>, to: &Target) -> Report {

@@ -153,7 +153,7 @@ fn trust_of(trust: &Checked, why: &Option<String>) -> String {
 
 fn stamp_of(stamp: &Stamp, page: &mut Page) {
     let time = stamp.time.as_deref().unwrap_or("a time that is none");
-    let subject = stamp.subject.as_deref().map_or("a certificate that is not found in the signature".to_string(), escaped);
+    let subject = stamp.subject.as_deref().map_or("a certificate not found in the signature".to_string(), escaped);
     page.row("  time stamp", format_args!("{time}, {}, by {subject}", stamp.kind));
     page.row("", format_args!("digest of the signature {}", words_of_digest(&stamp.digest)));
     page.row("", format_args!("digest of the stamp {}", words_of_digest(&stamp.message_digest)));
