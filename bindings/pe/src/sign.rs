@@ -50,7 +50,9 @@ pub fn attach(
     };
     match image.map(|it| (it.attach(&entry_of(&given), placement), has_its_certificates(&it))) {
         // What is refused of a certificate is that of the image itself, or the one that is given.
-        Ok((Err(error), true)) if is_of_certificate(error, &given) => Report::refused(certificate, Refusal::from(error)),
+        Ok((Err(error), true)) if is_of_certificate(error, &given) => {
+            Report::refused(certificate, Refusal::from(error))
+        }
         Ok((made, _)) => deliver(made, path, to),
         Err(error) => Report::refused(path, Refusal::from(error)),
     }
