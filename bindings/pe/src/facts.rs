@@ -132,11 +132,11 @@ impl Wanted {
 
 const TE_IMAGE: &str = "a TE image";
 const OBJECT_AS_IT_SEEMS: &str = "a COFF object, as it seems";
-/// What a file is whose headers do not end in it, where it starts as an image or a DOS program.
-pub const CUT: &str = "a truncated MZ file, as it seems";
+/// What a file is that starts as one of DOS, where no PE signature or not all headers are in it.
+pub const CUT: &str = "a DOS or truncated MZ file, as it seems";
 /// What is skipped below folders and may be looked for, and how such files are counted.
 pub const OTHERS: [(&str, &str); 3] =
-    [(TE_IMAGE, "TE image"), (OBJECT_AS_IT_SEEMS, "COFF object"), (CUT, "truncated MZ file")];
+    [(TE_IMAGE, "TE image"), (OBJECT_AS_IT_SEEMS, "COFF object"), (CUT, "DOS or truncated MZ file")];
 
 /// What a file is that is no image, by its first bytes.
 pub fn kind_of(bytes: &[u8]) -> Option<&'static str> {

@@ -1002,7 +1002,7 @@ fn a_list_has_a_row_of_each_image() {
     folder.file("c.txt", b"no image");
     folder.file("d.exe", &made::SMALL[..0x100]);
     let (out, complaints, status) = run(&["list", "--csv", "-r", folder.0.to_str().unwrap()]);
-    let skipped = "pe: 2 files are no images, and skipped; by their start 1 truncated MZ file\n";
+    let skipped = "pe: 2 files are no images, and skipped; by their start 1 DOS or truncated MZ file\n";
     assert_eq!((complaints.as_str(), status), (skipped, 0));
     let mut rows = csv::Reader::from_reader(out.as_bytes());
     let heads = rows.headers().unwrap().clone();

@@ -87,7 +87,7 @@ class Lines(Room):
         one = run("scan", "-j", "1", self.room)
         self.assertEqual(run("scan", "-j", "3", self.room), one)
         self.assertEqual(run("-r", self.room), one)
-        self.assertIn("no images, and skipped; by their start 2 truncated MZ files", one[1])
+        self.assertIn("no images, and skipped; by their start 2 DOS or truncated MZ files", one[1])
         self.assertNotIn("symbolic links", one[1])
         # A folder that is named may be a link, as one below it is not.
         link = os.path.join(inner, "named")

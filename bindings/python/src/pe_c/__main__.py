@@ -81,7 +81,7 @@ def run(words: list[str]) -> int:
     finally:
         bar.end()
     if skipped:
-        more = f"; by their start {cut} truncated MZ file{'' if cut == 1 else 's'}" if cut else ""
+        more = f"; by their start {cut} DOS or truncated MZ file{'' if cut == 1 else 's'}" if cut else ""
         print(f"pe_c: {skipped} file{' is no image' if skipped == 1 else 's are no images'}, and skipped{more}", file=sys.stderr)
     return worst
 

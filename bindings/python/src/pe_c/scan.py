@@ -30,8 +30,8 @@ START = 4096
 # A batch that a process gets has so many bytes or files, and so many batches wait for each process.
 BATCH_BYTES, BATCH_FILES, AHEAD = 16 << 20, 64, 4
 LIMIT = 1 << 32
-# What is skipped below a folder that starts as an image or a DOS program, and whose headers do not end in it.
-CUT = "it is a truncated MZ file, as it seems"
+# What is skipped below a folder that starts as a file of DOS, where no PE signature or not all headers are in it.
+CUT = "it is a DOS or truncated MZ file, as it seems"
 
 
 class File(typing.NamedTuple):
