@@ -3,7 +3,7 @@
 
 use crate::frames::bytes_of;
 use crate::images::{directory_at, flat, stack_at};
-use crate::sections;
+use crate::shared::SECTION;
 use pe_core::SectionTable;
 use pe_frame::{Arm64Registers, Arm64StackFrames, Memory, Module, Modules, StackPieces, Way};
 use pe_images::image;
@@ -160,16 +160,9 @@ fn expect_walk_in<M: Memory>(
         assert_eq!(rt; walk.remaining(), 100 - index);
         let found = walk.next().ok_or("a frame")?;
         let registers = found.registers;
-        assert_eq!(rt;
-            (
-                registers.pc,
-                registers.sp,
-                registers.general[FP],
-                found.way,
-                found.has_called
-            ),
-            *frame
-        );
+        let fp = registers.general[FP];
+        let found = (registers.pc, registers.sp, fp, found.way, found.has_called);
+        assert_eq!(rt; found, *frame);
     }
     assert!(rt; walk.next().is_none());
     assert_eq!(rt; walk.remaining(), 0);
@@ -194,25 +187,15 @@ const CODE: SectionTable = SectionTable {
     size_of_raw_data: 0x100,
     pointer_to_raw_data: 0x100,
     characteristics: 0x6000_0020,
-    ..sections::SECTION
+    ..SECTION
 };
 
 /// A leaf function, called by the last instruction of a chained function, whose return address is the start of the next one; that
 /// was called by the one with packed data, and that by the chained one of the other module, which returns to 0.
 #[test]
 fn a_walk_goes_through_all_modules(rt: HostRuntime) -> Result<(), Fail> {
-    let words = [
-        0x2020,
-        APP + 0x190,
-        7,
-        7,
-        0x3000,
-        NT + 0x110,
-        7,
-        7,
-        0x19,
-        0x20,
-    ];
+    let (inside, called) = (APP + 0x190, NT + 0x110);
+    let words = [0x2020, inside, 7, 7, 0x3000, called, 7, 7, 0x19, 0x20];
     let inner = bytes_of(rt.alloc(), &words)?;
     let outer = bytes_of(rt.alloc(), &[0x1111, 0, 7, 7])?;
     let pieces = [stack_at(0x2000, &inner), stack_at(0x3000, &outer)];

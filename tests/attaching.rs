@@ -138,13 +138,7 @@ fn refuses_certificates_and_buffers(rt: HostRuntime) -> Result<(), Fail> {
     let Err(SignError::Image(Error::Malformed(reason))) = refused else {
         return Err(Fail::new("not refused"));
     };
-    assert_eq!(rt;
-        reason,
-        Reason::WriteFit {
-            end: 1024,
-            length: 0
-        }
-    );
+    assert_matches!(rt; reason => Reason::WriteFit { end: 1024, length: 0 });
     Ok(())
 }
 

@@ -141,11 +141,8 @@ fn check_given(
 ) -> Result<(), Fail> {
     let pe = PE::parse_with_opts(alloc, bytes, &in_mode(mode))?;
     for (i, directory) in DIRECTORIES.into_iter().enumerate() {
-        assert_eq!(rt;
-            is_empty(&pe, directory),
-            directory == empty,
-            "directory {i}"
-        );
+        let found = is_empty(&pe, directory);
+        assert_eq!(rt; found, directory == empty, "directory {i}");
     }
     Ok(())
 }

@@ -171,11 +171,8 @@ fn refusals_before_the_jump_and_at_its_target(rt: HostRuntime) -> Result<(), Fai
     ];
     for (code, rsp, expected) in rows {
         let found = step_at(alloc, IN_HOT, 0x30, code, rsp)?;
-        let error = found.err();
-        assert_eq!(rt;
-            shown(alloc, &error)?.as_str(),
-            format!(in alloc; "Some({expected})")?.as_str()
-        );
+        let found = shown(alloc, &found.err())?;
+        assert_eq!(rt; found, format!(in alloc; "Some({expected})")?);
     }
     Ok(())
 }

@@ -117,13 +117,8 @@ fn of_other_records(rt: HostRuntime) {
 #[test]
 fn of_parts(rt: HostRuntime) {
     let mut parts = POGOEntryIterator::new(b"\0\x10\0\0\x03\0\0\0ab");
-    assert_eq!(rt;
-        reason_in(parts.next()),
-        Some(Reason::PogoName {
-            needed: 12,
-            length: 10
-        })
-    );
+    assert_matches!(rt; reason_in(parts.next()) =>
+        Some(Reason::PogoName { needed: 12, length: 10 }));
     assert!(rt; parts.next().is_none());
     let mut parts = POGOEntryIterator::new(b"\0\x10\0\0\x03\0\0");
     assert!(rt; matches!(parts.next(), Some(Err(Error::Short { at: 0, needed: 8 }))));

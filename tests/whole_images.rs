@@ -126,12 +126,8 @@ fn limited_imports(rt: HostRuntime) -> Result<(), Fail> {
         for most in [0, 1] {
             let refused = refusal_above(alloc, &bytes, &in_mode(mode), most)?;
             // shows: pe_image/src/core_image.rt require_within ImportsLimit
-            assert!(rt;
-                matches!(
-                    refused,
-                    Error::Malformed(Reason::ImportsLimit { count: 2, limit }) if limit == most
-                )
-            );
+            assert_matches!(rt; refused =>
+                Error::Malformed(Reason::ImportsLimit { count: 2, limit }) if limit == most);
         }
     }
     Ok(())
