@@ -1,7 +1,7 @@
 //! Steps of a stack walk on ARM64. The records are those that clang 14 makes of the instructions beside them with their
 //! `.seh` directives, and the stacks are by hand: what is expected is the state at the function's entry.
 
-use crate::frames::{bytes_of, shown, text};
+use crate::frames::{RETURN_ADDRESS, bytes_of, shown, text};
 use crate::images::{arm64_function, stack_at};
 use pe_core::{Error, Reason};
 use pe_frame::{Arm64Registers, FrameError, Stack, step_arm64, step_arm64_packed, step_out_arm64};
@@ -12,9 +12,7 @@ use std::test::Fail;
 /// The stack pointer where each of these functions is entered.
 const ENTRY: u64 = 0x10_0000;
 
-const RETURN_ADDRESS: u64 = 0x7FF6_1234_5678;
-
-const LR: usize = 30;
+pub(crate) const LR: usize = 30;
 
 /// The registers of the caller: each has a number of its own.
 fn of_caller() -> Arm64Registers {

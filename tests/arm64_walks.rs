@@ -1,9 +1,11 @@
 //! Walks of a stack on ARM64 through two modules. Images and stacks are by hand, from what the prologs of the functions do: what
 //! is expected is what each of them was entered with.
 
+use crate::arm64_frames::LR;
 use crate::frames::bytes_of;
 use crate::images::{directory_at, flat, stack_at};
 use crate::shared::SECTION;
+use crate::walks::{APP, BOTTOM, NO_MODULE, NT, ZERO};
 use pe_core::SectionTable;
 use pe_frame::{Arm64Registers, Arm64StackFrames, Memory, Module, Modules, StackPieces, Way};
 use pe_images::image;
@@ -12,15 +14,8 @@ use std::alloc::{AllocError, Global};
 use std::process::Abort;
 use std::test::Fail;
 
-/// Where the modules are loaded.
-const APP: u64 = 0x1_4000_0000;
-
-const NT: u64 = 0x7FF8_0000_0000;
-
 /// How many bytes each of them has.
 const SIZE: u32 = 0x200;
-
-const LR: usize = 30;
 
 const FP: usize = 29;
 
@@ -172,13 +167,7 @@ fn expect_walk_in<M: Memory>(
     Ok(())
 }
 
-const BOTTOM: &str = "bottom of the stack";
-
-const ZERO: &str = "return to 0, by a guess or without records";
-
 const NO_RETURN_ADDRESS: &str = "no return address";
-
-const NO_MODULE: &str = "no module with an image has the instruction pointer";
 
 /// The section with the functions.
 const CODE: SectionTable = SectionTable {

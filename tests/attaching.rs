@@ -14,7 +14,7 @@ use std::test::Fail;
 const CERTIFICATE: [u8; 9] = [9, 0, 0, 0, 0, 2, 2, 0, 0x77];
 
 /// What a byte of the buffer is before a call.
-const OLD: u8 = 0xEE;
+pub(crate) const OLD: u8 = 0xEE;
 
 /// Whether these bytes have this part at this offset.
 fn has(bytes: &[u8], offset: usize, part: &[u8]) -> bool {

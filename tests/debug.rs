@@ -1,6 +1,6 @@
 //! Debug data: entries, the six records and POGO entries.
 
-use crate::images::{directory_at, image, reason_in, with_byte, with_debug};
+use crate::images::{MODES, directory_at, image, reason_in, with_byte, with_debug};
 use crate::resources::flat;
 use pe_core::{ByteRange, DataDirectory, Error, Header, ParseMode, ParseOptions, Reason, Result};
 use pe_records::{
@@ -11,8 +11,6 @@ use pe_records::{
 };
 use std::alloc::{AllocError, Global};
 use std::test::Fail;
-
-const MODES: [ParseMode; 2] = [ParseMode::Strict, ParseMode::Permissive];
 
 /// The debug data of an image.
 fn debug_of<'a>(

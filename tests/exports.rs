@@ -10,7 +10,7 @@ use std::alloc::{AllocError, Global};
 use std::process::Abort;
 use std::test::Fail;
 
-const ALIGNMENT: u32 = 0x200;
+pub(crate) const ALIGNMENT: u32 = 0x200;
 
 /// One section: the addresses from 0x1000 on stand at 0x200.
 pub(crate) fn one_section() -> [SectionTable; 1] {

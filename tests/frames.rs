@@ -14,13 +14,13 @@ use std::test::Fail;
 /// The address of the return address, where each of these functions is entered.
 const ENTRY: u64 = 0x2_0008;
 
-const RETURN_ADDRESS: u64 = 0x7FF6_1234_5678;
+pub(crate) const RETURN_ADDRESS: u64 = 0x7FF6_1234_5678;
 
-const RBX: usize = 3;
+pub(crate) const RBX: usize = 3;
 
-const RSP: usize = 4;
+pub(crate) const RSP: usize = 4;
 
-const RBP: usize = 5;
+pub(crate) const RBP: usize = 5;
 
 const RSI: usize = 6;
 

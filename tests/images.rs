@@ -1,13 +1,15 @@
 //! Images made by hand, and what calls are handed.
 
 pub(crate) use crate::shared::{directory_at, function_at, piece_at, record_range};
-use pe_core::{ByteRange, Error, ParseOptions, Reason};
+use pe_core::{ByteRange, Error, ParseMode, ParseOptions, Reason};
 use pe_frame::Stack;
 pub(crate) use pe_images::{
     headers_alone, image, object, pointer_below_64, put, resources, te, te_with_debug, with_debug,
     with_every_directory, with_exports, with_functions, with_imports, with_resources,
 };
 use pe_unwind::Arm64RuntimeFunction;
+
+pub(crate) const MODES: [ParseMode; 2] = [ParseMode::Strict, ParseMode::Permissive];
 
 /// The default options of images in which an RVA is a file offset.
 pub(crate) fn flat() -> ParseOptions {

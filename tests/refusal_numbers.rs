@@ -1,8 +1,8 @@
 //! The numbers in refusals.
 
-use crate::images::{directory_at, reason_in, short, short_in};
+use crate::images::{MODES, directory_at, reason_in, short, short_in};
 use pe_core::{
-    Error, ParseMode, ParseOptions, Reason, put_slice, put_u8, put_u16, put_u32, put_u64, slice_at,
+    Error, ParseOptions, Reason, put_slice, put_u8, put_u16, put_u32, put_u64, slice_at,
     u8_at, u16_at, u32_at, u64_at,
 };
 use pe_records::{
@@ -10,8 +10,6 @@ use pe_records::{
     POGOEntryIterator, ReproInfo, VCFeatureInfo,
 };
 use std::test::Fail;
-
-const MODES: [ParseMode; 2] = [ParseMode::Strict, ParseMode::Permissive];
 
 #[test]
 fn of_reads(rt: HostRuntime) {

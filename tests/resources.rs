@@ -1,6 +1,6 @@
 //! Resources: the worked image, its damaged forms in both modes, version fields, and version strings by their names.
 
-use crate::images::{directory_at, image, reason_in, short, short_in};
+use crate::images::{MODES, directory_at, image, reason_in, short, short_in};
 use crate::shared::VERSION_NAMES;
 use linked_list_allocator::LocalHeap;
 use pe_core::{Error, ParseMode, ParseOptions, Reason, Result};
@@ -10,8 +10,6 @@ use pe_resource::{
 };
 use std::alloc::{AllocError, Global};
 use std::test::Fail;
-
-const MODES: [ParseMode; 2] = [ParseMode::Strict, ParseMode::Permissive];
 
 /// Options under which an RVA is a file offset.
 pub(crate) fn flat(mode: ParseMode) -> ParseOptions {

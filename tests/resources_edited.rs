@@ -2,7 +2,9 @@
 //! the second has the resources, and five bytes after them. Its checksum is at 0xD0, the entry of the resource directory at
 //! 0x110, and the header of the resource section at 0x1A8. The checksum that is expected is pefile's of the same bytes.
 
+use crate::attaching::OLD;
 use crate::images::with_part;
+use crate::resources_written::list;
 use crate::shared::with_two_sections;
 use pe_core::{Header, ParseOptions};
 use pe_edit::{Leaves, Resource, ResourceKey};
@@ -10,9 +12,6 @@ use pe_images::put;
 use pe_rewrite::{RewriteError, edited_len, write_edited};
 use std::alloc::Global;
 use std::test::Fail;
-
-/// What a byte of the buffer is before a call.
-const OLD: u8 = 0xEE;
 
 /// The content of the resource, 0x100 bytes with the others.
 const CONTENT: [u8; 0x100] = [0x5A; 0x100];
@@ -25,10 +24,6 @@ const CHECKSUM: [u8; 4] = [0x19, 0x49, 0, 0];
 
 fn header_of(bytes: &[u8]) -> Result<Header<'_>, pe_core::Error> {
     Header::parse_with_opts(bytes, &ParseOptions::default())
-}
-
-fn list<'a>(leaves: &'a [Resource<'a>]) -> Leaves<'a> {
-    Leaves::Values(leaves)
 }
 
 /// A resource of the type 10.

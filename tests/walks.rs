@@ -1,7 +1,8 @@
 //! Walks of a stack through three modules, and memory in pieces. Images and stacks are by hand, from what the prologs of the
 //! functions do: what is expected is what each of them was entered with.
 
-use crate::frames::{bytes_of, text};
+use crate::frames::{RBP, bytes_of, text};
+pub(crate) use crate::frames::{RBX, RSP};
 use crate::images::{directory_at, flat, piece_at, stack_at};
 use crate::shared;
 use pe_core::SectionTable;
@@ -25,12 +26,6 @@ pub(crate) const NT: u64 = 0x7FF8_0000_0000;
 /// How many bytes each of them has.
 pub(crate) const SIZE: u32 = 0xA0;
 
-pub(crate) const RBX: usize = 3;
-
-pub(crate) const RSP: usize = 4;
-
-const RBP: usize = 5;
-
 /// push rbx; sub rsp,32
 const PUSHES_RBX: [u8; 8] = [1, 5, 2, 0, 5, 0x32, 1, 0x30];
 
@@ -50,7 +45,7 @@ const EPILOG: [u8; 6] = [0x48, 0x83, 0xC4, 0x20, 0x5B, 0xC3];
 const CALL: [u8; 5] = [0xE8, 0, 0, 0, 0];
 
 /// A record of a version that there is not, and one that is chained to itself.
-const OF_VERSION_3: [u8; 4] = [3, 0, 0, 0];
+pub(crate) const OF_VERSION_3: [u8; 4] = [3, 0, 0, 0];
 
 const ENDLESS: [u8; 16] = [0x21, 0, 0, 0, 0x90, 0, 0, 0, 0xA0, 0, 0, 0, 0x38, 0, 0, 0];
 
@@ -456,11 +451,11 @@ fn expect_frames(
     expect_frames_over(rt, alloc, top, &memory, frames, end)
 }
 
-const BOTTOM: &str = "bottom of the stack";
+pub(crate) const BOTTOM: &str = "bottom of the stack";
 
-const ZERO: &str = "return to 0, by a guess or without records";
+pub(crate) const ZERO: &str = "return to 0, by a guess or without records";
 
-const NO_MODULE: &str = "no module with an image has the instruction pointer";
+pub(crate) const NO_MODULE: &str = "no module with an image has the instruction pointer";
 
 /// The frame of the function that pushes rbx, at the call: its return address is 0.
 const OUTERMOST: [u64; 7] = [APP + 0x50, 0, 0, 0, 0, 0xB0, 0];

@@ -2,6 +2,7 @@
 //! data whose prolog llvm-readobj prints. Stacks are by hand: what is expected is the state at the function's entry.
 
 use super::made::*;
+use super::stack_frames::{NO_ADDRESS, RETURN_ADDRESS};
 use crate::arm64::frames::pe_c_step_arm64;
 use calls_base::results::{BAD_ADDRESS, BAD_OPERATION, MISSING, NOT_RISING};
 use calls_stacks::arm64::frames::{Arm64FrameRegisters, Arm64StackFrame};
@@ -11,12 +12,7 @@ use pe_unwind::Arm64RuntimeFunction;
 /// The stack pointer where each of these functions is entered.
 const ENTRY: u64 = 0x10_0000;
 
-const RETURN_ADDRESS: u64 = 0x7FF6_1234_5678;
-
-const LR: usize = 30;
-
-/// What the field `address` is before a call that changes it.
-const NO_ADDRESS: u64 = 0x7777;
+pub(crate) const LR: usize = 30;
 
 /// The registers of the caller: each has a number of its own.
 fn of_caller() -> Arm64FrameRegisters {

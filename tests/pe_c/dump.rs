@@ -12,13 +12,11 @@ use crate::dump::memory::{pe_c_dump_memory_at, pe_c_dump_memory64, pe_c_next_mem
 use crate::dump::records::{pe_c_dump_exception, pe_c_dump_process, pe_c_dump_system};
 use crate::dump::{pe_c_dump, pe_c_dump_entry_at, pe_c_dump_stream, pe_c_dump_text};
 use calls_headers::debug::records::SymbolKey;
-use calls_stacks::arm64::frames::Arm64FrameRegisters;
 use calls_stacks::dump::DumpInfo;
 use calls_stacks::dump::contexts::{Arm64Context, X64Context};
 use calls_stacks::dump::lists::{DumpMemoryRegion, DumpModule, DumpThreadName};
 use calls_stacks::dump::memory::{DumpPiece, Memory64Walk};
 use calls_stacks::dump::records::{DumpProcess, DumpSystem};
-use calls_stacks::stack::frames::FrameRegisters;
 use pe_images::image as bytes_of;
 use pe_minidump::{
     DirectoryEntry, Exception, FixedFileInfo, Handle, Location, MemoryDescriptor, ProcessTimes,

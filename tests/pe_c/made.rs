@@ -219,6 +219,11 @@ pub(crate) const NO_FAILURE: Failure = Failure {
 /// What a range is before a call that hands out another.
 pub(crate) const UNTOUCHED: [u64; 2] = [0x7777, 0x77];
 
+/// What a byte of a room that is written is before a call, and what its length is.
+pub(crate) const OLD: u8 = 0xEE;
+
+pub(crate) const OLD_LENGTH: u64 = 0x7777;
+
 /// A walk that is over.
 pub(crate) const OVER: [u64; 2] = [0, 0];
 

@@ -7,11 +7,6 @@ use super::shared::with_two_sections;
 use crate::write::resources::pe_c_edit;
 use pe_edit::{RecordKey, RecordRange, ResourceRecord};
 
-/// What a byte of the room, and the length, is before a call.
-const OLD: u8 = 0xEE;
-
-const OLD_LENGTH: u64 = 0x7777;
-
 const LENGTH: usize = 0x605;
 
 /// Names and contents: `AB` in UTF-16, three bytes, and one more.

@@ -4,9 +4,6 @@
 use super::made::*;
 use crate::write::sections::pe_c_write_sections;
 
-/// What a byte of the room is before a call.
-const OLD: u8 = 0xEE;
-
 /// What the writer of sections returns into a room of 32 * 16 bytes, the offset after it, and the room.
 fn sections_written(
     bytes: &[u8],

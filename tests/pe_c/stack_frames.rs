@@ -10,7 +10,7 @@ use pe_images::image as bytes_of;
 /// The address of the return address, where each of these functions is entered.
 const ENTRY: u64 = 0x2_0008;
 
-const RETURN_ADDRESS: u64 = 0x7FF6_1234_5678;
+pub(crate) const RETURN_ADDRESS: u64 = 0x7FF6_1234_5678;
 
 const RBX: usize = 3;
 
@@ -19,7 +19,7 @@ const RSP: usize = 4;
 const RBP: usize = 5;
 
 /// What the field `address` is before a call that changes it.
-const NO_ADDRESS: u64 = 0x7777;
+pub(crate) const NO_ADDRESS: u64 = 0x7777;
 
 /// What the field `interrupted` is before a call that sets it.
 const NOT_SAID: u32 = 7;
