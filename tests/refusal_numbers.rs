@@ -2,8 +2,8 @@
 
 use crate::images::{MODES, directory_at, reason_in, short, short_in};
 use pe_core::{
-    Error, ParseOptions, Reason, put_slice, put_u8, put_u16, put_u32, put_u64, slice_at,
-    u8_at, u16_at, u32_at, u64_at,
+    Error, ParseOptions, Reason, put_slice, put_u8, put_u16, put_u32, put_u64, slice_at, u8_at,
+    u16_at, u32_at, u64_at,
 };
 use pe_records::{
     CodeviewPDB20DebugInfo, DebugData, ImageDebugDirectory, ImageDebugDirectoryIterator,
