@@ -1,7 +1,7 @@
 //! Steps of a stack walk on ARM64. The records are those that clang 14 makes of the instructions beside them with their
 //! `.seh` directives, and the stacks are by hand: what is expected is the state at the function's entry.
 
-use crate::frames::{bytes_of, shown, text};
+use crate::frames::{RETURN_ADDRESS, bytes_of, shown, text};
 use crate::images::{arm64_function, stack_at};
 use pe_core::{Error, Reason};
 use pe_frame::{Arm64Registers, FrameError, Stack, step_arm64, step_arm64_packed, step_out_arm64};
@@ -12,9 +12,7 @@ use std::test::Fail;
 /// The stack pointer where each of these functions is entered.
 const ENTRY: u64 = 0x10_0000;
 
-const RETURN_ADDRESS: u64 = 0x7FF6_1234_5678;
-
-const LR: usize = 30;
+pub(crate) const LR: usize = 30;
 
 /// The registers of the caller: each has a number of its own.
 fn of_caller() -> Arm64Registers {
@@ -91,13 +89,10 @@ const CHAINED: [u8; 16] = [
 
 /// The 256 bytes that it stores to: x29 and the link register first, d8, d9, x19 and x20 last.
 fn chained_words(caller: &Arm64Registers) -> [u64; 32] {
+    let (x, d) = (&caller.general, &caller.float);
     let mut words = [0xDD; 32];
-    words[0] = caller.general[29];
-    words[1] = RETURN_ADDRESS;
-    words[28] = caller.float[0];
-    words[29] = caller.float[1];
-    words[30] = caller.general[19];
-    words[31] = caller.general[20];
+    words[..2].copy_from_slice(&[x[29], RETURN_ADDRESS]);
+    words[28..].copy_from_slice(&[d[0], d[1], x[19], x[20]]);
     words
 }
 
@@ -149,22 +144,10 @@ const NEXTS: [u8; 20] = [
 fn undoes_pairs_in_a_row(rt: HostRuntime) -> Result<(), Fail> {
     let caller = of_caller();
     let (x, d) = (caller.general, caller.float);
-    let words = [
-        d[0],
-        d[1],
-        d[2],
-        d[3],
-        d[4],
-        d[5],
-        d[6],
-        0xDD,
-        x[19],
-        x[20],
-        x[21],
-        x[22],
-        x[23],
-        RETURN_ADDRESS,
-    ];
+    let mut words = [0xDD; 14];
+    words[..7].copy_from_slice(&d[..7]);
+    words[8..13].copy_from_slice(&x[19..24]);
+    words[13] = RETURN_ADDRESS;
     let bytes = bytes_of(rt.alloc(), &words)?;
     let (first, second) = (ENTRY - 48, ENTRY - 112);
     let stack = stack_at(second, &bytes);
@@ -208,19 +191,9 @@ const SINGLES: [u8; 24] = [
 fn undoes_single_registers(rt: HostRuntime) -> Result<(), Fail> {
     let caller = of_caller();
     let (x, d) = (caller.general, caller.float);
-    let words = [
-        x[21],
-        x[22],
-        x[29],
-        RETURN_ADDRESS,
-        x[28],
-        0xDD,
-        0xDD,
-        0xDD,
-        d[7],
-        0xDD,
-        x[27],
-    ];
+    let mut words = [0xDD; 11];
+    words[..5].copy_from_slice(&[x[21], x[22], x[29], RETURN_ADDRESS, x[28]]);
+    (words[8], words[10]) = (d[7], x[27]);
     let bytes = bytes_of(rt.alloc(), &words)?;
     let base = ENTRY - 112;
     let stack = stack_at(base, &bytes);
@@ -303,68 +276,61 @@ fn undoes_the_prolog_of_another_part(rt: HostRuntime) -> Result<(), Fail> {
 #[test]
 fn refuses_what_it_cannot_undo(rt: HostRuntime) -> Result<(), Fail> {
     let stack = stack_at(ENTRY - 16, &[0; 16]);
-    let rows: [(&[u8], &str); 15] = [
+    // Stores of any register: preindexed, and of registers that there are not.
+    let of_any = |kind: u8, pair: bool, preindexed: bool, reg: u8, bytes: u8| {
+        format!(in rt.alloc();
+            "SaveAnyReg {{ kind: {kind}, pair: {pair}, preindexed: {preindexed}, reg: {reg}, offset_bytes: {bytes} }}"
+        )
+    };
+    let (indexed, above) = (
+        of_any(0, false, true, 19, 16)?,
+        of_any(0, false, false, 31, 0)?,
+    );
+    let (pair, pair_of_q) = (
+        of_any(0, true, false, 30, 0)?,
+        of_any(2, true, false, 31, 0)?,
+    );
+    let rows: [([u8; 4], &str); 15] = [
         // E8h and EBh: a trap frame, and a context of ARM64EC
-        (
-            &[0xE8, 0xE4, 0xE3, 0xE3],
-            "Arm64Code(CustomStack(TrapFrame))",
-        ),
-        (
-            &[0xEB, 0xE4, 0xE3, 0xE3],
-            "Arm64Code(CustomStack(EcContext))",
-        ),
+        ([0xE8, 0xE4, 0xE3, 0xE3], "CustomStack(TrapFrame)"),
+        ([0xEB, 0xE4, 0xE3, 0xE3], "CustomStack(EcContext)"),
         // reserved, alloc_z, save_any_reg, save_zreg
         (
-            &[0xED, 0xE4, 0xE3, 0xE3],
-            "Arm64Code(Reserved { opcode: 237, value: 0, data_len: 0 })",
+            [0xED, 0xE4, 0xE3, 0xE3],
+            "Reserved { opcode: 237, value: 0, data_len: 0 }",
         ),
-        (&[0xDF, 0x01, 0xE4, 0xE3], "Arm64Code(AllocZ { count: 1 })"),
-        // preindexed, and of registers that there are not
-        (
-            &[0xE7, 0x33, 0x01, 0xE4],
-            "Arm64Code(SaveAnyReg { kind: 0, pair: false, preindexed: true, reg: 19, offset_bytes: 16 })",
-        ),
-        (
-            &[0xE7, 0x1F, 0x00, 0xE4],
-            "Arm64Code(SaveAnyReg { kind: 0, pair: false, preindexed: false, reg: 31, offset_bytes: 0 })",
-        ),
-        (
-            &[0xE7, 0x5E, 0x00, 0xE4],
-            "Arm64Code(SaveAnyReg { kind: 0, pair: true, preindexed: false, reg: 30, offset_bytes: 0 })",
-        ),
-        (
-            &[0xE7, 0x5F, 0x80, 0xE4],
-            "Arm64Code(SaveAnyReg { kind: 2, pair: true, preindexed: false, reg: 31, offset_bytes: 0 })",
-        ),
+        ([0xDF, 0x01, 0xE4, 0xE3], "AllocZ { count: 1 }"),
+        ([0xE7, 0x33, 0x01, 0xE4], indexed.as_str()),
+        ([0xE7, 0x1F, 0x00, 0xE4], above.as_str()),
+        ([0xE7, 0x5E, 0x00, 0xE4], pair.as_str()),
+        ([0xE7, 0x5F, 0x80, 0xE4], pair_of_q.as_str()),
         // save_next before a pair of any registers
-        (&[0xE6, 0xE7, 0x53, 0x00], "Arm64Code(SaveNext)"),
-        (
-            &[0xE7, 0x00, 0xC0, 0xE4],
-            "Arm64Code(SaveZReg { r: 0, o: 0 })",
-        ),
+        ([0xE6, 0xE7, 0x53, 0x00], "SaveNext"),
+        ([0xE7, 0x00, 0xC0, 0xE4], "SaveZReg { r: 0, o: 0 }"),
         // save_reg x31, save_regp x30, save_fregp d15
         (
-            &[0xD3, 0x00, 0xE4, 0xE3],
-            "Arm64Code(SaveReg { reg: 31, offset_bytes: 0 })",
+            [0xD3, 0x00, 0xE4, 0xE3],
+            "SaveReg { reg: 31, offset_bytes: 0 }",
         ),
         (
-            &[0xCA, 0xC0, 0xE4, 0xE3],
-            "Arm64Code(SaveRegPair { first_reg: 30, offset_bytes: 0 })",
+            [0xCA, 0xC0, 0xE4, 0xE3],
+            "SaveRegPair { first_reg: 30, offset_bytes: 0 }",
         ),
         (
-            &[0xD9, 0xC0, 0xE4, 0xE3],
-            "Arm64Code(SaveFRegPair { first_reg: 15, offset_bytes: 0 })",
+            [0xD9, 0xC0, 0xE4, 0xE3],
+            "SaveFRegPair { first_reg: 15, offset_bytes: 0 }",
         ),
         // save_next before alloc_s, and before the end
-        (&[0xE6, 0x01, 0xE4, 0xE3], "Arm64Code(SaveNext)"),
-        (&[0xE6, 0xE4, 0xE3, 0xE3], "Arm64Code(SaveNext)"),
+        ([0xE6, 0x01, 0xE4, 0xE3], "SaveNext"),
+        ([0xE6, 0xE4, 0xE3, 0xE3], "SaveNext"),
     ];
     for (codes, expected) in rows {
-        let record = record_of(rt.alloc(), codes)?;
+        let record = record_of(rt.alloc(), &codes)?;
         let result = step_at(&record, 0x40, changed(ENTRY - 16, &[]), &stack);
+        let found = shown(rt.alloc(), &result.err())?;
         assert_eq!(rt;
-            shown(rt.alloc(), &result.err())?.as_str(),
-            format!(in rt.alloc(); "Some({expected})")?.as_str()
+            found,
+            format!(in rt.alloc(); "Some(Arm64Code({expected}))")?
         );
     }
     Ok(())
@@ -511,61 +477,36 @@ fn says_that_no_call_left_the_caller(rt: HostRuntime) -> Result<(), Fail> {
 #[test]
 fn names_the_first_error(rt: HostRuntime) -> Result<(), Fail> {
     let stack = stack_at(ENTRY - 16, &[0; 16]);
-    let rows: [(&[u8], Arm64Registers, &str); 6] = [
+    // Codes, the stack pointer, x29, and the error.
+    let (sp, high) = (ENTRY - 16, u64::MAX - 15);
+    for (codes, sp, fp, expected) in [
         // save_regp x19 at 8: the second word is past the known memory
-        (
-            &[0xC8, 0x01, 0xE4, 0xE3],
-            changed(ENTRY - 16, &[]),
-            "Memory(1048576)",
-        ),
+        ([0xC8, 0x01, 0xE4, 0xE3], sp, 0, "Memory(1048576)"),
         // alloc_s 16 from the last 16 addresses
         (
-            &[0x01, 0xE4, 0xE3, 0xE3],
-            changed(u64::MAX - 15, &[]),
+            [0x01, 0xE4, 0xE3, 0xE3],
+            high,
+            0,
             "Address(18446744073709551600)",
         ),
         // add_fp 8 with x29 at 7
-        (
-            &[0xE2, 0x01, 0xE4, 0xE3],
-            changed(ENTRY - 16, &[(29, 7)]),
-            "Address(7)",
-        ),
+        ([0xE2, 0x01, 0xE4, 0xE3], sp, 7, "Address(7)"),
         // set_fp with x29 below the stack pointer
-        (
-            &[0xE1, 0xE4, 0xE3, 0xE3],
-            changed(ENTRY - 16, &[(29, ENTRY - 32)]),
-            "NotRising(1048544)",
-        ),
+        ([0xE1, 0xE4, 0xE3, 0xE3], sp, sp - 16, "NotRising(1048544)"),
         // save_next before save_regp x27, whose next pair is x29 and lr, and one more
-        (
-            &[0xE6, 0xCA, 0x00, 0xE4],
-            changed(ENTRY - 16, &[]),
-            "Memory(1048576)",
-        ),
-        (
-            &[0xE6, 0xE6, 0xCA, 0x00],
-            changed(ENTRY - 16, &[]),
-            "Arm64Code(SaveNext)",
-        ),
-    ];
-    for (codes, registers, expected) in rows {
-        let record = record_of(rt.alloc(), codes)?;
-        let result = step_at(&record, 0x40, registers, &stack);
-        assert_eq!(rt;
-            shown(rt.alloc(), &result.err())?.as_str(),
-            format!(in rt.alloc(); "Some({expected})")?.as_str()
-        );
+        ([0xE6, 0xCA, 0x00, 0xE4], sp, 0, "Memory(1048576)"),
+        ([0xE6, 0xE6, 0xCA, 0x00], sp, 0, "Arm64Code(SaveNext)"),
+    ] {
+        let record = record_of(rt.alloc(), &codes)?;
+        let result = step_at(&record, 0x40, changed(sp, &[(29, fp)]), &stack);
+        let found = shown(rt.alloc(), &result.err())?;
+        assert_eq!(rt; found, format!(in rt.alloc(); "Some({expected})")?);
     }
     // A code is truncated: alloc_l at 3, before the end of the codes. Its instruction has not run yet.
     let record = record_of(rt.alloc(), &[0x01, 0xE3, 0xE3, 0xE0])?;
     let result = step_at(&record, 0, changed(ENTRY, &[]), &stack);
     // shows: pe_frame/src/arm64/record.rt first_code Arm64Cut
-    assert!(rt;
-        matches!(
-            result,
-            Err(FrameError::Codes(Error::Malformed(Reason::Arm64Cut(3))))
-        )
-    );
+    assert_matches!(rt; result => Err(FrameError::Codes(Error::Malformed(Reason::Arm64Cut(3)))));
     // What comes after the first `end` is not read.
     let record = record_of(rt.alloc(), &[0x01, 0xE4, 0xE3, 0xE0])?;
     let found = step_at(&record, 4, changed(ENTRY - 16, &[]), &stack)?;
@@ -668,12 +609,7 @@ fn refuses_truncated_codes_of_an_epilog(rt: HostRuntime) -> Result<(), Fail> {
     assert_eq!(rt; found, of_caller());
     let result = step_at(&truncated, 4, registers, &stack);
     // shows: pe_frame/src/arm64/record.rt first_code Arm64Cut
-    assert!(rt;
-        matches!(
-            result,
-            Err(FrameError::Codes(Error::Malformed(Reason::Arm64Cut(3))))
-        )
-    );
+    assert_matches!(rt; result => Err(FrameError::Codes(Error::Malformed(Reason::Arm64Cut(3)))));
     let past = [0x40, 0x00, 0xE0, 0x0F, 0x01, 0xE4, 0xE3, 0xE3];
     assert_eq!(rt; step_at(&past, 4 * 62, registers, &stack)?, of_caller());
     let found = step_at(&past, 4 * 63, changed(ENTRY, &[]), &stack)?;

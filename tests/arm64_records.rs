@@ -72,12 +72,8 @@ fn refuses_other_versions(rt: HostRuntime) -> Result<(), Fail> {
     // shows: pe_unwind/src/arm64/info.rt header_at Arm64Version
     for version in 1..4u8 {
         let record = [0x04, 0, 4 * version, 0];
-        assert!(rt;
-            matches!(
-                Arm64UnwindInfo::parse(&record, 0),
-                Err(Error::Malformed(Reason::Arm64Version(was))) if was == u32::from(version)
-            )
-        );
+        assert_matches!(rt; Arm64UnwindInfo::parse(&record, 0) =>
+            Err(Error::Malformed(Reason::Arm64Version(was))) if was == u32::from(version));
         assert!(rt; is_short(&Arm64UnwindInfo::size(&record), 4, 4));
     }
     Ok(())
@@ -177,20 +173,10 @@ fn starts_inside_a_stream(rt: HostRuntime) -> Result<(), Fail> {
     assert_eq!(rt; Arm64UnwindCodeIterator::new(&bytes, 4)?.count(), 0);
     assert_eq!(rt; Arm64UnwindCodeIterator::new(&[], 0)?.count(), 0);
     // shows: pe_unwind/src/arm64/codes.rt new Arm64Stream
-    assert_eq!(rt;
-        reason_in(Arm64UnwindCodeIterator::new(&bytes, 5)),
-        Some(Reason::Arm64Stream {
-            length: 4,
-            start: 5
-        })
-    );
-    assert_eq!(rt;
-        reason_in(Arm64UnwindCodeIterator::new(&[0xE3; 6], 0)),
-        Some(Reason::Arm64Stream {
-            length: 6,
-            start: 0
-        })
-    );
+    assert_matches!(rt; reason_in(Arm64UnwindCodeIterator::new(&bytes, 5)) =>
+        Some(Reason::Arm64Stream { length: 4, start: 5 }));
+    assert_matches!(rt; reason_in(Arm64UnwindCodeIterator::new(&[0xE3; 6], 0)) =>
+        Some(Reason::Arm64Stream { length: 6, start: 0 }));
     Ok(())
 }
 

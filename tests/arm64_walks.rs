@@ -1,9 +1,11 @@
 //! Walks of a stack on ARM64 through two modules. Images and stacks are by hand, from what the prologs of the functions do: what
 //! is expected is what each of them was entered with.
 
+use crate::arm64_frames::LR;
 use crate::frames::bytes_of;
 use crate::images::{directory_at, flat, stack_at};
-use crate::sections;
+use crate::shared::SECTION;
+use crate::walks::{APP, BOTTOM, NO_MODULE, NT, ZERO};
 use pe_core::SectionTable;
 use pe_frame::{Arm64Registers, Arm64StackFrames, Memory, Module, Modules, StackPieces, Way};
 use pe_images::image;
@@ -12,15 +14,8 @@ use std::alloc::{AllocError, Global};
 use std::process::Abort;
 use std::test::Fail;
 
-/// Where the modules are loaded.
-const APP: u64 = 0x1_4000_0000;
-
-const NT: u64 = 0x7FF8_0000_0000;
-
 /// How many bytes each of them has.
 const SIZE: u32 = 0x200;
-
-const LR: usize = 30;
 
 const FP: usize = 29;
 
@@ -160,16 +155,9 @@ fn expect_walk_in<M: Memory>(
         assert_eq!(rt; walk.remaining(), 100 - index);
         let found = walk.next().ok_or("a frame")?;
         let registers = found.registers;
-        assert_eq!(rt;
-            (
-                registers.pc,
-                registers.sp,
-                registers.general[FP],
-                found.way,
-                found.has_called
-            ),
-            *frame
-        );
+        let fp = registers.general[FP];
+        let found = (registers.pc, registers.sp, fp, found.way, found.has_called);
+        assert_eq!(rt; found, *frame);
     }
     assert!(rt; walk.next().is_none());
     assert_eq!(rt; walk.remaining(), 0);
@@ -179,13 +167,7 @@ fn expect_walk_in<M: Memory>(
     Ok(())
 }
 
-const BOTTOM: &str = "bottom of the stack";
-
-const ZERO: &str = "return to 0, by a guess or without records";
-
 const NO_RETURN_ADDRESS: &str = "no return address";
-
-const NO_MODULE: &str = "no module with an image has the instruction pointer";
 
 /// The section with the functions.
 const CODE: SectionTable = SectionTable {
@@ -194,25 +176,15 @@ const CODE: SectionTable = SectionTable {
     size_of_raw_data: 0x100,
     pointer_to_raw_data: 0x100,
     characteristics: 0x6000_0020,
-    ..sections::SECTION
+    ..SECTION
 };
 
 /// A leaf function, called by the last instruction of a chained function, whose return address is the start of the next one; that
 /// was called by the one with packed data, and that by the chained one of the other module, which returns to 0.
 #[test]
 fn a_walk_goes_through_all_modules(rt: HostRuntime) -> Result<(), Fail> {
-    let words = [
-        0x2020,
-        APP + 0x190,
-        7,
-        7,
-        0x3000,
-        NT + 0x110,
-        7,
-        7,
-        0x19,
-        0x20,
-    ];
+    let (inside, called) = (APP + 0x190, NT + 0x110);
+    let words = [0x2020, inside, 7, 7, 0x3000, called, 7, 7, 0x19, 0x20];
     let inner = bytes_of(rt.alloc(), &words)?;
     let outer = bytes_of(rt.alloc(), &[0x1111, 0, 7, 7])?;
     let pieces = [stack_at(0x2000, &inner), stack_at(0x3000, &outer)];

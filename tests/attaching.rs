@@ -14,7 +14,7 @@ use std::test::Fail;
 const CERTIFICATE: [u8; 9] = [9, 0, 0, 0, 0, 2, 2, 0, 0x77];
 
 /// What a byte of the buffer is before a call.
-const OLD: u8 = 0xEE;
+pub(crate) const OLD: u8 = 0xEE;
 
 /// Whether these bytes have this part at this offset.
 fn has(bytes: &[u8], offset: usize, part: &[u8]) -> bool {
@@ -138,13 +138,7 @@ fn refuses_certificates_and_buffers(rt: HostRuntime) -> Result<(), Fail> {
     let Err(SignError::Image(Error::Malformed(reason))) = refused else {
         return Err(Fail::new("not refused"));
     };
-    assert_eq!(rt;
-        reason,
-        Reason::WriteFit {
-            end: 1024,
-            length: 0
-        }
-    );
+    assert_matches!(rt; reason => Reason::WriteFit { end: 1024, length: 0 });
     Ok(())
 }
 

@@ -73,12 +73,7 @@ fn refuses_writes_past_the_end(rt: HostRuntime) {
         put_slice(&mut buffer, 5, &[]).err(),
         put_slice(&mut buffer, usize::MAX, &[0]).err(),
     ] {
-        assert!(rt;
-            matches!(
-                refusal,
-                Some(Error::Malformed(Reason::WriteFit { length: 4, .. }))
-            )
-        );
+        assert_matches!(rt; refusal => Some(Error::Malformed(Reason::WriteFit { length: 4, .. })));
     }
     assert_eq!(rt; buffer, [0x55; 4]);
 }

@@ -32,16 +32,14 @@ fn numbers(rt: HostRuntime) -> Result<(), Fail> {
     // shows: pe_records/src/certificate_table.rt try_from CertificateRevision
     for number in [0, 1, 0x00FF, 0x0101, 0x0300, 0xFFFF] {
         let refused = AttributeCertificateRevision::try_from(number);
-        assert!(rt;
-            matches!(refused, Err(Error::Malformed(Reason::CertificateRevision(n))) if n == number)
-        );
+        assert_matches!(rt; refused =>
+            Err(Error::Malformed(Reason::CertificateRevision(n))) if n == number);
     }
     // shows: pe_records/src/certificate_table.rt try_from CertificateType
     for number in [0, 5, 0x0100, 0xFFFF] {
         let refused = AttributeCertificateType::try_from(number);
-        assert!(rt;
-            matches!(refused, Err(Error::Malformed(Reason::CertificateType(n))) if n == number)
-        );
+        assert_matches!(rt; refused =>
+            Err(Error::Malformed(Reason::CertificateType(n))) if n == number);
     }
     Ok(())
 }
@@ -103,13 +101,7 @@ fn writes_where_it_fits(rt: HostRuntime) -> Result<(), Fail> {
     let mut out = image(rt.alloc(), 40, &[])?;
     assert_eq!(rt; certificate.write_into(&mut out, 16)?, 40);
     let far = certificate.write_into(&mut out, usize::MAX).err();
-    assert_eq!(rt;
-        reason_in(far),
-        Some(Reason::WriteFit {
-            end: u64::MAX,
-            length: 40
-        })
-    );
+    assert_matches!(rt; reason_in(far) => Some(Reason::WriteFit { end: u64::MAX, length: 40 }));
     Ok(())
 }
 
@@ -147,9 +139,8 @@ fn refuses_tables(rt: HostRuntime) -> Result<(), Fail> {
         (0, usize::MAX, u64::MAX),
     ] {
         let refused = enumerate_certificates(rt.alloc(), &bytes, address, size).err();
-        assert!(rt;
-            matches!(refused, Some(Error::Malformed(Reason::CertificateTable(n))) if n == end)
-        );
+        assert_matches!(rt; refused =>
+            Some(Error::Malformed(Reason::CertificateTable(n))) if n == end);
     }
     // Zeros are no certificate, and the last seven bytes are too few for one.
     let refused = enumerate_certificates(rt.alloc(), &bytes, 0x3F8, 8).err();

@@ -5,7 +5,7 @@ use crate::damaged_images::Directory::{
     Certificates, Exceptions, Exports, Imports, Relocations, Resources,
 };
 use crate::damaged_images::Refusal::{For, Nothing, Short};
-use crate::images::{with_every_directory, with_functions, with_part};
+use crate::images::{MODES, with_every_directory, with_functions, with_part};
 use crate::whole_images::in_mode;
 use pe_core::Reason::{
     CertificateRevision, CertificateSize, CertificateTable, CertificateType, DebugData,
@@ -16,8 +16,6 @@ use pe_image::{Error, PE, ParseMode, Reason};
 use std::alloc::Global;
 use std::process::Abort;
 use std::test::Fail;
-
-const MODES: [ParseMode; 2] = [ParseMode::Strict, ParseMode::Permissive];
 
 /// The directories of an image, in the order in which they refuse it. Exports never do.
 #[derive(Clone, Copy, PartialEq)]
@@ -141,11 +139,8 @@ fn check_given(
 ) -> Result<(), Fail> {
     let pe = PE::parse_with_opts(alloc, bytes, &in_mode(mode))?;
     for (i, directory) in DIRECTORIES.into_iter().enumerate() {
-        assert_eq!(rt;
-            is_empty(&pe, directory),
-            directory == empty,
-            "directory {i}"
-        );
+        let found = is_empty(&pe, directory);
+        assert_eq!(rt; found, directory == empty, "directory {i}");
     }
     Ok(())
 }

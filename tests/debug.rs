@@ -1,6 +1,6 @@
 //! Debug data: entries, the six records and POGO entries.
 
-use crate::images::{directory_at, image, reason_in, with_byte, with_debug};
+use crate::images::{MODES, directory_at, image, reason_in, with_byte, with_debug};
 use crate::resources::flat;
 use pe_core::{ByteRange, DataDirectory, Error, Header, ParseMode, ParseOptions, Reason, Result};
 use pe_records::{
@@ -11,8 +11,6 @@ use pe_records::{
 };
 use std::alloc::{AllocError, Global};
 use std::test::Fail;
-
-const MODES: [ParseMode; 2] = [ParseMode::Strict, ParseMode::Permissive];
 
 /// The debug data of an image.
 fn debug_of<'a>(
@@ -168,9 +166,8 @@ fn bounds_of_the_table(rt: HostRuntime) -> std::result::Result<(), Fail> {
             &flat(ParseMode::Strict),
         ).err();
         // shows: pe_records/src/debug.rt table_range DebugBounds
-        assert!(rt;
-            matches!(refusal, Some(Error::Malformed(Reason::DebugBounds(at))) if at == end)
-        );
+        assert_matches!(rt; refusal =>
+            Some(Error::Malformed(Reason::DebugBounds(at))) if at == end);
         let opts = flat(ParseMode::Permissive);
         let offset = virtual_address.min(0xE0) as usize;
         let length = 0xE0 - offset;
@@ -280,25 +277,15 @@ fn entries_of_a_stream(rt: HostRuntime) {
     }
     // shows: pe_records/src/debug/pogo.rt entry_at PogoName
     let refusal = entries.next();
-    assert_eq!(rt;
-        reason_in(refusal),
-        Some(Reason::PogoName {
-            needed: 0x18,
-            length: 0x17
-        })
-    );
+    assert_matches!(rt; reason_in(refusal) =>
+        Some(Reason::PogoName { needed: 0x18, length: 0x17 }));
     assert!(rt; entries.next().is_none() && entries.next().is_none());
     let mut cut = POGOEntryIterator::new(b"\x00\x10\x00\x00\x03\x00\x00");
     assert!(rt; matches!(cut.next(), Some(Err(Error::Short { .. }))));
     assert!(rt; cut.next().is_none());
     let mut unterminated = POGOEntryIterator::new(b"\x00\x10\x00\x00\x03\x00\x00\x00ab");
-    assert_eq!(rt;
-        reason_in(unterminated.next()),
-        Some(Reason::PogoName {
-            needed: 12,
-            length: 10
-        })
-    );
+    assert_matches!(rt; reason_in(unterminated.next()) =>
+        Some(Reason::PogoName { needed: 12, length: 10 }));
     assert!(rt; unterminated.next().is_none());
     assert!(rt; POGOEntryIterator::new(b"").next().is_none());
 }
@@ -334,20 +321,16 @@ fn embedded_pdbs(rt: HostRuntime) -> std::result::Result<(), Fail> {
         let empty = EmbeddedPdb::parse_with_opts(bytes, &entry, &flat(mode))?;
         assert_eq!(rt; (empty.uncompressed_size, empty.compressed.len()), (300, 0));
         // shows: pe_records/src/debug/managed.rt at DebugSize
-        assert_eq!(rt;
-            reason_in(EmbeddedPdb::parse_with_opts(bytes, &entry_at(90, 0, 7), &opts)),
-            Some(Reason::DebugSize(7))
-        );
+        let found = reason_in(EmbeddedPdb::parse_with_opts(bytes, &entry_at(90, 0, 7), &opts));
+        assert_eq!(rt; found, Some(Reason::DebugSize(7)));
         let found = EmbeddedPdb::parse_with_opts(bytes, &entry_at(12, 0, 90), &opts);
         assert!(rt; matches!(found, Err(Error::Short { at: 12, needed: 8 })));
         // shows: pe_records/src/debug/managed.rt at BadMagic
         let found = EmbeddedPdb::parse_with_opts(bytes, &entry_at(5, 0, 90), &opts);
         assert!(rt; matches!(found, Err(Error::BadMagic(0x2C42_4450))));
         // shows: pe_records/src/debug/managed.rt at DebugData
-        assert_eq!(rt;
-            reason_in(EmbeddedPdb::parse_with_opts(bytes, &entry_at(4, 0, 16), &opts)),
-            Some(Reason::DebugData(16))
-        );
+        let found = reason_in(EmbeddedPdb::parse_with_opts(bytes, &entry_at(4, 0, 16), &opts));
+        assert_eq!(rt; found, Some(Reason::DebugData(16)));
     }
     Ok(())
 }
@@ -368,14 +351,10 @@ fn checksums_of_pdbs(rt: HostRuntime) -> std::result::Result<(), Fail> {
         let empty = PdbChecksum::parse_with_opts(bytes, &entry_at(90, 10, 1), &flat(mode))?;
         assert!(rt; empty.algorithm.is_empty() && empty.checksum.is_empty());
         // shows: pe_records/src/debug/managed.rt of_data DebugSize
-        assert_eq!(rt;
-            reason_in(PdbChecksum::parse_with_opts(bytes, &entry_at(4, 0, 6), &opts)),
-            Some(Reason::DebugSize(6))
-        );
-        assert_eq!(rt;
-            reason_in(PdbChecksum::parse_with_opts(bytes, &entry_at(4, 0, 15), &opts)),
-            Some(Reason::DebugData(15))
-        );
+        let found = reason_in(PdbChecksum::parse_with_opts(bytes, &entry_at(4, 0, 6), &opts));
+        assert_eq!(rt; found, Some(Reason::DebugSize(6)));
+        let found = reason_in(PdbChecksum::parse_with_opts(bytes, &entry_at(4, 0, 15), &opts));
+        assert_eq!(rt; found, Some(Reason::DebugData(15)));
     }
     Ok(())
 }

@@ -2,7 +2,7 @@
 //! them; all others are made by hand from the layouts.
 
 use crate::images::{directory_at, image};
-use crate::sections::SECTION;
+use crate::shared::SECTION;
 use pe_core::{DataDirectory, Error, Header, OptionalHeader, ParseOptions, Reason};
 use pe_directories::{
     BaseRelocation, BoundImportDirectory, ChosenDirectories, ClrHeader, ClrMetadata, DelayImport,
@@ -45,15 +45,7 @@ fn says_which_relocation_is_refused(rt: HostRuntime) {
     let outside = relocate(&mut image, None, b"\0\x10\0\0\x0C\0\0\0\x09\xA0\0\0", 1);
     assert!(rt; matches!(outside, Err(DirectoryError::RelocationOutside(0x1009))));
     let kind = relocate(&mut image, None, b"\0\x10\0\0\x0C\0\0\0\x09\x70\0\0", 1);
-    assert!(rt;
-        matches!(
-            kind,
-            Err(DirectoryError::RelocationKind {
-                kind: 7,
-                rva: 0x1009
-            })
-        )
-    );
+    assert_matches!(rt; kind => Err(DirectoryError::RelocationKind { kind: 7, rva: 0x1009 }));
     assert_eq!(rt; image, [7; 16]);
 }
 
@@ -69,12 +61,7 @@ fn a_highadj_takes_the_next_entry(rt: HostRuntime) -> Result<(), Fail> {
         assert!(rt; matches!(relocations.next(), Some(Ok(_))));
     }
     // shows: pe_directories/src/base_relocation.rt first_relocation NoArgument
-    assert!(rt;
-        matches!(
-            relocations.next(),
-            Some(Err(DirectoryError::NoArgument(0xFFFF_F007)))
-        )
-    );
+    assert_matches!(rt; relocations.next() => Some(Err(DirectoryError::NoArgument(0xFFFF_F007))));
     assert!(rt; relocations.next().is_none());
     Ok(())
 }
@@ -101,22 +88,9 @@ fn refuses_blocks(rt: HostRuntime) -> Result<(), Fail> {
         assert!(rt; matches!(error, DirectoryError::BlockSize(n) if n == u32::from(size)));
     }
     let error = refusal_of(&[0, 0x10, 0, 0, 12, 0, 0, 0, 0, 0, 0])?;
-    assert!(rt;
-        matches!(
-            error,
-            DirectoryError::BlockTruncated {
-                size: 12,
-                length: 11
-            }
-        )
-    );
+    assert_matches!(rt; error => DirectoryError::BlockTruncated { size: 12, length: 11 });
     let error = refusal_of(&[0, 0x10, 0, 0, 12, 0, 0])?;
-    assert!(rt;
-        matches!(
-            error,
-            DirectoryError::Image(Error::Short { at: 0, needed: 8 })
-        )
-    );
+    assert_matches!(rt; error => DirectoryError::Image(Error::Short { at: 0, needed: 8 }));
     // A page and a size of 0 end the list, whatever follows; a truncated one does not.
     let zeros = b"\0\x10\0\0\x08\0\0\0\0\0\0\0\0\0\0\0\0\x20\0\0\x09\0\0\0";
     let mut blocks = RelocationBlocks::new(zeros);
@@ -124,12 +98,8 @@ fn refuses_blocks(rt: HostRuntime) -> Result<(), Fail> {
     assert!(rt; blocks.next().is_none());
     assert_eq!(rt; blocks.rest().len(), 0);
     assert!(rt; RelocationBlocks::new(&zeros[8..16]).next().is_none());
-    assert!(rt;
-        matches!(
-            refusal_of(&zeros[8..15])?,
-            DirectoryError::Image(Error::Short { at: 0, needed: 8 })
-        )
-    );
+    assert_matches!(rt; refusal_of(&zeros[8..15])? =>
+        DirectoryError::Image(Error::Short { at: 0, needed: 8 }));
     // A block without entries, and one at no multiple of 4, are read.
     let bytes = b"\0\x10\0\0\x08\0\0\0\0\x20\0\0\x0A\0\0\0\x01\x30\0\x30\0\0\x08\0\0\0";
     let pages = [0x1000, 0x2000, 0x3000];
@@ -149,24 +119,16 @@ fn reads_tls_of_pe32(rt: HostRuntime) -> Result<(), Fail> {
     // The table has one callback, and two bytes of its zero.
     let mut callbacks = tls.callbacks(&image_of(&bytes, false))?;
     assert!(rt; matches!(callbacks.next(), Some(Ok(0x40_1010))));
-    assert!(rt;
-        matches!(
-            callbacks.next(),
-            Some(Err(DirectoryError::Image(Error::Short { at: 0, needed: 4 })))
-        )
-    );
+    assert_matches!(rt; callbacks.next() =>
+        Some(Err(DirectoryError::Image(Error::Short { at: 0, needed: 4 }))));
     assert!(rt; callbacks.next().is_none());
     // Other addresses of the table, and alignments 0 and 15.
     bytes[12..16].copy_from_slice(&[0xFF, 0xFF, 0x3F, 0]);
     bytes[22] = 0xF0;
     // shows: pe_directories/src/image_bytes.rt offset_of_va_by VaBelowBase
     let below = TlsDirectory::parse(&image_of(&bytes, false), at(0x1000, 0))?;
-    assert!(rt;
-        matches!(
-            below.callbacks(&image_of(&bytes, false)),
-            Err(DirectoryError::VaBelowBase(0x3F_FFFF))
-        )
-    );
+    assert_matches!(rt; below.callbacks(&image_of(&bytes, false)) =>
+        Err(DirectoryError::VaBelowBase(0x3F_FFFF)));
     assert_eq!(rt; below.alignment(), None);
     bytes[12..16].copy_from_slice(&[0, 0x50, 0x40, 0]);
     bytes[22] = 0;
@@ -183,12 +145,7 @@ fn reads_tls_of_pe32(rt: HostRuntime) -> Result<(), Fail> {
     let none = TlsDirectory::parse(&image_of(&bytes, false), at(0x1000, 0))?;
     assert!(rt; none.callbacks(&image_of(&bytes, false))?.next().is_none());
     let end = TlsDirectory::parse(&image_of(&bytes, true), at(0x1000, 40));
-    assert!(rt;
-        matches!(
-            end,
-            Err(DirectoryError::Image(Error::Short { at: 0, needed: 40 }))
-        )
-    );
+    assert_matches!(rt; end => Err(DirectoryError::Image(Error::Short { at: 0, needed: 40 })));
     Ok(())
 }
 
@@ -266,25 +223,13 @@ fn refuses_clr_headers(rt: HostRuntime) -> Result<(), Fail> {
         )
     );
     let metadata = &CLR[72..];
-    assert!(rt;
-        matches!(
-            ClrMetadata::parse(&metadata[..15]),
-            Err(DirectoryError::Image(Error::Short { at: 0, needed: 16 }))
-        )
-    );
-    assert!(rt;
-        matches!(
-            ClrMetadata::parse(&metadata[..31]),
-            Err(DirectoryError::Image(Error::Short { at: 16, needed: 16 }))
-        )
-    );
+    assert_matches!(rt; ClrMetadata::parse(&metadata[..15]) =>
+        Err(DirectoryError::Image(Error::Short { at: 0, needed: 16 })));
+    assert_matches!(rt; ClrMetadata::parse(&metadata[..31]) =>
+        Err(DirectoryError::Image(Error::Short { at: 16, needed: 16 })));
     // shows: pe_directories/src/clr.rt parse BadMagic
-    assert!(rt;
-        matches!(
-            ClrMetadata::parse(&metadata[1..]),
-            Err(DirectoryError::Image(Error::BadMagic(0x0142_4A53)))
-        )
-    );
+    assert_matches!(rt; ClrMetadata::parse(&metadata[1..]) =>
+        Err(DirectoryError::Image(Error::BadMagic(0x0142_4A53))));
     // The second header is truncated in its numbers, in its name, or in the zeros after the name.
     for (length, is_name) in [(51, false), (52, true), (60, true), (62, false)] {
         let metadata = ClrMetadata::parse(&metadata[..length])?;
@@ -358,32 +303,17 @@ fn refuses_delay_imports(rt: HostRuntime) -> Result<(), Fail> {
         };
         let base = u32::from(base) << 16;
         // A name that does not end, a truncated hint, and a directory of half an entry more.
-        assert!(rt;
-            matches!(
-                entry.imported(&parts, u64::from(base) + 0x107F),
-                Err(DirectoryError::Image(Error::Short {
-                    at: 0x7F,
-                    needed: 2
-                }))
-            )
-        );
+        assert_matches!(rt; entry.imported(&parts, u64::from(base) + 0x107F) =>
+            Err(DirectoryError::Image(Error::Short { at: 0x7F, needed: 2 })));
         // shows: pe_directories/src/delay_import.rt name_at DelayImportName
         bytes[0x7F] = 1;
         let parts = image_of(&bytes, is_64);
-        assert!(rt;
-            matches!(
-                entry.imported(&parts, u64::from(base) + 0x107D),
-                Err(DirectoryError::DelayImportName(0x7F))
-            )
-        );
+        assert_matches!(rt; entry.imported(&parts, u64::from(base) + 0x107D) =>
+            Err(DirectoryError::DelayImportName(0x7F)));
         let mut entries = DelayImports::parse(&parts, at(0x1000, 0x30))?;
         assert!(rt; matches!(entries.next(), Some(Ok(_))));
-        assert!(rt;
-            matches!(
-                entries.next(),
-                Some(Err(DirectoryError::Image(Error::Short { at: 0, needed: 32 })))
-            )
-        );
+        assert_matches!(rt; entries.next() =>
+            Some(Err(DirectoryError::Image(Error::Short { at: 0, needed: 32 }))));
         assert!(rt; entries.next().is_none());
         let mut entries = DelayImports::parse(&parts, at(0x1000, 0x20))?;
         assert!(rt; matches!(entries.next(), Some(Ok(_))));
@@ -418,12 +348,7 @@ fn reads_delay_imports_above_2_gib(rt: HostRuntime) -> Result<(), Fail> {
     assert_eq!(rt; entry.offset_of_hint(&parts, 0x8000_1048)?, 0x48);
     let functions = entry.functions(alloc, &IndexedImage::new(alloc, &parts)?)?;
     assert_eq!(rt; functions.as_slice(), [named].as_slice());
-    assert!(rt;
-        matches!(
-            entry.imported(&parts, 0x1048),
-            Err(DirectoryError::VaBelowBase(0x1048))
-        )
-    );
+    assert_matches!(rt; entry.imported(&parts, 0x1048) => Err(DirectoryError::VaBelowBase(0x1048)));
     parts.image_base = 0x7FFF_FFFF_0000_0000;
     assert_eq!(rt; entry.imported(&parts, 0x7FFF_FFFF_0000_1048)?, named);
     parts.is_64 = false;

@@ -4,7 +4,7 @@
 use crate::directories::{at, image_of};
 use crate::images::image;
 use crate::refusing::Refusing;
-use crate::sections::section;
+use crate::shared::section;
 use pe_core::{Error, ParseOptions, Reason, SectionTable, Strtab};
 use pe_directories::{
     BoundImportDirectory, DelayImport, DelayImports, DelayedFunction, DirectoryError, ImageBytes,
@@ -66,82 +66,39 @@ fn refuses_as_the_walk(rt: HostRuntime) -> Result<(), Fail> {
     let alloc = rt.alloc();
     // shows: pe_directories/src/delay_import_list.rt named_dll DelayImportName
     // The names of the DLLs: the second is not UTF-8, then the first is not mapped.
-    assert!(rt;
-        matches!(
-            refusal_with(alloc, &[(0x67, &[0xFF])])?,
-            DirectoryError::DelayImportName(0x66)
-        )
-    );
-    assert!(rt;
-        matches!(
-            refusal_with(alloc, &[(0x67, &[0xFF]), (0x05, &[0x30])])?,
-            DirectoryError::Image(Error::Malformed(Reason::Unmapped(0x3060)))
-        )
-    );
+    assert_matches!(rt; refusal_with(alloc, &[(0x67, &[0xFF])])? =>
+        DirectoryError::DelayImportName(0x66));
+    assert_matches!(rt; refusal_with(alloc, &[(0x67, &[0xFF]), (0x05, &[0x30])])? =>
+        DirectoryError::Image(Error::Malformed(Reason::Unmapped(0x3060))));
     // A virtual address below the image base.
-    assert!(rt;
-        matches!(
-            refusal_with(alloc, &[(0x00, &[0])])?,
-            DirectoryError::VaBelowBase(0x1060)
-        )
-    );
+    assert_matches!(rt; refusal_with(alloc, &[(0x00, &[0])])? =>
+        DirectoryError::VaBelowBase(0x1060));
     // shows: pe_directories/src/image_bytes.rt offset_of_va_by Unmapped
     // One that is not mapped.
-    assert!(rt;
-        matches!(
-            refusal_with(alloc, &[(0x00, &[0]), (0x04, &[0x60, 0x30, 0x40])])?,
-            DirectoryError::Image(Error::Malformed(Reason::Unmapped(0x3060)))
-        )
-    );
+    assert_matches!(rt; refusal_with(alloc, &[(0x00, &[0]), (0x04, &[0x60, 0x30, 0x40])])? =>
+        DirectoryError::Image(Error::Malformed(Reason::Unmapped(0x3060))));
     // shows: pe_directories/src/delay_import_list.rt named_function DelayImportName
     // The third name, then the first hint before it.
-    assert!(rt;
-        matches!(
-            refusal_with(alloc, &[(0x75, &[0xFF])])?,
-            DirectoryError::DelayImportName(0x72)
-        )
-    );
-    assert!(rt;
-        matches!(
-            refusal_with(alloc, &[(0x75, &[0xFF]), (0x80, &[0x9F, 0x10])])?,
-            DirectoryError::Image(Error::Short {
-                at: 0x9F,
-                needed: 2
-            })
-        )
-    );
+    assert_matches!(rt; refusal_with(alloc, &[(0x75, &[0xFF])])? =>
+        DirectoryError::DelayImportName(0x72));
+    assert_matches!(rt; refusal_with(alloc, &[(0x75, &[0xFF]), (0x80, &[0x9F, 0x10])])? =>
+        DirectoryError::Image(Error::Short { at: 0x9F, needed: 2 }));
     // The bytes end before a zero number, after a name that is refused, and after two that are not.
     let numbers = [1, 0, 0, 0x80].repeat(alloc, 5)?;
-    assert!(rt;
-        matches!(
-            refusal_with(alloc, &[(0x75, &[0xFF]), (0x8C, &numbers)])?,
-            DirectoryError::DelayImportName(0x72)
-        )
-    );
-    assert!(rt;
-        matches!(
-            refusal_with(alloc, &[(0x8C, &numbers)])?,
-            DirectoryError::Image(Error::Short { at: 0, needed: 4 })
-        )
-    );
+    assert_matches!(rt; refusal_with(alloc, &[(0x75, &[0xFF]), (0x8C, &numbers)])? =>
+        DirectoryError::DelayImportName(0x72));
+    assert_matches!(rt; refusal_with(alloc, &[(0x8C, &numbers)])? =>
+        DirectoryError::Image(Error::Short { at: 0, needed: 4 }));
     // The table is not mapped.
-    assert!(rt;
-        matches!(
-            refusal_with(alloc, &[(0x11, &[0x30])])?,
-            DirectoryError::Image(Error::Malformed(Reason::Unmapped(0x3080)))
-        )
-    );
+    assert_matches!(rt; refusal_with(alloc, &[(0x11, &[0x30])])? =>
+        DirectoryError::Image(Error::Malformed(Reason::Unmapped(0x3080))));
     // Half an entry after the second.
     let bytes = two_dlls(alloc)?;
     let image = image_of(&bytes, false);
     let indexed = IndexedImage::new(alloc, &image)?;
     let entries = DelayImports::parse(&image, at(0x1000, 0x50))?;
-    assert!(rt;
-        matches!(
-            entries.dlls(alloc, &indexed),
-            Err(DirectoryError::Image(Error::Short { at: 0, needed: 32 }))
-        )
-    );
+    assert_matches!(rt; entries.dlls(alloc, &indexed) =>
+        Err(DirectoryError::Image(Error::Short { at: 0, needed: 32 })));
     Ok(())
 }
 

@@ -1,7 +1,7 @@
 //! Exports: the directory, its list, and what refuses the one and is left out of the other.
 
 use crate::images::{image, with_byte};
-use crate::sections::section;
+use crate::shared::section;
 use pe_core::{
     DataDirectory, Error, Export, ExportAddress, ExportAddresses, ExportData, MappedBytes,
     ParseOptions, Reason, SectionTable, lies_in,
@@ -10,7 +10,7 @@ use std::alloc::{AllocError, Global};
 use std::process::Abort;
 use std::test::Fail;
 
-const ALIGNMENT: u32 = 0x200;
+pub(crate) const ALIGNMENT: u32 = 0x200;
 
 /// One section: the addresses from 0x1000 on stand at 0x200.
 pub(crate) fn one_section() -> [SectionTable; 1] {
@@ -141,53 +141,21 @@ fn refuses_directories(rt: HostRuntime) -> Result<(), Fail> {
         virtual_address,
         size: 0x28,
     };
-    assert!(rt;
-        matches!(
-            refusal(&bytes, directory(0x3000))?,
-            Error::Malformed(Reason::Unmapped(0x3000))
-        )
-    );
-    assert!(rt;
-        matches!(
-            refusal(&bytes, directory(0x11F0))?,
-            Error::Short {
-                at: 0x3F0,
-                needed: 40
-            }
-        )
-    );
+    assert_matches!(rt; refusal(&bytes, directory(0x3000))? =>
+        Error::Malformed(Reason::Unmapped(0x3000)));
+    assert_matches!(rt; refusal(&bytes, directory(0x11F0))? =>
+        Error::Short { at: 0x3F0, needed: 40 });
     let unmapped = with_byte(bytes, 0x27D, 0x30);
     // shows: pe_core/src/section_index.rt offset_of Unmapped
-    assert!(rt;
-        matches!(
-            refusal(&unmapped, DIRECTORY)?,
-            Error::Malformed(Reason::Unmapped(0x30A0))
-        )
-    );
+    assert_matches!(rt; refusal(&unmapped, DIRECTORY)? =>
+        Error::Malformed(Reason::Unmapped(0x30A0)));
     let short = with_byte(with_byte(unmapped, 0x27D, 0x10), 0x275, 1);
-    assert!(rt;
-        matches!(
-            refusal(&short, DIRECTORY)?,
-            Error::Short {
-                at: 0x2A0,
-                needed: 0x404
-            }
-        )
-    );
+    assert_matches!(rt; refusal(&short, DIRECTORY)? => Error::Short { at: 0x2A0, needed: 0x404 });
     let names = with_byte(with_byte(short, 0x275, 0), 0x281, 0x30);
-    assert!(rt;
-        matches!(
-            refusal(&names, DIRECTORY)?,
-            Error::Malformed(Reason::Unmapped(0x30B0))
-        )
-    );
+    assert_matches!(rt; refusal(&names, DIRECTORY)? => Error::Malformed(Reason::Unmapped(0x30B0)));
     let ordinals = with_byte(with_byte(names, 0x281, 0x10), 0x285, 0x30);
-    assert!(rt;
-        matches!(
-            refusal(&ordinals, DIRECTORY)?,
-            Error::Malformed(Reason::Unmapped(0x30C0))
-        )
-    );
+    assert_matches!(rt; refusal(&ordinals, DIRECTORY)? =>
+        Error::Malformed(Reason::Unmapped(0x30C0)));
     Ok(())
 }
 

@@ -2,6 +2,7 @@
 //! the state before the prolog, with the return address popped.
 
 use crate::images::stack_at;
+pub(crate) use crate::shared::bytes_of_words as bytes_of;
 use pe_frame::{
     FrameError, FunctionPlan, Memory, Registers, Stack, Stopped, leaf, step, step_with_code,
 };
@@ -13,13 +14,13 @@ use std::test::Fail;
 /// The address of the return address, where each of these functions is entered.
 const ENTRY: u64 = 0x2_0008;
 
-const RETURN_ADDRESS: u64 = 0x7FF6_1234_5678;
+pub(crate) const RETURN_ADDRESS: u64 = 0x7FF6_1234_5678;
 
-const RBX: usize = 3;
+pub(crate) const RBX: usize = 3;
 
-const RSP: usize = 4;
+pub(crate) const RSP: usize = 4;
 
-const RBP: usize = 5;
+pub(crate) const RBP: usize = 5;
 
 const RSI: usize = 6;
 
@@ -56,15 +57,6 @@ fn changed(changes: &[(usize, u64)]) -> Registers {
     registers
 }
 
-/// The bytes of these words.
-pub(crate) fn bytes_of(alloc: Global, words: &[u64]) -> Result<Vec<u8>, AllocError> {
-    let mut bytes = Vec::new(alloc);
-    for word in words {
-        bytes.extend_from_slice(&u64::to_le_bytes(*word))?;
-    }
-    Ok(bytes)
-}
-
 /// A step in a function with one record, at an offset in it.
 fn step_at(
     record: &[u8],
@@ -97,12 +89,8 @@ fn undoes_each_part_of_a_prolog(rt: HostRuntime) -> Result<(), Fail> {
         1, 26, 6, 0x8D, 26, 0x03, 18, 0x01, 32, 0, 11, 0xD0, 9, 0xE0, 7, 0xF0,
     ];
     let caller = of_caller();
-    let words = [
-        caller.general[13],
-        caller.general[14],
-        caller.general[15],
-        RETURN_ADDRESS,
-    ];
+    let r = caller.general;
+    let words = [r[13], r[14], r[15], RETURN_ADDRESS];
     let bytes = bytes_of(rt.alloc(), &words)?;
     let stack = stack_at(ENTRY - 24, &bytes);
     for (offset, rsp) in [
@@ -158,16 +146,8 @@ fn reads_xmm_registers_by_the_frame_register(rt: HostRuntime) -> Result<(), Fail
     let xmm6 = u128::to_le_bytes(caller.xmm[6]);
     let mut bytes = Vec::new(rt.alloc());
     bytes.extend_from_slice(&xmm6)?;
-    let words = [
-        0,
-        0,
-        0,
-        0,
-        0,
-        caller.general[RBX],
-        caller.general[RBP],
-        RETURN_ADDRESS,
-    ];
+    let (rbx, rbp) = (caller.general[RBX], caller.general[RBP]);
+    let words = [0, 0, 0, 0, 0, rbx, rbp, RETURN_ADDRESS];
     bytes.extend_from_slice(&bytes_of(rt.alloc(), &words)?)?;
     let stack = stack_at(ENTRY - 72, &bytes);
     let mut registers = changed(&[(RSP, 0x1000), (RBP, ENTRY - 56), (RBX, 0)]);
@@ -220,14 +200,8 @@ fn undoes_chained_records_whole(rt: HostRuntime) -> Result<(), Fail> {
     ];
     let root = [1, 5, 2, 0, 5, 0x32, 1, 0x70];
     let caller = of_caller();
-    let words = [
-        0,
-        0,
-        caller.general[RBX],
-        0,
-        caller.general[RDI],
-        RETURN_ADDRESS,
-    ];
+    let (rbx, rdi) = (caller.general[RBX], caller.general[RDI]);
+    let words = [0, 0, rbx, 0, rdi, RETURN_ADDRESS];
     let bytes = bytes_of(rt.alloc(), &words)?;
     let stack = stack_at(ENTRY - 40, &bytes);
     // At its start the part has saved nothing, and all of the function's own prolog has run.
@@ -357,14 +331,11 @@ fn has_no_word_past_the_last_address(rt: HostRuntime) -> Result<(), Fail> {
         shown(rt.alloc(), &stack)?.as_str(),
         "Stack { start: 18446744073709551604, bytes: [17, 17, 0, 0, 0, 0, 0, 0, 34, 34, 0, 0, 0, 0, 0, 0] }"
     );
-    assert_eq!(rt;
-        shown(
-            rt.alloc(),
-            &leaf(changed(&[(RSP, u64::MAX - 7)]), &stack).err()
-        )?
-        .as_str(),
-        "Some(Address(18446744073709551608))"
-    );
+    let found = shown(
+        rt.alloc(),
+        &leaf(changed(&[(RSP, u64::MAX - 7)]), &stack).err(),
+    )?;
+    assert_eq!(rt; found.as_str(), "Some(Address(18446744073709551608))");
     Ok(())
 }
 
@@ -401,11 +372,8 @@ fn runs_the_rest_of_epilogs(rt: HostRuntime) -> Result<(), Fail> {
     // add rsp,0x20; pop r14; pop rsi; pop rbx; ret
     let code = [0x48, 0x83, 0xC4, 0x20, 0x41, 0x5E, 0x5E, 0x5B, 0xC3];
     let caller = of_caller();
-    let (rbx, rsi, r14) = (
-        caller.general[RBX],
-        caller.general[RSI],
-        caller.general[R14],
-    );
+    let r = caller.general;
+    let (rbx, rsi, r14) = (r[RBX], r[RSI], r[R14]);
     let bytes = bytes_of(rt.alloc(), &[r14, rsi, rbx, RETURN_ADDRESS])?;
     let stack = stack_at(ENTRY - 24, &bytes);
     let rows: [(usize, [(usize, u64); 4]); 5] = [
@@ -468,18 +436,8 @@ fn frees_the_stack_by_the_frame_register(rt: HostRuntime) -> Result<(), Fail> {
         let r = usize::from(register);
         let bytes = bytes_of(rt.alloc(), &[caller.general[r], RETURN_ADDRESS])?;
         let stack = stack_at(ENTRY - 8, &bytes);
-        let record = [
-            1,
-            10,
-            3,
-            0x20 + register,
-            10,
-            0x03,
-            5,
-            0x52,
-            1,
-            register * 16,
-        ];
+        let (frame, push) = (0x20 + register, register * 16);
+        let record = [1, 10, 3, frame, 10, 0x03, 5, 0x52, 1, push];
         let registers = changed(&[(RSP, ENTRY - 0x1000), (r, value)]);
         assert_eq!(rt; step_in(&record, 0x40, code, registers, &stack)?, caller);
     }

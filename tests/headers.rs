@@ -1,7 +1,7 @@
 //! Headers, in both widths and both modes.
 
 use crate::images::{
-    directory_at, headers_alone, image, pointer_below_64, put, short, short_in, with_byte,
+    MODES, directory_at, headers_alone, image, pointer_below_64, put, short, short_in, with_byte,
 };
 use crate::whole_images::in_mode;
 use pe_core::{
@@ -10,8 +10,6 @@ use pe_core::{
 };
 use std::alloc::{AllocError, Global};
 use std::test::Fail;
-
-const MODES: [ParseMode; 2] = [ParseMode::Strict, ParseMode::Permissive];
 
 #[test]
 fn refuses_other_magics(rt: HostRuntime) -> Result<(), Fail> {

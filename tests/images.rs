@@ -1,13 +1,15 @@
 //! Images made by hand, and what calls are handed.
 
-use pe_core::{ByteRange, DataDirectory, Error, ParseOptions, Reason};
-use pe_edit::RecordRange;
-use pe_frame::{MemoryPiece, Stack};
+pub(crate) use crate::shared::{directory_at, function_at, piece_at, record_range};
+use pe_core::{ByteRange, Error, ParseMode, ParseOptions, Reason};
+use pe_frame::Stack;
 pub(crate) use pe_images::{
     headers_alone, image, object, pointer_below_64, put, resources, te, te_with_debug, with_debug,
     with_every_directory, with_exports, with_functions, with_imports, with_resources,
 };
-use pe_unwind::{Arm64RuntimeFunction, RuntimeFunction};
+use pe_unwind::Arm64RuntimeFunction;
+
+pub(crate) const MODES: [ParseMode; 2] = [ParseMode::Strict, ParseMode::Permissive];
 
 /// The default options of images in which an RVA is a file offset.
 pub(crate) fn flat() -> ParseOptions {
@@ -29,43 +31,12 @@ pub(crate) fn with_part(mut bytes: Vec<u8>, offset: usize, part: &[u8]) -> Vec<u
     bytes
 }
 
-pub(crate) fn directory_at(virtual_address: u32, size: u32) -> DataDirectory {
-    DataDirectory {
-        virtual_address,
-        size,
-    }
-}
-
 pub(crate) fn stack_at(start: u64, bytes: &[u8]) -> Stack<'_> {
     Stack { start, bytes }
 }
 
-pub(crate) fn piece_at(start: u64, offset: u64, length: u64) -> MemoryPiece {
-    MemoryPiece {
-        start,
-        offset,
-        length,
-    }
-}
-
 pub(crate) fn range_at(offset: usize, length: usize) -> ByteRange {
     ByteRange { offset, length }
-}
-
-pub(crate) fn record_range(offset: u64, length: u64) -> RecordRange {
-    RecordRange { offset, length }
-}
-
-pub(crate) fn function_at(
-    begin_address: u32,
-    end_address: u32,
-    unwind_info_address: u32,
-) -> RuntimeFunction {
-    RuntimeFunction {
-        begin_address,
-        end_address,
-        unwind_info_address,
-    }
 }
 
 pub(crate) fn arm64_function(begin_address: u32, unwind_data: u32) -> Arm64RuntimeFunction {

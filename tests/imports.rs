@@ -1,6 +1,6 @@
 //! Imports: the directory, its records and libraries, and the list of what is imported.
 
-use crate::exports::one_section;
+use crate::exports::{ALIGNMENT, one_section};
 use crate::images::{directory_at, flat, image, reason_in, short, short_in, with_byte};
 use pe_core::{
     DataDirectory, Error, Import, ImportData, MappedBytes, ParseOptions, Reason, Result,
@@ -9,8 +9,6 @@ use pe_core::{
 use std::alloc::{AllocError, Allocator, Global};
 use std::process::Abort;
 use std::test::Fail;
-
-const ALIGNMENT: u32 = 0x200;
 
 const DIRECTORY: DataDirectory = DataDirectory {
     virtual_address: 0x1060,
@@ -313,10 +311,8 @@ fn lists_at_most(rt: HostRuntime) -> std::result::Result<(), Fail> {
     let data = directory_of(alloc, &bytes)?;
     let imports = Import::parse_at_most(alloc, &image_by(&bytes, &index), &data, true, 1)?;
     check_imports(&rt, &imports, want.get(..1).ok_or("fewer")?);
-    assert_eq!(rt;
-        reason_in(Import::parse_at_most(alloc, &image_by(&bytes, &index), &data, true, 2)),
-        Some(Reason::ImportName(0x10D0))
-    );
+    let found = reason_in(Import::parse_at_most(alloc, &image_by(&bytes, &index), &data, true, 2));
+    assert_eq!(rt; found, Some(Reason::ImportName(0x10D0)));
     Ok(())
 }
 

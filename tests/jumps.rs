@@ -1,19 +1,14 @@
 //! Jumps out of a function, followed in an image: machine code and records by hand. The rows say what the caller's rip is: the
 //! stack has the return address where the frame at the jump's target has it.
 
-use crate::frames::{bytes_of, shown};
+use crate::frames::{RBX, RETURN_ADDRESS, RSP, bytes_of, shown};
 use crate::images::{directory_at, flat, stack_at};
+use crate::walks::OF_VERSION_3;
 use pe_frame::{FrameError, FunctionPlan, ImageFunctions, Registers, Stopped, step_in_image};
 use pe_images::image;
 use pe_unwind::{ExceptionData, UnwindInfo};
 use std::alloc::{AllocError, Global};
 use std::test::Fail;
-
-const RBX: usize = 3;
-
-const RSP: usize = 4;
-
-const RETURN_ADDRESS: u64 = 0x7FF6_1234_5678;
 
 /// What the prolog pushed.
 const SAVED: u64 = 0xB1;
@@ -32,8 +27,6 @@ const IS_INTERRUPTED: [u8; 6] = [1, 0, 1, 0, 0, 0x0A];
 
 /// Chained to itself, from 0x80 to 0x90.
 const ENDLESS: [u8; 16] = [0x21, 0, 0, 0, 0x80, 0, 0, 0, 0x90, 0, 0, 0, 0xF0, 0, 0, 0];
-
-const OF_VERSION_3: [u8; 4] = [3, 0, 0, 0];
 
 /// An image whose RVAs are file offsets. Its table has seven functions: 20 to 40 with the record HOT, 40 to 50 COLD, 50 to 60
 /// with HOT, 60 to 70 with an interrupt, 70 to 80 of version 3, 80 to 90 endless, 90 to a0 with a code that is cut.
@@ -171,11 +164,8 @@ fn refusals_before_the_jump_and_at_its_target(rt: HostRuntime) -> Result<(), Fai
     ];
     for (code, rsp, expected) in rows {
         let found = step_at(alloc, IN_HOT, 0x30, code, rsp)?;
-        let error = found.err();
-        assert_eq!(rt;
-            shown(alloc, &error)?.as_str(),
-            format!(in alloc; "Some({expected})")?.as_str()
-        );
+        let found = shown(alloc, &found.err())?;
+        assert_eq!(rt; found, format!(in alloc; "Some({expected})")?);
     }
     Ok(())
 }

@@ -1,6 +1,13 @@
 //! Tests of what no proof sees: vectors from outside, printed text, and what happens where memory runs out.
 #![tactic(auto)]
 
+/// That a value has this form.
+macro_rules! assert_matches {
+    ($rt:expr; $found:expr => $wanted:pat $(if $also:expr)?) => {
+        assert!($rt; matches!($found, $wanted $(if $also)?))
+    };
+}
+
 mod arm64_frames;
 mod arm64_functions;
 mod arm64_records;
@@ -42,6 +49,7 @@ mod resources_edited;
 mod resources_written;
 mod samples;
 mod sections;
+mod shared;
 mod signature_bytes;
 mod signatures;
 mod signing;

@@ -59,12 +59,8 @@ fn tables_that_are_not_there(rt: HostRuntime) -> Result<(), Fail> {
     let mut entries = config.se_handlers(&image)?;
     assert!(rt; matches!(entries.next(), Some(Ok(_))));
     assert!(rt; matches!(entries.next(), Some(Ok(_))));
-    assert!(rt;
-        matches!(
-            entries.next(),
-            Some(Err(DirectoryError::Image(Error::Short { at: 0, needed: 4 })))
-        )
-    );
+    assert_matches!(rt; entries.next() =>
+        Some(Err(DirectoryError::Image(Error::Short { at: 0, needed: 4 }))));
     assert!(rt; entries.next().is_none());
     for (address, count) in [(0, 7), (0x3F_FFFF, 0), (0x50_0000, 0)] {
         let bytes = parsed(address, count);
@@ -75,21 +71,12 @@ fn tables_that_are_not_there(rt: HostRuntime) -> Result<(), Fail> {
     let bytes = parsed(0x3F_FFFF, 1);
     let image = image_of(&bytes, false);
     let config = LoadConfig::parse(&image, at(0x1000, 64))?;
-    assert!(rt;
-        matches!(
-            config.se_handlers(&image),
-            Err(DirectoryError::VaBelowBase(0x3F_FFFF))
-        )
-    );
+    assert_matches!(rt; config.se_handlers(&image) => Err(DirectoryError::VaBelowBase(0x3F_FFFF)));
     let bytes = parsed(0x50_0000, 1);
     let image = image_of(&bytes, false);
     let config = LoadConfig::parse(&image, at(0x1000, 64))?;
-    assert!(rt;
-        matches!(
-            config.se_handlers(&image),
-            Err(DirectoryError::Image(Error::Malformed(Reason::Unmapped(0x10_0000))))
-        )
-    );
+    assert_matches!(rt; config.se_handlers(&image) =>
+        Err(DirectoryError::Image(Error::Malformed(Reason::Unmapped(0x10_0000)))));
     // A load configuration without these fields has no tables.
     let image = image_of(&[4, 0, 0, 0], true);
     let config = LoadConfig::parse(&image, at(0x1000, 64))?;

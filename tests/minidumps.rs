@@ -75,13 +75,11 @@ fn reads_the_header_and_the_directory(rt: HostRuntime) -> Result<(), Fail> {
     let dump = Dump::parse(OF_WINE)?;
     assert_eq!(rt; dump.header.flags, 0x1826);
     assert_eq!(rt; dump.header.time_date_stamp, 0x6B08_CD09);
-    assert_eq!(rt;
-        (
-            dump.header.number_of_streams,
-            dump.header.stream_directory_rva
-        ),
-        (8, 32)
+    let found = (
+        dump.header.number_of_streams,
+        dump.header.stream_directory_rva,
     );
+    assert_eq!(rt; found, (8, 32));
     let kinds = [7, 3, 4, 0xFFF0, 15, 6, 9, 0];
     assert_eq!(rt; dump.directory().len(), 8);
     for (entry, kind) in dump.directory().iter().zip(kinds) {
@@ -90,13 +88,7 @@ fn reads_the_header_and_the_directory(rt: HostRuntime) -> Result<(), Fail> {
     let Some(last) = dump.directory().get(6) else {
         return Err(Fail::new("no entry 6"));
     };
-    assert_eq!(rt;
-        last.location,
-        Location {
-            size: 960,
-            rva: 6641
-        }
-    );
+    assert_matches!(rt; last.location => Location { size: 960, rva: 6641 });
     assert!(rt; dump.directory().get(8).is_none());
     // shows: pe_minidump/src/location.rt located Location
     // The file ends after the directory.
@@ -230,10 +222,8 @@ fn entries_may_be_larger_than_their_fields(rt: HostRuntime) -> Result<(), Fail> 
     let found = (first.object_name_rva, first.attributes);
     assert_eq!(rt; found, (0x0F0E_0D0C, 0x1312_1110));
     assert_eq!(rt; first.granted_access, 0x1716_1514);
-    assert_eq!(rt;
-        (first.handle_count, first.pointer_count),
-        (0x1B1A_1918, 0x1F1E_1D1C)
-    );
+    let found = (first.handle_count, first.pointer_count);
+    assert_eq!(rt; found, (0x1B1A_1918, 0x1F1E_1D1C));
     assert_eq!(rt; second.handle, 0x2F2E_2D2C_2B2A_2928);
     assert!(rt; handles.get(2).is_none());
     Ok(())

@@ -87,12 +87,7 @@ fn gives_the_whole_root(rt: HostRuntime) -> std::result::Result<(), Fail> {
     assert_eq!(rt; (root.version, root.size_of_prolog), (1, 7));
     let found = (root.frame_register.0, root.frame_register_offset);
     assert_eq!(rt; found, (5, 32));
-    assert!(rt;
-        matches!(
-            root.handler,
-            Some(UnwindHandler::ExceptionHandler(0x2000, &[0xAA]))
-        )
-    );
+    assert_matches!(rt; root.handler => Some(UnwindHandler::ExceptionHandler(0x2000, &[0xAA])));
     Ok(())
 }
 

@@ -1,17 +1,15 @@
 //! The numbers in refusals.
 
-use crate::images::{directory_at, reason_in, short, short_in};
+use crate::images::{MODES, directory_at, reason_in, short, short_in};
 use pe_core::{
-    Error, ParseMode, ParseOptions, Reason, put_slice, put_u8, put_u16, put_u32, put_u64, slice_at,
-    u8_at, u16_at, u32_at, u64_at,
+    Error, ParseOptions, Reason, put_slice, put_u8, put_u16, put_u32, put_u64, slice_at, u8_at,
+    u16_at, u32_at, u64_at,
 };
 use pe_records::{
     CodeviewPDB20DebugInfo, DebugData, ImageDebugDirectory, ImageDebugDirectoryIterator,
     POGOEntryIterator, ReproInfo, VCFeatureInfo,
 };
 use std::test::Fail;
-
-const MODES: [ParseMode; 2] = [ParseMode::Strict, ParseMode::Permissive];
 
 #[test]
 fn of_reads(rt: HostRuntime) {
@@ -117,13 +115,8 @@ fn of_other_records(rt: HostRuntime) {
 #[test]
 fn of_parts(rt: HostRuntime) {
     let mut parts = POGOEntryIterator::new(b"\0\x10\0\0\x03\0\0\0ab");
-    assert_eq!(rt;
-        reason_in(parts.next()),
-        Some(Reason::PogoName {
-            needed: 12,
-            length: 10
-        })
-    );
+    assert_matches!(rt; reason_in(parts.next()) =>
+        Some(Reason::PogoName { needed: 12, length: 10 }));
     assert!(rt; parts.next().is_none());
     let mut parts = POGOEntryIterator::new(b"\0\x10\0\0\x03\0\0");
     assert!(rt; matches!(parts.next(), Some(Err(Error::Short { at: 0, needed: 8 }))));

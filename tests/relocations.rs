@@ -1,7 +1,7 @@
 //! Base relocations.
 
 use crate::images::directory_at;
-use crate::sections::SECTION;
+use crate::shared::SECTION;
 use pe_core::{Error, ParseOptions, Reason, RelocationData};
 use std::test::Fail;
 

@@ -11,6 +11,7 @@ use crate::imports::{image_by, sharing};
 use crate::minidumps::with_stream;
 use crate::plans::{chain, offset_of, plan};
 use crate::refusing::Refusing;
+use crate::resource_strings::EMPTY;
 use crate::sections::counting;
 use pe_core::{
     Export, ExportData, Import, ImportData, ParseOptions, SectionIndex, SectionTable, Strtab,
@@ -145,9 +146,6 @@ impl Room {
         );
     }
 }
-
-/// A string without a key and a value.
-const EMPTY: [u8; 8] = [8, 0, 0, 0, 1, 0, 0, 0];
 
 /// An allocator that grants each request.
 fn granting(alloc: Global) -> Refusing<Global> {

@@ -58,12 +58,7 @@ fn in_the_order_of_entries(rt: HostRuntime) -> std::result::Result<(), Fail> {
         assert_eq!(rt; leaf.data_entry.code_page, code_page);
     }
     // shows: pe_resource/src/leaves.rt table_below NotDirectory
-    assert!(rt;
-        matches!(
-            walk.next(),
-            Some(Err(ResourceTreeError::NotDirectory(0x68)))
-        )
-    );
+    assert_matches!(rt; walk.next() => Some(Err(ResourceTreeError::NotDirectory(0x68))));
     assert!(rt; walk.next().is_none());
     assert!(rt; walk.next().is_none());
     Ok(())
@@ -101,15 +96,8 @@ fn goes_on_after_an_error(rt: HostRuntime) -> std::result::Result<(), Fail> {
     let mut walk = leaves(&bytes)?;
     assert!(rt; matches!(walk.next(), Some(Err(ResourceTreeError::NoEntries(0x38)))));
     let short = walk.next();
-    assert!(rt;
-        matches!(
-            short,
-            Some(Err(ResourceTreeError::Image(Error::Short {
-                at: 0x60,
-                needed: 16
-            })))
-        )
-    );
+    assert_matches!(rt; short =>
+        Some(Err(ResourceTreeError::Image(Error::Short { at: 0x60, needed: 16 }))));
     // The names of type 3 are the types again: no entries, a truncated directory, four languages, one language.
     assert!(rt; matches!(walk.next(), Some(Err(ResourceTreeError::NoEntries(0x38)))));
     assert!(rt; matches!(walk.next(), Some(Err(ResourceTreeError::Image(_)))));
@@ -129,15 +117,8 @@ fn truncated_data_entries(rt: HostRuntime) -> std::result::Result<(), Fail> {
     let mut walk = leaves(bytes.get(..0x77).ok_or("fewer bytes")?)?;
     assert!(rt; matches!(walk.next(), Some(Ok(_))));
     let second = walk.next();
-    assert!(rt;
-        matches!(
-            second,
-            Some(Err(ResourceTreeError::Image(Error::Short {
-                at: 0x68,
-                needed: 16
-            })))
-        )
-    );
+    assert_matches!(rt; second =>
+        Some(Err(ResourceTreeError::Image(Error::Short { at: 0x68, needed: 16 }))));
     Ok(())
 }
 
@@ -169,15 +150,8 @@ fn positions_outside(rt: HostRuntime) -> std::result::Result<(), Fail> {
         },
     ] {
         let refused = position.next(&bytes);
-        assert!(rt;
-            matches!(
-                refused,
-                Some(Err(ResourceTreeError::Image(Error::Short {
-                    at: 0x8E,
-                    needed: 1
-                })))
-            )
-        );
+        assert_matches!(rt; refused =>
+            Some(Err(ResourceTreeError::Image(Error::Short { at: 0x8E, needed: 1 }))));
         assert_eq!(rt; position, end);
         assert!(rt; position.next(&bytes).is_none());
     }

@@ -1,7 +1,7 @@
 //! The numbers in refusals of resources.
 
 use crate::exports::one_section;
-use crate::images::{directory_at, image, range_at, reason_in, with_part};
+use crate::images::{MODES, directory_at, image, range_at, reason_in, with_part};
 use crate::resources::{flat, push_string, version_alone};
 use pe_core::{
     ByteRange, Error, MappedBytes, ParseMode, ParseOptions, Reason, Result, SectionTable,
@@ -12,8 +12,6 @@ use pe_resource::{
 };
 use std::alloc::{AllocError, Global};
 use std::test::Fail;
-
-const MODES: [ParseMode; 2] = [ParseMode::Strict, ParseMode::Permissive];
 
 /// A resource directory at 0x260, for the address 0x1060, whose one entry has the id 24. Its data entry has the address
 /// 0x1148 and three bytes, at 0x348. Addresses from 0x1000 to 0x1200 stand at 0x200, and the file ends there.

@@ -79,7 +79,7 @@ fn longest_value_of_bytes(rt: HostRuntime) -> std::result::Result<(), Fail> {
 }
 
 /// A string with an empty key and an empty value.
-const EMPTY: [u8; 8] = [8, 0, 0, 0, 1, 0, 0, 0];
+pub(crate) const EMPTY: [u8; 8] = [8, 0, 0, 0, 1, 0, 0, 0];
 
 /// The text of a value with these bytes, of a string that is read from others.
 fn text_of<'a>(

@@ -1,6 +1,7 @@
 //! Resources: the worked image, its damaged forms in both modes, version fields, and version strings by their names.
 
-use crate::images::{directory_at, image, reason_in, short, short_in};
+use crate::images::{MODES, directory_at, image, reason_in, short, short_in};
+use crate::shared::VERSION_NAMES;
 use linked_list_allocator::LocalHeap;
 use pe_core::{Error, ParseMode, ParseOptions, Reason, Result};
 use pe_resource::{
@@ -9,8 +10,6 @@ use pe_resource::{
 };
 use std::alloc::{AllocError, Global};
 use std::test::Fail;
-
-const MODES: [ParseMode; 2] = [ParseMode::Strict, ParseMode::Permissive];
 
 /// Options under which an RVA is a file offset.
 pub(crate) fn flat(mode: ParseMode) -> ParseOptions {
@@ -281,21 +280,6 @@ pub(crate) fn version_alone(
     Ok(bytes)
 }
 
-pub(crate) const NAMES: [&str; 12] = [
-    "Comments",
-    "CompanyName",
-    "FileDescription",
-    "FileVersion",
-    "InternalName",
-    "LegalCopyright",
-    "LegalTrademarks",
-    "OriginalFilename",
-    "PrivateBuild",
-    "ProductName",
-    "ProductVersion",
-    "SpecialBuild",
-];
-
 /// The texts of all names, in their order.
 pub(crate) fn texts_of(
     alloc: Global,
@@ -321,11 +305,11 @@ pub(crate) fn texts_of(
 #[test]
 fn twelve_names(rt: HostRuntime) -> std::result::Result<(), Fail> {
     let mut strings = Vec::new(rt.alloc());
-    for name in NAMES {
+    for name in VERSION_NAMES {
         let value = format!(in rt.alloc(); "={name}")?;
         push_string(&mut strings, name, value.as_str())?;
     }
-    for name in NAMES {
+    for name in VERSION_NAMES {
         push_string(&mut strings, name, "again")?;
     }
     let bytes = version_alone(rt.alloc(), strings.as_slice())?;
@@ -334,7 +318,7 @@ fn twelve_names(rt: HostRuntime) -> std::result::Result<(), Fail> {
     let version = data.version_info.ok_or("no version information")?;
     assert!(rt; version.fixed_info.is_none());
     let texts = texts_of(rt.alloc(), &version.string_info)?;
-    for (text, name) in texts.iter().zip(NAMES) {
+    for (text, name) in texts.iter().zip(VERSION_NAMES) {
         let value = format!(in rt.alloc(); "={name}")?;
         assert!(rt;
             matches!(text, Some(found) if found.as_str() == value.as_str()),

@@ -2,16 +2,16 @@
 //! the second has the resources, and five bytes after them. Its checksum is at 0xD0, the entry of the resource directory at
 //! 0x110, and the header of the resource section at 0x1A8. The checksum that is expected is pefile's of the same bytes.
 
+use crate::attaching::OLD;
 use crate::images::with_part;
+use crate::resources_written::list;
+use crate::shared::with_two_sections;
 use pe_core::{Header, ParseOptions};
 use pe_edit::{Leaves, Resource, ResourceKey};
-use pe_images::{headers_alone, put};
+use pe_images::put;
 use pe_rewrite::{RewriteError, edited_len, write_edited};
 use std::alloc::Global;
 use std::test::Fail;
-
-/// What a byte of the buffer is before a call.
-const OLD: u8 = 0xEE;
 
 /// The content of the resource, 0x100 bytes with the others.
 const CONTENT: [u8; 0x100] = [0x5A; 0x100];
@@ -24,34 +24,6 @@ const CHECKSUM: [u8; 4] = [0x19, 0x49, 0, 0];
 
 fn header_of(bytes: &[u8]) -> Result<Header<'_>, pe_core::Error> {
     Header::parse_with_opts(bytes, &ParseOptions::default())
-}
-
-/// The image: code at the RVA 0x1000, resources at 0x2000.
-fn old_image(alloc: Global) -> Result<Vec<u8>, Fail> {
-    let mut bytes = headers_alone(alloc)?;
-    bytes.resize(LENGTH, 0x33)?;
-    put(
-        &mut bytes,
-        &[
-            (0x7E, &[2, 0]),
-            (0xC8, &[0, 0x30]),
-            (0x110, &[0, 0x20, 0, 0, 0x10, 0, 0, 0]),
-            (
-                0x180,
-                b".text\0\0\0\0\x01\0\0\0\x10\0\0\0\x02\0\0\0\x02\0\0",
-            ),
-            (
-                0x1A8,
-                b".rsrc\0\0\0\x10\0\0\0\0\x20\0\0\0\x02\0\0\0\x04\0\0",
-            ),
-            (0x600, b"after"),
-        ],
-    );
-    Ok(bytes)
-}
-
-fn list<'a>(leaves: &'a [Resource<'a>]) -> Leaves<'a> {
-    Leaves::Values(leaves)
 }
 
 /// A resource of the type 10.
@@ -88,7 +60,7 @@ fn refused(alloc: Global, bytes: &[u8], leaves: &[Resource<'_>]) -> Result<Strin
 /// Without leaves the section goes, with its header and its data, and what follows these moves back.
 #[test]
 fn the_last_section_goes_with_its_resources(rt: HostRuntime) -> Result<(), Fail> {
-    let bytes = old_image(rt.alloc())?;
+    let bytes = with_two_sections(rt.alloc())?;
     let header = header_of(&bytes)?;
     let mut out = vec![in rt.alloc(); OLD; LENGTH]?;
     let less = LENGTH - 0x200;
@@ -109,7 +81,7 @@ fn the_last_section_goes_with_its_resources(rt: HostRuntime) -> Result<(), Fail>
 #[test]
 fn another_section_stays_without_resources(rt: HostRuntime) -> Result<(), Fail> {
     for (offset, part, is_kept) in [(0xC9, &[0x40][..], false), (0xA1, &[0x20][..], true)] {
-        let bytes = with_part(old_image(rt.alloc())?, offset, part);
+        let bytes = with_part(with_two_sections(rt.alloc())?, offset, part);
         let mut out = vec![in rt.alloc(); OLD; LENGTH]?;
         let length = write_edited(&bytes, &header_of(&bytes)?, &list(&[]), &mut out)?;
         assert_eq!(rt; length, LENGTH);
@@ -126,7 +98,7 @@ fn another_section_stays_without_resources(rt: HostRuntime) -> Result<(), Fail> 
 /// A checksum that is not 0 is made good.
 #[test]
 fn the_checksum_is_that_of_the_file(rt: HostRuntime) -> Result<(), Fail> {
-    let bytes = with_part(old_image(rt.alloc())?, 0xD0, &[1]);
+    let bytes = with_part(with_two_sections(rt.alloc())?, 0xD0, &[1]);
     let mut out = vec![in rt.alloc(); OLD; LENGTH]?;
     write_edited(
         &bytes,
@@ -168,11 +140,11 @@ fn numbers_in_refusals(rt: HostRuntime) -> Result<(), Fail> {
         (0x18D, &[0x20][..], "NoHeaderRoom(464)"),
         (0x195, &[0][..], "NoHeaderRoom(464)"),
     ] {
-        let bytes = with_part(old_image(rt.alloc())?, offset, part);
+        let bytes = with_part(with_two_sections(rt.alloc())?, offset, part);
         let shown = refused(rt.alloc(), &bytes, &leaves)?;
         assert_eq!(rt; shown.as_str(), text);
     }
-    let bytes = old_image(rt.alloc())?;
+    let bytes = with_two_sections(rt.alloc())?;
     let unsorted = [resource(2, b""), resource(1, b"")];
     let shown = refused(rt.alloc(), &bytes, &unsorted)?;
     assert_eq!(rt; shown.as_str(), "Leaves(Order(1))");
@@ -181,7 +153,7 @@ fn numbers_in_refusals(rt: HostRuntime) -> Result<(), Fail> {
 
 /// The image without resources, whose headers have room for another section header.
 fn without_resources(alloc: Global) -> Result<Vec<u8>, Fail> {
-    let mut bytes = old_image(alloc)?;
+    let mut bytes = with_two_sections(alloc)?;
     put(&mut bytes, &[(0xCC, &[0, 2]), (0x110, &[0; 8])]);
     Ok(bytes)
 }
@@ -304,7 +276,7 @@ fn bytes_of_a_new_section(rt: HostRuntime) -> Result<(), Fail> {
 /// The resources that have no room in the last section get some there, and no section more.
 #[test]
 fn the_last_section_grows(rt: HostRuntime) -> Result<(), Fail> {
-    let bytes = old_image(rt.alloc())?;
+    let bytes = with_two_sections(rt.alloc())?;
     let leaves = [resource(1, &CONTENT), resource(2, &CONTENT)];
     let mut out = vec![in rt.alloc(); OLD; LENGTH + 0x200]?;
     let header = header_of(&bytes)?;
@@ -318,7 +290,7 @@ fn the_last_section_grows(rt: HostRuntime) -> Result<(), Fail> {
     assert_eq!(rt; &out[0x588..0x688], CONTENT.as_slice());
     assert_eq!(rt; &out[0x800..], b"after".as_slice());
     // With room in its data, but none in the image in memory, no byte is added.
-    let short = with_part(old_image(rt.alloc())?, 0xC8, &[0x57, 0x21]);
+    let short = with_part(with_two_sections(rt.alloc())?, 0xC8, &[0x57, 0x21]);
     let length = write_edited(&short, &header_of(&short)?, &list(&leaves[..1]), &mut out)?;
     assert_eq!(rt; length, LENGTH);
     assert_eq!(rt; &out[0xC8..0xCC], [0, 0x30, 0, 0].as_slice());
@@ -359,7 +331,7 @@ fn debug_data_in_the_resource_section(rt: HostRuntime) -> Result<(), Fail> {
         ([0xFC, 0x1F], [0x80, 3], false),
         ([0, 0x30], [0, 6], true),
     ] {
-        let mut bytes = with_part(old_image(rt.alloc())?, 0xCC, &[0, 2]);
+        let mut bytes = with_part(with_two_sections(rt.alloc())?, 0xCC, &[0, 2]);
         put(
             &mut bytes,
             &[
@@ -379,7 +351,7 @@ fn debug_data_in_the_resource_section(rt: HostRuntime) -> Result<(), Fail> {
         ([0, 0x10], [0xF0, 1], true),
         ([0, 0x10], [0x14, 2], false),
     ] {
-        let mut bytes = with_part(old_image(rt.alloc())?, 0x200, &[0; 0x200]);
+        let mut bytes = with_part(with_two_sections(rt.alloc())?, 0x200, &[0; 0x200]);
         put(
             &mut bytes,
             &[(0xCC, &[0, 2]), (0x130, &rva), (0x134, &size)],
@@ -397,7 +369,7 @@ fn a_section_without_data_is_not_covered(rt: HostRuntime) -> Result<(), Fail> {
     let content = vec![in rt.alloc(); 0x5A; 5120]?;
     let leaves = [resource(1, &content)];
     for (address, room) in [(0x30, "NoHeaderRoom(504)"), (0x40, "")] {
-        let mut bytes = old_image(rt.alloc())?;
+        let mut bytes = with_two_sections(rt.alloc())?;
         bytes.resize(0x2400, 0)?;
         put(
             &mut bytes,
@@ -439,7 +411,7 @@ fn a_section_at_rva_0_stays(rt: HostRuntime) -> Result<(), Fail> {
 /// Not loaded: debug data at the RVA 0 share no byte of memory with the section, however many they are.
 #[test]
 fn debug_data_that_are_not_loaded(rt: HostRuntime) -> Result<(), Fail> {
-    let mut bytes = with_part(old_image(rt.alloc())?, 0xCC, &[0, 2]);
+    let mut bytes = with_part(with_two_sections(rt.alloc())?, 0xCC, &[0, 2]);
     bytes.resize(0x3605, 0)?;
     put(
         &mut bytes,
@@ -495,7 +467,7 @@ fn base_relocations_in_the_resource_section(rt: HostRuntime) -> Result<(), Fail>
         (0x10, 14, [0, 0xA1], false),
     ] {
         let block = block_of(page, size, relocation);
-        let mut bytes = with_part(old_image(rt.alloc())?, 0xCC, &[0, 2]);
+        let mut bytes = with_part(with_two_sections(rt.alloc())?, 0xCC, &[0, 2]);
         put(
             &mut bytes,
             &[(0x128, &[0, 0x10, 0, 0, 12]), (0x200, &block)],
@@ -509,7 +481,7 @@ fn base_relocations_in_the_resource_section(rt: HostRuntime) -> Result<(), Fail>
 #[test]
 fn base_relocations_of_bundles(rt: HostRuntime) -> Result<(), Fail> {
     for (relocation, in_place) in [([9, 0x90], false), ([9, 0x80], true), ([0x10, 0x90], true)] {
-        let mut bytes = with_part(old_image(rt.alloc())?, 0xCC, &[0, 2]);
+        let mut bytes = with_part(with_two_sections(rt.alloc())?, 0xCC, &[0, 2]);
         put(
             &mut bytes,
             &[
@@ -529,7 +501,7 @@ fn base_relocations_of_bundles(rt: HostRuntime) -> Result<(), Fail> {
 #[test]
 fn base_relocations_in_the_headers(rt: HostRuntime) -> Result<(), Fail> {
     for (rva, in_place) in [([0x40, 0], false), ([0, 0x30], true)] {
-        let mut bytes = with_part(old_image(rt.alloc())?, 0xCC, &[0, 2]);
+        let mut bytes = with_part(with_two_sections(rt.alloc())?, 0xCC, &[0, 2]);
         put(
             &mut bytes,
             &[

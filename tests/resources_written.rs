@@ -16,9 +16,9 @@ use std::test::Fail;
 const RVA: u32 = 0x3000;
 
 /// What a byte of a buffer is before a call.
-const OLD: u8 = 0xAA;
+pub(crate) const OLD: u8 = 0xAA;
 
-fn list<'a>(leaves: &'a [Resource<'a>]) -> Leaves<'a> {
+pub(crate) fn list<'a>(leaves: &'a [Resource<'a>]) -> Leaves<'a> {
     Leaves::Values(leaves)
 }
 

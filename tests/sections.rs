@@ -1,38 +1,9 @@
 //! Sections and the map from RVAs to file offsets.
 
 use crate::images::image;
+use crate::shared::section;
 use pe_core::{CoffHeader, Error, SectionTable};
 use std::test::Fail;
-
-/// A section whose RVAs 0x1000 to 0x11FF are the bytes from 0 on.
-pub(crate) const SECTION: SectionTable = SectionTable {
-    name: *b".text\0\0\0",
-    virtual_size: 0x200,
-    virtual_address: 0x1000,
-    size_of_raw_data: 0x200,
-    pointer_to_raw_data: 0,
-    pointer_to_relocations: 0,
-    pointer_to_linenumbers: 0,
-    number_of_relocations: 0,
-    number_of_linenumbers: 0,
-    characteristics: 0,
-};
-
-/// A section by its RVA and its virtual size, its raw pointer and its raw size.
-pub(crate) fn section(
-    virtual_address: u32,
-    virtual_size: u32,
-    pointer_to_raw_data: u32,
-    size_of_raw_data: u32,
-) -> SectionTable {
-    SectionTable {
-        virtual_size,
-        virtual_address,
-        size_of_raw_data,
-        pointer_to_raw_data,
-        ..SECTION
-    }
-}
 
 /// The example of a section header in the format's description of `.rdata`.
 const RDATA: [u8; 40] = [

@@ -185,12 +185,7 @@ fn finds_the_tables_of_a_header(rt: HostRuntime) -> Result<(), Fail> {
     assert!(rt; none.strings(&bytes)?.is_none());
     let found = short_in(header.symbols(front(&bytes, 203)?));
     assert_eq!(rt; found, Some((78, 126)));
-    assert!(rt;
-        matches!(
-            header.strings(front(&bytes, 203)?),
-            Err(Error::Short { .. })
-        )
-    );
+    assert_matches!(rt; header.strings(front(&bytes, 203)?) => Err(Error::Short { .. }));
     assert!(rt; header.symbols(front(&bytes, 204)?)?.is_some());
     assert!(rt; header.strings(front(&bytes, 204)?)?.is_none());
     // shows: pe_core/src/strtab.rt no_text_at StringTable
@@ -209,12 +204,7 @@ fn finds_the_tables_of_a_header(rt: HostRuntime) -> Result<(), Fail> {
     assert!(rt; no_rows.symbols(front(&bytes, 78)?)?.is_some());
     let found = short_in(no_rows.symbols(front(&bytes, 77)?));
     assert_eq!(rt; found, Some((78, 0)));
-    assert!(rt;
-        matches!(
-            no_rows.strings(front(&bytes, 77)?),
-            Err(Error::Short { .. })
-        )
-    );
+    assert_matches!(rt; no_rows.strings(front(&bytes, 77)?) => Err(Error::Short { .. }));
     let small = image(rt.alloc(), 208, &[(8, &[78]), (12, &[7]), (204, &[3])])?;
     let strings = CoffHeader::parse(&small, 0)?.strings(&small)?;
     let table = strings.ok_or("no string table")?;

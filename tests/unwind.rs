@@ -98,10 +98,8 @@ fn refuses_damaged_tables(rt: HostRuntime) -> Result<(), Fail> {
     assert_eq!(rt; found, Some(Reason::ExceptionSize(10)));
     let odd = directory_at(2, 12);
     // shows: pe_unwind/src/exception.rt parse_table ExceptionOffset
-    assert_eq!(rt;
-        reason_in(ExceptionData::parse_with_opts(&bytes, odd, &[], 0x200, &flat())),
-        Some(Reason::ExceptionOffset(2))
-    );
+    let found = reason_in(ExceptionData::parse_with_opts(&bytes, odd, &[], 0x200, &flat()));
+    assert_eq!(rt; found, Some(Reason::ExceptionOffset(2)));
     let found = reason_in(ExceptionData::parse(&bytes, odd, &[], 0x200));
     assert_eq!(rt; found, Some(Reason::Unmapped(2)));
     Ok(())
@@ -200,9 +198,8 @@ fn reports_the_bytes_that_a_cut_code_needs(rt: HostRuntime) -> Result<(), Fail> 
         (&[4, 0x11, 1, 2][..], 6),
     ] {
         let mut codes = UnwindCodeIterator::new(bytes, 1, Register(0));
-        assert!(rt;
-            matches!(codes.next(), Some(Err(Error::Short { at: 0, needed })) if needed == count)
-        );
+        assert_matches!(rt; codes.next() =>
+            Some(Err(Error::Short { at: 0, needed })) if needed == count);
         assert!(rt; codes.next().is_none());
     }
     Ok(())

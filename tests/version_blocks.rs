@@ -145,13 +145,8 @@ fn of_the_page(rt: HostRuntime) -> std::result::Result<(), Fail> {
     assert!(rt; tables.next().is_none());
     let mut languages = root.translations()?;
     for (language, code_page) in [(0x409u16, 1200u16), (0x407, 1252)] {
-        assert_eq!(rt;
-            languages.next().ok_or("no language")??,
-            Translation {
-                language,
-                code_page
-            }
-        );
+        assert_matches!(rt; languages.next().ok_or("no language")?? =>
+            Translation { language, code_page });
     }
     assert!(rt; languages.next().is_none());
     Ok(())
@@ -176,15 +171,8 @@ fn wrong_in_the_middle(rt: HostRuntime) -> std::result::Result<(), Fail> {
     let long = page(alloc, &[(152, &[33])])?;
     let mut tables = root(&long)?.string_tables()?;
     let mut strings = following(&mut tables)?.children();
-    assert!(rt;
-        matches!(
-            strings.next(),
-            Some(Err(VersionBlockError::PastEnd {
-                length: 33,
-                left: 32
-            }))
-        )
-    );
+    assert_matches!(rt; strings.next() =>
+        Some(Err(VersionBlockError::PastEnd { length: 33, left: 32 })));
     assert!(rt; strings.next().is_none());
     assert!(rt; following(&mut tables)?.translation().is_some());
     let endless = page(alloc, &[(160, b"C\0D\0E\0F\0")])?;
@@ -283,15 +271,8 @@ fn found_after_an_error(rt: HostRuntime) -> std::result::Result<(), Fail> {
     let inner = page(alloc, &[(256, &[41])])?;
     let block = root(&inner)?;
     assert!(rt; block.string_tables().is_ok());
-    assert!(rt;
-        matches!(
-            block.translations(),
-            Err(VersionBlockError::PastEnd {
-                length: 41,
-                left: 40
-            })
-        )
-    );
+    assert_matches!(rt; block.translations() =>
+        Err(VersionBlockError::PastEnd { length: 41, left: 40 }));
     Ok(())
 }
 
@@ -383,15 +364,7 @@ fn of_a_leaf(rt: HostRuntime) -> std::result::Result<(), Fail> {
     assert!(rt; leaf(24, 0, 296).version_block(&image)?.is_none());
     assert!(rt; leaf(16, 296, 0).version_block(&image)?.is_none());
     let short = leaf(16, 0, 295).version_block(&image);
-    assert!(rt;
-        matches!(
-            short,
-            Err(VersionBlockError::PastEnd {
-                length: 296,
-                left: 295
-            })
-        )
-    );
+    assert_matches!(rt; short => Err(VersionBlockError::PastEnd { length: 296, left: 295 }));
     let outside = leaf(16, 1, 296).version_block(&image);
     assert!(rt; matches!(outside, Err(VersionBlockError::Image(Error::Malformed(_)))));
     Ok(())

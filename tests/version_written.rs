@@ -2,6 +2,7 @@
 //! refusals.
 
 use crate::images::record_range;
+use crate::resources_written::OLD;
 use pe_core::Error;
 use pe_resource::VsFixedFileInfo;
 use pe_version::{
@@ -10,9 +11,6 @@ use pe_version::{
 };
 use std::alloc::Global;
 use std::test::Fail;
-
-/// What a byte of a buffer is before a call.
-const OLD: u8 = 0xAA;
 
 /// A text `x` with the key `A`.
 const STRING: NewBlock<'_> = NewBlock {

@@ -1,15 +1,16 @@
 //! Walks of a stack through three modules, and memory in pieces. Images and stacks are by hand, from what the prologs of the
 //! functions do: what is expected is what each of them was entered with.
 
-use crate::frames::{bytes_of, text};
+use crate::frames::{RBP, bytes_of, text};
+pub(crate) use crate::frames::{RBX, RSP};
 use crate::images::{directory_at, flat, piece_at, stack_at};
-use crate::sections;
+use crate::shared;
 use pe_core::SectionTable;
 use pe_frame::{
     FrameError, LoadedModules, Memory, MemoryList, Module, ModuleOrder, Modules, Registers,
     SearchedMemory, StackFrame, StackFrames, StackPieces, WalkEnd, WalkPosition, Way,
 };
-use pe_images::image;
+use pe_images::{image, put};
 use pe_unwind::ExceptionData;
 use std::alloc::{AllocError, Global};
 use std::process::Abort;
@@ -24,12 +25,6 @@ pub(crate) const NT: u64 = 0x7FF8_0000_0000;
 
 /// How many bytes each of them has.
 pub(crate) const SIZE: u32 = 0xA0;
-
-pub(crate) const RBX: usize = 3;
-
-pub(crate) const RSP: usize = 4;
-
-const RBP: usize = 5;
 
 /// push rbx; sub rsp,32
 const PUSHES_RBX: [u8; 8] = [1, 5, 2, 0, 5, 0x32, 1, 0x30];
@@ -50,7 +45,7 @@ const EPILOG: [u8; 6] = [0x48, 0x83, 0xC4, 0x20, 0x5B, 0xC3];
 const CALL: [u8; 5] = [0xE8, 0, 0, 0, 0];
 
 /// A record of a version that there is not, and one that is chained to itself.
-const OF_VERSION_3: [u8; 4] = [3, 0, 0, 0];
+pub(crate) const OF_VERSION_3: [u8; 4] = [3, 0, 0, 0];
 
 const ENDLESS: [u8; 16] = [0x21, 0, 0, 0, 0x90, 0, 0, 0, 0xA0, 0, 0, 0, 0x38, 0, 0, 0];
 
@@ -128,7 +123,7 @@ pub(crate) const ALL_CODE: [SectionTable; 1] = [SectionTable {
     virtual_address: 0,
     size_of_raw_data: SIZE,
     characteristics: CODE,
-    ..sections::SECTION
+    ..shared::SECTION
 }];
 
 /// Registers that are 0, but for these.
@@ -145,27 +140,15 @@ pub(crate) fn registers(rip: u64, rsp: u64) -> Registers {
 /// From address 0x1000 on: the return address of a leaf function of the library, the frame of the function that called it,
 /// which saved rbx, and that of a function that an interrupt entered, with the machine frame.
 pub(crate) const INNER: [u64; 20] = [
-    LIB + 0x50,
-    0,
-    0,
-    0,
-    0,
-    0xB1,
-    NT + 0x50,
-    1,
-    2,
-    3,
-    4,
-    5,
-    6,
-    7,
-    8,
-    APP + 0x9E,
-    0x33,
-    0x246,
-    0x2000,
-    0x2B,
+    IN_LIB, 0, 0, 0, 0, 0xB1, IN_NT, 1, 2, 3, 4, 5, 6, 7, 8, IN_APP, 0x33, 0x246, 0x2000, 0x2B,
 ];
+
+/// What these return to.
+const IN_LIB: u64 = LIB + 0x50;
+
+const IN_NT: u64 = NT + 0x50;
+
+const IN_APP: u64 = APP + 0x9E;
 
 /// From address 0x2000 on: rbx and the return address of a function that is about to pop rbx in its epilog, and the frame of
 /// the function that called it by its last instruction, which saved rbx too. That one's return address is 0.
@@ -379,21 +362,19 @@ fn program(alloc: Global) -> Result<Vec<u8>, AllocError> {
         0x40, 0, 0, 0, 0x60, 0, 0, 0, 0x24, 0, 0, 0, 0x60, 0, 0, 0, 0x80, 0, 0, 0, 0x2C, 0, 0, 0,
         0xA0, 0, 0, 0, 0xC0, 0, 0, 0, 0x24, 0, 0, 0,
     ];
-    let parts: [(usize, &[u8]); 12] = [
+    let parts: [(usize, &[u8]); 6] = [
         (0, &table),
         (0x24, &PUSHES_RBX),
         (0x2C, &ALLOCATES_8),
         (0x4B, &CALL),
         (0x93, &CALL),
         (0xD0, &CALL),
-        (CALLS_OUT[0].0, &CALLS_OUT[0].1),
-        (CALLS_OUT[1].0, &CALLS_OUT[1].1),
-        (CALLS_OUT[2].0, &CALLS_OUT[2].1),
-        (CALLS_OUT[3].0, &CALLS_OUT[3].1),
-        (CALLS_OUT[4].0, &CALLS_OUT[4].1),
-        (CALLS_OUT[5].0, &CALLS_OUT[5].1),
     ];
-    image(alloc, 0x100, &parts)
+    let mut bytes = image(alloc, 0x100, &parts)?;
+    for (offset, call) in &CALLS_OUT {
+        put(&mut bytes, &[(*offset, call)]);
+    }
+    Ok(bytes)
 }
 
 /// Calls that end at 0x5A, 0xB0 and 0xB8, of the functions at 0x84, 0x80 and 0x90; at 0x72 and 0x78, of 0x91 and 0x7F; and data
@@ -411,7 +392,7 @@ const CALLS_OUT: [(usize, [u8; 5]); 6] = [
 fn section(start: u32, size: u32, characteristics: u32) -> SectionTable {
     SectionTable {
         characteristics,
-        ..sections::section(start, size, start, size)
+        ..shared::section(start, size, start, size)
     }
 }
 
@@ -441,15 +422,13 @@ fn expect_frames_over<M: Memory>(
     for frame in frames {
         let found = walk.next().ok_or("a frame")?;
         let registers = found.registers;
-        assert_eq!(rt;
-            (
-                registers.rip,
-                registers.general[RSP],
-                found.way,
-                found.has_called
-            ),
-            *frame
+        let found = (
+            registers.rip,
+            registers.general[RSP],
+            found.way,
+            found.has_called,
         );
+        assert_eq!(rt; found, *frame);
     }
     assert!(rt; walk.next().is_none());
     let why = walk.end().ok_or("an end")?;
@@ -472,11 +451,11 @@ fn expect_frames(
     expect_frames_over(rt, alloc, top, &memory, frames, end)
 }
 
-const BOTTOM: &str = "bottom of the stack";
+pub(crate) const BOTTOM: &str = "bottom of the stack";
 
-const ZERO: &str = "return to 0, by a guess or without records";
+pub(crate) const ZERO: &str = "return to 0, by a guess or without records";
 
-const NO_MODULE: &str = "no module with an image has the instruction pointer";
+pub(crate) const NO_MODULE: &str = "no module with an image has the instruction pointer";
 
 /// The frame of the function that pushes rbx, at the call: its return address is 0.
 const OUTERMOST: [u64; 7] = [APP + 0x50, 0, 0, 0, 0, 0xB0, 0];
@@ -530,20 +509,10 @@ fn a_scan_finds_the_caller_of_a_function_without_records(rt: HostRuntime) -> Res
 fn a_scan_finds_the_call_of_the_function_first(rt: HostRuntime) -> Result<(), Fail> {
     let alloc = rt.alloc();
     for call in [0x5A, 0xB0, 0xB8] {
-        let words = [
-            7,
-            APP + 0x50,
-            APP + 0x72,
-            APP + 0x78,
-            APP + 0xDA,
-            APP + call,
-            0,
-            0,
-            0,
-            0,
-            0xB0,
-            0,
-        ];
+        let mut words = [7, 0, 0, 0, 0, 0, 0, 0, 0, 0, 0xB0, 0];
+        for (word, rva) in words[1..].iter_mut().zip([0x50, 0x72, 0x78, 0xDA, call]) {
+            *word = APP + rva;
+        }
         let frames = [
             (APP + 0x90, 0x1000, Way::Top, false),
             (APP + call, 0x1030, Way::Scanned, true),
@@ -597,21 +566,8 @@ fn frame_pointers_lead_on(rt: HostRuntime) -> Result<(), Fail> {
     let alloc = rt.alloc();
     let (top, called) = ((APP + 0x90, 0x1000, Way::Top, false), APP + 0x98);
     let by_pointer = (called, 0x1020, Way::FramePointer, true);
-    let words = [
-        7,
-        APP + 0x50,
-        0x1028,
-        called,
-        7,
-        0,
-        APP + 0x50,
-        0,
-        0,
-        0,
-        0,
-        0xB0,
-        0,
-    ];
+    let call = APP + 0x50;
+    let words = [7, call, 0x1028, called, 7, 0, call, 0, 0, 0, 0, 0xB0, 0];
     let frames = [top, by_pointer, at_the_call(0x1038, Way::FramePointer)];
     expect_chain(&rt, alloc, 0x1010, &words, &frames)?;
     // A call into code without records comes first where it is lower on the stack.
@@ -652,22 +608,8 @@ fn a_frame_at_no_call_was_interrupted(rt: HostRuntime) -> Result<(), Fail> {
         ];
         expect_frames(&rt, alloc, (APP + 0x70, 0x1000), &words, &frames, BOTTOM)?;
     }
-    let words = [
-        8,
-        APP + 0x48,
-        0,
-        0,
-        0,
-        0,
-        0xB0,
-        APP + 0x50,
-        0,
-        0,
-        0,
-        0,
-        0xB0,
-        0,
-    ];
+    let (inside, call) = (APP + 0x48, APP + 0x50);
+    let words = [8, inside, 0, 0, 0, 0, 0xB0, call, 0, 0, 0, 0, 0xB0, 0];
     let frames = [
         (APP + 0x70, 0x1000, Way::Top, false),
         (APP + 0x48, 0x1010, Way::Records, false),
@@ -716,13 +658,8 @@ fn a_scan_reads_128_words(rt: HostRuntime) -> Result<(), Fail> {
         at_the_call(0x1008, Way::Scanned),
     ];
     expect_frames(&rt, alloc, (0, 0xFE8), &OUTERMOST, &frames, ZERO)?;
-    for high in [
-        u64::MAX,
-        u64::MAX - 6,
-        u64::MAX - 7,
-        u64::MAX - 8,
-        u64::MAX - 1024,
-    ] {
+    for below in [0, 6, 7, 8, 1024] {
+        let high = u64::MAX - below;
         let frames = [(0, high, Way::Top, false)];
         expect_frames(&rt, alloc, (0, high), &OUTERMOST, &frames, NO_MODULE)?;
     }

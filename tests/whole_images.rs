@@ -1,13 +1,11 @@
 //! Whole images, in both modes: what refuses one, and what the options and the machine leave out. Each field `image_texts` shows.
 
-use crate::images::{reason_in, with_byte, with_functions, with_imports, with_part};
+use crate::images::{MODES, reason_in, with_byte, with_functions, with_imports, with_part};
 use crate::imports::sharing;
 use pe_image::{Error, Limits, PE, ParseMode, ParseOptions, Reason};
 use std::alloc::{Allocator, Global};
 use std::process::Abort;
 use std::test::Fail;
-
-const MODES: [ParseMode; 2] = [ParseMode::Strict, ParseMode::Permissive];
 
 pub(crate) fn in_mode(mode: ParseMode) -> ParseOptions {
     ParseOptions::default().with_parse_mode(mode)
@@ -126,12 +124,8 @@ fn limited_imports(rt: HostRuntime) -> Result<(), Fail> {
         for most in [0, 1] {
             let refused = refusal_above(alloc, &bytes, &in_mode(mode), most)?;
             // shows: pe_image/src/core_image.rt require_within ImportsLimit
-            assert!(rt;
-                matches!(
-                    refused,
-                    Error::Malformed(Reason::ImportsLimit { count: 2, limit }) if limit == most
-                )
-            );
+            assert_matches!(rt; refused =>
+                Error::Malformed(Reason::ImportsLimit { count: 2, limit }) if limit == most);
         }
     }
     Ok(())

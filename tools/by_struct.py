@@ -1,6 +1,6 @@
-"""Reads by Python's struct, for compare_pe, what llvm-readobj does not read, or not whole: what debug records have, all fields of load
-configurations, the checksum of the Rich header, COFF symbols, the tree of resources with all version strings, and TE images. Each
-function returns what the JSON of `pe` says of the same, in the same terms."""
+"""Reads by Python's struct, for compare_pe, what neither llvm-readobj nor pefile reads, or not whole: what debug records have, all
+fields of load configurations, COFF symbols, and TE images. Each function returns what the JSON of `pe` says of the same, in the same
+terms."""
 
 import hashlib
 import re
@@ -9,7 +9,7 @@ import struct
 from comparing import Image, Unread
 from contents import bytes_of
 
-RESOURCES, CONFIG, VERSION = 2, 10, 16
+CONFIG = 10
 FEATURES, POGO, REPRO, EMBEDDED, CHECKSUM, CHARACTERISTICS = 12, 13, 16, 17, 19, 20
 POGO_SIGNATURES = {0x4C544347: "LTCG", 0x50475500: "PGU"}
 MACHINES = 0x14C, 0x8664, 0x1C0, 0x1C4, 0xAA64, 0xEBC
@@ -122,119 +122,6 @@ def is_wide(image):
     return image.number("<H", image.number("<I", 0x3C) + 24) == 0x20B
 
 
-def rotated(word, count):
-    return (word << count % 32 | word >> (-count % 32)) & 0xFFFFFFFF if count % 32 else word
-
-
-def rich_checksum(image):
-    """The checksum of the last Rich header: it starts at DanS and three zeros, under the key after the next word Rich."""
-    stub = image.bytes[:image.number("<I", 0x3C)]
-    words = [it for it, in struct.iter_unpack("<I", stub[:len(stub) // 4 * 4])]
-    ends = [index for index, word in enumerate(words[:-1]) if word == 0x68636952]
-    for start in reversed(range(len(words))):
-        end = next((it for it in ends if start + 4 <= it), start)
-        key = words[min(end + 1, len(words) - 1)]
-        if words[start:start + 4] == [0x536E6144 ^ key, key, key, key] and start < end and (end - start) % 2 == 0:
-            break
-    else:
-        return None
-    rows = [(one ^ key, count ^ key) for one, count in struct.iter_unpack("<II", stub[4 * start + 16:4 * end])]
-    total = 4 * start + sum(rotated(it, place) for place, it in enumerate(stub[:4 * start]) if place not in range(60, 64))
-    return (total + sum(rotated(*row) for row in rows)) & 0xFFFFFFFF
-
-
-# Resources.
-
-
-class Resources:
-    """The resource directory of an image."""
-
-    def __init__(self, image):
-        address, size = image.directory(RESOURCES)
-        self.image, self.data = image, image.bytes[image.place_of(address):][:size] if address else b""
-
-    def entries(self, place):
-        """The entries of the directory at an offset of the resources: names or ids, and offsets."""
-        named, ids = numbers("<HH", self.data[place + 12:])
-        return list(struct.iter_unpack("<II", self.data[place + 16:place + 16 + 8 * (named + ids)]))
-
-    def below(self, offset):
-        """The entries of the directory that an offset leads to, which has one at least."""
-        found = self.entries(offset & 0x7FFFFFFF) if offset >> 31 else []
-        if not found:
-            raise Unread("NotDirectory")
-        return found
-
-    def label(self, name):
-        """The name at an offset, or an id."""
-        if name < 1 << 31:
-            return name
-        place = name & 0x7FFFFFFF
-        size = numbers("<H", self.data[place:])[0]
-        return self.data[place + 2:place + 2 + 2 * size].decode("utf-16-le", "replace")
-
-    def leaves(self):
-        """The leaves: their labels, and of each data entry the RVA, the size and the code page."""
-        for kind, names in self.entries(0) if self.data else []:
-            for name, languages in self.below(names):
-                for language, offset in self.below(languages):
-                    if offset >> 31:
-                        raise Unread("NotData")
-                    yield tuple(map(self.label, (kind, name, language))), *numbers("<3I", self.data[offset:])
-
-    def contents(self):
-        """The labels and the bytes of each leaf."""
-        for labels, rva, size, _ in self.leaves():
-            yield labels, self.image.bytes[self.image.place_of(rva):][:size]
-
-    def versions(self):
-        """The language and the bytes of each version information."""
-        return [(labels[2], data) for labels, data in self.contents() if labels[0] == VERSION]
-
-    def fixed(self):
-        """The versions of the file and of the product of each, or None."""
-        found = [next(blocks(data, 0, len(data)), None) for _, data in self.versions()]
-        return [fixed_of(it[1]) if it and len(it[1]) >= 52 else None for it in found]
-
-    def tables(self):
-        """The tables of strings of all version information, each with its language and code page."""
-        return [table for language, data in self.versions() for table in string_tables(data, language)]
-
-
-def fixed_of(value):
-    return [".".join(str(part) for it in row for part in (it >> 16, it & 0xFFFF)) for row in
-            (struct.unpack_from("<II", value, at) for at in (8, 16))]
-
-
-def text_of(units):
-    return units.decode("utf-16-le", "replace").split("\0")[0]
-
-
-def blocks(data, place, end):
-    """The blocks of version information from an offset on, by their lengths: key, value, and where the inner start and end."""
-    while place + 6 <= end:
-        length, value_length, kind = struct.unpack_from("<HHH", data, place)
-        if length == 0:
-            return
-        zero = place + 6
-        while data[zero:zero + 2] not in (b"\0\0", b""):
-            zero += 2
-        value = zero + 2 + 3 & ~3
-        size = value_length * (2 if kind == 1 else 1)
-        yield text_of(data[place + 6:zero]), data[value:value + size], value + size + 3 & ~3, place + length
-        place = place + length + 3 & ~3
-
-
-def string_tables(data, language):
-    """The language of each table, or that of the resource, its code page and its strings, the first of two with one name."""
-    for _, _, inner, end in list(blocks(data, 0, len(data)))[:1]:
-        for information, _, first, last in blocks(data, inner, end):
-            for key, _, strings, following in blocks(data, first, last) if information == "StringFileInfo" else ():
-                own = (int(key[:4], 16), int(key[4:], 16)) if re.fullmatch("[0-9A-Fa-f]{8}", key) else (0, None)
-                pairs = [(name, text_of(text)) for name, text, _, _ in blocks(data, strings, following)]
-                yield own[0] or language, own[1], dict(reversed(pairs))
-
-
 # Symbols, objects and TE images.
 
 
@@ -326,10 +213,7 @@ def read(kind, data, path):
         machine, count, stamp, place, number = struct.unpack_from("<HHIII", data)
         return {"symbols": symbols_of(data, place, number), "object header": (machine, stamp, count, place, number)}
     image = Image(path)
-    ways = {"all of the load configuration": load_config, "Rich checksum": rich_checksum, "symbols": symbols_of_image, "resources": lambda it: list(Resources(it).leaves()),
-            "contents of resources": lambda it: [hashlib.sha256(data).hexdigest() for _, data in Resources(it).contents()],
-            "all version strings": lambda it: Resources(it).tables(),
-            "all fixed file information": lambda it: Resources(it).fixed(),
+    ways = {"all of the load configuration": load_config, "symbols": symbols_of_image,
             "hashes of the file": lambda it: [hashlib.new(name, data).hexdigest() for name in ("md5", "sha1", "sha256")]}
     found = {}
     for name, way in ways.items():

@@ -196,6 +196,18 @@ def value(members, name):
     return None if text is None else int(re.search(r"(0x[0-9A-Fa-f]+|\d+)\)?$", text)[1], 0)
 
 
+def listed(text):
+    """The parts of a list in a source, at the commas outside of all brackets."""
+    found, depth = [""], 0
+    for letter in text:
+        depth += (letter in "([{<") - (letter in ")]}>")
+        if letter == "," and depth == 0:
+            found.append("")
+        else:
+            found[-1] += letter
+    return [" ".join(it.split()) for it in found if it.strip()]
+
+
 # Counts and rows.
 
 

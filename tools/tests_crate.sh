@@ -34,12 +34,13 @@ crates_with_tests() {
 }
 
 # Puts tests/CRATE into a copy of the crates, as the module tests of that crate. Beside its own files lib.rs may name
-# tests/refusing.rs, tests/signature_bytes.rs, tests/pdb_bytes.rs and tests/pdb_inlined_bytes.rs. The crate uses pe_images then.
+# tests/refusing.rs, tests/shared.rs, tests/signature_bytes.rs, tests/pdb_bytes.rs and tests/pdb_inlined_bytes.rs. The crate uses
+# pe_images then.
 add_tests_of() {
   local folder=$1 crate=$2 test sources root shared
   sources=$folder/crates/$crate/src
   mkdir -p "$sources/tests"
-  for shared in refusing signature_bytes pdb_bytes pdb_inlined_bytes; do
+  for shared in refusing shared signature_bytes pdb_bytes pdb_inlined_bytes; do
     if grep -qx "mod $shared;" "tests/$crate/lib.rs"; then
       cp "tests/$shared.rs" "$sources/tests/$shared.rt"
     fi

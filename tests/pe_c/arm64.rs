@@ -121,46 +121,11 @@ fn functions_by_index(rt: HostRuntime) -> Result<(), Fail> {
     Ok(())
 }
 
-/// Flag, length of the function, frame size, RegF, RegI, H, CR, and whether the data are packed.
-fn packed(unwind_data: u32) -> (u32, [u32; 8]) {
-    let mut out = Arm64Packed {
-        flag: 9,
-        function_length: 9,
-        frame_size: 9,
-        reg_f: 9,
-        reg_i: 9,
-        h: 9,
-        cr: 9,
-        is_packed: 9,
-    };
-    let answer = pe_c_arm64_packed_fields(&function(0x1000, unwind_data), &mut out);
-    let Arm64Packed {
-        flag,
-        function_length,
-        frame_size,
-        reg_f,
-        reg_i,
-        h,
-        cr,
-        is_packed,
-    } = out;
-    let fields = [
-        flag,
-        function_length,
-        frame_size,
-        reg_f,
-        reg_i,
-        h,
-        cr,
-        is_packed,
-    ];
-    (answer, fields)
-}
-
 /// Bits 0 and 1 are the flag; 2 to 12 the length by 4; 13 to 15 RegF; 16 to 19 RegI; 20 H; 21 and 22 CR; 23 to 31 the frame
 /// size by 16.
 #[test]
-fn packed_unwind_data(rt: HostRuntime) {
+fn packed_unwind_data(rt: HostRuntime) -> Result<(), Fail> {
+    // Flag, length of the function, frame size, RegF, RegI, H, CR, and whether the data are packed.
     for (data, want) in [
         (0, [0; 8]),
         (3, [3, 0, 0, 0, 0, 0, 0, 1]),
@@ -172,33 +137,32 @@ fn packed_unwind_data(rt: HostRuntime) {
         (0xFF80_0001, [1, 0, 16 * 0x1FF, 0, 0, 0, 0, 1]),
         (0x0332_2011, [1, 16, 96, 1, 2, 1, 1, 1]),
     ] {
-        assert_eq!(rt; packed(data), (DONE, want), "of {data:#x}");
+        let mut out: Arm64Packed = filled();
+        let answer = pe_c_arm64_packed_fields(&function(0x1000, data), &mut out);
+        assert_eq!(rt; answer, DONE);
+        assert_eq!(rt;
+            raw(&out),
+            words(rt.alloc(), &want)?.as_slice(),
+            "of {data:#x}"
+        );
     }
+    Ok(())
 }
 
 // ---- unwind records
 
-/// All fields of a record: its scopes, its codes, its handler's data, and the other numbers.
-type Fields = ([u64; 2], [u64; 2], [u64; 2], [u32; 6]);
-
-/// What a record is before a call that hands out another.
-pub(crate) const NO_RECORD: Arm64Record = Arm64Record {
-    scopes: NO_RANGE,
-    codes: NO_RANGE,
-    handler_data: NO_RANGE,
-    handler: 7,
-    has_handler: 8,
-    function_length: 9,
-    epilog_in_header: 10,
-    epilog_start: 11,
-    version: 12,
-};
-
-fn record_of(bytes: &[u8], image: &Image, unwind_data: u32) -> (u32, Fields) {
-    let mut out = NO_RECORD;
-    let function = function(0x5000, unwind_data);
-    let answer = pe_c_arm64_unwind_record(&view(bytes, image, &sections()), &function, &mut out);
-    let Arm64Record {
+/// A record by its scopes, its codes, its handler's data, and the other numbers.
+fn record(ranges: [[u64; 2]; 3], numbers: [u32; 6]) -> Arm64Record {
+    let [scopes, codes, handler_data] = ranges.map(|[offset, length]| range(offset, length));
+    let [
+        handler,
+        has_handler,
+        function_length,
+        epilog_in_header,
+        epilog_start,
+        version,
+    ] = numbers;
+    Arm64Record {
         scopes,
         codes,
         handler_data,
@@ -208,20 +172,15 @@ fn record_of(bytes: &[u8], image: &Image, unwind_data: u32) -> (u32, Fields) {
         epilog_in_header,
         epilog_start,
         version,
-    } = out;
-    let numbers = [
-        handler,
-        has_handler,
-        function_length,
-        epilog_in_header,
-        epilog_start,
-        version,
-    ];
-    let ranges = (of_range(scopes), of_range(codes), of_range(handler_data));
-    (answer, (ranges.0, ranges.1, ranges.2, numbers))
+    }
 }
 
-const UNTOUCHED_FIELDS: Fields = (OVER, OVER, OVER, [7, 8, 9, 10, 11, 12]);
+fn record_of(bytes: &[u8], image: &Image, unwind_data: u32) -> (u32, Arm64Record) {
+    let mut out = filled();
+    let function = function(0x5000, unwind_data);
+    let answer = pe_c_arm64_unwind_record(&view(bytes, image, &sections()), &function, &mut out);
+    (answer, out)
+}
 
 /// Records of 16 bytes each from offset 0x10 on. A header has the length of the function by 4 in bits 0 to 17, the
 /// version in 18 and 19, whether there is a handler in 20, whether the epilog is in the header in 21, the count of
@@ -271,52 +230,38 @@ pub(crate) fn with_records(alloc: Global) -> Result<Vec<u8>, Fail> {
 fn records_are_read(rt: HostRuntime) -> Result<(), Fail> {
     let bytes = with_records(rt.alloc())?;
     let image = with_table(0x1000, 8);
-    let version = record_of(&bytes, &image, 0x1060);
-    assert_eq!(rt; version, (ARM64_VERSION, UNTOUCHED_FIELDS));
-    // Packed data have no record.
-    let none = record_of(&bytes, &image, 0x1011);
-    assert_eq!(rt; none, (NOTHING, UNTOUCHED_FIELDS));
-    for (unwind_data, want) in [
+    // Another version, and packed data, which have no record.
+    for (unwind_data, number) in [(0x1060, ARM64_VERSION), (0x1011, NOTHING)] {
+        let (answer, found) = record_of(&bytes, &image, unwind_data);
+        assert_eq!(rt; (answer, is_filled(&found)), (number, true));
+    }
+    for (unwind_data, ranges, numbers) in [
         (
             0x1010,
-            ([0x14, 4], [0x18, 4], [0x20, 0x60], [0x1100, 1, 64, 0, 0, 0]),
+            [[0x14, 4], [0x18, 4], [0x20, 0x60]],
+            [0x1100, 1, 64, 0, 0, 0],
         ),
-        (0x1020, ([0x24, 0], [0x24, 8], OVER, [0, 0, 12, 1, 5, 0])),
-        (0x1030, ([0x38, 8], [0x40, 4], OVER, [0, 0, 16, 0, 0, 0])),
-        (0x1048, ([0x50, 0], [0x50, 12], OVER, [0, 0, 0, 1, 7, 0])),
-        (0x1068, ([0x6C, 0], [0x6C, 4], OVER, [0, 0, 0, 0, 0, 0])),
-        (0x1070, ([0x78, 0], [0x78, 0], OVER, [0, 0, 0, 0, 0, 0])),
+        (0x1020, [[0x24, 0], [0x24, 8], OVER], [0, 0, 12, 1, 5, 0]),
+        (0x1030, [[0x38, 8], [0x40, 4], OVER], [0, 0, 16, 0, 0, 0]),
+        (0x1048, [[0x50, 0], [0x50, 12], OVER], [0, 0, 0, 1, 7, 0]),
+        (0x1068, [[0x6C, 0], [0x6C, 4], OVER], [0, 0, 0, 0, 0, 0]),
+        (0x1070, [[0x78, 0], [0x78, 0], OVER], [0, 0, 0, 0, 0, 0]),
     ] {
-        let found = record_of(&bytes, &image, unwind_data);
-        assert_eq!(rt; found, (DONE, want), "at {unwind_data:#x}");
+        let (answer, found) = record_of(&bytes, &image, unwind_data);
+        assert_eq!(rt; answer, DONE, "at {unwind_data:#x}");
+        let want = record(ranges, numbers);
+        assert_eq!(rt; raw(&found), raw(&want), "at {unwind_data:#x}");
     }
     Ok(())
 }
 
 // ---- epilog scopes
 
-const NO_SCOPE: [u32; 4] = [1, 2, 3, 4];
-
-/// One step: the answer, start, index, reserved bits and word of the scope, and the walk.
-fn step(bytes: &[u8], walk: &mut Range) -> (u32, [u32; 4], [u64; 2]) {
-    let mut out = Arm64Scope {
-        start_offset: 1,
-        start_index: 2,
-        reserved: 3,
-        word: 4,
-    };
+/// One step: the answer, the scope, and the walk.
+fn step(bytes: &[u8], walk: &mut Range) -> (u32, Arm64Scope, [u64; 2]) {
+    let mut out = filled();
     let answer = pe_c_next_arm64_scope(bytes, walk, &mut out);
-    let Arm64Scope {
-        start_offset,
-        start_index,
-        reserved,
-        word,
-    } = out;
-    (
-        answer,
-        [start_offset, start_index, reserved, word],
-        of_range(*walk),
-    )
+    (answer, out, of_range(*walk))
 }
 
 /// Bits 0 to 17 are the offset by 4, 18 to 21 are reserved, and 22 to 31 are the index.
@@ -333,15 +278,20 @@ fn scopes_in_turn(rt: HostRuntime) -> Result<(), Fail> {
         ],
     )?;
     let mut walk = range(4, 16);
+    // Start, index, reserved bits and word.
     for (scope, after) in [
         ([48, 5, 0, 0x0140_000C], [8, 12]),
         ([4 * 0x3_FFFF, 0, 0, 0x0003_FFFF], [12, 8]),
         ([0, 0, 15, 0x003C_0000], [16, 4]),
         ([0, 0x3FF, 0, 0xFFC0_0000], [20, 0]),
     ] {
-        assert_eq!(rt; step(&bytes, &mut walk), (DONE, scope, after));
+        let (answer, found, left) = step(&bytes, &mut walk);
+        assert_eq!(rt; (answer, left), (DONE, after));
+        assert_eq!(rt; raw(&found), words(rt.alloc(), &scope)?.as_slice());
     }
-    assert_eq!(rt; step(&bytes, &mut walk), (NOTHING, NO_SCOPE, [20, 0]));
-    assert_eq!(rt; step(&bytes, &mut range(4, 3)), (SHORT, NO_SCOPE, OVER));
+    for (mut walk, number, after) in [(walk, NOTHING, [20, 0]), (range(4, 3), SHORT, OVER)] {
+        let (answer, found, left) = step(&bytes, &mut walk);
+        assert_eq!(rt; (answer, is_filled(&found), left), (number, true, after));
+    }
     Ok(())
 }

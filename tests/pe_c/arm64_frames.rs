@@ -2,6 +2,7 @@
 //! data whose prolog llvm-readobj prints. Stacks are by hand: what is expected is the state at the function's entry.
 
 use super::made::*;
+use super::stack_frames::{NO_ADDRESS, RETURN_ADDRESS};
 use crate::arm64::frames::pe_c_step_arm64;
 use calls_base::results::{BAD_ADDRESS, BAD_OPERATION, MISSING, NOT_RISING};
 use calls_stacks::arm64::frames::{Arm64FrameRegisters, Arm64StackFrame};
@@ -11,12 +12,7 @@ use pe_unwind::Arm64RuntimeFunction;
 /// The stack pointer where each of these functions is entered.
 const ENTRY: u64 = 0x10_0000;
 
-const RETURN_ADDRESS: u64 = 0x7FF6_1234_5678;
-
-const LR: usize = 30;
-
-/// What the field `address` is before a call that changes it.
-const NO_ADDRESS: u64 = 0x7777;
+pub(crate) const LR: usize = 30;
 
 /// The registers of the caller: each has a number of its own.
 fn of_caller() -> Arm64FrameRegisters {
@@ -70,35 +66,6 @@ fn left_at(unwind_data: u32, place: u32, registers: Arm64FrameRegisters) -> Arm6
     let mut frame = frame_at(unwind_data, place, registers);
     frame.interrupted = 0;
     frame
-}
-
-fn fields_of(registers: &Arm64FrameRegisters) -> ([u64; 31], [u64; 8], u64, u64) {
-    (
-        registers.general,
-        registers.floats,
-        registers.sp,
-        registers.pc,
-    )
-}
-
-/// The numbers of a frame.
-fn numbers_of(frame: &Arm64StackFrame) -> (([u64; 31], [u64; 8], u64, u64), u64, [u32; 6]) {
-    let Arm64RuntimeFunction {
-        begin_address,
-        unwind_data,
-    } = frame.function;
-    (
-        fields_of(&frame.registers),
-        frame.address,
-        [
-            begin_address,
-            unwind_data,
-            frame.rva,
-            frame.leaf,
-            frame.interrupted,
-            frame.spare,
-        ],
-    )
 }
 
 /// A table of one function at 0x1000, and records from 0x1010 on.
@@ -174,16 +141,16 @@ fn steps_undo_a_prolog(rt: HostRuntime) -> Result<(), Fail> {
     let mut frame = frame_at(0x1010, 5, registers);
     assert_eq!(rt; step(&bytes, (start, &stack), &mut frame), DONE);
     let wanted = left_at(0x1010, 5, caller);
-    assert_eq!(rt; numbers_of(&frame), numbers_of(&wanted));
+    assert_eq!(rt; raw(&frame), raw(&wanted));
     // Before the first instruction nothing has run.
     let mut frame = frame_at(0x1010, 0, changed(ENTRY, &[]));
     assert_eq!(rt; step(&bytes, (start, &[]), &mut frame), DONE);
-    assert_eq!(rt; fields_of(&frame.registers), fields_of(&caller));
+    assert_eq!(rt; raw(&frame.registers), raw(&caller));
     // Before the last load of an epilog.
     let words = bytes_of_words(rt.alloc(), &[caller.general[19]])?;
     let mut frame = frame_at(0x1020, 8, changed(ENTRY - 32, &[(19, 1)]));
     assert_eq!(rt; step(&bytes, (ENTRY - 32, &words), &mut frame), DONE);
-    assert_eq!(rt; fields_of(&frame.registers), fields_of(&caller));
+    assert_eq!(rt; raw(&frame.registers), raw(&caller));
     Ok(())
 }
 
@@ -200,8 +167,8 @@ fn steps_tell_interrupts(rt: HostRuntime) -> Result<(), Fail> {
         let mut frame = frame_at(data, 9, registers);
         let found = step(&bytes, (ENTRY, &stack), &mut frame);
         assert_eq!(rt; found, DONE, "of {data:#x}");
-        let found = fields_of(&frame.registers);
-        assert_eq!(rt; found, fields_of(&caller), "of {data:#x}");
+        let found = raw(&frame.registers);
+        assert_eq!(rt; found, raw(&caller), "of {data:#x}");
         assert_eq!(rt; frame.interrupted, 1, "of {data:#x}");
     }
     Ok(())
@@ -230,7 +197,7 @@ fn steps_are_refused(rt: HostRuntime) -> Result<(), Fail> {
         assert_eq!(rt; step(&bytes, (0, &[]), &mut frame), number, "of {data:#x}");
         let mut wanted = frame_at(data, place, registers);
         wanted.address = address;
-        assert_eq!(rt; numbers_of(&frame), numbers_of(&wanted), "of {data:#x}");
+        assert_eq!(rt; raw(&frame), raw(&wanted), "of {data:#x}");
     }
     Ok(())
 }
@@ -246,5 +213,5 @@ fn leaves_a_leaf(rt: HostRuntime) {
     assert_eq!(rt; step_over(&[], &[], &[], &mut frame), DONE);
     let mut wanted = left_at(7, 8, of_caller());
     wanted.leaf = u32::MAX;
-    assert_eq!(rt; numbers_of(&frame), numbers_of(&wanted));
+    assert_eq!(rt; raw(&frame), raw(&wanted));
 }

@@ -1,8 +1,11 @@
 //! Walks of a stack on ARM64, a frame a call. The image and the stacks are by hand: what is expected is what each function was
 //! entered with.
 
+use super::arm64_frames::LR;
 use super::made::*;
-use super::stack_walks::module;
+use super::stack_walks::{
+    AFTER_CALL, BASE, BOTTOM, BOUND, RECORDS, STACK, STEP, TOP, ZERO, module,
+};
 use super::steps::pe_c_next_arm64_frame;
 use crate::arm64::stack_walk::pe_c_next_arm64_frames;
 use calls_base::results::MISSING;
@@ -11,16 +14,8 @@ use calls_stacks::arm64::stack_walk::Arm64StackWalk;
 use calls_stacks::stack::walk::ModuleView;
 use pe_images::image as bytes_of;
 
-/// Where the image is loaded.
-const BASE: u64 = 0x1_8000_0000;
-
-/// Where the words of a stack start.
-const STACK: u64 = 0x2_0000;
-
 /// In the body of the first function, and the return address of its call.
 const INSIDE: u64 = BASE + 0x1014;
-
-const AFTER_CALL: u64 = BASE + 0x1010;
 
 /// In the function that the operating system enters, and in the one whose record is damaged.
 const DISPATCHER: u64 = BASE + 0x1028;
@@ -29,28 +24,14 @@ const DAMAGED: u64 = BASE + 0x1048;
 
 const FP: usize = 29;
 
-const LR: usize = 30;
-
 // Ways, and reasons why a walk is over.
-const TOP: u32 = 0;
-
-const RECORDS: u32 = 1;
-
 const LEAF: u32 = 2;
 
 const INTERRUPT: u32 = 3;
 
-const BOUND: u32 = 0;
-
-const BOTTOM: u32 = 1;
-
 const NO_FUNCTION: u32 = 3;
 
 const OF_RECORDS: u32 = 4;
-
-const STEP: u32 = 6;
-
-const ZERO: u32 = 7;
 
 /// Three functions of 32 bytes from RVA 0x1000 on, file offset 0: one that stores x29 and the link register in 32 bytes, points
 /// x29 there, and calls; one with a machine frame above 16 bytes; and one whose record has version 1. Then their table.

@@ -14,12 +14,12 @@ use super::steps::{
     pe_c_next_delay_import, pe_c_next_delayed_function, pe_c_next_export, pe_c_next_import,
     pe_c_next_library, pe_c_next_resource_leaf,
 };
-use super::unwinding::no_record;
 use crate::directories::delay_imports::pe_c_delay_imports;
 use crate::unwinding::pe_c_function_table;
 use crate::unwinding::plan::pe_c_next_record;
 use calls_directories::names::exports::Exports;
 use calls_directories::names::imports::{Imports, Libraries};
+use calls_unwind::unwinding::UnwindRecord;
 use pe_images::image as bytes_of;
 
 /// Where the second half of the bytes starts.
@@ -211,7 +211,7 @@ fn steps(rt: HostRuntime) -> Result<(), Fail> {
     let record = ways(&bytes, |view, kept| {
         let mut walk = plan_from(0x10E0);
         walk.kept = kept;
-        let mut out = no_record();
+        let mut out: UnwindRecord = filled();
         let answer = pe_c_next_record(view, &range(0, 0), &mut walk, &mut out);
         let prolog = u64::from(out.size_of_prolog);
         ((answer, of_range(out.codes.left), prolog), walk.kept)

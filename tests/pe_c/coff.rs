@@ -91,8 +91,9 @@ fn header_of_an_object(rt: HostRuntime) -> Result<(), Fail> {
     assert_eq!(rt; (answer, numbers), (DONE, [0x8664, 3, 0, 0xA6, 12, 0, 4]));
     put(&mut bytes, &[(4, &[1, 2, 3, 4]), (16, &[5, 6])]);
     let (answer, numbers, _) = header_of(&bytes[..20]);
+    let found = (answer, numbers);
     assert_eq!(rt;
-        (answer, numbers),
+        found,
         (DONE, [0x8664, 3, 0x0403_0201, 0xA6, 12, 0x0605, 4])
     );
     Ok(())
@@ -113,10 +114,8 @@ fn sections_of_an_object(rt: HostRuntime) -> Result<(), Fail> {
     let (_, _, coff) = header_of(&bytes);
     let [other] = sections();
     let mut room = [other; 4];
-    assert_eq!(rt;
-        pe_c_sections(&bytes, &section_headers(&coff), &mut room),
-        DONE
-    );
+    let found = pe_c_sections(&bytes, &section_headers(&coff), &mut room);
+    assert_eq!(rt; found, DONE);
     let text = SectionTable {
         name: *b".text\0\0\0",
         virtual_size: 0,
@@ -143,20 +142,17 @@ fn sections_of_an_object(rt: HostRuntime) -> Result<(), Fail> {
         number_of_sections: 2,
         ..moved
     };
-    assert_eq!(rt;
-        pe_c_sections(&bytes, &section_headers(&two), &mut room),
-        DONE
-    );
+    let found = pe_c_sections(&bytes, &section_headers(&two), &mut room);
+    assert_eq!(rt; found, DONE);
     let [first, second, third, _] = room;
+    let found = (first.name, second.name, third.name);
     assert_eq!(rt;
-        (first.name, second.name, third.name),
+        found,
         (*b".data\0\0\0", *b".bss\0\0\0\0", *b".bss\0\0\0\0")
     );
     let mut room = [other; 2];
-    assert_eq!(rt;
-        pe_c_sections(&bytes, &section_headers(&coff), &mut room),
-        ROOM
-    );
+    let found = pe_c_sections(&bytes, &section_headers(&coff), &mut room);
+    assert_eq!(rt; found, ROOM);
     assert_eq!(rt; room, [other; 2]);
     Ok(())
 }

@@ -5,7 +5,7 @@ use crate::debug::records::pe_c_codeview;
 use crate::debug::walks::pe_c_next_debug_entry;
 use crate::debug::{pe_c_debug_data, pe_c_debug_entries, pe_c_debug_record, pe_c_symbol_key};
 use calls_headers::debug::DebugRecords;
-use calls_headers::debug::records::SymbolKey;
+use calls_headers::debug::records::{Pdb20, Pogo, Repro, SymbolKey};
 use pe_images::image as bytes_of;
 use pe_records::{ImageDebugDirectory, VCFeatureInfo};
 
@@ -92,34 +92,10 @@ fn with_old_records(alloc: Global) -> Result<Vec<u8>, Fail> {
     Ok(bytes)
 }
 
-/// All records of an image: the answer and all fields of each.
-#[derive(Clone, Copy, Debug, PartialEq)]
-struct Reported {
-    key: (u32, [u8; 16], [u32; 2], [u64; 2]),
-    pdb20: (u32, [u64; 2], [u32; 4]),
-    features: (u32, VCFeatureInfo),
-    characteristics: (u32, u32),
-    repro: (u32, [u64; 2], [u32; 2]),
-    pogo: (u32, [u64; 2], [u32; 2]),
-    embedded: (u32, [u64; 2], [u32; 2]),
-    checksum: (u32, [[u64; 2]; 2]),
-}
-
-fn key_of(bytes: &[u8], image: &Image, mode: u32) -> (u32, [u8; 16], [u32; 2], [u64; 2]) {
-    let mut out = SymbolKey {
-        guid: [7; 16],
-        age: 8,
-        spare: 9,
-        name: untouched(),
-    };
+fn key_of(bytes: &[u8], image: &Image, mode: u32) -> (u32, SymbolKey) {
+    let mut out = filled();
     let answer = pe_c_symbol_key(&view(bytes, &in_mode(image, mode), &sections()), &mut out);
-    let SymbolKey {
-        guid,
-        age,
-        spare,
-        name,
-    } = out;
-    (answer, guid, [age, spare], of_range(name))
+    (answer, out)
 }
 
 /// A CodeView record of 30 bytes at offset 0xA0 of the image with records, and what is refused. Nothing but the record is
@@ -128,118 +104,89 @@ fn key_of(bytes: &[u8], image: &Image, mode: u32) -> (u32, [u8; 16], [u32; 2], [
 fn records_that_stand_alone(rt: HostRuntime) -> Result<(), Fail> {
     let mut bytes = with_records(rt.alloc())?;
     put(&mut bytes, &[(0x10, &[0xFF; 0x80])]);
-    let codeview = |record: Range| {
-        let mut out = SymbolKey {
-            guid: [7; 16],
-            age: 8,
-            spare: 9,
-            name: untouched(),
-        };
-        let answer = pe_c_codeview(&bytes, &record, &mut out);
-        (answer, out.guid, [out.age, out.spare], of_range(out.name))
-    };
-    let (_, guid, numbers, _) = reported_of_records().key;
-    assert_eq!(rt; codeview(range(0xA0, 30)), (DONE, guid, numbers, [0xB8, 6]));
-    let refused = |number| (number, [7; 16], [8, 9], UNTOUCHED);
-    assert_eq!(rt; codeview(range(0xA0, 23)), refused(DEBUG_SIZE));
-    assert_eq!(rt; codeview(range(0xA1, 30)), refused(NOTHING));
-    assert_eq!(rt; codeview(range(0x123, 30)), refused(SHORT));
+    let whole = (DONE, reported_of_records().key);
+    for (record, (number, key)) in [
+        (range(0xA0, 30), whole),
+        (range(0xA0, 23), (DEBUG_SIZE, filled())),
+        (range(0xA1, 30), (NOTHING, filled())),
+        (range(0x123, 30), (SHORT, filled())),
+    ] {
+        let mut out = filled();
+        assert_eq!(rt; pe_c_codeview(&bytes, &record, &mut out), number);
+        assert_eq!(rt; raw(&out), raw(&key));
+    }
     Ok(())
 }
 
-/// What a call returns, which is always `DONE`, and what it wrote.
-fn reported(answer: u32, out: &DebugRecords) -> Reported {
-    let (key, old, repro, pogo) = (out.key, out.pdb20, out.repro, out.pogo);
-    let (embedded, checksum) = (out.embedded, out.checksum);
-    Reported {
-        key: (
-            out.key_result | answer,
-            key.guid,
-            [key.age, key.spare],
-            of_range(key.name),
-        ),
-        pdb20: (
-            out.pdb20_result,
-            of_range(old.name),
-            [old.offset, old.signature, old.age, old.spare],
-        ),
-        features: (out.features_result, out.features),
-        characteristics: (out.characteristics_result, out.characteristics),
-        repro: (
-            out.repro_result,
-            of_range(repro.hash),
-            [repro.has_hash, repro.spare],
-        ),
-        pogo: (
-            out.pogo_result,
-            of_range(pogo.entries),
-            [pogo.signature, pogo.spare],
-        ),
-        embedded: (
-            out.embedded_result,
-            of_range(embedded.compressed),
-            [embedded.uncompressed_size, embedded.spare],
-        ),
-        checksum: (
-            out.checksum_result,
-            [of_range(checksum.algorithm), of_range(checksum.checksum)],
-        ),
+/// What a call wrote that returns `DONE`: another number stands among the results.
+fn reported(answer: u32, out: DebugRecords) -> DebugRecords {
+    DebugRecords {
+        key_result: out.key_result | answer,
+        ..out
     }
 }
 
 /// The records of the first entries.
-fn reported_by(bytes: &[u8], image: &Image, mode: u32) -> Reported {
-    let mut out = untouched_records();
+fn reported_by(bytes: &[u8], image: &Image, mode: u32) -> DebugRecords {
+    let mut out = filled();
     let answer = pe_c_debug_data(&view(bytes, &in_mode(image, mode), &sections()), &mut out);
-    reported(answer, &out)
+    reported(answer, out)
 }
 
 /// The record of an entry.
-fn reported_of(bytes: &[u8], mode: u32, entry: &ImageDebugDirectory) -> Reported {
-    let mut out = untouched_records();
+fn reported_of(bytes: &[u8], mode: u32, entry: &ImageDebugDirectory) -> DebugRecords {
+    let mut out = filled();
     let answer = pe_c_debug_record(bytes, mode, entry, &mut out);
-    reported(answer, &out)
+    reported(answer, out)
 }
 
 /// Where nothing goes out and each result is this one.
-fn nothing_but(answer: u32) -> Reported {
-    Reported {
-        key: (answer, [7; 16], [8, 9], UNTOUCHED),
-        pdb20: (answer, UNTOUCHED, [5, 6, 7, 8]),
-        features: (answer, NO_FEATURES),
-        characteristics: (answer, 9),
-        repro: (answer, UNTOUCHED, [5, 6]),
-        pogo: (answer, UNTOUCHED, [5, 6]),
-        embedded: (answer, UNTOUCHED, [5, 6]),
-        checksum: (answer, [UNTOUCHED; 2]),
+fn nothing_but(number: u32) -> DebugRecords {
+    DebugRecords {
+        key_result: number,
+        pdb20_result: number,
+        repro_result: number,
+        pogo_result: number,
+        embedded_result: number,
+        checksum_result: number,
+        features_result: number,
+        characteristics_result: number,
+        ..filled()
     }
 }
 
 /// The names, the hash and the entries stand after 24, 4 and 4 bytes of their records.
-fn reported_of_records() -> Reported {
-    Reported {
-        key: (
-            DONE,
-            [
-                0x10, 0x11, 0x12, 0x13, 0x14, 0x15, 0x16, 0x17, 0x18, 0x19, 0x1A, 0x1B, 0x1C, 0x1D,
-                0x1E, 0x1F,
-            ],
-            [9, 0],
-            [0xB8, 6],
-        ),
-        features: (
-            DONE,
-            VCFeatureInfo {
-                pre_vc_plusplus_count: 1,
-                c_and_cplusplus_count: 2,
-                guard_stack_count: 3,
-                sdl_count: 4,
-                guard_count: 5,
-            },
-        ),
-        characteristics: (DONE, 0x0403_0241),
-        repro: (DONE, [0x104, 3], [1, 0]),
-        pogo: (DONE, [0xE4, 24], [0x4C54_4347, 0]),
+fn reported_of_records() -> DebugRecords {
+    DebugRecords {
+        key: SymbolKey {
+            guid: *b"\x10\x11\x12\x13\x14\x15\x16\x17\x18\x19\x1A\x1B\x1C\x1D\x1E\x1F",
+            age: 9,
+            spare: 0,
+            name: range(0xB8, 6),
+        },
+        key_result: DONE,
+        features: VCFeatureInfo {
+            pre_vc_plusplus_count: 1,
+            c_and_cplusplus_count: 2,
+            guard_stack_count: 3,
+            sdl_count: 4,
+            guard_count: 5,
+        },
+        features_result: DONE,
+        characteristics: 0x0403_0241,
+        characteristics_result: DONE,
+        repro: Repro {
+            hash: range(0x104, 3),
+            has_hash: 1,
+            spare: 0,
+        },
+        repro_result: DONE,
+        pogo: Pogo {
+            entries: range(0xE4, 24),
+            signature: 0x4C54_4347,
+            spare: 0,
+        },
+        pogo_result: DONE,
         ..nothing_but(NOTHING)
     }
 }
@@ -251,8 +198,9 @@ fn records_of_debug_data(rt: HostRuntime) -> Result<(), Fail> {
     let bytes = with_records(rt.alloc())?;
     let image = with_table(0x1010, TABLE_SIZE);
     let want = reported_of_records();
-    assert_eq!(rt; reported_by(&bytes, &image, STRICT), want);
-    assert_eq!(rt; key_of(&bytes, &image, STRICT), want.key);
+    assert_eq!(rt; raw(&reported_by(&bytes, &image, STRICT)), raw(&want));
+    let (answer, key) = key_of(&bytes, &image, STRICT);
+    assert_eq!(rt; (answer, raw(&key)), (DONE, raw(&want.key)));
     Ok(())
 }
 
@@ -262,17 +210,29 @@ fn records_of_debug_data(rt: HostRuntime) -> Result<(), Fail> {
 fn older_records_in_strict_mode(rt: HostRuntime) -> Result<(), Fail> {
     let mut bytes = with_old_records(rt.alloc())?;
     let image = with_table(0x1010, TABLE_SIZE);
-    let want = Reported {
-        key: nothing_but(DEBUG_SIZE).key,
-        pdb20: (DONE, [0xB0, 7], [0x0403_0201, 0x0807_0605, 6, 0]),
-        repro: (DONE, [0, 0], [0, 0]),
+    let want = DebugRecords {
+        key_result: DEBUG_SIZE,
+        pdb20: Pdb20 {
+            name: range(0xB0, 7),
+            offset: 0x0403_0201,
+            signature: 0x0807_0605,
+            age: 6,
+            spare: 0,
+        },
+        pdb20_result: DONE,
+        repro: Repro {
+            hash: range(0, 0),
+            has_hash: 0,
+            spare: 0,
+        },
+        repro_result: DONE,
         ..nothing_but(NOTHING)
     };
-    assert_eq!(rt; reported_by(&bytes, &image, STRICT), want);
+    assert_eq!(rt; raw(&reported_by(&bytes, &image, STRICT)), raw(&want));
     put(&mut bytes, &[(0x20, &[15])]);
     for (mode, number) in [(STRICT, DEBUG_SIZE), (PERMISSIVE, NOTHING)] {
         let said = reported_by(&bytes, &image, mode);
-        assert_eq!(rt; (said.key.0, said.pdb20.0), (number, number));
+        assert_eq!(rt; (said.key_result, said.pdb20_result), (number, number));
     }
     Ok(())
 }
@@ -283,22 +243,23 @@ fn older_records_in_strict_mode(rt: HostRuntime) -> Result<(), Fail> {
 #[test]
 fn first_entries_of_types(rt: HostRuntime) -> Result<(), Fail> {
     let mut bytes = with_records(rt.alloc())?;
-    let want = Reported {
-        characteristics: nothing_but(NOTHING).characteristics,
+    let want = DebugRecords {
+        characteristics: filled(),
+        characteristics_result: NOTHING,
         ..reported_of_records()
     };
     let truncated = with_table(0x1010, TABLE_SIZE - 1);
-    assert_eq!(rt; reported_by(&bytes, &truncated, STRICT), want);
+    assert_eq!(rt; raw(&reported_by(&bytes, &truncated, STRICT)), raw(&want));
     // the last entry is of CodeView too, and leads nowhere
     put(&mut bytes, &[(0x8C, &[2]), (0x98, &[0xFF; 4])]);
     let image = with_table(0x1010, TABLE_SIZE);
-    assert_eq!(rt; reported_by(&bytes, &image, STRICT), want);
+    assert_eq!(rt; raw(&reported_by(&bytes, &image, STRICT)), raw(&want));
     Ok(())
 }
 
 /// The entries of the table at 0x10.
 fn entries_of(bytes: &[u8]) -> [ImageDebugDirectory; 5] {
-    let (mut entries, mut walk) = ([NO_DEBUG_ENTRY; 5], range(0x10, u64::from(TABLE_SIZE)));
+    let (mut entries, mut walk) = ([filled(); 5], range(0x10, u64::from(TABLE_SIZE)));
     for entry in &mut entries {
         pe_c_next_debug_entry(bytes, &mut walk, entry);
     }
@@ -312,39 +273,30 @@ fn records_of_entries(rt: HostRuntime) -> Result<(), Fail> {
     let mut entries = entries_of(&bytes);
     put(&mut bytes, &[(0x10, &[0xFF; 0x8C])]);
     let (whole, none) = (reported_of_records(), nothing_but(NOTHING));
-    let wanted = [
-        Reported {
-            key: whole.key,
-            ..none
-        },
-        Reported {
-            features: whole.features,
-            ..none
-        },
-        Reported {
-            pogo: whole.pogo,
-            ..none
-        },
-        Reported {
-            repro: whole.repro,
-            ..none
-        },
-        Reported {
-            characteristics: whole.characteristics,
-            ..none
-        },
-    ];
+    let mut wanted = [none; 5];
+    (wanted[0].key, wanted[0].key_result) = (whole.key, DONE);
+    (wanted[1].features, wanted[1].features_result) = (whole.features, DONE);
+    (wanted[2].pogo, wanted[2].pogo_result) = (whole.pogo, DONE);
+    (wanted[3].repro, wanted[3].repro_result) = (whole.repro, DONE);
+    wanted[4].characteristics = whole.characteristics;
+    wanted[4].characteristics_result = DONE;
     for (entry, want) in entries.iter().zip(wanted) {
-        assert_eq!(rt; reported_of(&bytes, STRICT, entry), want);
+        assert_eq!(rt; raw(&reported_of(&bytes, STRICT, entry)), raw(&want));
     }
     // in an image as loaded the record stands at its RVA
     entries[4].address_of_raw_data = 0x111;
     let found = reported_of(&bytes, MAPPED, &entries[4]);
-    assert_eq!(rt; found.characteristics, (DONE, 0x0004_0302));
+    let found = (found.characteristics_result, found.characteristics);
+    assert_eq!(rt; found, (DONE, 0x0004_0302));
     put(&mut bytes, &[(0xA0, b"NB10")]);
     let found = reported_of(&bytes, STRICT, &entries[0]);
-    assert_eq!(rt; (found.pdb20.0, found.pdb20.1), (DONE, [0xB0, 14]));
-    assert_eq!(rt; (found.pdb20.2[0], found.key), (0x1312_1110, none.key));
+    let (old, key) = (found.pdb20, found.key);
+    assert_eq!(rt;
+        (found.pdb20_result, of_range(old.name)),
+        (DONE, [0xB0, 14])
+    );
+    assert_eq!(rt; (old.offset, found.key_result), (0x1312_1110, NOTHING));
+    assert!(rt; is_filled(&key));
     Ok(())
 }
 
@@ -354,7 +306,7 @@ fn entry(data_type: u32, offset: u32, size: u32) -> ImageDebugDirectory {
         data_type,
         size_of_data: size,
         pointer_to_raw_data: offset,
-        ..NO_DEBUG_ENTRY
+        ..filled()
     }
 }
 
@@ -364,15 +316,18 @@ fn embedded_pdbs(rt: HostRuntime) -> Result<(), Fail> {
     let bytes = bytes_of(rt.alloc(), 16, &[(3, b"MPDB\x01\x02\0\0zipped")])?;
     let read = |mode, offset, size| {
         let found = reported_of(&bytes, mode, &entry(17, offset, size));
-        (found.embedded.0, found.embedded.1, found.embedded.2[0])
+        (found.embedded_result, found.embedded)
     };
-    assert_eq!(rt; read(STRICT, 3, 13), (DONE, [11, 5], 0x201));
+    let (number, found) = read(STRICT, 3, 13);
+    assert_eq!(rt; (number, of_range(found.compressed)), (DONE, [11, 5]));
+    assert_eq!(rt; (found.uncompressed_size, found.spare), (0x201, 0));
     for (mode, offset, size, number) in [
         (STRICT, 3, 7, DEBUG_SIZE),
         (PERMISSIVE, 4, 8, BAD_MAGIC),
         (PERMISSIVE, 3, 14, DEBUG_DATA),
     ] {
-        assert_eq!(rt; read(mode, offset, size), (number, UNTOUCHED, 5));
+        let (result, found) = read(mode, offset, size);
+        assert_eq!(rt; (result, is_filled(&found)), (number, true));
     }
     Ok(())
 }
@@ -381,10 +336,17 @@ fn embedded_pdbs(rt: HostRuntime) -> Result<(), Fail> {
 #[test]
 fn checksums_of_pdbs(rt: HostRuntime) -> Result<(), Fail> {
     let bytes = bytes_of(rt.alloc(), 16, &[(3, b"SHA256\0\xAA\0\xBB")])?;
-    let read = |mode, size| reported_of(&bytes, mode, &entry(19, 3, size)).checksum;
-    assert_eq!(rt; read(STRICT, 10), (DONE, [[3, 6], [10, 3]]));
-    assert_eq!(rt; read(STRICT, 6), (DEBUG_SIZE, [UNTOUCHED; 2]));
-    assert_eq!(rt; read(PERMISSIVE, 14), (DEBUG_DATA, [UNTOUCHED; 2]));
+    let read = |mode, size| {
+        let found = reported_of(&bytes, mode, &entry(19, 3, size));
+        (found.checksum_result, found.checksum)
+    };
+    let (number, found) = read(STRICT, 10);
+    assert_eq!(rt; (number, of_range(found.algorithm)), (DONE, [3, 6]));
+    assert_eq!(rt; of_range(found.checksum), [10, 3]);
+    for (mode, size, number) in [(STRICT, 6, DEBUG_SIZE), (PERMISSIVE, 14, DEBUG_DATA)] {
+        let (result, found) = read(mode, size);
+        assert_eq!(rt; (result, is_filled(&found)), (number, true));
+    }
     Ok(())
 }
 
@@ -402,7 +364,16 @@ fn managed_records_of_an_image(rt: HostRuntime) -> Result<(), Fail> {
         ],
     );
     let found = reported_by(&bytes, &with_table(0x1010, TABLE_SIZE), STRICT);
-    assert_eq!(rt; found.embedded, (DONE, [0xA8, 5], [0x201, 0]));
-    assert_eq!(rt; found.checksum, (DONE, [[0xC0, 6], [0xC7, 3]]));
+    let (embedded, checksum) = (found.embedded, found.checksum);
+    assert_eq!(rt;
+        (found.embedded_result, found.checksum_result),
+        (DONE, DONE)
+    );
+    assert_eq!(rt;
+        (of_range(embedded.compressed), embedded.uncompressed_size),
+        ([0xA8, 5], 0x201)
+    );
+    let found = (of_range(checksum.algorithm), of_range(checksum.checksum));
+    assert_eq!(rt; found, ([0xC0, 6], [0xC7, 3]));
     Ok(())
 }

@@ -1,16 +1,11 @@
 //! Why debug records are refused: the result of the call that reads each, and the numbers of its error. Every number is worked out by
 //! hand.
 
+use super::directory_failure::{NONE, Said, told};
 use super::made::*;
 use crate::failures::debug::pe_c_debug_failure;
 use pe_images::image as bytes_of;
 use pe_records::ImageDebugDirectory;
-
-/// The answer; the error, its offset, needed bytes and value; and the last field.
-type Said = (u32, (u32, [u64; 3]), u32);
-
-/// What is said where nothing is wrong.
-const NONE: Said = (NOTHING, (94, [91, 92, 93]), 95);
 
 /// The record of so many bytes at a file offset, read as one of a kind.
 fn said(bytes: &[u8], mode: u32, record: (u32, u32), kind: u32) -> Said {
@@ -26,14 +21,7 @@ fn said(bytes: &[u8], mode: u32, record: (u32, u32), kind: u32) -> Said {
     };
     let mut out = NO_FAILURE;
     let answer = pe_c_debug_failure(bytes, mode, &entry, kind, &mut out);
-    let Failure {
-        offset,
-        needed,
-        value,
-        result,
-        spare,
-    } = out;
-    (answer, (result, [offset, needed, value]), spare)
+    told(answer, &out)
 }
 
 /// The first error of each kind at the end of 96 bytes, at 50h, of which 16 are there.

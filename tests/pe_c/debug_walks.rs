@@ -7,7 +7,7 @@ use calls_headers::debug::walks::PogoEntry;
 use pe_records::ImageDebugDirectory;
 
 fn step(bytes: &[u8], walk: &mut Range) -> (u32, ImageDebugDirectory, [u64; 2]) {
-    let mut out = NO_DEBUG_ENTRY;
+    let mut out = filled();
     let answer = pe_c_next_debug_entry(bytes, walk, &mut out);
     (answer, out, of_range(*walk))
 }
@@ -38,11 +38,11 @@ fn debug_entries_in_turn(rt: HostRuntime) {
     let mut walk = range(3, 56);
     assert_eq!(rt; step(&bytes, &mut walk), (DONE, first, [31, 28]));
     assert_eq!(rt; step(&bytes, &mut walk), (DONE, second, [59, 0]));
-    assert_eq!(rt; step(&bytes, &mut walk), (NOTHING, NO_DEBUG_ENTRY, [59, 0]));
+    assert_eq!(rt; step(&bytes, &mut walk), (NOTHING, filled(), [59, 0]));
     // shows: calls_base/src/walks.rt next_entry Short
     let mut cut = range(3, 55);
     assert_eq!(rt; step(&bytes, &mut cut), (DONE, first, [31, 27]));
-    assert_eq!(rt; step(&bytes, &mut cut), (SHORT, NO_DEBUG_ENTRY, OVER));
+    assert_eq!(rt; step(&bytes, &mut cut), (SHORT, filled(), OVER));
 }
 
 // ---- POGO

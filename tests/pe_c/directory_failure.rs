@@ -6,22 +6,20 @@ use crate::failures::directories::pe_c_directory_failure;
 use pe_images::image as bytes_of;
 
 /// The answer; the error, its offset, needed bytes and value; and the last field.
-type Said = (u32, (u32, [u64; 3]), u32);
+pub(crate) type Said = (u32, (u32, [u64; 3]), u32);
 
 /// What is said where nothing is wrong.
-const NONE: Said = (NOTHING, (94, [91, 92, 93]), 95);
+pub(crate) const NONE: Said = (NOTHING, (94, [91, 92, 93]), 95);
 
 fn said(bytes: &[u8], image: &Image, index: u32) -> Said {
     let mut out = NO_FAILURE;
     let answer = pe_c_directory_failure(&view(bytes, image, &sections()), index, &mut out);
-    let Failure {
-        offset,
-        needed,
-        value,
-        result,
-        spare,
-    } = out;
-    (answer, (result, [offset, needed, value]), spare)
+    told(answer, &out)
+}
+
+pub(crate) fn told(answer: u32, out: &Failure) -> Said {
+    let numbers = [out.offset, out.needed, out.value];
+    (answer, (out.result, numbers), out.spare)
 }
 
 /// An image for x64 with a directory.

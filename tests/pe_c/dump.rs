@@ -12,13 +12,11 @@ use crate::dump::memory::{pe_c_dump_memory_at, pe_c_dump_memory64, pe_c_next_mem
 use crate::dump::records::{pe_c_dump_exception, pe_c_dump_process, pe_c_dump_system};
 use crate::dump::{pe_c_dump, pe_c_dump_entry_at, pe_c_dump_stream, pe_c_dump_text};
 use calls_headers::debug::records::SymbolKey;
-use calls_stacks::arm64::frames::Arm64FrameRegisters;
 use calls_stacks::dump::DumpInfo;
 use calls_stacks::dump::contexts::{Arm64Context, X64Context};
 use calls_stacks::dump::lists::{DumpMemoryRegion, DumpModule, DumpThreadName};
 use calls_stacks::dump::memory::{DumpPiece, Memory64Walk};
 use calls_stacks::dump::records::{DumpProcess, DumpSystem};
-use calls_stacks::stack::frames::FrameRegisters;
 use pe_images::image as bytes_of;
 use pe_minidump::{
     DirectoryEntry, Exception, FixedFileInfo, Handle, Location, MemoryDescriptor, ProcessTimes,
@@ -166,20 +164,8 @@ fn stream(index: usize) -> Range {
     range(u64::from(offset), u64::from(length))
 }
 
-const NO_INFO: DumpInfo = DumpInfo {
-    directory: Range {
-        offset: 9,
-        length: 9,
-    },
-    flags: 9,
-    version: 9,
-    number_of_streams: 9,
-    check_sum: 9,
-    time_date_stamp: 9,
-};
-
 fn info_of(bytes: &[u8]) -> (u32, DumpInfo) {
-    let mut out = NO_INFO;
+    let mut out = filled();
     let answer = pe_c_dump(bytes, &mut out);
     (answer, out)
 }
@@ -198,7 +184,7 @@ fn header_of_a_dump(rt: HostRuntime) -> Result<(), Fail> {
     assert_eq!(rt; info_of(&bytes).0, DUMP_VERSION);
     put(&mut bytes, &[(0, b"N")]);
     let (answer, info) = info_of(&bytes);
-    assert_eq!(rt; (answer, info.flags, info.version), (DUMP_SIGNATURE, 9, 9));
+    assert_eq!(rt; (answer, is_filled(&info)), (DUMP_SIGNATURE, true));
     Ok(())
 }
 
@@ -229,10 +215,7 @@ fn streams_are_found_by_kind(rt: HostRuntime) -> Result<(), Fail> {
 fn entries_of_the_directory(rt: HostRuntime) -> Result<(), Fail> {
     let bytes = dump(rt.alloc())?;
     let directory = range(32, 144);
-    let mut out = DirectoryEntry {
-        stream_type: 9,
-        location: NO_BYTES,
-    };
+    let mut out: DirectoryEntry = filled();
     assert_eq!(rt; pe_c_dump_entry_at(&bytes, &directory, 11, &mut out), DONE);
     let want = DirectoryEntry {
         stream_type: 17,
@@ -272,23 +255,10 @@ fn strings_and_locations(rt: HostRuntime) -> Result<(), Fail> {
     Ok(())
 }
 
-const NO_THREAD: Thread = Thread {
-    thread_id: 9,
-    suspend_count: 9,
-    priority_class: 9,
-    priority: 9,
-    teb: 9,
-    stack: MemoryDescriptor {
-        start_of_memory_range: 9,
-        memory: NO_BYTES,
-    },
-    thread_context: NO_BYTES,
-};
-
 #[test]
 fn threads_by_their_index(rt: HostRuntime) -> Result<(), Fail> {
     let mut bytes = dump(rt.alloc())?;
-    let mut out = NO_THREAD;
+    let mut out: Thread = filled();
     assert_eq!(rt; pe_c_dump_thread_at(&bytes, &stream(0), 0, &mut out), DONE);
     let first = Thread {
         thread_id: 0x24,
@@ -308,12 +278,12 @@ fn threads_by_their_index(rt: HostRuntime) -> Result<(), Fail> {
     assert_eq!(rt; out, first);
     assert_eq!(rt; pe_c_dump_thread_at(&bytes, &stream(0), 1, &mut out), DONE);
     assert_eq!(rt; (out.thread_id, out.thread_context), (0x25, NO_BYTES));
-    out = NO_THREAD;
+    out = filled();
     let found = pe_c_dump_thread_at(&bytes, &stream(0), 2, &mut out);
     assert_eq!(rt; found, NOTHING);
     let found = pe_c_dump_thread_at(&bytes, &range(0xB0, 99), 0, &mut out);
     assert_eq!(rt; found, DUMP_LIST_SIZE);
-    assert_eq!(rt; out, NO_THREAD);
+    assert!(rt; is_filled(&out));
     // With 4 bytes between the number and the first of them.
     put(&mut bytes, &[(0xB4, b"\x77\0\0\0\x99"), (0xB0, b"\x01")]);
     let found = pe_c_dump_thread_at(&bytes, &range(0xB0, 56), 0, &mut out);
@@ -339,25 +309,10 @@ const VERSION: FixedFileInfo = FixedFileInfo {
     file_date_ls: 13,
 };
 
-const NO_MODULE: DumpModule = DumpModule {
-    base_of_image: 9,
-    size_of_image: 9,
-    check_sum: 9,
-    time_date_stamp: 9,
-    module_name_rva: 9,
-    version_info: FixedFileInfo {
-        signature: 9,
-        ..VERSION
-    },
-    cv_record: NO_BYTES,
-    misc_record: NO_BYTES,
-    spare: 9,
-};
-
 #[test]
 fn modules_by_their_index(rt: HostRuntime) -> Result<(), Fail> {
     let bytes = dump(rt.alloc())?;
-    let mut out = NO_MODULE;
+    let mut out: DumpModule = filled();
     assert_eq!(rt; pe_c_dump_module_at(&bytes, &stream(1), 0, &mut out), DONE);
     let found = (out.base_of_image, out.size_of_image);
     assert_eq!(rt; found, (0x1_8000_0000, 0x2_1000));
@@ -373,11 +328,7 @@ fn modules_by_their_index(rt: HostRuntime) -> Result<(), Fail> {
 #[test]
 fn names_of_threads_by_their_index(rt: HostRuntime) -> Result<(), Fail> {
     let bytes = dump(rt.alloc())?;
-    let mut out = DumpThreadName {
-        rva_of_thread_name: 9,
-        thread_id: 9,
-        spare: 9,
-    };
+    let mut out: DumpThreadName = filled();
     let found = pe_c_dump_thread_name_at(&bytes, &stream(7), 0, &mut out);
     assert_eq!(rt; found, DONE);
     let found = (out.rva_of_thread_name, out.thread_id, out.spare);
@@ -388,13 +339,7 @@ fn names_of_threads_by_their_index(rt: HostRuntime) -> Result<(), Fail> {
 #[test]
 fn unloaded_modules_by_their_index(rt: HostRuntime) -> Result<(), Fail> {
     let mut bytes = dump(rt.alloc())?;
-    let mut out = UnloadedModule {
-        base_of_image: 9,
-        size_of_image: 9,
-        check_sum: 9,
-        time_date_stamp: 9,
-        module_name_rva: 9,
-    };
+    let mut out: UnloadedModule = filled();
     let found = pe_c_dump_unloaded_at(&bytes, &stream(8), 0, &mut out);
     assert_eq!(rt; found, DONE);
     let want = UnloadedModule {
@@ -415,18 +360,7 @@ fn unloaded_modules_by_their_index(rt: HostRuntime) -> Result<(), Fail> {
 #[test]
 fn thread_infos_by_their_index(rt: HostRuntime) -> Result<(), Fail> {
     let bytes = dump(rt.alloc())?;
-    let mut out = ThreadInfo {
-        thread_id: 9,
-        dump_flags: 9,
-        dump_error: 9,
-        exit_status: 9,
-        create_time: 9,
-        exit_time: 9,
-        kernel_time: 9,
-        user_time: 9,
-        start_address: 9,
-        affinity: 9,
-    };
+    let mut out: ThreadInfo = filled();
     let found = pe_c_dump_thread_info_at(&bytes, &stream(11), 0, &mut out);
     assert_eq!(rt; found, DONE);
     let want = ThreadInfo {
@@ -448,15 +382,7 @@ fn thread_infos_by_their_index(rt: HostRuntime) -> Result<(), Fail> {
 #[test]
 fn handles_by_their_index(rt: HostRuntime) -> Result<(), Fail> {
     let bytes = dump(rt.alloc())?;
-    let mut out = Handle {
-        handle: 9,
-        type_name_rva: 9,
-        object_name_rva: 9,
-        attributes: 9,
-        granted_access: 9,
-        handle_count: 9,
-        pointer_count: 9,
-    };
+    let mut out: Handle = filled();
     assert_eq!(rt; pe_c_dump_handle_at(&bytes, &stream(10), 0, &mut out), DONE);
     let want = Handle {
         handle: 0x44,
@@ -474,44 +400,23 @@ fn handles_by_their_index(rt: HostRuntime) -> Result<(), Fail> {
 #[test]
 fn regions_by_their_index(rt: HostRuntime) -> Result<(), Fail> {
     let bytes = dump(rt.alloc())?;
-    let mut out = DumpMemoryRegion {
-        base_address: 9,
-        allocation_base: 9,
-        region_size: 9,
-        allocation_protect: 9,
-        state: 9,
-        protect: 9,
-        memory_type: 9,
-    };
+    let mut out: DumpMemoryRegion = filled();
     assert_eq!(rt; pe_c_dump_region_at(&bytes, &stream(9), 0, &mut out), DONE);
     let found = (out.base_address, out.allocation_base, out.region_size);
     assert_eq!(rt; found, (0x1000, 0x800, 0x3000));
-    assert_eq!(rt;
-        (out.allocation_protect, out.state, out.protect),
-        (4, 0x1000, 0x20)
-    );
+    let found = (out.allocation_protect, out.state, out.protect);
+    assert_eq!(rt; found, (4, 0x1000, 0x20));
     assert_eq!(rt; out.memory_type, 0x2_0000);
     Ok(())
 }
 
-const NO_EXCEPTION: Exception = Exception {
-    thread_id: 9,
-    exception_code: 9,
-    exception_flags: 9,
-    number_parameters: 9,
-    exception_record: 9,
-    exception_address: 9,
-    exception_information: [9; 15],
-    thread_context: NO_BYTES,
-};
-
 #[test]
 fn exception_of_a_dump(rt: HostRuntime) -> Result<(), Fail> {
     let bytes = dump(rt.alloc())?;
-    let mut out = NO_EXCEPTION;
+    let mut out: Exception = filled();
     let found = pe_c_dump_exception(&bytes[..0x297], &stream(4), &mut out);
     assert_eq!(rt; found, DUMP_LOCATION);
-    assert_eq!(rt; (out.thread_id, out.exception_record), (9, 9));
+    assert!(rt; is_filled(&out));
     assert_eq!(rt; pe_c_dump_exception(&bytes, &stream(4), &mut out), DONE);
     assert_eq!(rt; (out.thread_id, out.exception_code), (0x24, 0xC000_0005));
     assert_eq!(rt; (out.exception_flags, out.number_parameters), (1, 2));
@@ -529,20 +434,7 @@ fn exception_of_a_dump(rt: HostRuntime) -> Result<(), Fail> {
 #[test]
 fn system_of_a_dump(rt: HostRuntime) -> Result<(), Fail> {
     let bytes = dump(rt.alloc())?;
-    let mut out = DumpSystem {
-        processor_architecture: 77,
-        processor_level: 77,
-        processor_revision: 77,
-        number_of_processors: 77,
-        product_type: 77,
-        major_version: 77,
-        minor_version: 77,
-        build_number: 77,
-        platform_id: 77,
-        csd_version_rva: 77,
-        suite_mask: 77,
-        spare: 77,
-    };
+    let mut out: DumpSystem = filled();
     assert_eq!(rt; pe_c_dump_system(&bytes, &stream(5), &mut out), DONE);
     assert_eq!(rt; (out.processor_architecture, out.processor_level), (9, 6));
     assert_eq!(rt; out.processor_revision, 0x0F01);
@@ -554,29 +446,10 @@ fn system_of_a_dump(rt: HostRuntime) -> Result<(), Fail> {
     Ok(())
 }
 
-const NO_PROCESS: DumpProcess = DumpProcess {
-    size_of_info: 77,
-    flags1: 77,
-    process_id: 77,
-    process_times: ProcessTimes {
-        process_create_time: 77,
-        process_user_time: 77,
-        process_kernel_time: 77,
-    },
-    has_processor_power: 77,
-    processor_power: ProcessorPower {
-        processor_max_mhz: 77,
-        processor_current_mhz: 77,
-        processor_mhz_limit: 77,
-        processor_max_idle_state: 77,
-        processor_current_idle_state: 77,
-    },
-};
-
 #[test]
 fn process_of_a_dump(rt: HostRuntime) -> Result<(), Fail> {
     let mut bytes = dump(rt.alloc())?;
-    let mut out = NO_PROCESS;
+    let mut out: DumpProcess = filled();
     assert_eq!(rt; pe_c_dump_process(&bytes, &stream(6), &mut out), DONE);
     assert_eq!(rt; (out.size_of_info, out.flags1, out.process_id), (44, 7, 32));
     let times = ProcessTimes {
@@ -596,31 +469,18 @@ fn process_of_a_dump(rt: HostRuntime) -> Result<(), Fail> {
     // What is not there is 0.
     let found = pe_c_dump_process(&bytes, &range(0x2D0, 43), &mut out);
     assert_eq!(rt; found, DONE);
-    assert_eq!(rt;
-        (
-            out.has_processor_power,
-            out.processor_power.processor_max_mhz
-        ),
-        (0, 0)
+    let found = (
+        out.has_processor_power,
+        out.processor_power.processor_max_mhz,
     );
+    assert_eq!(rt; found, (0, 0));
     put(&mut bytes, &[(0x2D4, b"\x04")]);
     assert_eq!(rt; pe_c_dump_process(&bytes, &stream(6), &mut out), DONE);
-    assert_eq!(rt;
-        (out.process_id, out.process_times.process_user_time),
-        (0, 0)
-    );
+    let found = (out.process_id, out.process_times.process_user_time);
+    assert_eq!(rt; found, (0, 0));
     assert_eq!(rt; out.has_processor_power, 1);
     Ok(())
 }
-
-const NO_PIECE: DumpPiece = DumpPiece {
-    memory: MemoryPiece {
-        start: 77,
-        offset: 77,
-        length: 77,
-    },
-    lost: 77,
-};
 
 /// Start, offset and length of a piece, and how many bytes are lost.
 fn of_piece(piece: &DumpPiece) -> [u64; 4] {
@@ -635,7 +495,7 @@ fn of_piece(piece: &DumpPiece) -> [u64; 4] {
 #[test]
 fn pieces_of_memory_by_their_index(rt: HostRuntime) -> Result<(), Fail> {
     let bytes = dump(rt.alloc())?;
-    let mut out = NO_PIECE;
+    let mut out = filled();
     let wanted = [
         [0x2010, 0x430, 16, 0],
         [0x3000, 0xCB0, 8, 1],
@@ -658,16 +518,16 @@ fn pieces_of_a_full_dump(rt: HostRuntime) -> Result<(), Fail> {
     };
     assert_eq!(rt; pe_c_dump_memory64(&bytes, &stream(3), &mut walk), DONE);
     assert_eq!(rt; (of_range(walk.entries), walk.next), ([0x1D0, 32], 0xCA0));
-    let mut out = NO_PIECE;
+    let mut out = filled();
     assert_eq!(rt; pe_c_next_memory64(&bytes, &mut walk, &mut out), DONE);
     assert_eq!(rt; of_piece(&out), [0x5000, 0xCA0, 8, 0]);
     assert_eq!(rt; (of_range(walk.entries), walk.next), ([0x1E0, 16], 0xCA8));
     assert_eq!(rt; pe_c_next_memory64(&bytes, &mut walk, &mut out), DONE);
     assert_eq!(rt; of_piece(&out), [0x6000, 0xCA8, 16, 16]);
-    out = NO_PIECE;
+    out = filled();
     assert_eq!(rt; pe_c_next_memory64(&bytes, &mut walk, &mut out), NOTHING);
     assert_eq!(rt; (of_range(walk.entries), walk.next), ([0x1F0, 0], 0xCC8));
-    assert_eq!(rt; of_piece(&out), [77; 4]);
+    assert!(rt; is_filled(&out));
     // The sum of the sizes passes the last offset.
     put(&mut bytes, &[(0x1E8, &[0xFF; 8])]);
     let found = pe_c_dump_memory64(&bytes, &stream(3), &mut walk);
@@ -675,20 +535,10 @@ fn pieces_of_a_full_dump(rt: HostRuntime) -> Result<(), Fail> {
     Ok(())
 }
 
-const NO_X64: X64Context = X64Context {
-    registers: FrameRegisters {
-        general: [77; 16],
-        xmm: [77; 32],
-        rip: 77,
-    },
-    context_flags: 77,
-    eflags: 77,
-};
-
 #[test]
 fn context_of_x64(rt: HostRuntime) -> Result<(), Fail> {
     let mut bytes = dump(rt.alloc())?;
-    let mut out = NO_X64;
+    let mut out: X64Context = filled();
     assert_eq!(rt; pe_c_dump_context(&bytes, &X64, &mut out), DONE);
     let mut general = [0; 16];
     general[0] = 0x11;
@@ -704,31 +554,20 @@ fn context_of_x64(rt: HostRuntime) -> Result<(), Fail> {
     put(&mut bytes, &[(0x470, b"\x03")]);
     assert_eq!(rt; pe_c_dump_context(&bytes, &X64, &mut out), DONE);
     assert_eq!(rt; (out.registers.xmm, out.registers.rip), ([0; 32], 0x33));
-    out = NO_X64;
+    out = filled();
     put(&mut bytes, &[(0x470, b"\x02")]);
     let found = pe_c_dump_context(&bytes, &X64, &mut out);
     assert_eq!(rt; found, DUMP_CONTEXT_FLAGS);
     put(&mut bytes, &[(0x472, b"\x40")]);
     assert_eq!(rt; pe_c_dump_context(&bytes, &X64, &mut out), DUMP_MACHINE);
-    assert_eq!(rt; (out.registers.rip, out.context_flags), (77, 77));
+    assert!(rt; is_filled(&out));
     Ok(())
 }
-
-const NO_ARM64: Arm64Context = Arm64Context {
-    registers: Arm64FrameRegisters {
-        general: [77; 31],
-        floats: [77; 8],
-        sp: 77,
-        pc: 77,
-    },
-    context_flags: 77,
-    cpsr: 77,
-};
 
 #[test]
 fn context_of_arm64(rt: HostRuntime) -> Result<(), Fail> {
     let mut bytes = dump(rt.alloc())?;
-    let mut out = NO_ARM64;
+    let mut out: Arm64Context = filled();
     assert_eq!(rt; pe_c_dump_context_arm64(&bytes, &ARM64, &mut out), DONE);
     let mut general = [0; 31];
     general[0] = 0x11;
@@ -745,7 +584,7 @@ fn context_of_arm64(rt: HostRuntime) -> Result<(), Fail> {
 #[test]
 fn images_of_modules_match_by_stamp_and_size(rt: HostRuntime) -> Result<(), Fail> {
     let bytes = dump(rt.alloc())?;
-    let mut module = NO_MODULE;
+    let mut module = filled();
     let found = pe_c_dump_module_at(&bytes, &stream(1), 0, &mut module);
     assert_eq!(rt; found, DONE);
     let own = Image {

@@ -6,85 +6,6 @@ use crate::headers::pe_c_headers;
 use calls_headers::headers::{CoffFields, DosFields, Headers, OptionalFields};
 use pe_images::{pointer_below_64, with_every_directory, with_every_directory_of_x86};
 
-const NOWHERE: DataDirectory = DataDirectory {
-    virtual_address: 9,
-    size: 9,
-};
-
-/// What headers are before a call that hands out others.
-fn untouched() -> Headers {
-    Headers {
-        optional: OptionalFields {
-            image_base: 9,
-            size_of_stack_reserve: 9,
-            size_of_stack_commit: 9,
-            size_of_heap_reserve: 9,
-            size_of_heap_commit: 9,
-            size_of_code: 9,
-            size_of_initialized_data: 9,
-            size_of_uninitialized_data: 9,
-            address_of_entry_point: 9,
-            base_of_code: 9,
-            base_of_data: 9,
-            section_alignment: 9,
-            file_alignment: 9,
-            win32_version_value: 9,
-            size_of_image: 9,
-            size_of_headers: 9,
-            check_sum: 9,
-            loader_flags: 9,
-            number_of_rva_and_sizes: 9,
-            number_of_directories: 9,
-            magic: 9,
-            major_operating_system_version: 9,
-            minor_operating_system_version: 9,
-            major_image_version: 9,
-            minor_image_version: 9,
-            major_subsystem_version: 9,
-            minor_subsystem_version: 9,
-            subsystem: 9,
-            dll_characteristics: 9,
-            major_linker_version: 9,
-            minor_linker_version: 9,
-        },
-        dos_stub: range(9, 9),
-        optional_offset: 9,
-        directories_offset: 9,
-        dos: DosFields {
-            signature: 9,
-            bytes_on_last_page: 9,
-            pages_in_file: 9,
-            relocations: 9,
-            size_of_header_in_paragraphs: 9,
-            minimum_extra_paragraphs: 9,
-            maximum_extra_paragraphs: 9,
-            initial_relative_ss: 9,
-            initial_sp: 9,
-            checksum: 9,
-            initial_ip: 9,
-            initial_relative_cs: 9,
-            relocations_offset: 9,
-            overlay_number: 9,
-            reserved: [9; 4],
-            oem_id: 9,
-            oem_information: 9,
-            reserved2: [9; 10],
-            pe_pointer: 9,
-        },
-        coff: CoffFields {
-            time_date_stamp: 9,
-            pointer_to_symbol_table: 9,
-            number_of_symbol_table: 9,
-            machine: 9,
-            number_of_sections: 9,
-            size_of_optional_header: 9,
-            characteristics: 9,
-        },
-        signature: 9,
-        directories: [NOWHERE; 16],
-    }
-}
-
 /// The words of a DOS header before its last field, in their order.
 fn dos_words(dos: &DosFields) -> [u16; 30] {
     let mut words = [0; 30];
@@ -211,7 +132,7 @@ const FIELDS_OF_32: [[u64; 28]; 2] = [
 fn every_number_of_64_bits(rt: HostRuntime) -> Result<(), Fail> {
     let mut bytes = with_every_directory(rt.alloc())?;
     count_up(&mut bytes, 0xC4);
-    let mut out = untouched();
+    let mut out: Headers = filled();
     assert_eq!(rt; pe_c_headers(&bytes, STRICT, &mut out), DONE);
     let words = dos_words(&out.dos);
     let found = (words[0], out.dos.pe_pointer, out.signature);
@@ -246,7 +167,7 @@ fn every_number_of_32_bits(rt: HostRuntime) -> Result<(), Fail> {
     let mut bytes = with_every_directory_of_x86(rt.alloc())?;
     count_up(&mut bytes, 0xB4);
     put(&mut bytes, &[(0x54, &[0x60]), (0xB4, &[5, 0, 0, 0x80])]);
-    let mut out = untouched();
+    let mut out: Headers = filled();
     assert_eq!(rt; pe_c_headers(&bytes, STRICT, &mut out), DONE);
     assert_eq!(rt; out.optional.magic, 0x10B);
     let wanted = counted_fields(FIELDS_OF_32, 0x8000_0005);
@@ -265,9 +186,9 @@ fn every_number_of_32_bits(rt: HostRuntime) -> Result<(), Fail> {
 #[test]
 fn headers_without_an_optional_header(rt: HostRuntime) -> Result<(), Fail> {
     let bytes = pointer_below_64(rt.alloc())?;
-    let mut out = untouched();
+    let mut out: Headers = filled();
     assert_eq!(rt; pe_c_headers(&bytes, STRICT, &mut out), HEADER_POINTER);
-    assert_eq!(rt; optional_numbers(&out.optional), [9; 29]);
+    assert!(rt; is_filled(&out));
     assert_eq!(rt; pe_c_headers(&bytes, PERMISSIVE, &mut out), DONE);
     assert_eq!(rt; (out.dos.pe_pointer, out.dos_stub.length), (0x30, 0));
     assert_eq!(rt; optional_numbers(&out.optional), [0; 29]);

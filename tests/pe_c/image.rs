@@ -6,76 +6,18 @@ use pe_images::{
     headers_alone, image as bytes_of, pointer_below_64, with_every_directory,
     with_every_directory_of_x86,
 };
+use std::process::Abort;
 
 /// What an image is before a call that hands out another.
 fn untouched() -> Image {
     image(0x1234)
 }
 
-/// The numbers of an image by their widths, and its directories.
-type Fields = ([u64; 4], [u32; 9], [[u32; 2]; 16], [u16; 6]);
-
-fn of_image(image: Image) -> Fields {
-    let Image {
-        base,
-        sections_offset,
-        checksum_offset,
-        certificate_entry_offset,
-        entry,
-        file_alignment,
-        mode,
-        section_alignment,
-        size_of_image,
-        size_of_headers,
-        checksum,
-        time_date_stamp,
-        number_of_directories,
-        directories,
-        machine,
-        width,
-        number_of_sections,
-        characteristics,
-        subsystem,
-        dll_characteristics,
-    } = image;
-    let mut rows = [[0; 2]; 16];
-    for (row, directory) in rows.iter_mut().zip(&directories) {
-        *row = [directory.virtual_address, directory.size];
-    }
-    (
-        [
-            base,
-            sections_offset,
-            checksum_offset,
-            certificate_entry_offset,
-        ],
-        [
-            entry,
-            file_alignment,
-            mode,
-            section_alignment,
-            size_of_image,
-            size_of_headers,
-            checksum,
-            time_date_stamp,
-            number_of_directories,
-        ],
-        rows,
-        [
-            machine,
-            width,
-            number_of_sections,
-            characteristics,
-            subsystem,
-            dll_characteristics,
-        ],
-    )
-}
-
-fn read(bytes: &[u8], mode: u32) -> (u32, Fields) {
+/// The call has this result and leaves this image.
+fn expect(rt: &impl Abort, bytes: &[u8], mode: u32, number: u32, image: &Image) {
     let mut out = untouched();
-    let answer = pe_c_image(bytes, mode, &mut out);
-    (answer, of_image(out))
+    assert_eq!(rt; pe_c_image(bytes, mode, &mut out), number);
+    assert_eq!(rt; raw(&out), raw(image));
 }
 
 /// Headers say the same at these offsets in both widths: time stamp, sizes of image and headers, checksum, subsystem and
@@ -95,7 +37,18 @@ fn put_numbers(bytes: &mut [u8]) {
 /// The PE signature stands at 0x40, so the COFF header at 0x44 and the optional header, of 0xF0 bytes, at 0x58: its
 /// directories start 112 bytes into it.
 fn image_of_64_bits() -> Image {
-    let absent = directory(0, 0);
+    let mut directories = [directory(0, 0); 16];
+    let present = [
+        directory(0x1100, 0x28),
+        directory(0x1200, 0x3C),
+        directory(0x1300, 0xEB),
+        directory(0x1000, 0x18),
+        directory(0xA00, 0x20),
+        directory(0x1400, 0x10),
+        directory(0x1440, 0x54),
+    ];
+    directories[..7].copy_from_slice(&present);
+    directories[15] = directory(0x7777, 0);
     Image {
         base: 0x1_8000_0000,
         sections_offset: 0x148,
@@ -110,24 +63,7 @@ fn image_of_64_bits() -> Image {
         checksum: 0x100F_0E0D,
         time_date_stamp: 0x0403_0201,
         number_of_directories: 16,
-        directories: [
-            directory(0x1100, 0x28),
-            directory(0x1200, 0x3C),
-            directory(0x1300, 0xEB),
-            directory(0x1000, 0x18),
-            directory(0xA00, 0x20),
-            directory(0x1400, 0x10),
-            directory(0x1440, 0x54),
-            absent,
-            absent,
-            absent,
-            absent,
-            absent,
-            absent,
-            absent,
-            absent,
-            directory(0x7777, 0),
-        ],
+        directories,
         machine: 0x8664,
         width: 64,
         number_of_sections: 1,
@@ -142,9 +78,8 @@ fn headers_of_64_bits(rt: HostRuntime) -> Result<(), Fail> {
     let mut bytes = with_every_directory(rt.alloc())?;
     put_numbers(&mut bytes);
     put(&mut bytes, &[(0x140, &[0x77, 0x77])]);
-    let want = image_of_64_bits();
-    let odd = (DONE, of_image(in_mode(&want, u32::MAX)));
-    assert_eq!(rt; read(&bytes, u32::MAX), odd);
+    let want = in_mode(&image_of_64_bits(), u32::MAX);
+    expect(&rt, &bytes, u32::MAX, DONE, &want);
     Ok(())
 }
 
@@ -161,7 +96,7 @@ fn headers_with_fewer_directories(rt: HostRuntime) -> Result<(), Fail> {
         }
         want.number_of_directories = kept as u32;
         want.certificate_entry_offset = offset;
-        assert_eq!(rt; read(&bytes, STRICT), (DONE, of_image(want)), "{count}");
+        expect(&rt, &bytes, STRICT, DONE, &want);
     }
     Ok(())
 }
@@ -184,7 +119,7 @@ fn headers_of_32_bits(rt: HostRuntime) -> Result<(), Fail> {
     want.directories[3] = directory(0, 0);
     want.directories[6] = directory(0x1500, 0x8C);
     want.directories[15] = directory(0, 0);
-    assert_eq!(rt; read(&bytes, STRICT), (DONE, of_image(want)));
+    expect(&rt, &bytes, STRICT, DONE, &want);
     Ok(())
 }
 
@@ -193,8 +128,7 @@ fn headers_of_32_bits(rt: HostRuntime) -> Result<(), Fail> {
 fn headers_in_permissive_mode(rt: HostRuntime) -> Result<(), Fail> {
     let mut bytes = pointer_below_64(rt.alloc())?;
     put(&mut bytes, &[(0x38, &[1, 2, 3, 4]), (0x46, &[5, 6])]);
-    let found = read(&bytes, STRICT);
-    assert_eq!(rt; found, (HEADER_POINTER, of_image(untouched())));
+    expect(&rt, &bytes, STRICT, HEADER_POINTER, &untouched());
     let want = Image {
         base: 0,
         sections_offset: 0x48,
@@ -202,7 +136,7 @@ fn headers_in_permissive_mode(rt: HostRuntime) -> Result<(), Fail> {
         certificate_entry_offset: 0,
         entry: 0,
         file_alignment: 0,
-        mode: STRICT,
+        mode: PERMISSIVE,
         section_alignment: 0,
         size_of_image: 0,
         size_of_headers: 0,
@@ -217,8 +151,7 @@ fn headers_in_permissive_mode(rt: HostRuntime) -> Result<(), Fail> {
         subsystem: 0,
         dll_characteristics: 0,
     };
-    let want = in_mode(&want, PERMISSIVE);
-    assert_eq!(rt; read(&bytes, PERMISSIVE), (DONE, of_image(want)));
+    expect(&rt, &bytes, PERMISSIVE, DONE, &want);
     Ok(())
 }
 
@@ -226,11 +159,11 @@ fn headers_in_permissive_mode(rt: HostRuntime) -> Result<(), Fail> {
 #[test]
 fn refused_headers(rt: HostRuntime) -> Result<(), Fail> {
     let whole = headers_alone(rt.alloc())?;
-    assert_eq!(rt; read(&whole[..0x180], STRICT).0, DONE);
+    assert_eq!(rt; pe_c_image(&whole[..0x180], STRICT, &mut untouched()), DONE);
     let mut magic = headers_alone(rt.alloc())?;
     put(&mut magic, &[(0x91, &[7])]);
     for (bytes, number) in [(&whole[..0x17F], SHORT), (&magic, BAD_MAGIC)] {
-        assert_eq!(rt; read(bytes, STRICT), (number, of_image(untouched())));
+        expect(&rt, bytes, STRICT, number, &untouched());
     }
     Ok(())
 }

@@ -2,12 +2,10 @@
 //! 0x400. Written unchanged it is itself, and where something was changed the bytes follow from the format.
 
 use super::made::*;
+use super::signing::{has, having};
 use crate::headers::image::{pe_c_image, pe_c_sections};
 use crate::write::image::{pe_c_write_certificates, pe_c_write_image, pe_c_write_whole};
 use pe_images::{pointer_below_64, with_every_directory, with_functions};
-
-/// What a byte of the room, and the number, is before a call.
-const OLD: u8 = 0xEE;
 
 const OLD_NUMBER: u64 = 0x7777;
 
@@ -70,17 +68,6 @@ fn written(
     size: usize,
 ) -> Result<Written, AllocError> {
     written_with(alloc, writer, bytes, mode, &section_of(bytes), size)
-}
-
-/// The image with a part put at an offset.
-fn having(alloc: Global, offset: usize, part: &[u8]) -> Result<Vec<u8>, AllocError> {
-    let mut bytes = with_functions(alloc)?;
-    put(&mut bytes, &[(offset, part)]);
-    Ok(bytes)
-}
-
-fn has(bytes: &[u8], offset: usize, part: &[u8]) -> bool {
-    &bytes[offset..offset + part.len()] == part
 }
 
 fn is_old(bytes: &[u8]) -> bool {

@@ -49,6 +49,7 @@ mod rich_header;
 mod section_index;
 mod section_names;
 mod section_write;
+mod shared;
 mod signature_bytes;
 mod signatures;
 mod signing;

@@ -144,10 +144,8 @@ fn symbols_with_their_names(rt: HostRuntime) -> Result<(), Fail> {
     let found = entries.map(|it| (it.symbol.index, of_range(it.name), it.name_result));
     assert_eq!(rt; found, want);
     let first = &entries[0].symbol;
-    assert_eq!(rt;
-        (of_range(first.auxiliary), first.storage_class),
-        ([0x32, 18], 2)
-    );
+    let found = (of_range(first.auxiliary), first.storage_class);
+    assert_eq!(rt; found, ([0x32, 18], 2));
     assert_eq!(rt; first.string_offset, 0);
     assert_eq!(rt; entries[1].symbol.string_offset, 0x10);
     Ok(())
@@ -179,8 +177,9 @@ fn long_section_names_together(rt: HostRuntime) -> Result<(), Fail> {
         &mut written,
     );
     assert_eq!(rt; (answer, written, next), (DONE, 4, 5));
+    let found = names.map(of_range);
     assert_eq!(rt;
-        names.map(of_range),
+        found,
         [[0, 0], [0x148, 10], [0, 0], [0x175, 60], UNTOUCHED]
     );
     Ok(())

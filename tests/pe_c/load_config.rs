@@ -4,36 +4,6 @@ use super::made::*;
 use crate::directories::load_config::{pe_c_load_config, pe_c_load_config_field};
 use calls_directories::directories::load_config::LoadConfig;
 
-/// What `out` is before each call.
-pub(crate) const UNTOUCHED: LoadConfig = LoadConfig {
-    security_cookie: 1,
-    se_handler_table: 2,
-    se_handler_count: 3,
-    guard_cf_check_function_pointer: 4,
-    guard_cf_dispatch_function_pointer: 5,
-    guard_cf_function_table: 6,
-    guard_cf_function_count: 7,
-    size: 8,
-    time_date_stamp: 9,
-    guard_flags: 10,
-    major_version: 11,
-    minor_version: 12,
-    dependent_load_flags: 13,
-    spare: 14,
-    has_time_date_stamp: 15,
-    has_major_version: 16,
-    has_minor_version: 17,
-    has_dependent_load_flags: 18,
-    has_security_cookie: 19,
-    has_se_handler_table: 20,
-    has_se_handler_count: 21,
-    has_guard_cf_check_function_pointer: 22,
-    has_guard_cf_dispatch_function_pointer: 23,
-    has_guard_cf_function_table: 24,
-    has_guard_cf_function_count: 25,
-    has_guard_flags: 26,
-};
-
 /// The fields of a structure as numbers, in the order of the structure: its size, then each field and whether it is there.
 fn fields(config: &LoadConfig) -> [(u64, u8); 13] {
     [
@@ -82,7 +52,7 @@ fn structure(alloc: Global, size: u32) -> Result<Vec<u8>, AllocError> {
 }
 
 fn read(bytes: &[u8], image: &Image) -> (u32, LoadConfig) {
-    let mut out = UNTOUCHED;
+    let mut out = filled();
     let answer = pe_c_load_config(&view(bytes, image, &sections()), &mut out);
     (answer, out)
 }

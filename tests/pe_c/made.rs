@@ -1,5 +1,8 @@
 //! What calls are handed, and what they hand out, as plain numbers.
 
+pub(crate) use super::shared::{
+    bytes_of_words, directory_at as directory, function_at, piece_at, record_range, section,
+};
 pub(crate) use calls_base::image::Image;
 pub(crate) use calls_base::kept_sections::{KeptSections, NO_SECTIONS};
 pub(crate) use calls_base::numbers::Failure;
@@ -7,17 +10,17 @@ pub(crate) use calls_base::ranges::{NO_BYTES, Range};
 pub(crate) use calls_base::results::{DONE, NOTHING, ROOM};
 pub(crate) use calls_base::text_runs::Run;
 pub(crate) use calls_base::view::View;
-use calls_headers::debug::DebugRecords;
-use calls_headers::debug::records::{EmbeddedPdb, Pdb20, PdbChecksum, Pogo, Repro, SymbolKey};
 pub(crate) use pe_core::{DataDirectory, SectionTable};
 pub(crate) use pe_edit::RecordRange;
 pub(crate) use pe_frame::MemoryPiece;
 use pe_images::image as bytes_of;
 pub(crate) use pe_images::put;
 pub(crate) use pe_lookup::IndexEntry;
-use pe_records::{ImageDebugDirectory, VCFeatureInfo};
 pub(crate) use pe_unwind::RuntimeFunction;
 pub(crate) use std::alloc::{AllocError, Global};
+use std::mem::size_of;
+use std::ptr::read;
+use std::slice::from_raw_parts;
 pub(crate) use std::test::Fail;
 
 pub(crate) const STRICT: u32 = 0;
@@ -216,6 +219,11 @@ pub(crate) const NO_FAILURE: Failure = Failure {
 /// What a range is before a call that hands out another.
 pub(crate) const UNTOUCHED: [u64; 2] = [0x7777, 0x77];
 
+/// What a byte of a room that is written is before a call, and what its length is.
+pub(crate) const OLD: u8 = 0xEE;
+
+pub(crate) const OLD_LENGTH: u64 = 0x7777;
+
 /// A walk that is over.
 pub(crate) const OVER: [u64; 2] = [0, 0];
 
@@ -223,74 +231,6 @@ pub(crate) const NO_RANGE: Range = Range {
     offset: 0,
     length: 0,
 };
-
-/// What an entry of the debug directory is before a call that hands out another.
-pub(crate) const NO_DEBUG_ENTRY: ImageDebugDirectory = ImageDebugDirectory {
-    characteristics: 9,
-    time_date_stamp: 9,
-    major_version: 9,
-    minor_version: 9,
-    data_type: 9,
-    size_of_data: 9,
-    address_of_raw_data: 9,
-    pointer_to_raw_data: 9,
-};
-
-/// What debug records have before a call.
-pub(crate) const NO_FEATURES: VCFeatureInfo = VCFeatureInfo {
-    pre_vc_plusplus_count: 9,
-    c_and_cplusplus_count: 9,
-    guard_stack_count: 9,
-    sdl_count: 9,
-    guard_count: 9,
-};
-
-pub(crate) fn untouched_records() -> DebugRecords {
-    DebugRecords {
-        key: SymbolKey {
-            guid: [7; 16],
-            age: 8,
-            spare: 9,
-            name: untouched(),
-        },
-        pdb20: Pdb20 {
-            name: untouched(),
-            offset: 5,
-            signature: 6,
-            age: 7,
-            spare: 8,
-        },
-        repro: Repro {
-            hash: untouched(),
-            has_hash: 5,
-            spare: 6,
-        },
-        pogo: Pogo {
-            entries: untouched(),
-            signature: 5,
-            spare: 6,
-        },
-        embedded: EmbeddedPdb {
-            compressed: untouched(),
-            uncompressed_size: 5,
-            spare: 6,
-        },
-        checksum: PdbChecksum {
-            algorithm: untouched(),
-            checksum: untouched(),
-        },
-        features: NO_FEATURES,
-        characteristics: 9,
-        key_result: 99,
-        pdb20_result: 99,
-        repro_result: 99,
-        pogo_result: 99,
-        embedded_result: 99,
-        checksum_result: 99,
-        features_result: 99,
-        characteristics_result: 99,
-    }
-}
 
 /// What a room for texts has before a call.
 pub(crate) const RUN: Run = Run {
@@ -310,37 +250,6 @@ pub(crate) fn untouched() -> Range {
 pub(crate) fn of_range(range: Range) -> [u64; 2] {
     let Range { offset, length } = range;
     [offset, length]
-}
-
-pub(crate) fn directory(virtual_address: u32, size: u32) -> DataDirectory {
-    DataDirectory {
-        virtual_address,
-        size,
-    }
-}
-
-pub(crate) fn piece_at(start: u64, offset: u64, length: u64) -> MemoryPiece {
-    MemoryPiece {
-        start,
-        offset,
-        length,
-    }
-}
-
-pub(crate) fn record_range(offset: u64, length: u64) -> RecordRange {
-    RecordRange { offset, length }
-}
-
-pub(crate) fn function_at(
-    begin_address: u32,
-    end_address: u32,
-    unwind_info_address: u32,
-) -> RuntimeFunction {
-    RuntimeFunction {
-        begin_address,
-        end_address,
-        unwind_info_address,
-    }
 }
 
 /// The headers' word on an image of a machine, with one section and no directories.
@@ -386,35 +295,7 @@ pub(crate) fn in_mode(image: &Image, mode: u32) -> Image {
 
 /// One section: the addresses from 0x1000 up to 0x2000 are the offsets from 0 on.
 pub(crate) fn sections() -> [SectionTable; 1] {
-    [SectionTable {
-        name: *b".rdata\0\0",
-        virtual_size: 0x1000,
-        virtual_address: 0x1000,
-        size_of_raw_data: 0x1000,
-        pointer_to_raw_data: 0,
-        pointer_to_relocations: 0,
-        pointer_to_linenumbers: 0,
-        number_of_relocations: 0,
-        number_of_linenumbers: 0,
-        characteristics: 0,
-    }]
-}
-
-/// A section by its RVA and its virtual size, its raw pointer and its raw size.
-pub(crate) fn section(
-    virtual_address: u32,
-    virtual_size: u32,
-    pointer_to_raw_data: u32,
-    size_of_raw_data: u32,
-) -> SectionTable {
-    let [other] = sections();
-    SectionTable {
-        virtual_size,
-        virtual_address,
-        size_of_raw_data,
-        pointer_to_raw_data,
-        ..other
-    }
+    [section(0x1000, 0x1000, 0, 0x1000)]
 }
 
 /// An entry of an index before it is written.
@@ -447,13 +328,20 @@ pub(crate) fn view<'a>(
     }
 }
 
-/// The bytes of these words.
-pub(crate) fn bytes_of_words(alloc: Global, words: &[u64]) -> Result<Vec<u8>, AllocError> {
-    let mut bytes = Vec::new(alloc);
-    for word in words {
-        bytes.extend_from_slice(&u64::to_le_bytes(*word))?;
-    }
-    Ok(bytes)
+/// What a record of numbers is before a call that hands out another: 9 in each byte.
+pub(crate) fn filled<T: Copy>() -> T {
+    let bytes = [0x0909_0909_0909_0909u64; 256];
+    unsafe { read(&bytes as *const [u64; 256] as *const T) }
+}
+
+/// Whether a record is as before.
+pub(crate) fn is_filled<T: Copy>(record: &T) -> bool {
+    raw(record).iter().all(|byte| *byte == 9)
+}
+
+/// The bytes of a record of numbers, which has no padding.
+pub(crate) fn raw<T: Copy>(record: &T) -> &[u8] {
+    unsafe { from_raw_parts(record as *const T as *const u8, size_of::<T>()) }
 }
 
 /// All bytes as one piece of memory, from this address on.

@@ -4,7 +4,7 @@ use super::made::*;
 use crate::headers::map_ranges::{pe_c_range_at, pe_c_rva};
 use crate::headers::maps::{pe_c_section_at, pe_c_section_range};
 
-fn aligned(file_alignment: u32, mode: u32) -> Image {
+pub(crate) fn aligned(file_alignment: u32, mode: u32) -> Image {
     Image {
         file_alignment,
         ..in_mode(&image(X64), mode)

@@ -5,7 +5,7 @@ use super::made::{
     PDB_BLOCK, PDB_BLOCK_MAP, PDB_BLOCK_SIZE, PDB_DBI_PARTS, PDB_DBI_SIGNATURE, PDB_DBI_VERSION,
     PDB_DIRECTORY, PDB_FILE_SIZE, PDB_INFO_VERSION, PDB_MAGIC, PDB_NAME, PDB_NAMES_SIGNATURE,
     PDB_NO_STREAM, PDB_PORTABLE, PDB_RECORD_SIZE, PDB_RECORD_TRUNCATED, PDB_SECTION_HEADERS,
-    PDB_STREAM_SIZE, PDB20, SHORT, of_range, range,
+    PDB_STREAM_SIZE, PDB20, SHORT, filled, is_filled, of_range, range,
 };
 use super::pdb_bytes::{LENGTH, PIECES};
 use crate::pdb::index::{pe_c_find_pdb_symbol, pe_c_pdb_index, pe_c_read_pdb_symbol};
@@ -39,53 +39,6 @@ const GUID: [u8; 16] = [
 const SIZES: [u64; 16] = [
     0, 93, 108, 717, 1160, 0, 568, 592, 108, 24, 120, 364, 512, 388, 77, 52,
 ];
-
-const NO_PDB: Pdb = Pdb {
-    guid: [9; 16],
-    modules: NO_BYTES,
-    contributions: NO_BYTES,
-    version: 9,
-    time_stamp: 9,
-    age: 9,
-    dbi_age: 9,
-    block_size: 9,
-    number_of_blocks: 9,
-    number_of_streams: 9,
-    dbi_result: 9,
-    machine: 9,
-    flags: 9,
-    build: 9,
-    symbol_stream: 9,
-    section_headers: 9,
-    original_section_headers: 9,
-    omap_to_source: 9,
-    omap_from_source: 9,
-};
-
-pub(crate) const NO_SYMBOL: PdbSymbol = PdbSymbol {
-    range: NO_BYTES,
-    name: NO_BYTES,
-    rva: 9,
-    size: 9,
-    section_offset: 9,
-    flags: 9,
-    section: 9,
-    kind: 9,
-    result: 9,
-};
-
-pub(crate) const NO_MODULE: PdbModule = PdbModule {
-    name: NO_BYTES,
-    file: NO_BYTES,
-    symbols: NO_BYTES,
-    lines: NO_BYTES,
-    code_offset: 9,
-    code_size: 9,
-    section: 9,
-    flags: 9,
-    stream: 9,
-    number_of_files: 9,
-};
 
 /// The file of lld-link.
 pub(crate) fn pdb(alloc: Global) -> Result<Vec<u8>, AllocError> {
@@ -135,7 +88,7 @@ fn scattered(alloc: Global, bytes: &[u8]) -> Result<Vec<u8>, AllocError> {
 }
 
 fn read(bytes: &[u8]) -> (u32, Pdb) {
-    let mut out = NO_PDB;
+    let mut out = filled();
     let result = pe_c_pdb(bytes, &mut out);
     (result, out)
 }
@@ -178,7 +131,7 @@ fn a_pdb_says_which_one_it_is(rt: HostRuntime) -> Result<(), Fail> {
 fn what_is_no_pdb_is_refused(rt: HostRuntime) -> Result<(), Fail> {
     let mut bytes = pdb(rt.alloc())?;
     let (result, out) = read(&bytes[..55]);
-    assert_eq!(rt; (result, out.guid, out.dbi_result), (SHORT, [9; 16], 9));
+    assert_eq!(rt; (result, is_filled(&out)), (SHORT, true));
     let old: &[u8] = b"Microsoft C/C++ program database 2.00\r\n\x1AJG";
     let cases: [(usize, &[u8], u32); 12] = [
         (0, old, PDB20),
@@ -199,7 +152,7 @@ fn what_is_no_pdb_is_refused(rt: HostRuntime) -> Result<(), Fail> {
     ];
     for (offset, part, error) in cases {
         let (result, out) = differing(&mut bytes, offset, part);
-        assert_eq!(rt; (result, out.guid, out.age), (error, [9; 16], 9));
+        assert_eq!(rt; (result, is_filled(&out)), (error, true));
     }
     Ok(())
 }
@@ -326,21 +279,21 @@ fn modules_are_listed(rt: HostRuntime) -> Result<(), Fail> {
     let bytes = pdb(rt.alloc())?;
     let dbi = stream(rt.alloc(), &bytes, 3)?;
     let mut walk = range(64, 228);
-    let mut entries = [NO_MODULE; 4];
+    let mut entries: [PdbModule; 4] = [filled(); 4];
     let mut written = 9;
     let found = pe_c_list_pdb_modules(&dbi, &mut walk, &mut entries[..0], &mut written);
     assert_eq!(rt; found, ROOM);
     let found = pe_c_list_pdb_modules(&dbi, &mut walk, &mut entries[..1], &mut written);
     assert_eq!(rt; found, DONE);
-    let found = (written, of_range(walk), entries[1].stream);
-    assert_eq!(rt; found, (1, [140, 152], 9));
+    let found = (written, of_range(walk), is_filled(&entries[1]));
+    assert_eq!(rt; found, (1, [140, 152], true));
     let found = pe_c_list_pdb_modules(&dbi, &mut walk, &mut entries[1..], &mut written);
     assert_eq!(rt; found, DONE);
     assert_eq!(rt; (written, of_range(walk)), (2, [292, 0]));
     let found = pe_c_list_pdb_modules(&dbi, &mut walk, &mut entries[3..], &mut written);
     assert_eq!(rt; found, DONE);
-    let found = (written, of_range(walk), entries[3].stream);
-    assert_eq!(rt; found, (0, [292, 0], 9));
+    let found = (written, of_range(walk), is_filled(&entries[3]));
+    assert_eq!(rt; found, (0, [292, 0], true));
     let listed = [
         (
             [128, 5],
@@ -393,7 +346,7 @@ fn modules_are_listed(rt: HostRuntime) -> Result<(), Fail> {
 
 /// The symbols of a walk, up to its end, and how many there are.
 fn symbols_of(bytes: &[u8], sections: &[u8], start: [u64; 2]) -> (u32, [PdbSymbol; 16], u64) {
-    let (mut entries, mut written) = ([NO_SYMBOL; 16], 9);
+    let (mut entries, mut written) = ([filled(); 16], 9);
     let mut walk = range(start[0], start[1]);
     let result = pe_c_list_pdb_symbols(bytes, sections, &mut walk, &mut entries, &mut written);
     (result, entries, written)
@@ -480,7 +433,7 @@ fn a_damaged_symbol_costs_itself_alone(rt: HostRuntime) -> Result<(), Fail> {
     ];
     for (bytes, headers, start, error) in cases {
         let (result, entries, written) = symbols_of(bytes, &sections[..headers], start);
-        assert_eq!(rt; (result, written, entries[0].rva), (error, 9, 9));
+        assert_eq!(rt; (result, written, is_filled(&entries[0])), (error, 9, true));
     }
     let mut walk = range(0, 108);
     let mut written = 9;
@@ -489,6 +442,9 @@ fn a_damaged_symbol_costs_itself_alone(rt: HostRuntime) -> Result<(), Fail> {
     assert_eq!(rt; (of_range(walk), written), ([0, 108], 9));
     Ok(())
 }
+
+/// No symbol, and what is as before the call.
+const NONE: (u32, u32, [u64; 2]) = (NOTHING, 0x0909_0909, [0x0909_0909_0909_0909; 2]);
 
 #[test]
 fn an_index_finds_symbols(rt: HostRuntime) -> Result<(), Fail> {
@@ -513,17 +469,17 @@ fn an_index_finds_symbols(rt: HostRuntime) -> Result<(), Fail> {
     let said = (written, index);
     assert_eq!(rt; said, (2, [(0x1050 << 32) + 72, (0x1080 << 32) + 212]));
     let found = |kind: u32, bytes: &[u8], index: &[u64], rva: u32| {
-        let mut out = NO_SYMBOL;
+        let mut out: PdbSymbol = filled();
         let result = pe_c_find_pdb_symbol(kind, bytes, &sections, index, rva, &mut out);
         (result, out.rva, of_range(out.name))
     };
     let read = |kind: u32, bytes: &[u8], symbols: &Range, rva: u32| {
-        let mut out = NO_SYMBOL;
+        let mut out: PdbSymbol = filled();
         let result = pe_c_read_pdb_symbol(kind, bytes, symbols, &sections, rva, &mut out);
         (result, out.rva, of_range(out.name))
     };
     for (rva, wanted) in [
-        (0xFFF, (NOTHING, 9, [0, 0])),
+        (0xFFF, NONE),
         (0x1000, (DONE, 0x1000, [14, 5])),
         (0x104F, (DONE, 0x1000, [14, 5])),
         (0x1050, (DONE, 0x1050, [34, 6])),
@@ -533,12 +489,12 @@ fn an_index_finds_symbols(rt: HostRuntime) -> Result<(), Fail> {
         assert_eq!(rt; read(0, &symbols, &all, rva), wanted);
     }
     for (rva, wanted) in [
-        (0x104F, (NOTHING, 9, [0, 0])),
+        (0x104F, NONE),
         (0x1050, (DONE, 0x1050, [111, 6])),
         (0x107C, (DONE, 0x1050, [111, 6])),
-        (0x107D, (NOTHING, 9, [0, 0])),
+        (0x107D, NONE),
         (0x108B, (DONE, 0x1080, [251, 5])),
-        (0x108C, (NOTHING, 9, [0, 0])),
+        (0x108C, NONE),
     ] {
         assert_eq!(rt; found(1, &module, &index, rva), wanted);
         assert_eq!(rt; found(77, &module, &index, rva), wanted);
@@ -546,8 +502,9 @@ fn an_index_finds_symbols(rt: HostRuntime) -> Result<(), Fail> {
     }
     // Entries that no call made.
     let said = found(0, &symbols, &[2], 0x9000);
-    assert_eq!(rt; said, (PDB_RECORD_TRUNCATED, 9, [0, 0]));
-    assert_eq!(rt; found(0, &symbols, &[0xFFFF], 0x9000), (SHORT, 9, [0, 0]));
+    assert_eq!(rt; said, (PDB_RECORD_TRUNCATED, NONE.1, NONE.2));
+    let said = found(0, &symbols, &[0xFFFF], 0x9000);
+    assert_eq!(rt; said, (SHORT, NONE.1, NONE.2));
     Ok(())
 }
 

@@ -3,9 +3,10 @@
 
 use super::made::{
     PDB_ANNOTATION, PDB_CONTRIBUTIONS_SIZE, PDB_CONTRIBUTIONS_VERSION, PDB_INLINE_DEPTH,
-    PDB_RECORD_SIZE, PDB_RECORD_TRUNCATED, PDB_SECTION_HEADERS, SHORT, of_range, range,
+    PDB_RECORD_SIZE, PDB_RECORD_TRUNCATED, PDB_SECTION_HEADERS, SHORT, filled, is_filled, of_range,
+    range,
 };
-use super::pdb::{NO_MODULE, NO_SYMBOL, pdb, stream};
+use super::pdb::{pdb, stream};
 use super::pdb_inlined_bytes::{LENGTH, PIECES};
 use crate::pdb::contributions::pe_c_pdb_module_ranges;
 use crate::pdb::index::{pe_c_find_pdb_symbol, pe_c_pdb_index};
@@ -22,19 +23,6 @@ use pe_pdb::ModuleRange;
 use std::alloc::{AllocError, Global};
 use std::test::Fail;
 
-const NO_FRAME: PdbInlined = PdbInlined {
-    name: NO_BYTES,
-    scope: NO_BYTES,
-    id: 9,
-    class_type: 9,
-    file: 9,
-    line: 9,
-    code_offset: 9,
-    code_size: 9,
-    name_result: 9,
-    line_result: 9,
-};
-
 /// The streams that inlined functions are read of.
 #[derive(Drop)]
 struct Streams {
@@ -47,7 +35,7 @@ struct Streams {
 fn streams(alloc: Global) -> Result<Streams, AllocError> {
     let file = image(alloc, LENGTH, &PIECES)?;
     let dbi = stream(alloc, &file, 3)?;
-    let (mut walk, mut modules, mut written) = (range(64, 164), [NO_MODULE; 1], 0);
+    let (mut walk, mut modules, mut written) = (range(64, 164), [filled(); 1], 0);
     let _ = pe_c_list_pdb_modules(&dbi, &mut walk, &mut modules, &mut written);
     Ok(Streams {
         bytes: stream(alloc, &file, 11)?,
@@ -59,7 +47,7 @@ fn streams(alloc: Global) -> Result<Streams, AllocError> {
 
 /// The procedure that has an RVA.
 fn procedure_at(streams: &Streams, rva: u32) -> (u32, PdbSymbol) {
-    let (mut index, mut count, mut found) = ([0u64; 8], 0, NO_SYMBOL);
+    let (mut index, mut count, mut found) = ([0u64; 8], 0, filled());
     let (bytes, sections) = (&streams.bytes, &streams.sections);
     let symbols = &streams.module.symbols;
     let _ = pe_c_pdb_index(1, bytes, symbols, sections, &mut index, &mut count);
@@ -75,7 +63,7 @@ fn inlined_at(
     ids: &[u8],
     starts: &[u64],
 ) -> (u32, u64, [PdbInlined; 2]) {
-    let (mut room, mut written) = ([NO_FRAME; 2], 9);
+    let (mut room, mut written) = ([filled(); 2], 9);
     let (_, procedure) = procedure_at(streams, rva);
     let (bytes, module) = (&streams.bytes, &streams.module);
     let result = pe_c_find_pdb_inlined(
@@ -145,7 +133,7 @@ fn inlined_functions_are_those_that_pdbutil_lists(rt: HostRuntime) -> Result<(),
             assert_eq!(rt; (result, text(&names, name)), (DONE, b"c.h".as_slice()));
         }
         for left in room.iter().skip(listed.len()) {
-            assert_eq!(rt; (left.id, left.line_result), (9, 9));
+            assert!(rt; is_filled(left));
         }
     }
     Ok(())
@@ -155,7 +143,7 @@ fn inlined_functions_are_those_that_pdbutil_lists(rt: HostRuntime) -> Result<(),
 fn a_room_for_fewer_is_unchanged(rt: HostRuntime) -> Result<(), Fail> {
     let streams = streams(rt.alloc())?;
     let (_, procedure) = procedure_at(&streams, 0x1005);
-    let (mut room, mut written) = ([NO_FRAME; 1], 9);
+    let (mut room, mut written) = ([filled(); 1], 9);
     let result = pe_c_find_pdb_inlined(
         &streams.bytes,
         &streams.module,
@@ -166,7 +154,7 @@ fn a_room_for_fewer_is_unchanged(rt: HostRuntime) -> Result<(), Fail> {
         &mut room,
         &mut written,
     );
-    assert_eq!(rt; (result, written, room[0].id), (ROOM, 2, 9));
+    assert_eq!(rt; (result, written, is_filled(&room[0])), (ROOM, 2, true));
     Ok(())
 }
 
@@ -234,7 +222,7 @@ fn nested(alloc: Global, count: usize) -> Result<Streams, AllocError> {
         module: PdbModule {
             symbols: range(4, length - 4),
             lines: range(length, 0),
-            ..NO_MODULE
+            ..filled()
         },
         ids: Vec::new(alloc),
         sections: Vec::new(alloc),
@@ -247,7 +235,7 @@ fn nested_at(streams: &Streams, rva: u32, room: &mut [PdbInlined]) -> (u32, u64)
     let procedure = PdbSymbol {
         range: range(4, 4),
         rva: 0x1000,
-        ..NO_SYMBOL
+        ..filled()
     };
     let (bytes, module) = (&streams.bytes, &streams.module);
     let result = pe_c_find_pdb_inlined(
@@ -265,7 +253,7 @@ fn nested_at(streams: &Streams, rva: u32, room: &mut [PdbInlined]) -> (u32, u64)
 
 #[test]
 fn more_than_64_functions_are_refused(rt: HostRuntime) -> Result<(), Fail> {
-    let mut room = [NO_FRAME; 64];
+    let mut room = [filled(); 64];
     let deep = nested(rt.alloc(), 64)?;
     assert_eq!(rt; nested_at(&deep, 0x1007, &mut room), (DONE, 64));
     for (index, frame) in (0u32..64).zip(room) {
@@ -283,7 +271,7 @@ fn more_than_64_functions_are_refused(rt: HostRuntime) -> Result<(), Fail> {
 
 #[test]
 fn a_record_that_is_refused_refuses_the_inlined_functions(rt: HostRuntime) -> Result<(), Fail> {
-    let mut room = [NO_FRAME; 2];
+    let mut room = [filled(); 2];
     let cases: [(usize, &[u8], u32); 5] = [
         // The record of the procedure, and that of the second function.
         (4, b"\x01", PDB_RECORD_SIZE),
@@ -297,7 +285,7 @@ fn a_record_that_is_refused_refuses_the_inlined_functions(rt: HostRuntime) -> Re
         let mut two = nested(rt.alloc(), 2)?;
         put(&mut two.bytes, &[(offset, part)]);
         assert_eq!(rt; nested_at(&two, 0x1000, &mut room), (error, 9));
-        assert_eq!(rt; room[0].id, 9);
+        assert!(rt; is_filled(&room[0]));
     }
     let mut two = nested(rt.alloc(), 2)?;
     two.module.symbols = range(4, 1 << 20);

@@ -1,7 +1,6 @@
 //! The records of a function up to the root of its chain, one a step.
 
 use super::made::*;
-use super::unwinding::no_record;
 use crate::unwinding::plan::pe_c_next_record;
 use calls_unwind::unwinding::UnwindRecord;
 use calls_unwind::unwinding::plan::{Plan, PlanWalk};
@@ -75,11 +74,12 @@ fn key_of(record: &UnwindRecord) -> [u64; 4] {
     ]
 }
 
-const NO_KEY: [u64; 4] = [1, 9, 10, 12];
+/// That of a record which no call wrote.
+const NO_KEY: [u64; 4] = [0x0909_0909_0909_0909, 0x0909_0909, 0x0909_0909, 9];
 
 /// One step: the answer, what goes out, and the plan after it.
 fn step(bytes: &[u8], table: &Range, walk: &mut PlanWalk) -> (u32, [u64; 4], [u64; 6]) {
-    let mut out = no_record();
+    let mut out = filled();
     let answer = pe_c_next_record(
         &view(bytes, &image(X64), &sections()),
         table,

@@ -3,14 +3,9 @@
 //! The bytes of the section follow from the format.
 
 use super::made::*;
+use super::shared::with_two_sections;
 use crate::write::resources::pe_c_edit;
 use pe_edit::{RecordKey, RecordRange, ResourceRecord};
-use pe_images::headers_alone;
-
-/// What a byte of the room, and the length, is before a call.
-const OLD: u8 = 0xEE;
-
-const OLD_LENGTH: u64 = 0x7777;
 
 const LENGTH: usize = 0x605;
 
@@ -49,27 +44,9 @@ fn resource(name: RecordKey, content: RecordRange) -> ResourceRecord {
     }
 }
 
-/// The image: code at the RVA 0x1000, resources at 0x2000; and a part of it put at an offset.
+/// The image with a part of it put at an offset.
 fn old_image(alloc: Global, offset: usize, part: &[u8]) -> Result<Vec<u8>, AllocError> {
-    let mut bytes = headers_alone(alloc)?;
-    bytes.resize(LENGTH, 0x33)?;
-    put(
-        &mut bytes,
-        &[
-            (0x7E, &[2, 0]),
-            (0xC8, &[0, 0x30]),
-            (0x110, &[0, 0x20, 0, 0, 0x10, 0, 0, 0]),
-            (
-                0x180,
-                b".text\0\0\0\0\x01\0\0\0\x10\0\0\0\x02\0\0\0\x02\0\0",
-            ),
-            (
-                0x1A8,
-                b".rsrc\0\0\0\x10\0\0\0\0\x20\0\0\0\x02\0\0\0\x04\0\0",
-            ),
-            (0x600, b"after"),
-        ],
-    );
+    let mut bytes = with_two_sections(alloc)?;
     put(&mut bytes, &[(offset, part)]);
     Ok(bytes)
 }

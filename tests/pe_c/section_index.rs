@@ -2,6 +2,7 @@
 
 use super::made;
 use super::made::*;
+use super::maps::aligned;
 use crate::base::section_index::pe_c_index;
 use crate::headers::map_ranges::pe_c_range_at;
 use crate::headers::maps::pe_c_section_at;
@@ -20,13 +21,6 @@ fn five_sections() -> [SectionTable; 5] {
         section(0x1000, 0x7400, 0x8000),
         section(0x20000, 0xF400, 0x1000),
     ]
-}
-
-fn aligned(file_alignment: u32, mode: u32) -> Image {
-    Image {
-        file_alignment,
-        ..in_mode(&image(X64), mode)
-    }
 }
 
 fn view_of<'a>(

@@ -4,9 +4,6 @@
 use super::made::*;
 use crate::write::sections::pe_c_write_sections;
 
-/// What a byte of the room is before a call.
-const OLD: u8 = 0xEE;
-
 /// What the writer of sections returns into a room of 32 * 16 bytes, the offset after it, and the room.
 fn sections_written(
     bytes: &[u8],
@@ -33,10 +30,8 @@ fn sections_are_written(rt: HostRuntime) -> Result<(), Fail> {
         assert_eq!(rt; &room[8..12], [7; 4].as_slice());
         assert_eq!(rt; &room[12..12 + zeros], &[0; 12][..zeros]);
         assert_eq!(rt; room[12 + zeros], OLD);
-        assert_eq!(rt;
-            &room[0x100..0x110],
-            b".rdata\0\0\x05\x06\x07\x08\x01\x02\x03\x04".as_slice()
-        );
+        assert_eq!(rt; &room[0x100..0x108], b".text\0\0\0".as_slice());
+        assert_eq!(rt; &room[0x108..0x110], [5, 6, 7, 8, 1, 2, 3, 4].as_slice());
         assert_eq!(rt; &room[0x110..0x118], [4, 0, 0, 0, 8, 0, 0, 0].as_slice());
         assert_eq!(rt; &room[0x118..0x128], [0; 16].as_slice());
         assert_eq!(rt; room[0x128], OLD);

@@ -15,11 +15,6 @@ const IN_PLACE: u32 = 1;
 /// A certificate whose body is one byte.
 const CERTIFICATE: [u8; 9] = [9, 0, 0, 0, 0, 2, 2, 0, 0x77];
 
-/// What a byte of the room, and the length, is before a call.
-const OLD: u8 = 0xEE;
-
-const OLD_LENGTH: u64 = 0x7777;
-
 /// Ranges, and the zeros after them.
 type Covered = ([[u64; 2]; 4], u64);
 
@@ -50,7 +45,7 @@ fn checksum_of(bytes: &[u8]) -> (u32, (u64, u32, u32)) {
 }
 
 /// The image with a part put at an offset.
-fn having(alloc: Global, offset: usize, part: &[u8]) -> Result<Vec<u8>, AllocError> {
+pub(crate) fn having(alloc: Global, offset: usize, part: &[u8]) -> Result<Vec<u8>, AllocError> {
     let mut bytes = with_functions(alloc)?;
     put(&mut bytes, &[(offset, part)]);
     Ok(bytes)
@@ -106,7 +101,7 @@ fn detached(
     Ok(([asked(first), second], [needed, written], room))
 }
 
-fn has(bytes: &[u8], offset: usize, part: &[u8]) -> bool {
+pub(crate) fn has(bytes: &[u8], offset: usize, part: &[u8]) -> bool {
     &bytes[offset..offset + part.len()] == part
 }
 

@@ -6,12 +6,11 @@ use crate::stack::frames::pe_c_step;
 use calls_base::results::{BAD_ADDRESS, BAD_OPERATION, LONG_CHAIN, MISSING, NOT_RISING};
 use calls_stacks::stack::frames::{FrameRegisters, StackFrame};
 use pe_images::image as bytes_of;
-use pe_unwind::RuntimeFunction;
 
 /// The address of the return address, where each of these functions is entered.
 const ENTRY: u64 = 0x2_0008;
 
-const RETURN_ADDRESS: u64 = 0x7FF6_1234_5678;
+pub(crate) const RETURN_ADDRESS: u64 = 0x7FF6_1234_5678;
 
 const RBX: usize = 3;
 
@@ -20,7 +19,7 @@ const RSP: usize = 4;
 const RBP: usize = 5;
 
 /// What the field `address` is before a call that changes it.
-const NO_ADDRESS: u64 = 0x7777;
+pub(crate) const NO_ADDRESS: u64 = 0x7777;
 
 /// What the field `interrupted` is before a call that sets it.
 const NOT_SAID: u32 = 7;
@@ -86,31 +85,6 @@ fn leaf_at(registers: FrameRegisters) -> StackFrame {
     frame
 }
 
-fn fields_of(registers: &FrameRegisters) -> ([u64; 16], [u64; 32], u64) {
-    (registers.general, registers.xmm, registers.rip)
-}
-
-/// The numbers of a frame.
-fn numbers_of(frame: &StackFrame) -> (([u64; 16], [u64; 32], u64), u64, [u32; 6]) {
-    let RuntimeFunction {
-        begin_address,
-        end_address,
-        unwind_info_address,
-    } = frame.function;
-    (
-        fields_of(&frame.registers),
-        frame.address,
-        [
-            begin_address,
-            end_address,
-            unwind_info_address,
-            frame.rva,
-            frame.leaf,
-            frame.interrupted,
-        ],
-    )
-}
-
 /// A table of one function at 0x1000, and records from 0x1030 on.
 fn with_records(alloc: Global) -> Result<Vec<u8>, AllocError> {
     bytes_of(
@@ -172,18 +146,8 @@ fn step(bytes: &[u8], stack: (u64, &[u8]), frame: &mut StackFrame) -> u32 {
 fn steps_undo_a_prolog(rt: HostRuntime) -> Result<(), Fail> {
     let bytes = with_records(rt.alloc())?;
     let caller = of_caller();
-    let words = [
-        caller.xmm[12],
-        caller.xmm[13],
-        0,
-        0,
-        0,
-        0,
-        0,
-        caller.general[RBX],
-        caller.general[RBP],
-        RETURN_ADDRESS,
-    ];
+    let (x, rbx, rbp) = (caller.xmm, caller.general[RBX], caller.general[RBP]);
+    let words = [x[12], x[13], 0, 0, 0, 0, 0, rbx, rbp, RETURN_ADDRESS];
     let stack = bytes_of_words(rt.alloc(), &words)?;
     let mut registers = changed(&[(RSP, 0x1000), (RBP, ENTRY - 56), (RBX, 0)]);
     registers.xmm[12] = 1;
@@ -192,11 +156,11 @@ fn steps_undo_a_prolog(rt: HostRuntime) -> Result<(), Fail> {
     let mut frame = frame_at(0x1030, 22, registers);
     assert_eq!(rt; step(&bytes, (start, &stack), &mut frame), DONE);
     let wanted = left_at(0x1030, 22, caller);
-    assert_eq!(rt; numbers_of(&frame), numbers_of(&wanted));
+    assert_eq!(rt; raw(&frame), raw(&wanted));
     // Before the first push nothing has run.
     let mut frame = frame_at(0x1030, 0, changed(&[(RSP, ENTRY)]));
     assert_eq!(rt; step(&bytes, (start, &stack), &mut frame), DONE);
-    assert_eq!(rt; fields_of(&frame.registers), fields_of(&caller));
+    assert_eq!(rt; raw(&frame.registers), raw(&caller));
     Ok(())
 }
 
@@ -243,7 +207,7 @@ fn steps_that_are_refused(rt: HostRuntime) -> Result<(), Fail> {
         assert_eq!(rt; found, answer, "of {unwind:#x}");
         let mut wanted = frame_at(unwind, 30, registers);
         wanted.address = address;
-        assert_eq!(rt; numbers_of(&frame), numbers_of(&wanted), "of {unwind:#x}");
+        assert_eq!(rt; raw(&frame), raw(&wanted), "of {unwind:#x}");
     }
     // A frame register below its offset, of which 32 are subtracted.
     let mut low = frame_at(0x1030, 22, changed(&[(RBP, 31)]));
@@ -256,7 +220,7 @@ fn steps_that_are_refused(rt: HostRuntime) -> Result<(), Fail> {
     let mut frame = frame_at(0x1030, 22, sinking);
     assert_eq!(rt; step(&bytes, (ENTRY - 72, &saved), &mut frame), NOT_RISING);
     assert_eq!(rt; frame.address, ENTRY + 8);
-    assert_eq!(rt; fields_of(&frame.registers), fields_of(&sinking));
+    assert_eq!(rt; raw(&frame.registers), raw(&sinking));
     let mut frame = frame_at(0x10B0, 0, changed(&[(RSP, ENTRY)]));
     assert_eq!(rt; step(&bytes, (ENTRY, &stack), &mut frame), DONE);
     let found = [frame.registers.rip, frame.registers.general[RSP]];
@@ -288,11 +252,11 @@ fn leaf_functions_return(rt: HostRuntime) -> Result<(), Fail> {
         let mut wanted = frame;
         assert_eq!(rt; step(&[], (ENTRY, &stack[..7]), &mut frame), MISSING);
         wanted.address = ENTRY;
-        assert_eq!(rt; numbers_of(&frame), numbers_of(&wanted));
+        assert_eq!(rt; raw(&frame), raw(&wanted));
         assert_eq!(rt; step(&[], (ENTRY, &stack), &mut frame), DONE);
         wanted.registers = of_caller();
         wanted.interrupted = 0;
-        assert_eq!(rt; numbers_of(&frame), numbers_of(&wanted));
+        assert_eq!(rt; raw(&frame), raw(&wanted));
     }
     Ok(())
 }
@@ -323,10 +287,10 @@ fn steps_say_what_an_interrupt_left(rt: HostRuntime) -> Result<(), Fail> {
     let mut chained = with_records(rt.alloc())?;
     put_chain(&mut chained, 33);
     let mut frame = frame_at(0x1100, 20, changed(&[(RSP, ENTRY)]));
-    let before = numbers_of(&frame);
+    let before = frame;
     let answer = step_pieces(&chained, &stack, &pieces, &mut frame);
     assert_eq!(rt; answer, [LONG_CHAIN, NOT_SAID]);
-    assert_eq!(rt; numbers_of(&frame), before);
+    assert_eq!(rt; raw(&frame), raw(&before));
     // In an epilog the return address is popped, and no record is undone.
     let mut frame = frame_at(0x10B0, 0, changed(&[(RSP, ENTRY)]));
     let answer = step_over(&bytes, &[0xC3], &stack, &pieces, &mut frame);

@@ -10,13 +10,13 @@ use calls_stacks::stack::walk::{ModuleView, StackWalk};
 use pe_images::image as bytes_of;
 
 /// Where the image is loaded.
-const BASE: u64 = 0x1_8000_0000;
+pub(crate) const BASE: u64 = 0x1_8000_0000;
 
 /// Where the words of a stack start.
-const STACK: u64 = 0x2_0000;
+pub(crate) const STACK: u64 = 0x2_0000;
 
 /// Of the first function the return address of its call.
-const AFTER_CALL: u64 = BASE + 0x1010;
+pub(crate) const AFTER_CALL: u64 = BASE + 0x1010;
 
 /// In a function that allocates 8 bytes; and further on in it a jump into the body of the first function.
 const DISPATCHER: u64 = BASE + 0x1030;
@@ -33,19 +33,19 @@ const TABLE: Range = Range {
 };
 
 // Ways, and reasons why a walk is over.
-const TOP: u32 = 0;
+pub(crate) const TOP: u32 = 0;
 
-const RECORDS: u32 = 1;
+pub(crate) const RECORDS: u32 = 1;
 
-const BOUND: u32 = 0;
+pub(crate) const BOUND: u32 = 0;
 
-const BOTTOM: u32 = 1;
+pub(crate) const BOTTOM: u32 = 1;
 
 const NO_MODULE: u32 = 2;
 
-const STEP: u32 = 6;
+pub(crate) const STEP: u32 = 6;
 
-const ZERO: u32 = 7;
+pub(crate) const ZERO: u32 = 7;
 
 const NO_RETURN_ADDRESS: u32 = 8;
 

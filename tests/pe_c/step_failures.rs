@@ -11,7 +11,7 @@ use super::imports::with_imports;
 use super::made::*;
 use super::resource_leaves::{NO_LEAF, of_size, start, with_tree};
 use super::steps::pe_c_next_resource_leaf;
-use super::unwinding::{no_record, with_records};
+use super::unwinding::with_records;
 use crate::failures::steps::arm64::{pe_c_arm64_code_failure, pe_c_arm64_record_failure};
 use crate::failures::steps::bound_imports::pe_c_bound_import_failure;
 use crate::failures::steps::delay_imports::{
@@ -178,7 +178,7 @@ fn links_that_never_end_are_told_early(rt: HostRuntime) -> Result<(), Fail> {
             index,
             ..view(&bytes, &image, &many)
         };
-        let mut record = no_record();
+        let mut record = filled();
         let found = pe_c_unwind_record(&view, &table, unwind, &mut record);
         assert_eq!(rt; found, FUNCTION_CYCLE);
         let answer = pe_c_unwind_record_failure(&view, &table, unwind, &mut out);

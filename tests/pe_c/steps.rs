@@ -39,8 +39,11 @@ use pe_frame::MemoryPiece;
 use pe_resource::VsFixedFileInfo;
 use pe_unwind::{Arm64RuntimeFunction, RuntimeFunction};
 
-/// What such a function returns of a list that returns this, and writes so many entries: `none` where it writes none.
-fn one(number: u32, written: u64, none: u32) -> u32 {
+/// What such a function returns of a list with room for one entry: `none` where the list writes none.
+fn one<T: Copy, F: FnOnce(&mut [T], &mut u64) -> u32>(out: &mut T, none: u32, list: F) -> u32 {
+    let (mut entries, mut written) = ([*out], 0);
+    let number = list(&mut entries, &mut written);
+    *out = entries[0];
     if number == DONE && written == 0 {
         none
     } else {
@@ -49,10 +52,11 @@ fn one(number: u32, written: u64, none: u32) -> u32 {
 }
 
 pub(crate) fn pe_c_next_code(bytes: &[u8], walk: &mut CodeWalk, out: &mut Code) -> u32 {
-    let (mut entries, mut written) = ([*out], 0);
-    let number = pe_c_list_codes(bytes, walk, &mut entries, &mut written);
-    *out = entries[0];
-    one(number, written, NOTHING)
+    one(
+        out,
+        NOTHING,
+        |entries, written| pe_c_list_codes(bytes, walk, entries, written),
+    )
 }
 
 pub(crate) fn pe_c_next_arm64_code(
@@ -60,31 +64,35 @@ pub(crate) fn pe_c_next_arm64_code(
     walk: &mut Arm64CodeWalk,
     out: &mut Arm64Code,
 ) -> u32 {
-    let (mut entries, mut written) = ([*out], 0);
-    let number = pe_c_list_arm64_codes(bytes, walk, &mut entries, &mut written);
-    *out = entries[0];
-    one(number, written, NOTHING)
+    one(
+        out,
+        NOTHING,
+        |entries, written| pe_c_list_arm64_codes(bytes, walk, entries, written),
+    )
 }
 
 pub(crate) fn pe_c_next_export(view: &View, walk: &mut ExportWalk, out: &mut Export) -> u32 {
-    let (mut entries, mut written) = ([*out], 0);
-    let number = pe_c_list_exports(view, walk, &mut [], &mut entries, &mut written);
-    *out = entries[0];
-    one(number, written, NOTHING)
+    one(
+        out,
+        NOTHING,
+        |entries, written| pe_c_list_exports(view, walk, &mut [], entries, written),
+    )
 }
 
 pub(crate) fn pe_c_next_library(view: &View, walk: &mut LibraryWalk, out: &mut Library) -> u32 {
-    let (mut entries, mut written) = ([*out], 0);
-    let number = pe_c_list_libraries(view, walk, &mut [], &mut entries, &mut written);
-    *out = entries[0];
-    one(number, written, NOTHING)
+    one(
+        out,
+        NOTHING,
+        |entries, written| pe_c_list_libraries(view, walk, &mut [], entries, written),
+    )
 }
 
 pub(crate) fn pe_c_next_import(view: &View, walk: &mut ImportWalk, out: &mut Import) -> u32 {
-    let (mut entries, mut written) = ([*out], 0);
-    let number = pe_c_list_imports(view, walk, &mut [], &mut entries, &mut written);
-    *out = entries[0];
-    one(number, written, NOTHING)
+    one(
+        out,
+        NOTHING,
+        |entries, written| pe_c_list_imports(view, walk, &mut [], entries, written),
+    )
 }
 
 pub(crate) fn pe_c_next_delay_import(
@@ -92,10 +100,11 @@ pub(crate) fn pe_c_next_delay_import(
     walk: &mut DelayWalk,
     out: &mut DelayLibrary,
 ) -> u32 {
-    let (mut entries, mut written) = ([*out], 0);
-    let number = pe_c_list_delay_imports(view, walk, &mut [], &mut entries, &mut written);
-    *out = entries[0];
-    one(number, written, NOTHING)
+    one(
+        out,
+        NOTHING,
+        |entries, written| pe_c_list_delay_imports(view, walk, &mut [], entries, written),
+    )
 }
 
 pub(crate) fn pe_c_next_delayed_function(
@@ -103,10 +112,11 @@ pub(crate) fn pe_c_next_delayed_function(
     walk: &mut DelayedFunctionWalk,
     out: &mut DelayedFunction,
 ) -> u32 {
-    let (mut entries, mut written) = ([*out], 0);
-    let number = pe_c_list_delayed_functions(view, walk, &mut [], &mut entries, &mut written);
-    *out = entries[0];
-    one(number, written, NOTHING)
+    one(
+        out,
+        NOTHING,
+        |entries, written| pe_c_list_delayed_functions(view, walk, &mut [], entries, written),
+    )
 }
 
 pub(crate) fn pe_c_next_bound_import(
@@ -115,10 +125,11 @@ pub(crate) fn pe_c_next_bound_import(
     walk: &mut Range,
     out: &mut BoundImport,
 ) -> u32 {
-    let (mut entries, mut written) = ([*out], 0);
-    let number = pe_c_list_bound_imports(bytes, table, walk, &mut [], &mut entries, &mut written);
-    *out = entries[0];
-    one(number, written, NOTHING)
+    one(
+        out,
+        NOTHING,
+        |entries, written| pe_c_list_bound_imports(bytes, table, walk, &mut [], entries, written),
+    )
 }
 
 pub(crate) fn pe_c_next_bound_forwarder(
@@ -127,17 +138,18 @@ pub(crate) fn pe_c_next_bound_forwarder(
     walk: &mut Range,
     out: &mut BoundForwarder,
 ) -> u32 {
-    let (mut entries, mut written) = ([*out], 0);
-    let number = pe_c_list_bound_forwarders(
-        bytes,
-        table,
-        walk,
-        &mut [],
-        &mut entries,
-        &mut written,
-    );
-    *out = entries[0];
-    one(number, written, NOTHING)
+    one(
+        out,
+        NOTHING,
+        |entries, written| pe_c_list_bound_forwarders(
+            bytes,
+            table,
+            walk,
+            &mut [],
+            entries,
+            written,
+        ),
+    )
 }
 
 pub(crate) fn pe_c_next_version_block(
@@ -145,10 +157,11 @@ pub(crate) fn pe_c_next_version_block(
     walk: &mut Range,
     out: &mut VersionBlock,
 ) -> u32 {
-    let (mut entries, mut written) = ([*out], 0);
-    let number = pe_c_list_version_blocks(bytes, walk, &mut entries, &mut written);
-    *out = entries[0];
-    one(number, written, NOTHING)
+    one(
+        out,
+        NOTHING,
+        |entries, written| pe_c_list_version_blocks(bytes, walk, entries, written),
+    )
 }
 
 pub(crate) fn pe_c_next_resource_leaf(
@@ -156,10 +169,11 @@ pub(crate) fn pe_c_next_resource_leaf(
     walk: &mut LeafWalk,
     out: &mut ResourceLeaf,
 ) -> u32 {
-    let (mut entries, mut written) = ([*out], 0);
-    let number = pe_c_list_resource_leaves(view, walk, &mut entries, &mut written);
-    *out = entries[0];
-    one(number, written, NOTHING)
+    one(
+        out,
+        NOTHING,
+        |entries, written| pe_c_list_resource_leaves(view, walk, entries, written),
+    )
 }
 
 pub(crate) fn pe_c_next_relocation_block(
@@ -167,10 +181,11 @@ pub(crate) fn pe_c_next_relocation_block(
     walk: &mut Range,
     out: &mut RelocationBlock,
 ) -> u32 {
-    let (mut entries, mut written) = ([*out], 0);
-    let number = pe_c_list_relocation_blocks(bytes, walk, &mut entries, &mut written);
-    *out = entries[0];
-    one(number, written, NOTHING)
+    one(
+        out,
+        NOTHING,
+        |entries, written| pe_c_list_relocation_blocks(bytes, walk, entries, written),
+    )
 }
 
 pub(crate) fn pe_c_next_relocation(
@@ -179,10 +194,11 @@ pub(crate) fn pe_c_next_relocation(
     walk: &mut Range,
     out: &mut Relocation,
 ) -> u32 {
-    let (mut entries, mut written) = ([*out], 0);
-    let number = pe_c_list_relocations(bytes, page_rva, walk, &mut entries, &mut written);
-    *out = entries[0];
-    one(number, written, NOTHING)
+    one(
+        out,
+        NOTHING,
+        |entries, written| pe_c_list_relocations(bytes, page_rva, walk, entries, written),
+    )
 }
 
 pub(crate) fn pe_c_next_guard_entry(
@@ -190,17 +206,19 @@ pub(crate) fn pe_c_next_guard_entry(
     walk: &mut GuardEntries,
     out: &mut GuardEntry,
 ) -> u32 {
-    let (mut entries, mut written) = ([*out], 0);
-    let number = pe_c_list_guard_entries(bytes, walk, &mut entries, &mut written);
-    *out = entries[0];
-    one(number, written, NOTHING)
+    one(
+        out,
+        NOTHING,
+        |entries, written| pe_c_list_guard_entries(bytes, walk, entries, written),
+    )
 }
 
 pub(crate) fn pe_c_next_pogo_entry(bytes: &[u8], walk: &mut Range, out: &mut PogoEntry) -> u32 {
-    let (mut entries, mut written) = ([*out], 0);
-    let number = pe_c_list_pogo_entries(bytes, walk, &mut entries, &mut written);
-    *out = entries[0];
-    one(number, written, NOTHING)
+    one(
+        out,
+        NOTHING,
+        |entries, written| pe_c_list_pogo_entries(bytes, walk, entries, written),
+    )
 }
 
 pub(crate) fn pe_c_function_at(
@@ -209,10 +227,12 @@ pub(crate) fn pe_c_function_at(
     index: u64,
     out: &mut RuntimeFunction,
 ) -> u32 {
-    let (mut next, mut entries, mut written) = (index, [*out], 0);
-    let number = pe_c_list_functions(bytes, table, &mut next, &mut entries, &mut written);
-    *out = entries[0];
-    one(number, written, FUNCTION_INDEX)
+    let mut next = index;
+    one(
+        out,
+        FUNCTION_INDEX,
+        |entries, written| pe_c_list_functions(bytes, table, &mut next, entries, written),
+    )
 }
 
 pub(crate) fn pe_c_arm64_function_at(
@@ -221,10 +241,12 @@ pub(crate) fn pe_c_arm64_function_at(
     index: u64,
     out: &mut Arm64RuntimeFunction,
 ) -> u32 {
-    let (mut next, mut entries, mut written) = (index, [*out], 0);
-    let number = pe_c_list_arm64_functions(bytes, table, &mut next, &mut entries, &mut written);
-    *out = entries[0];
-    one(number, written, FUNCTION_INDEX)
+    let mut next = index;
+    one(
+        out,
+        FUNCTION_INDEX,
+        |entries, written| pe_c_list_arm64_functions(bytes, table, &mut next, entries, written),
+    )
 }
 
 pub(crate) fn pe_c_next_frame(
@@ -251,17 +273,19 @@ pub(crate) fn pe_c_export_at(
     index: u64,
     out: &mut Exported,
 ) -> u32 {
-    let (mut next, mut entries, mut written) = (index, [*out], 0);
-    let number = pe_c_list_export_addresses(
-        view,
-        table,
-        &mut next,
-        &mut [],
-        &mut entries,
-        &mut written,
-    );
-    *out = entries[0];
-    one(number, written, NOTHING)
+    let mut next = index;
+    one(
+        out,
+        NOTHING,
+        |entries, written| pe_c_list_export_addresses(
+            view,
+            table,
+            &mut next,
+            &mut [],
+            entries,
+            written,
+        ),
+    )
 }
 
 pub(crate) fn pe_c_symbol(bytes: &[u8], table: &Range, index: u64, out: &mut Symbol) -> u32 {

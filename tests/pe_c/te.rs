@@ -6,33 +6,13 @@ use crate::debug::pe_c_debug_record;
 use crate::headers::te::{
     pe_c_next_te_debug_entry, pe_c_te, pe_c_te_debug_entries, pe_c_te_sections,
 };
+use calls_headers::debug::DebugRecords;
 use calls_headers::te::TeImage;
 use pe_images::{te, te_with_debug};
 use pe_records::ImageDebugDirectory;
 
-const NO_IMAGE: TeImage = TeImage {
-    image_base: 9,
-    entry_point: 9,
-    base_of_code: 9,
-    reloc_dir: DataDirectory {
-        virtual_address: 9,
-        size: 9,
-    },
-    debug_dir: DataDirectory {
-        virtual_address: 9,
-        size: 9,
-    },
-    rva_offset: 9,
-    signature: 9,
-    machine: 9,
-    stripped_size: 9,
-    number_of_sections: 9,
-    subsystem: 9,
-    spare: 9,
-};
-
 pub(crate) fn image_of(bytes: &[u8]) -> (u32, TeImage) {
-    let mut out = NO_IMAGE;
+    let mut out = filled();
     let answer = pe_c_te(bytes, &mut out);
     (answer, out)
 }
@@ -93,7 +73,7 @@ fn header_of_a_te_image(rt: HostRuntime) {
     // Fewer bytes were stripped than the header has.
     put(&mut bytes, &[(6, &[39])]);
     let (answer, te) = image_of(&bytes);
-    assert_eq!(rt; (answer, numbers(&te)), (TE_SIZE, [9; 9]));
+    assert_eq!(rt; (answer, is_filled(&te)), (TE_SIZE, true));
 }
 
 /// One section at 0x1100 and, in the file, 0x150, of which 0x100 are not there.
@@ -145,18 +125,16 @@ const CODEVIEW: ImageDebugDirectory = ImageDebugDirectory {
 };
 
 const REPRO: ImageDebugDirectory = ImageDebugDirectory {
-    characteristics: 0,
     time_date_stamp: 0x1122_3344,
-    major_version: 0,
-    minor_version: 0,
     data_type: 16,
     size_of_data: 0,
     address_of_raw_data: 0xFFFF_FF00,
     pointer_to_raw_data: 0xFFFF_FF00,
+    ..CODEVIEW
 };
 
 fn step(bytes: &[u8], te: &TeImage, walk: &mut Range) -> (u32, ImageDebugDirectory, [u64; 2]) {
-    let mut out = NO_DEBUG_ENTRY;
+    let mut out = filled();
     let answer = pe_c_next_te_debug_entry(bytes, te, walk, &mut out);
     (answer, out, of_range(*walk))
 }
@@ -172,8 +150,8 @@ fn debug_entries_of_a_te_image(rt: HostRuntime) -> Result<(), Fail> {
     assert_eq!(rt; found, (DONE, CODEVIEW, [0x6C, 0x1C]));
     assert_eq!(rt; step(&bytes, &te, &mut walk), (DONE, REPRO, [0x88, 0]));
     let found = step(&bytes, &te, &mut walk);
-    assert_eq!(rt; found, (NOTHING, NO_DEBUG_ENTRY, [0x88, 0]));
-    let mut records = untouched_records();
+    assert_eq!(rt; found, (NOTHING, filled(), [0x88, 0]));
+    let mut records = filled::<DebugRecords>();
     let found = pe_c_debug_record(&bytes, MAPPED, &CODEVIEW, &mut records);
     let key = records.key;
     assert_eq!(rt; (found, records.key_result), (DONE, DONE));
@@ -185,7 +163,7 @@ fn debug_entries_of_a_te_image(rt: HostRuntime) -> Result<(), Fail> {
     // A truncated entry.
     let mut walk = range(0x6C, 27);
     let found = step(&bytes, &te, &mut walk);
-    assert_eq!(rt; found, (SHORT, NO_DEBUG_ENTRY, [0, 0]));
+    assert_eq!(rt; found, (SHORT, filled(), [0, 0]));
     // A directory that passes the end.
     let long = TeImage {
         debug_dir: directory(0x50, 0x5F),

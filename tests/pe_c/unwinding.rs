@@ -115,77 +115,24 @@ fn functions_by_index(rt: HostRuntime) -> Result<(), Fail> {
 
 // ---- unwind records
 
-/// All fields of a record: those of its codes, the other numbers, the handler's data, the function.
-type Fields = ([u64; 4], [u32; 6], [u64; 2], RuntimeFunction);
-
-fn fields_of(record: UnwindRecord) -> Fields {
-    let UnwindRecord {
-        codes,
-        handler_data,
-        handler,
-        chained,
-        is_chained,
-        frame_register_offset,
-        size_of_prolog,
-        handler_kind,
-        spare,
-    } = record;
-    let CodeWalk {
-        left,
-        version,
-        frame_register,
-        spare: spare_of_codes,
-    } = codes;
-    let mut spares = 0;
-    for byte in spare.iter().chain(&spare_of_codes) {
-        spares += u32::from(*byte);
-    }
-    let codes = [
-        left.offset,
-        left.length,
-        u64::from(version),
-        u64::from(frame_register),
-    ];
-    let numbers = [
-        handler,
-        is_chained,
-        frame_register_offset,
-        u32::from(size_of_prolog),
-        u32::from(handler_kind),
-        spares,
-    ];
-    (codes, numbers, of_range(handler_data), chained)
-}
-
-/// What a record is before a call that hands out another.
-pub(crate) fn no_record() -> UnwindRecord {
+/// A record without a handler and a chained function.
+fn plain(codes: Range, version: u8, size_of_prolog: u8) -> UnwindRecord {
     UnwindRecord {
         codes: CodeWalk {
-            left: range(1, 2),
-            version: 3,
-            frame_register: 4,
-            spare: [1; 6],
+            left: codes,
+            version,
+            frame_register: 0,
+            spare: [0; 6],
         },
-        handler_data: range(5, 6),
-        handler: 7,
-        chained: OTHER,
-        is_chained: 10,
-        frame_register_offset: 11,
-        size_of_prolog: 12,
-        handler_kind: 13,
-        spare: [1; 6],
+        handler_data: range(0, 0),
+        handler: 0,
+        chained: NO_FUNCTION,
+        is_chained: 0,
+        frame_register_offset: 0,
+        size_of_prolog,
+        handler_kind: 0,
+        spare: [0; 6],
     }
-}
-
-fn record_of(bytes: &[u8], table: &Range, unwind: u32) -> (u32, Fields) {
-    let mut out = no_record();
-    let answer = pe_c_unwind_record(
-        &view(bytes, &image(X64), &sections()),
-        table,
-        unwind,
-        &mut out,
-    );
-    (answer, fields_of(out))
 }
 
 /// Four functions at 0, the last two of which are links to the third and to themselves, and records after them, at
@@ -228,33 +175,41 @@ pub(crate) fn with_records(alloc: Global) -> Result<Vec<u8>, Fail> {
 #[test]
 fn records_are_read(rt: HostRuntime) -> Result<(), Fail> {
     let bytes = with_records(rt.alloc())?;
-    let table = range(0, 0x30);
-    let plain = ([0x34, 4, 1, 0], [0, 0, 0, 4, 0, 0], OVER, NO_FUNCTION);
-    // by the address, and by a link to the entry that has it
-    assert_eq!(rt; record_of(&bytes, &table, 0x1030), (DONE, plain));
-    assert_eq!(rt; record_of(&bytes, &table, 0x1001), (DONE, plain));
-    assert_eq!(rt; record_of(&bytes, &table, 0x100D), (DONE, plain));
-    let with_handler = (
-        [0x44, 6, 1, 5],
-        [0x1100, 0, 0x30, 9, 1, 0],
-        [0x50, 0x40],
-        NO_FUNCTION,
-    );
-    assert_eq!(rt; record_of(&bytes, &table, 0x1040), (DONE, with_handler));
-    let with_termination = (
-        [0x54, 0, 2, 0],
-        [0x1234_5678, 0, 0, 0, 2, 0],
-        [0x58, 0x38],
-        NO_FUNCTION,
-    );
-    assert_eq!(rt; record_of(&bytes, &table, 0x1050), (DONE, with_termination));
-    let chained = (
-        [0x64, 2, 1, 0],
-        [0, 1, 0, 5, 0, 0],
-        OVER,
-        function_at(0x5000, 0x5010, 0x1030),
-    );
-    assert_eq!(rt; record_of(&bytes, &table, 0x1060), (DONE, chained));
+    let (image, sections, table) = (image(X64), sections(), range(0, 0x30));
+    let usual = plain(range(0x34, 4), 1, 4);
+    let mut with_handler = UnwindRecord {
+        handler_data: range(0x50, 0x40),
+        handler: 0x1100,
+        frame_register_offset: 0x30,
+        handler_kind: 1,
+        ..plain(range(0x44, 6), 1, 9)
+    };
+    with_handler.codes.frame_register = 5;
+    let with_termination = UnwindRecord {
+        handler_data: range(0x58, 0x38),
+        handler: 0x1234_5678,
+        handler_kind: 2,
+        ..plain(range(0x54, 0), 2, 0)
+    };
+    let chained = UnwindRecord {
+        chained: function_at(0x5000, 0x5010, 0x1030),
+        is_chained: 1,
+        ..plain(range(0x64, 2), 1, 5)
+    };
+    for (unwind, want) in [
+        // by the address, and by a link to the entry that has it
+        (0x1030, usual),
+        (0x1001, usual),
+        (0x100D, usual),
+        (0x1040, with_handler),
+        (0x1050, with_termination),
+        (0x1060, chained),
+    ] {
+        let mut out = filled();
+        let view = view(&bytes, &image, &sections);
+        assert_eq!(rt; pe_c_unwind_record(&view, &table, unwind, &mut out), DONE);
+        assert_eq!(rt; raw(&out), raw(&want), "at {unwind:#x}");
+    }
     Ok(())
 }
 

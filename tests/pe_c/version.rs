@@ -1,6 +1,7 @@
 //! The version information of an image, and its manifest.
 
 use super::made::*;
+use super::shared::VERSION_NAMES;
 use super::steps::{pe_c_fixed_version, pe_c_version_text};
 use crate::resources::version::{pe_c_fixed_version_in, pe_c_manifest, pe_c_version_text_in};
 use pe_images::image as bytes_of;
@@ -95,22 +96,6 @@ fn no_version() -> VsFixedFileInfo {
     }
 }
 
-/// The names by their numbers.
-const NAMES: [&str; 12] = [
-    "Comments",
-    "CompanyName",
-    "FileDescription",
-    "FileVersion",
-    "InternalName",
-    "LegalCopyright",
-    "LegalTrademarks",
-    "OriginalFilename",
-    "PrivateBuild",
-    "ProductName",
-    "ProductVersion",
-    "SpecialBuild",
-];
-
 /// An image with its resource directory at offset 0, of all of these bytes.
 fn with_resources(size: usize) -> Image {
     having(image(X64), 2, directory(0x1000, size as u32))
@@ -148,7 +133,7 @@ fn versions_and_manifests(rt: HostRuntime) -> Result<(), Fail> {
         let mut units = Vec::new(alloc);
         units.extend_from_slice(text)?;
         units.extend_from_slice(&[0, 0])?;
-        offsets[number] = push_string(&mut bytes, NAMES[number], 1, &units)?;
+        offsets[number] = push_string(&mut bytes, VERSION_NAMES[number], 1, &units)?;
     }
     let bytes = with_size(bytes);
     let image = with_resources(bytes.len());

@@ -5,11 +5,6 @@ use crate::write::version::{pe_c_write_block, pe_c_write_version};
 use pe_resource::VsFixedFileInfo;
 use pe_version::{LanguageRecord, StringRecord, TableRecord};
 
-/// What a byte of the room, and the length, is before a call.
-const OLD: u8 = 0xEE;
-
-const OLD_LENGTH: u64 = 0x7777;
-
 /// A text `x` with the key `A`: the key's zero ends at 10, so the value is at 12; it has two code units.
 const BYTES: [u8; 16] = *b"\x10\0\x02\0\x01\0A\0\0\0\0\0x\0\0\0";
 

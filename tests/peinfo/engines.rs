@@ -50,10 +50,8 @@ fn certificates_of_images(rt: HostRuntime) -> Result<(), Fail> {
         let mut other = with_certificate(alloc)?;
         put(&mut other, &[(offset, &[byte])]);
         assert_eq!(rt; refusal(alloc, &other), Some(want));
-        assert_eq!(rt;
-            text(alloc, &other, ParseMode::Permissive)?.as_slice(),
-            DEBUG_LINES
-        );
+        let found = text(alloc, &other, ParseMode::Permissive)?;
+        assert_eq!(rt; found.as_slice(), DEBUG_LINES);
     }
     // A debug table that is refused is refused before the certificates are.
     put(&mut bytes, &[(0xEC, &[0x11]), (0xFC, &[0, 0, 1, 0])]);
@@ -85,10 +83,8 @@ fn functions_of_images(rt: HostRuntime) -> Result<(), Fail> {
     // A directory whose size is no whole number of entries, also before certificates that are refused.
     put(&mut bytes, &[(0xE4, &[0x20])]);
     assert_eq!(rt; refusal(alloc, &bytes), Some(Reason::ExceptionSize(32)));
-    assert_eq!(rt;
-        text(alloc, &bytes, ParseMode::Permissive)?.as_slice(),
-        CERTIFICATE_LINES
-    );
+    let found = text(alloc, &bytes, ParseMode::Permissive)?;
+    assert_eq!(rt; found.as_slice(), CERTIFICATE_LINES);
     put(&mut bytes, &[(0xEC, &[0x11])]);
     assert_eq!(rt; refusal(alloc, &bytes), Some(Reason::ExceptionSize(32)));
     // Debug data are refused before exception data; on another machine there are none.
@@ -96,10 +92,8 @@ fn functions_of_images(rt: HostRuntime) -> Result<(), Fail> {
     assert_eq!(rt; refusal(alloc, &bytes), Some(Reason::DebugBounds(0x10240)));
     let mut other = with_functions(alloc)?;
     put(&mut other, &[(0x44, &[0x4C, 1])]);
-    assert_eq!(rt;
-        text(alloc, &other, ParseMode::Strict)?.as_slice(),
-        CERTIFICATE_LINES
-    );
+    let found = text(alloc, &other, ParseMode::Strict)?;
+    assert_eq!(rt; found.as_slice(), CERTIFICATE_LINES);
     Ok(())
 }
 
@@ -119,9 +113,7 @@ fn arm64_functions_of_images(rt: HostRuntime) -> Result<(), Fail> {
     assert_eq!(rt; refusal(alloc, &bytes), Some(Reason::ExceptionSize(16)));
     put(&mut bytes, &[(0x44, &[0x64, 0xAA]), (0xE4, &[0x0C])]);
     assert_eq!(rt; refusal(alloc, &bytes), Some(Reason::ExceptionSize(12)));
-    assert_eq!(rt;
-        text(alloc, &bytes, ParseMode::Permissive)?.as_slice(),
-        CERTIFICATE_LINES
-    );
+    let found = text(alloc, &bytes, ParseMode::Permissive)?;
+    assert_eq!(rt; found.as_slice(), CERTIFICATE_LINES);
     Ok(())
 }

@@ -41,8 +41,7 @@ fn refuses_symbols(rt: HostRuntime) -> Result<(), Fail> {
     put(&mut image, &[(0x4C, &[1])]);
     let answer = rewritten(rt.alloc(), &image);
     let symbols = Reason::WriteSymbols(1);
-    assert!(rt;
-        matches!(answer, Err(ReportError::Parse(Error::Malformed(reason))) if reason == symbols)
-    );
+    assert_matches!(rt; answer =>
+        Err(ReportError::Parse(Error::Malformed(reason))) if reason == symbols);
     Ok(())
 }
