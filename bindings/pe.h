@@ -85,7 +85,6 @@
  *   pe_c_coff                       Reads the header of an object, the 20 bytes at its start
  *   pe_c_coff_symbols               Returns a walk over the symbols of an object or of an image, with the range of their table
  *   pe_c_coff_strings               Returns the string table of an object or of an image, from its size field on
- *   pe_c_next_symbol                Reads the next symbol of a walk
  *   pe_c_symbol_name                Returns the name of the symbol in an entry of a symbol table
  * the Rich header
  *   pe_c_rich_header                Returns the Rich header
@@ -214,7 +213,7 @@
  *   pe_c_list_all_imports           Lists the imports of all libraries, one library after the other, and reads the names ..
  *   pe_c_list_export_addresses      Lists all exports as pe_c_export_at reads them, from the index `next` on, which moves ..
  *   pe_c_list_long_section_names    Lists the long names of the sections of an image, from the index `next` on, which ..
- *   pe_c_list_symbols               Lists the symbols of a walk as pe_c_next_symbol returns them, each with what ..
+ *   pe_c_list_symbols               Lists the symbols of a walk, each with what pe_c_symbol_name returns of it
  *   pe_c_list_resource_leaves       Lists the leaves of a resource tree
  *   pe_c_list_version_blocks        Lists blocks of version information
  *   pe_c_list_relocation_blocks     Lists the blocks of base relocations
@@ -242,6 +241,7 @@
  *   pe_c_next_relocation            Returns the next relocation of a block
  *   pe_c_next_guard_entry           Returns the next entry of a table
  *   pe_c_next_pogo_entry            Returns the next entry of a POGO record
+ *   pe_c_next_symbol                Reads the next symbol of a walk
  *   pe_c_next_frame                 Returns the next frame of a stack walk on x64, in the walk
  *   pe_c_next_arm64_frame           The same on ARM64
  *   pe_c_function_at                Returns the function with an index, from 0
@@ -1031,11 +1031,6 @@ uint32_t pe_c_coff_symbols(const uint8_t *bytes, size_t length, const pe_c_coff_
  * the symbols is 0, and where the bytes end after these.
  * Errors: PE_C_SHORT where the symbols are truncated; PE_C_STRING_TABLE where the string table is. */
 uint32_t pe_c_coff_strings(const uint8_t *bytes, size_t length, const pe_c_coff_header *coff, pe_c_range *out)
-    PE_C_RESULT(3, 4);
-
-/* Reads the next symbol of a walk.
- * Error: PE_C_SHORT where the table is not inside the bytes. */
-uint32_t pe_c_next_symbol(const uint8_t *bytes, size_t length, pe_c_symbol_walk *walk, pe_c_symbol_entry *out)
     PE_C_RESULT(3, 4);
 
 /* Returns the name of the symbol in an entry of a symbol table: UTF-8, not NUL-terminated, in the entry or in the string
@@ -3411,7 +3406,7 @@ typedef struct {
 PE_C_SIZE(pe_c_named_symbol, 72);
 PE_C_SIZE(pe_c_named_symbol_walk, 40);
 
-/* Lists the symbols of a walk as pe_c_next_symbol returns them, each with what pe_c_symbol_name returns of it. Names are
+/* Lists the symbols of a walk, each with what pe_c_symbol_name returns of it. Auxiliary records are skipped. Names are
  * read together where they share much, as by pe_c_list_exports, here with one run for each entry that the symbol table has
  * left, or more; the string table stays as it is.
  * Errors: PE_C_ROOM; PE_C_SHORT where the symbol table is not inside the bytes. */
@@ -3656,6 +3651,21 @@ static inline uint32_t pe_c_next_pogo_entry(const uint8_t *bytes, size_t length,
 {
     uint64_t written = 0;
     uint32_t result = pe_c_list_pogo_entries(bytes, length, walk, out, 1, &written);
+    return result == PE_C_DONE && written == 0 ? (uint32_t)PE_C_NOTHING : result;
+}
+
+/* Reads the next symbol of a walk: what pe_c_list_symbols returns of one, without a string table.
+ * Error: PE_C_SHORT where the table is not inside the bytes. */
+PE_C_RESULT(3, 4)
+static inline uint32_t pe_c_next_symbol(const uint8_t *bytes, size_t length, pe_c_symbol_walk *walk, pe_c_symbol_entry *out)
+{
+    pe_c_named_symbol_walk all = {*walk, {0, 0}};
+    pe_c_named_symbol found = PE_C_EMPTY;
+    uint64_t written = 0;
+    uint32_t result = pe_c_list_symbols(bytes, length, &all, NULL, 0, &found, 1, &written);
+    *walk = all.symbols;
+    if (result == PE_C_DONE && written == 1)
+        *out = found.symbol;
     return result == PE_C_DONE && written == 0 ? (uint32_t)PE_C_NOTHING : result;
 }
 

@@ -3167,10 +3167,6 @@ extern "C" {
     ///
     /// Errors: [`Error::SHORT`] where the symbols are truncated; [`Error::STRING_TABLE`] where the string table is.
     pub fn pe_c_coff_strings(bytes: *const u8, length: usize, coff: *const CoffHeader, out: *mut Range) -> u32;
-    /// Reads the next symbol of a walk.
-    ///
-    /// Error: [`Error::SHORT`] where the table is not inside the bytes.
-    pub fn pe_c_next_symbol(bytes: *const u8, length: usize, walk: *mut SymbolWalk, out: *mut SymbolEntry) -> u32;
     /// Returns the name of the symbol in an entry of a symbol table: UTF-8, not NUL-terminated, in the entry or in the
     /// string table.
     ///
@@ -4289,11 +4285,10 @@ extern "C" {
         number_of_entries: usize,
         written: *mut u64,
     ) -> u32;
-    /// Lists the symbols of a walk as [`pe_c_next_symbol`] returns them, each with what [`pe_c_symbol_name`] returns of
-    /// it.
+    /// Lists the symbols of a walk, each with what [`pe_c_symbol_name`] returns of it.
     ///
-    /// Names are read together where they share much, as by [`pe_c_list_exports`], here with one run for each entry
-    /// that the symbol table has left, or more; the string table stays as it is.
+    /// Auxiliary records are skipped. Names are read together where they share much, as by [`pe_c_list_exports`], here
+    /// with one run for each entry that the symbol table has left, or more; the string table stays as it is.
     ///
     /// Errors: [`ROOM`]; [`Error::SHORT`] where the symbol table is not inside the bytes.
     pub fn pe_c_list_symbols(
@@ -5509,4 +5504,29 @@ pub unsafe extern "C" fn pe_c_version_text(
     let mut found = Range::default();
     let result = unsafe { pe_c_version_blocks(view, &mut found) };
     if result == DONE { unsafe { pe_c_version_text_in((*view).bytes, (*view).length, &found, name, out) } } else { result }
+}
+
+/// Reads the next symbol of a walk: what [`pe_c_list_symbols`] returns of one, without a string table.
+///
+/// Error: [`Error::SHORT`] where the table is not inside the bytes.
+///
+/// # Safety
+///
+/// As of [`pe_c_list_symbols`], which it calls.
+#[rustfmt::skip]
+pub unsafe extern "C" fn pe_c_next_symbol(
+    bytes: *const u8,
+    length: usize,
+    walk: *mut SymbolWalk,
+    out: *mut SymbolEntry,
+) -> u32 {
+    let mut all = NamedSymbolWalk { symbols: unsafe { *walk }, ..Default::default() };
+    let mut found = NamedSymbol::default();
+    let mut written = 0;
+    let result = unsafe { pe_c_list_symbols(bytes, length, &mut all, core::ptr::null_mut(), 0, &mut found, 1, &mut written) };
+    unsafe { *walk = all.symbols };
+    if result == DONE && written == 1 {
+        unsafe { *out = found.symbol };
+    }
+    if result == DONE && written == 0 { NOTHING } else { result }
 }

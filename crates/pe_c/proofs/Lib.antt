@@ -17,3 +17,4 @@ pub mod OneImage
 pub mod LibrariesOfCalls
 pub mod ImageWriters
 pub mod TwoCalls
+pub mod OneSymbols
