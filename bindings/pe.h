@@ -268,9 +268,10 @@
  *   pe_c_symbol_name_failure        Of pe_c_symbol_name, which takes the same
  * minidumps
  *   pe_c_dump                       Reads the header of a minidump, and tests that its directory is inside the bytes
- *   pe_c_dump_entry_at              Returns the entry of the directory with an index, or PE_C_NOTHING. Errors
  *   pe_c_dump_stream                Returns the range of the stream of a kind, that of the first entry of the kind, or ..
  *   pe_c_dump_text                  Returns the range of a string, in UTF-16LE without its final zero
+ *   pe_c_dump_record                Reads the record with an index of the stream of a kind, PE_C_THREAD_LIST_STREAM and ..
+ *   pe_c_dump_entry_at              Returns the entry of the directory with an index, or PE_C_NOTHING. Errors
  *   pe_c_dump_thread_at             Returns the thread with an index in the stream of threads, or PE_C_NOTHING. Errors
  *   pe_c_dump_module_at             The same of modules, which stand in no order
  *   pe_c_dump_thread_name_at        The same of names of threads
@@ -278,10 +279,10 @@
  *   pe_c_dump_thread_info_at        The same of thread information
  *   pe_c_dump_handle_at             The same of handles
  *   pe_c_dump_region_at             The same of regions of memory
+ *   pe_c_dump_memory_at             Returns the piece of memory with an index in PE_C_MEMORY_LIST_STREAM, or PE_C_NOTHING. ..
  *   pe_c_dump_exception             Reads the exception, by its stream
  *   pe_c_dump_system                Reads the system, by its stream
  *   pe_c_dump_process               Reads what is known of the process, by its stream
- *   pe_c_dump_memory_at             Returns the piece of memory with an index in PE_C_MEMORY_LIST_STREAM, or PE_C_NOTHING. ..
  *   pe_c_dump_memory64              Returns a walk over the pieces of memory of a full dump, by PE_C_MEMORY64_LIST_STREAM. ..
  *   pe_c_next_memory64              Returns the next piece of memory of a full dump
  *   pe_c_dump_context               Reads a context of x64
@@ -3872,7 +3873,8 @@ enum {
     PE_C_MISC_INFO_STREAM = 15,     /* the process */
     PE_C_MEMORY_INFO_LIST_STREAM = 16, /* regions of memory */
     PE_C_THREAD_INFO_LIST_STREAM = 17, /* more on threads */
-    PE_C_THREAD_NAMES_STREAM = 24   /* names of threads */
+    PE_C_THREAD_NAMES_STREAM = 24,  /* names of threads */
+    PE_C_DUMP_ENTRIES = 0           /* no stream: what pe_c_dump_record takes for the entries of the directory */
 };
 
 /* The header, MINIDUMP_HEADER. */
@@ -4064,6 +4066,24 @@ typedef struct {
     uint64_t next;                  /* offset of the bytes of the next piece */
 } pe_c_memory64_walk;
 
+/* A record of any kind: pe_c_dump_record writes the field of one kind. */
+typedef struct {
+    pe_c_dump_thread thread;        /* PE_C_THREAD_LIST_STREAM */
+    pe_c_dump_module loaded;        /* PE_C_MODULE_LIST_STREAM */
+    pe_c_dump_piece memory;         /* PE_C_MEMORY_LIST_STREAM */
+    pe_c_dump_raised exception;     /* PE_C_EXCEPTION_STREAM */
+    pe_c_memory64_walk memory64;    /* PE_C_MEMORY64_LIST_STREAM */
+    pe_c_dump_handle handle;        /* PE_C_HANDLE_DATA_STREAM */
+    pe_c_dump_unloaded unloaded;    /* PE_C_UNLOADED_MODULE_LIST_STREAM */
+    pe_c_dump_region region;        /* PE_C_MEMORY_INFO_LIST_STREAM */
+    pe_c_dump_thread_info thread_info; /* PE_C_THREAD_INFO_LIST_STREAM */
+    pe_c_dump_thread_name thread_name; /* PE_C_THREAD_NAMES_STREAM */
+    pe_c_dump_system_info system;   /* PE_C_SYSTEM_INFO_STREAM */
+    pe_c_dump_process_info process; /* PE_C_MISC_INFO_STREAM */
+    pe_c_dump_entry entry;          /* PE_C_DUMP_ENTRIES */
+    uint32_t spare;                 /* is never written */
+} pe_c_dump_any_record;
+
 /* An entry of an index of pieces of memory, which pe_c_memory_runs makes on the way: the addresses from `start` up to the
  * start of the next entry. */
 typedef struct {
@@ -4104,6 +4124,7 @@ PE_C_SIZE(pe_c_dump_power, 20);
 PE_C_SIZE(pe_c_dump_process_info, 48);
 PE_C_SIZE(pe_c_dump_piece, 32);
 PE_C_SIZE(pe_c_memory64_walk, 24);
+PE_C_SIZE(pe_c_dump_any_record, 632);
 PE_C_SIZE(pe_c_range_entry, 16);
 PE_C_SIZE(pe_c_context, 400);
 PE_C_SIZE(pe_c_arm64_context, 336);
@@ -4111,11 +4132,6 @@ PE_C_SIZE(pe_c_arm64_context, 336);
 /* Reads the header of a minidump, and tests that its directory is inside the bytes.
  * Errors: PE_C_SHORT where there are fewer than 32 bytes; PE_C_DUMP_SIGNATURE; PE_C_DUMP_VERSION; PE_C_DUMP_DIRECTORY. */
 uint32_t pe_c_dump(const uint8_t *bytes, size_t length, pe_c_dump_info *out) PE_C_RESULT(3);
-
-/* Returns the entry of the directory with an index, or PE_C_NOTHING.
- * Errors: PE_C_DUMP_LOCATION where the directory is not inside the bytes. */
-uint32_t pe_c_dump_entry_at(const uint8_t *bytes, size_t length, const pe_c_range *directory, uint64_t index,
-                            pe_c_dump_entry *out) PE_C_RESULT(3, 5);
 
 /* Returns the range of the stream of a kind, that of the first entry of the kind, or PE_C_NOTHING.
  * Errors: PE_C_DUMP_LOCATION where the directory or the stream is not inside the bytes. */
@@ -4127,65 +4143,182 @@ uint32_t pe_c_dump_stream(const uint8_t *bytes, size_t length, const pe_c_range 
  * where the string is not inside the bytes. */
 uint32_t pe_c_dump_text(const uint8_t *bytes, size_t length, uint64_t rva, pe_c_range *out) PE_C_RESULT(4);
 
+/* Reads the record with an index of the stream of a kind, PE_C_THREAD_LIST_STREAM and others, into the field of that kind; with
+ * PE_C_DUMP_ENTRIES of the directory. The other fields are unchanged. PE_C_NOTHING past the last record, and of another kind. What
+ * a stream says in one record has index 0: the exception, the system, the process, the walk over the memory of a full dump. The
+ * functions below return the field of one kind each.
+ * Errors: those of the function of the kind. */
+uint32_t pe_c_dump_record(const uint8_t *bytes, size_t length, const pe_c_range *stream, uint32_t kind, uint64_t index,
+                          pe_c_dump_any_record *out) PE_C_RESULT(3, 6);
+
+/* Returns the entry of the directory with an index, or PE_C_NOTHING.
+ * Errors: PE_C_DUMP_LOCATION where the directory is not inside the bytes. */
+PE_C_RESULT(3, 5)
+static inline uint32_t pe_c_dump_entry_at(const uint8_t *bytes, size_t length, const pe_c_range *directory, uint64_t index,
+                                          pe_c_dump_entry *out)
+{
+    pe_c_dump_any_record found = PE_C_EMPTY;
+    uint32_t result = pe_c_dump_record(bytes, length, directory, PE_C_DUMP_ENTRIES, index, &found);
+    if (result == PE_C_DONE)
+        *out = found.entry;
+    return result;
+}
+
 /* Returns the thread with an index in the stream of threads, or PE_C_NOTHING.
  * Errors: PE_C_DUMP_LOCATION where the stream is not inside the bytes; PE_C_SHORT where it has fewer than 4 bytes;
  * PE_C_DUMP_LIST_SIZE where it has another size than the number of threads and so many threads. */
-uint32_t pe_c_dump_thread_at(const uint8_t *bytes, size_t length, const pe_c_range *stream, uint64_t index,
-                             pe_c_dump_thread *out) PE_C_RESULT(3, 5);
+PE_C_RESULT(3, 5)
+static inline uint32_t pe_c_dump_thread_at(const uint8_t *bytes, size_t length, const pe_c_range *stream, uint64_t index,
+                                           pe_c_dump_thread *out)
+{
+    pe_c_dump_any_record found = PE_C_EMPTY;
+    uint32_t result = pe_c_dump_record(bytes, length, stream, PE_C_THREAD_LIST_STREAM, index, &found);
+    if (result == PE_C_DONE)
+        *out = found.thread;
+    return result;
+}
 
 /* The same of modules, which stand in no order. Errors: those of pe_c_dump_thread_at. */
-uint32_t pe_c_dump_module_at(const uint8_t *bytes, size_t length, const pe_c_range *stream, uint64_t index,
-                             pe_c_dump_module *out) PE_C_RESULT(3, 5);
+PE_C_RESULT(3, 5)
+static inline uint32_t pe_c_dump_module_at(const uint8_t *bytes, size_t length, const pe_c_range *stream, uint64_t index,
+                                           pe_c_dump_module *out)
+{
+    pe_c_dump_any_record found = PE_C_EMPTY;
+    uint32_t result = pe_c_dump_record(bytes, length, stream, PE_C_MODULE_LIST_STREAM, index, &found);
+    if (result == PE_C_DONE)
+        *out = found.loaded;
+    return result;
+}
 
 /* The same of names of threads. Errors: those of pe_c_dump_thread_at. */
-uint32_t pe_c_dump_thread_name_at(const uint8_t *bytes, size_t length, const pe_c_range *stream, uint64_t index,
-                                  pe_c_dump_thread_name *out) PE_C_RESULT(3, 5);
+PE_C_RESULT(3, 5)
+static inline uint32_t pe_c_dump_thread_name_at(const uint8_t *bytes, size_t length, const pe_c_range *stream, uint64_t index,
+                                                pe_c_dump_thread_name *out)
+{
+    pe_c_dump_any_record found = PE_C_EMPTY;
+    uint32_t result = pe_c_dump_record(bytes, length, stream, PE_C_THREAD_NAMES_STREAM, index, &found);
+    if (result == PE_C_DONE)
+        *out = found.thread_name;
+    return result;
+}
 
 /* Returns the unloaded module with an index in their stream, or PE_C_NOTHING.
  * Errors: PE_C_DUMP_LOCATION where the stream is not inside the bytes; PE_C_SHORT where its header is truncated;
  * PE_C_DUMP_ENTRY_SIZE where its records are smaller than their fields; PE_C_DUMP_LIST_SIZE where they start in the header,
  * or end past the stream. */
-uint32_t pe_c_dump_unloaded_at(const uint8_t *bytes, size_t length, const pe_c_range *stream, uint64_t index,
-                               pe_c_dump_unloaded *out) PE_C_RESULT(3, 5);
+PE_C_RESULT(3, 5)
+static inline uint32_t pe_c_dump_unloaded_at(const uint8_t *bytes, size_t length, const pe_c_range *stream, uint64_t index,
+                                             pe_c_dump_unloaded *out)
+{
+    pe_c_dump_any_record found = PE_C_EMPTY;
+    uint32_t result = pe_c_dump_record(bytes, length, stream, PE_C_UNLOADED_MODULE_LIST_STREAM, index, &found);
+    if (result == PE_C_DONE)
+        *out = found.unloaded;
+    return result;
+}
 
 /* The same of thread information. Errors: those of pe_c_dump_unloaded_at. */
-uint32_t pe_c_dump_thread_info_at(const uint8_t *bytes, size_t length, const pe_c_range *stream, uint64_t index,
-                                  pe_c_dump_thread_info *out) PE_C_RESULT(3, 5);
+PE_C_RESULT(3, 5)
+static inline uint32_t pe_c_dump_thread_info_at(const uint8_t *bytes, size_t length, const pe_c_range *stream, uint64_t index,
+                                                pe_c_dump_thread_info *out)
+{
+    pe_c_dump_any_record found = PE_C_EMPTY;
+    uint32_t result = pe_c_dump_record(bytes, length, stream, PE_C_THREAD_INFO_LIST_STREAM, index, &found);
+    if (result == PE_C_DONE)
+        *out = found.thread_info;
+    return result;
+}
 
 /* The same of handles. Errors: those of pe_c_dump_unloaded_at. */
-uint32_t pe_c_dump_handle_at(const uint8_t *bytes, size_t length, const pe_c_range *stream, uint64_t index,
-                             pe_c_dump_handle *out) PE_C_RESULT(3, 5);
+PE_C_RESULT(3, 5)
+static inline uint32_t pe_c_dump_handle_at(const uint8_t *bytes, size_t length, const pe_c_range *stream, uint64_t index,
+                                           pe_c_dump_handle *out)
+{
+    pe_c_dump_any_record found = PE_C_EMPTY;
+    uint32_t result = pe_c_dump_record(bytes, length, stream, PE_C_HANDLE_DATA_STREAM, index, &found);
+    if (result == PE_C_DONE)
+        *out = found.handle;
+    return result;
+}
 
 /* The same of regions of memory. Errors: those of pe_c_dump_unloaded_at. */
-uint32_t pe_c_dump_region_at(const uint8_t *bytes, size_t length, const pe_c_range *stream, uint64_t index,
-                             pe_c_dump_region *out) PE_C_RESULT(3, 5);
-
-/* Reads the exception, by its stream.
- * Errors: PE_C_DUMP_LOCATION where the stream is not inside the bytes; PE_C_SHORT where it has fewer than 168 bytes. */
-uint32_t pe_c_dump_exception(const uint8_t *bytes, size_t length, const pe_c_range *stream, pe_c_dump_raised *out)
-    PE_C_RESULT(3, 4);
-
-/* Reads the system, by its stream.
- * Errors: PE_C_DUMP_LOCATION where the stream is not inside the bytes; PE_C_SHORT where it has fewer than 56 bytes. */
-uint32_t pe_c_dump_system(const uint8_t *bytes, size_t length, const pe_c_range *stream, pe_c_dump_system_info *out)
-    PE_C_RESULT(3, 4);
-
-/* Reads what is known of the process, by its stream.
- * Errors: PE_C_DUMP_LOCATION where the stream is not inside the bytes; PE_C_SHORT where it has fewer than 24 bytes. */
-uint32_t pe_c_dump_process(const uint8_t *bytes, size_t length, const pe_c_range *stream, pe_c_dump_process_info *out)
-    PE_C_RESULT(3, 4);
+PE_C_RESULT(3, 5)
+static inline uint32_t pe_c_dump_region_at(const uint8_t *bytes, size_t length, const pe_c_range *stream, uint64_t index,
+                                           pe_c_dump_region *out)
+{
+    pe_c_dump_any_record found = PE_C_EMPTY;
+    uint32_t result = pe_c_dump_record(bytes, length, stream, PE_C_MEMORY_INFO_LIST_STREAM, index, &found);
+    if (result == PE_C_DONE)
+        *out = found.region;
+    return result;
+}
 
 /* Returns the piece of memory with an index in PE_C_MEMORY_LIST_STREAM, or PE_C_NOTHING. Errors: those of
  * pe_c_dump_thread_at. */
-uint32_t pe_c_dump_memory_at(const uint8_t *bytes, size_t length, const pe_c_range *stream, uint64_t index,
-                             pe_c_dump_piece *out) PE_C_RESULT(3, 5);
+PE_C_RESULT(3, 5)
+static inline uint32_t pe_c_dump_memory_at(const uint8_t *bytes, size_t length, const pe_c_range *stream, uint64_t index,
+                                           pe_c_dump_piece *out)
+{
+    pe_c_dump_any_record found = PE_C_EMPTY;
+    uint32_t result = pe_c_dump_record(bytes, length, stream, PE_C_MEMORY_LIST_STREAM, index, &found);
+    if (result == PE_C_DONE)
+        *out = found.memory;
+    return result;
+}
+
+/* Reads the exception, by its stream.
+ * Errors: PE_C_DUMP_LOCATION where the stream is not inside the bytes; PE_C_SHORT where it has fewer than 168 bytes. */
+PE_C_RESULT(3, 4)
+static inline uint32_t pe_c_dump_exception(const uint8_t *bytes, size_t length, const pe_c_range *stream,
+                                           pe_c_dump_raised *out)
+{
+    pe_c_dump_any_record found = PE_C_EMPTY;
+    uint32_t result = pe_c_dump_record(bytes, length, stream, PE_C_EXCEPTION_STREAM, 0, &found);
+    if (result == PE_C_DONE)
+        *out = found.exception;
+    return result;
+}
+
+/* Reads the system, by its stream.
+ * Errors: PE_C_DUMP_LOCATION where the stream is not inside the bytes; PE_C_SHORT where it has fewer than 56 bytes. */
+PE_C_RESULT(3, 4)
+static inline uint32_t pe_c_dump_system(const uint8_t *bytes, size_t length, const pe_c_range *stream,
+                                        pe_c_dump_system_info *out)
+{
+    pe_c_dump_any_record found = PE_C_EMPTY;
+    uint32_t result = pe_c_dump_record(bytes, length, stream, PE_C_SYSTEM_INFO_STREAM, 0, &found);
+    if (result == PE_C_DONE)
+        *out = found.system;
+    return result;
+}
+
+/* Reads what is known of the process, by its stream.
+ * Errors: PE_C_DUMP_LOCATION where the stream is not inside the bytes; PE_C_SHORT where it has fewer than 24 bytes. */
+PE_C_RESULT(3, 4)
+static inline uint32_t pe_c_dump_process(const uint8_t *bytes, size_t length, const pe_c_range *stream,
+                                         pe_c_dump_process_info *out)
+{
+    pe_c_dump_any_record found = PE_C_EMPTY;
+    uint32_t result = pe_c_dump_record(bytes, length, stream, PE_C_MISC_INFO_STREAM, 0, &found);
+    if (result == PE_C_DONE)
+        *out = found.process;
+    return result;
+}
 
 /* Returns a walk over the pieces of memory of a full dump, by PE_C_MEMORY64_LIST_STREAM. It reads each size once.
  * Errors: PE_C_DUMP_LOCATION where the stream is not inside the bytes; PE_C_SHORT where it has fewer than 16 bytes;
  * PE_C_DUMP_LIST_SIZE where it has another size than so many entries; PE_C_DUMP_LOCATION where the bytes of the pieces end
  * past offset 2^64 - 1. */
-uint32_t pe_c_dump_memory64(const uint8_t *bytes, size_t length, const pe_c_range *stream, pe_c_memory64_walk *out)
-    PE_C_RESULT(3, 4);
+PE_C_RESULT(3, 4)
+static inline uint32_t pe_c_dump_memory64(const uint8_t *bytes, size_t length, const pe_c_range *stream,
+                                          pe_c_memory64_walk *out)
+{
+    pe_c_dump_any_record found = PE_C_EMPTY;
+    uint32_t result = pe_c_dump_record(bytes, length, stream, PE_C_MEMORY64_LIST_STREAM, 0, &found);
+    if (result == PE_C_DONE)
+        *out = found.memory64;
+    return result;
+}
 
 /* Returns the next piece of memory of a full dump.
  * Errors: PE_C_SHORT where the entries are not inside the bytes, or the last one is truncated. */

@@ -46,6 +46,8 @@ pub const MEMORY_INFO_LIST_STREAM: u32 = 16;
 pub const THREAD_INFO_LIST_STREAM: u32 = 17;
 /// Names of threads.
 pub const THREAD_NAMES_STREAM: u32 = 24;
+/// No stream: what [`pe_c_dump_record`] takes for the entries of the directory.
+pub const DUMP_ENTRIES: u32 = 0;
 
 /// A range of the bytes of the image.
 #[repr(C)]
@@ -2794,6 +2796,42 @@ pub struct Memory64Walk {
 }
 const _: () = assert!(core::mem::size_of::<Memory64Walk>() == 24);
 
+/// A record of any kind: [`pe_c_dump_record`] writes the field of one kind.
+#[repr(C)]
+#[derive(Clone, Copy, Debug, Default, PartialEq, Eq)]
+#[non_exhaustive]
+pub struct DumpAnyRecord {
+    /// [`THREAD_LIST_STREAM`].
+    pub thread: DumpThread,
+    /// [`MODULE_LIST_STREAM`].
+    pub loaded: DumpModule,
+    /// [`MEMORY_LIST_STREAM`].
+    pub memory: DumpPiece,
+    /// [`EXCEPTION_STREAM`].
+    pub exception: DumpException,
+    /// [`MEMORY64_LIST_STREAM`].
+    pub memory64: Memory64Walk,
+    /// [`HANDLE_DATA_STREAM`].
+    pub handle: DumpHandle,
+    /// [`UNLOADED_MODULE_LIST_STREAM`].
+    pub unloaded: DumpUnloaded,
+    /// [`MEMORY_INFO_LIST_STREAM`].
+    pub region: DumpRegion,
+    /// [`THREAD_INFO_LIST_STREAM`].
+    pub thread_info: DumpThreadInfo,
+    /// [`THREAD_NAMES_STREAM`].
+    pub thread_name: DumpThreadName,
+    /// [`SYSTEM_INFO_STREAM`].
+    pub system: DumpSystem,
+    /// [`MISC_INFO_STREAM`].
+    pub process: DumpProcess,
+    /// [`DUMP_ENTRIES`].
+    pub entry: DumpEntry,
+    /// Is never written.
+    pub spare: u32,
+}
+const _: () = assert!(core::mem::size_of::<DumpAnyRecord>() == 632);
+
 /// An entry of an index of pieces of memory, which [`pe_c_memory_runs`] makes on the way: the addresses from `start` up
 /// to the start of the next entry.
 #[repr(C)]
@@ -4531,16 +4569,6 @@ extern "C" {
     /// Errors: [`Error::SHORT`] where there are fewer than 32 bytes; [`Error::DUMP_SIGNATURE`];
     /// [`Error::DUMP_VERSION`]; [`Error::DUMP_DIRECTORY`].
     pub fn pe_c_dump(bytes: *const u8, length: usize, out: *mut DumpInfo) -> u32;
-    /// Returns the entry of the directory with an index, or [`NOTHING`].
-    ///
-    /// Errors: [`Error::DUMP_LOCATION`] where the directory is not inside the bytes.
-    pub fn pe_c_dump_entry_at(
-        bytes: *const u8,
-        length: usize,
-        directory: *const Range,
-        index: u64,
-        out: *mut DumpEntry,
-    ) -> u32;
     /// Returns the range of the stream of a kind, that of the first entry of the kind, or [`NOTHING`].
     ///
     /// Errors: [`Error::DUMP_LOCATION`] where the directory or the stream is not inside the bytes.
@@ -4558,113 +4586,22 @@ extern "C" {
     /// Errors: [`Error::DUMP_LOCATION`] where its length is not inside the bytes; [`Error::DUMP_TEXT`] where that is
     /// odd; [`Error::DUMP_LOCATION`] where the string is not inside the bytes.
     pub fn pe_c_dump_text(bytes: *const u8, length: usize, rva: u64, out: *mut Range) -> u32;
-    /// Returns the thread with an index in the stream of threads, or [`NOTHING`].
+    /// Reads the record with an index of the stream of a kind, [`THREAD_LIST_STREAM`] and others, into the field of
+    /// that kind; with [`DUMP_ENTRIES`] of the directory.
     ///
-    /// Errors: [`Error::DUMP_LOCATION`] where the stream is not inside the bytes; [`Error::SHORT`] where it has fewer
-    /// than 4 bytes; [`Error::DUMP_LIST_SIZE`] where it has another size than the number of threads and so many
-    /// threads.
-    pub fn pe_c_dump_thread_at(
+    /// The other fields are unchanged. [`NOTHING`] past the last record, and of another kind. What a stream says in one
+    /// record has index 0: the exception, the system, the process, the walk over the memory of a full dump. The
+    /// functions below return the field of one kind each.
+    ///
+    /// Errors: those of the function of the kind.
+    pub fn pe_c_dump_record(
         bytes: *const u8,
         length: usize,
         stream: *const Range,
+        kind: u32,
         index: u64,
-        out: *mut DumpThread,
+        out: *mut DumpAnyRecord,
     ) -> u32;
-    /// The same of modules, which stand in no order.
-    ///
-    /// Errors: those of [`pe_c_dump_thread_at`].
-    pub fn pe_c_dump_module_at(
-        bytes: *const u8,
-        length: usize,
-        stream: *const Range,
-        index: u64,
-        out: *mut DumpModule,
-    ) -> u32;
-    /// The same of names of threads.
-    ///
-    /// Errors: those of [`pe_c_dump_thread_at`].
-    pub fn pe_c_dump_thread_name_at(
-        bytes: *const u8,
-        length: usize,
-        stream: *const Range,
-        index: u64,
-        out: *mut DumpThreadName,
-    ) -> u32;
-    /// Returns the unloaded module with an index in their stream, or [`NOTHING`].
-    ///
-    /// Errors: [`Error::DUMP_LOCATION`] where the stream is not inside the bytes; [`Error::SHORT`] where its header is
-    /// truncated; [`Error::DUMP_ENTRY_SIZE`] where its records are smaller than their fields; [`Error::DUMP_LIST_SIZE`]
-    /// where they start in the header, or end past the stream.
-    pub fn pe_c_dump_unloaded_at(
-        bytes: *const u8,
-        length: usize,
-        stream: *const Range,
-        index: u64,
-        out: *mut DumpUnloaded,
-    ) -> u32;
-    /// The same of thread information.
-    ///
-    /// Errors: those of [`pe_c_dump_unloaded_at`].
-    pub fn pe_c_dump_thread_info_at(
-        bytes: *const u8,
-        length: usize,
-        stream: *const Range,
-        index: u64,
-        out: *mut DumpThreadInfo,
-    ) -> u32;
-    /// The same of handles.
-    ///
-    /// Errors: those of [`pe_c_dump_unloaded_at`].
-    pub fn pe_c_dump_handle_at(
-        bytes: *const u8,
-        length: usize,
-        stream: *const Range,
-        index: u64,
-        out: *mut DumpHandle,
-    ) -> u32;
-    /// The same of regions of memory.
-    ///
-    /// Errors: those of [`pe_c_dump_unloaded_at`].
-    pub fn pe_c_dump_region_at(
-        bytes: *const u8,
-        length: usize,
-        stream: *const Range,
-        index: u64,
-        out: *mut DumpRegion,
-    ) -> u32;
-    /// Reads the exception, by its stream.
-    ///
-    /// Errors: [`Error::DUMP_LOCATION`] where the stream is not inside the bytes; [`Error::SHORT`] where it has fewer
-    /// than 168 bytes.
-    pub fn pe_c_dump_exception(bytes: *const u8, length: usize, stream: *const Range, out: *mut DumpException) -> u32;
-    /// Reads the system, by its stream.
-    ///
-    /// Errors: [`Error::DUMP_LOCATION`] where the stream is not inside the bytes; [`Error::SHORT`] where it has fewer
-    /// than 56 bytes.
-    pub fn pe_c_dump_system(bytes: *const u8, length: usize, stream: *const Range, out: *mut DumpSystem) -> u32;
-    /// Reads what is known of the process, by its stream.
-    ///
-    /// Errors: [`Error::DUMP_LOCATION`] where the stream is not inside the bytes; [`Error::SHORT`] where it has fewer
-    /// than 24 bytes.
-    pub fn pe_c_dump_process(bytes: *const u8, length: usize, stream: *const Range, out: *mut DumpProcess) -> u32;
-    /// Returns the piece of memory with an index in [`MEMORY_LIST_STREAM`], or [`NOTHING`].
-    ///
-    /// Errors: those of [`pe_c_dump_thread_at`].
-    pub fn pe_c_dump_memory_at(
-        bytes: *const u8,
-        length: usize,
-        stream: *const Range,
-        index: u64,
-        out: *mut DumpPiece,
-    ) -> u32;
-    /// Returns a walk over the pieces of memory of a full dump, by [`MEMORY64_LIST_STREAM`].
-    ///
-    /// It reads each size once.
-    ///
-    /// Errors: [`Error::DUMP_LOCATION`] where the stream is not inside the bytes; [`Error::SHORT`] where it has fewer
-    /// than 16 bytes; [`Error::DUMP_LIST_SIZE`] where it has another size than so many entries;
-    /// [`Error::DUMP_LOCATION`] where the bytes of the pieces end past offset 2^64 - 1.
-    pub fn pe_c_dump_memory64(bytes: *const u8, length: usize, stream: *const Range, out: *mut Memory64Walk) -> u32;
     /// Returns the next piece of memory of a full dump.
     ///
     /// Errors: [`Error::SHORT`] where the entries are not inside the bytes, or the last one is truncated.
@@ -5529,4 +5466,309 @@ pub unsafe extern "C" fn pe_c_next_symbol(
         unsafe { *out = found.symbol };
     }
     if result == DONE && written == 0 { NOTHING } else { result }
+}
+
+/// Returns the entry of the directory with an index, or [`NOTHING`].
+///
+/// Errors: [`Error::DUMP_LOCATION`] where the directory is not inside the bytes.
+///
+/// # Safety
+///
+/// As of [`pe_c_dump_record`], which it calls.
+#[rustfmt::skip]
+pub unsafe extern "C" fn pe_c_dump_entry_at(
+    bytes: *const u8,
+    length: usize,
+    directory: *const Range,
+    index: u64,
+    out: *mut DumpEntry,
+) -> u32 {
+    let mut found = DumpAnyRecord::default();
+    let result = unsafe { pe_c_dump_record(bytes, length, directory, DUMP_ENTRIES, index, &mut found) };
+    if result == DONE {
+        unsafe { *out = found.entry };
+    }
+    result
+}
+
+/// Returns the thread with an index in the stream of threads, or [`NOTHING`].
+///
+/// Errors: [`Error::DUMP_LOCATION`] where the stream is not inside the bytes; [`Error::SHORT`] where it has fewer than
+/// 4 bytes; [`Error::DUMP_LIST_SIZE`] where it has another size than the number of threads and so many threads.
+///
+/// # Safety
+///
+/// As of [`pe_c_dump_record`], which it calls.
+#[rustfmt::skip]
+pub unsafe extern "C" fn pe_c_dump_thread_at(
+    bytes: *const u8,
+    length: usize,
+    stream: *const Range,
+    index: u64,
+    out: *mut DumpThread,
+) -> u32 {
+    let mut found = DumpAnyRecord::default();
+    let result = unsafe { pe_c_dump_record(bytes, length, stream, THREAD_LIST_STREAM, index, &mut found) };
+    if result == DONE {
+        unsafe { *out = found.thread };
+    }
+    result
+}
+
+/// The same of modules, which stand in no order.
+///
+/// Errors: those of [`pe_c_dump_thread_at`].
+///
+/// # Safety
+///
+/// As of [`pe_c_dump_record`], which it calls.
+#[rustfmt::skip]
+pub unsafe extern "C" fn pe_c_dump_module_at(
+    bytes: *const u8,
+    length: usize,
+    stream: *const Range,
+    index: u64,
+    out: *mut DumpModule,
+) -> u32 {
+    let mut found = DumpAnyRecord::default();
+    let result = unsafe { pe_c_dump_record(bytes, length, stream, MODULE_LIST_STREAM, index, &mut found) };
+    if result == DONE {
+        unsafe { *out = found.loaded };
+    }
+    result
+}
+
+/// The same of names of threads.
+///
+/// Errors: those of [`pe_c_dump_thread_at`].
+///
+/// # Safety
+///
+/// As of [`pe_c_dump_record`], which it calls.
+#[rustfmt::skip]
+pub unsafe extern "C" fn pe_c_dump_thread_name_at(
+    bytes: *const u8,
+    length: usize,
+    stream: *const Range,
+    index: u64,
+    out: *mut DumpThreadName,
+) -> u32 {
+    let mut found = DumpAnyRecord::default();
+    let result = unsafe { pe_c_dump_record(bytes, length, stream, THREAD_NAMES_STREAM, index, &mut found) };
+    if result == DONE {
+        unsafe { *out = found.thread_name };
+    }
+    result
+}
+
+/// Returns the unloaded module with an index in their stream, or [`NOTHING`].
+///
+/// Errors: [`Error::DUMP_LOCATION`] where the stream is not inside the bytes; [`Error::SHORT`] where its header is
+/// truncated; [`Error::DUMP_ENTRY_SIZE`] where its records are smaller than their fields; [`Error::DUMP_LIST_SIZE`]
+/// where they start in the header, or end past the stream.
+///
+/// # Safety
+///
+/// As of [`pe_c_dump_record`], which it calls.
+#[rustfmt::skip]
+pub unsafe extern "C" fn pe_c_dump_unloaded_at(
+    bytes: *const u8,
+    length: usize,
+    stream: *const Range,
+    index: u64,
+    out: *mut DumpUnloaded,
+) -> u32 {
+    let mut found = DumpAnyRecord::default();
+    let result = unsafe { pe_c_dump_record(bytes, length, stream, UNLOADED_MODULE_LIST_STREAM, index, &mut found) };
+    if result == DONE {
+        unsafe { *out = found.unloaded };
+    }
+    result
+}
+
+/// The same of thread information.
+///
+/// Errors: those of [`pe_c_dump_unloaded_at`].
+///
+/// # Safety
+///
+/// As of [`pe_c_dump_record`], which it calls.
+#[rustfmt::skip]
+pub unsafe extern "C" fn pe_c_dump_thread_info_at(
+    bytes: *const u8,
+    length: usize,
+    stream: *const Range,
+    index: u64,
+    out: *mut DumpThreadInfo,
+) -> u32 {
+    let mut found = DumpAnyRecord::default();
+    let result = unsafe { pe_c_dump_record(bytes, length, stream, THREAD_INFO_LIST_STREAM, index, &mut found) };
+    if result == DONE {
+        unsafe { *out = found.thread_info };
+    }
+    result
+}
+
+/// The same of handles.
+///
+/// Errors: those of [`pe_c_dump_unloaded_at`].
+///
+/// # Safety
+///
+/// As of [`pe_c_dump_record`], which it calls.
+#[rustfmt::skip]
+pub unsafe extern "C" fn pe_c_dump_handle_at(
+    bytes: *const u8,
+    length: usize,
+    stream: *const Range,
+    index: u64,
+    out: *mut DumpHandle,
+) -> u32 {
+    let mut found = DumpAnyRecord::default();
+    let result = unsafe { pe_c_dump_record(bytes, length, stream, HANDLE_DATA_STREAM, index, &mut found) };
+    if result == DONE {
+        unsafe { *out = found.handle };
+    }
+    result
+}
+
+/// The same of regions of memory.
+///
+/// Errors: those of [`pe_c_dump_unloaded_at`].
+///
+/// # Safety
+///
+/// As of [`pe_c_dump_record`], which it calls.
+#[rustfmt::skip]
+pub unsafe extern "C" fn pe_c_dump_region_at(
+    bytes: *const u8,
+    length: usize,
+    stream: *const Range,
+    index: u64,
+    out: *mut DumpRegion,
+) -> u32 {
+    let mut found = DumpAnyRecord::default();
+    let result = unsafe { pe_c_dump_record(bytes, length, stream, MEMORY_INFO_LIST_STREAM, index, &mut found) };
+    if result == DONE {
+        unsafe { *out = found.region };
+    }
+    result
+}
+
+/// Returns the piece of memory with an index in [`MEMORY_LIST_STREAM`], or [`NOTHING`].
+///
+/// Errors: those of [`pe_c_dump_thread_at`].
+///
+/// # Safety
+///
+/// As of [`pe_c_dump_record`], which it calls.
+#[rustfmt::skip]
+pub unsafe extern "C" fn pe_c_dump_memory_at(
+    bytes: *const u8,
+    length: usize,
+    stream: *const Range,
+    index: u64,
+    out: *mut DumpPiece,
+) -> u32 {
+    let mut found = DumpAnyRecord::default();
+    let result = unsafe { pe_c_dump_record(bytes, length, stream, MEMORY_LIST_STREAM, index, &mut found) };
+    if result == DONE {
+        unsafe { *out = found.memory };
+    }
+    result
+}
+
+/// Reads the exception, by its stream.
+///
+/// Errors: [`Error::DUMP_LOCATION`] where the stream is not inside the bytes; [`Error::SHORT`] where it has fewer than
+/// 168 bytes.
+///
+/// # Safety
+///
+/// As of [`pe_c_dump_record`], which it calls.
+#[rustfmt::skip]
+pub unsafe extern "C" fn pe_c_dump_exception(
+    bytes: *const u8,
+    length: usize,
+    stream: *const Range,
+    out: *mut DumpException,
+) -> u32 {
+    let mut found = DumpAnyRecord::default();
+    let result = unsafe { pe_c_dump_record(bytes, length, stream, EXCEPTION_STREAM, 0, &mut found) };
+    if result == DONE {
+        unsafe { *out = found.exception };
+    }
+    result
+}
+
+/// Reads the system, by its stream.
+///
+/// Errors: [`Error::DUMP_LOCATION`] where the stream is not inside the bytes; [`Error::SHORT`] where it has fewer than
+/// 56 bytes.
+///
+/// # Safety
+///
+/// As of [`pe_c_dump_record`], which it calls.
+#[rustfmt::skip]
+pub unsafe extern "C" fn pe_c_dump_system(
+    bytes: *const u8,
+    length: usize,
+    stream: *const Range,
+    out: *mut DumpSystem,
+) -> u32 {
+    let mut found = DumpAnyRecord::default();
+    let result = unsafe { pe_c_dump_record(bytes, length, stream, SYSTEM_INFO_STREAM, 0, &mut found) };
+    if result == DONE {
+        unsafe { *out = found.system };
+    }
+    result
+}
+
+/// Reads what is known of the process, by its stream.
+///
+/// Errors: [`Error::DUMP_LOCATION`] where the stream is not inside the bytes; [`Error::SHORT`] where it has fewer than
+/// 24 bytes.
+///
+/// # Safety
+///
+/// As of [`pe_c_dump_record`], which it calls.
+#[rustfmt::skip]
+pub unsafe extern "C" fn pe_c_dump_process(
+    bytes: *const u8,
+    length: usize,
+    stream: *const Range,
+    out: *mut DumpProcess,
+) -> u32 {
+    let mut found = DumpAnyRecord::default();
+    let result = unsafe { pe_c_dump_record(bytes, length, stream, MISC_INFO_STREAM, 0, &mut found) };
+    if result == DONE {
+        unsafe { *out = found.process };
+    }
+    result
+}
+
+/// Returns a walk over the pieces of memory of a full dump, by [`MEMORY64_LIST_STREAM`].
+///
+/// It reads each size once.
+///
+/// Errors: [`Error::DUMP_LOCATION`] where the stream is not inside the bytes; [`Error::SHORT`] where it has fewer than
+/// 16 bytes; [`Error::DUMP_LIST_SIZE`] where it has another size than so many entries; [`Error::DUMP_LOCATION`] where
+/// the bytes of the pieces end past offset 2^64 - 1.
+///
+/// # Safety
+///
+/// As of [`pe_c_dump_record`], which it calls.
+#[rustfmt::skip]
+pub unsafe extern "C" fn pe_c_dump_memory64(
+    bytes: *const u8,
+    length: usize,
+    stream: *const Range,
+    out: *mut Memory64Walk,
+) -> u32 {
+    let mut found = DumpAnyRecord::default();
+    let result = unsafe { pe_c_dump_record(bytes, length, stream, MEMORY64_LIST_STREAM, 0, &mut found) };
+    if result == DONE {
+        unsafe { *out = found.memory64 };
+    }
+    result
 }
