@@ -137,6 +137,7 @@
  *   pe_c_write_image                Writes the image into the array
  *   pe_c_write_whole                Writes the whole file into the array, and over it what pe_c_write_image writes, but no ..
  * x64 functions and unwind records
+ *   pe_c_exception_table            Returns the range of the function table of an image for a machine, 0x8664 for x64 or ..
  *   pe_c_function_table             Returns the range of the function table, entries of 12 bytes
  *   pe_c_find_function              Returns the function that covers an RVA, by binary search, or PE_C_NOTHING. In a table ..
  *   pe_c_unwind_record              Returns the unwind record of an unwind RVA, the field `unwind` of a function of this ..
@@ -285,6 +286,7 @@
  *   pe_c_dump_process               Reads what is known of the process, by its stream
  *   pe_c_dump_memory64              Returns a walk over the pieces of memory of a full dump, by PE_C_MEMORY64_LIST_STREAM. ..
  *   pe_c_next_memory64              Returns the next piece of memory of a full dump
+ *   pe_c_read_dump_context          Reads a context of a machine, 9 for x64 or 12 for ARM64, PROCESSOR_ARCHITECTURE_* ..
  *   pe_c_dump_context               Reads a context of x64
  *   pe_c_dump_context_arm64         The same of ARM64, whose contexts have 912 bytes
  *   pe_c_dump_thread_context        Reads the registers of a thread that count, on x64
@@ -2020,10 +2022,19 @@ PE_C_SIZE(pe_c_registers, 392);
 PE_C_SIZE(pe_c_frame, 424);
 PE_C_SIZE(pe_c_memory_piece, 24);
 
+/* Returns the range of the function table of an image for a machine, 0x8664 for x64 or 0xAA64 for ARM64, IMAGE_FILE_MACHINE_*.
+ * PE_C_NOTHING without one, in an image for another machine, and for other numbers.
+ * Errors: PE_C_EXCEPTION_SIZE, PE_C_UNMAPPED, PE_C_EXCEPTION_OFFSET, PE_C_EXCEPTION_BOUNDS. */
+uint32_t pe_c_exception_table(const pe_c_view *view, uint32_t machine, pe_c_range *out) PE_C_RESULT(1, 3);
+
 /* Returns the range of the function table, entries of 12 bytes. PE_C_NOTHING without one, or for a machine other than
  * x64.
  * Errors: PE_C_EXCEPTION_SIZE, PE_C_UNMAPPED, PE_C_EXCEPTION_OFFSET, PE_C_EXCEPTION_BOUNDS. */
-uint32_t pe_c_function_table(const pe_c_view *view, pe_c_range *out) PE_C_RESULT(1, 2);
+PE_C_RESULT(1, 2)
+static inline uint32_t pe_c_function_table(const pe_c_view *view, pe_c_range *out)
+{
+    return pe_c_exception_table(view, 0x8664, out);
+}
 
 /* Returns the function that covers an RVA, by binary search, or PE_C_NOTHING. In a table sorted by start RVA that is the
  * last function that starts at or before the RVA, if the RVA is before its end; in any other table it is some function
@@ -2261,7 +2272,11 @@ PE_C_SIZE(pe_c_arm64_frame, 360);
 /* Returns the range of the function table, entries of 8 bytes. PE_C_NOTHING without one, or for a machine other than
  * ARM64.
  * Errors: PE_C_EXCEPTION_SIZE, PE_C_UNMAPPED, PE_C_EXCEPTION_OFFSET, PE_C_EXCEPTION_BOUNDS. */
-uint32_t pe_c_arm64_table(const pe_c_view *view, pe_c_range *out) PE_C_RESULT(1, 2);
+PE_C_RESULT(1, 2)
+static inline uint32_t pe_c_arm64_table(const pe_c_view *view, pe_c_range *out)
+{
+    return pe_c_exception_table(view, 0xAA64, out);
+}
 
 /* Returns the function that covers an RVA, by binary search, or PE_C_NOTHING. In a table sorted by start RVA that is the
  * last function that starts at or before the RVA, if it is long enough; in any other table it is some function that covers
@@ -4105,6 +4120,12 @@ typedef struct {
     uint32_t cpsr;                  /* the flags of the processor */
 } pe_c_arm64_context;
 
+/* The registers of a thread on any machine: pe_c_read_dump_context writes those of one. */
+typedef struct {
+    pe_c_context x64;               /* on x64 */
+    pe_c_arm64_context arm64;       /* on ARM64 */
+} pe_c_dump_any_context;
+
 PE_C_SIZE(pe_c_dump_info, 40);
 PE_C_SIZE(pe_c_dump_location, 8);
 PE_C_SIZE(pe_c_dump_entry, 12);
@@ -4128,6 +4149,7 @@ PE_C_SIZE(pe_c_dump_any_record, 632);
 PE_C_SIZE(pe_c_range_entry, 16);
 PE_C_SIZE(pe_c_context, 400);
 PE_C_SIZE(pe_c_arm64_context, 336);
+PE_C_SIZE(pe_c_dump_any_context, 736);
 
 /* Reads the header of a minidump, and tests that its directory is inside the bytes.
  * Errors: PE_C_SHORT where there are fewer than 32 bytes; PE_C_DUMP_SIGNATURE; PE_C_DUMP_VERSION; PE_C_DUMP_DIRECTORY. */
@@ -4325,16 +4347,38 @@ static inline uint32_t pe_c_dump_memory64(const uint8_t *bytes, size_t length, c
 uint32_t pe_c_next_memory64(const uint8_t *bytes, size_t length, pe_c_memory64_walk *walk, pe_c_dump_piece *out)
     PE_C_RESULT(3, 4);
 
+/* Reads a context of a machine, 9 for x64 or 12 for ARM64, PROCESSOR_ARCHITECTURE_*, into the field of that machine: that of the
+ * exception, or of a thread. The other field is unchanged. The functions below return the field of one machine each.
+ * Errors: PE_C_DUMP_MACHINE of another machine; those of the function of the machine. */
+uint32_t pe_c_read_dump_context(const uint8_t *bytes, size_t length, const pe_c_dump_location *location, uint32_t machine,
+                                pe_c_dump_any_context *out) PE_C_RESULT(3, 5);
+
 /* Reads a context of x64: that of the exception, or of a thread.
  * Errors: PE_C_DUMP_LOCATION where it is not inside the bytes; PE_C_DUMP_CONTEXT_SIZE where it has fewer than 1,232 bytes;
  * PE_C_DUMP_MACHINE where its flags are not of x64; PE_C_DUMP_CONTEXT_FLAGS where control or integer registers were not
  * saved. */
-uint32_t pe_c_dump_context(const uint8_t *bytes, size_t length, const pe_c_dump_location *location, pe_c_context *out)
-    PE_C_RESULT(3, 4);
+PE_C_RESULT(3, 4)
+static inline uint32_t pe_c_dump_context(const uint8_t *bytes, size_t length, const pe_c_dump_location *location,
+                                         pe_c_context *out)
+{
+    pe_c_dump_any_context found = PE_C_EMPTY;
+    uint32_t result = pe_c_read_dump_context(bytes, length, location, 9, &found);
+    if (result == PE_C_DONE)
+        *out = found.x64;
+    return result;
+}
 
 /* The same of ARM64, whose contexts have 912 bytes. Errors: those of pe_c_dump_context. */
-uint32_t pe_c_dump_context_arm64(const uint8_t *bytes, size_t length, const pe_c_dump_location *location,
-                                 pe_c_arm64_context *out) PE_C_RESULT(3, 4);
+PE_C_RESULT(3, 4)
+static inline uint32_t pe_c_dump_context_arm64(const uint8_t *bytes, size_t length, const pe_c_dump_location *location,
+                                               pe_c_arm64_context *out)
+{
+    pe_c_dump_any_context found = PE_C_EMPTY;
+    uint32_t result = pe_c_read_dump_context(bytes, length, location, 12, &found);
+    if (result == PE_C_DONE)
+        *out = found.arm64;
+    return result;
+}
 
 /* Reads the registers of a thread that count, on x64: those of the exception, if it names the thread and they can be read,
  * since the thread's own may be of the code that wrote the dump; else the thread's own. `raised` is what pe_c_dump_exception

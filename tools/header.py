@@ -207,7 +207,7 @@ class Header:
     def read_steps(text, comments, kinds):
         """The functions that make one call or two, by their names, and the text without them."""
         form = re.compile(r"^(?:PE_C_RESULT\([\d, ]+\)\n)?static inline (uint32_t) (pe_c_\w+)\(([^)]*)\)\n\{\n"
-                          r"(?:    pe_c_\w+ walk = \{(.*)\};\n    return (\w+)\((.*)\);\n"
+                          r"(?:(?:    pe_c_\w+ walk = \{(.*)\};\n)?    return (\w+)\((.*)\);\n"
                           r"|    (pe_c_\w+) found = PE_C_EMPTY;\n    uint64_t written = 0;\n    return (\w+)\((.*)\);\n"
                           r"|    uint64_t written = 0;\n    uint32_t result = (\w+)\((.*)\);\n"
                           r"    return result == PE_C_DONE && written == 0 \? \(uint32_t\)(PE_C_\w+) : result;\n)\}\n", re.M)

@@ -78,9 +78,9 @@ export class Caller {
     return found === null ? null : this.call(then, words(second, found));
   }
 
-  /** Makes the call of a function of pe.h that returns a field of what the call writes: of the one entry of a list, whose walk it makes
-   * of the one that is given, or of a record. */
-  #field([made, , , , field, passed, moved], given) {
+  /** Makes the call of a function of pe.h that passes it numbers of its own, and returns what that writes or one field of it; or the
+   * field of the one entry of a list, whose walk it makes of the one that is given. */
+  #passed([made, , , , field, passed, moved], given) {
     if (!moved) {
       const word = (it) => given[it] ?? constants[it] ?? Number(it);
       return this.#called(made, Object.fromEntries(Object.entries(passed).map(([name, it]) => [name, word(it)])), field);
@@ -95,11 +95,11 @@ export class Caller {
 
   /** Makes the call of a function of pe.h: a list with room for one entry, or a step of a walk that starts at an index; or two calls. */
   #stepped(name, { index, ...given }) {
-    const [made, none, then, list, field] = steps[name], entries = [{}];
+    const [made, none, then, list, , passed] = steps[name], entries = [{}];
     expected(name, index === undefined ? given : { ...given, index }, this.#own);
     try {
-      if (field) return this.#field(steps[name], { ...given, index });
       if (then) return this.#joined(steps[name], given);
+      if (passed) return this.#passed(steps[name], { ...given, index });
       if (list) return this.call(made, { ...given, [list]: [{}] }) && true;
       if (!none) return this.call(made, { walk: { ...given, next: index } });
       const said = this.call(made, { ...given, ...(index !== undefined && { next: index }), entries });

@@ -1,11 +1,15 @@
-//! The functions of `pe.h` that return one field of what `pe_c_dump_record` writes.
+//! The functions of `pe.h` that return one field of what `pe_c_dump_record` and `pe_c_read_dump_context` write.
 
 use super::made::*;
+use crate::dump::contexts::pe_c_read_dump_context;
 use crate::dump::records::pe_c_dump_record;
+use calls_stacks::arm64::frames::Arm64FrameRegisters;
 use calls_stacks::dump::any_record::{AnyRecord, DUMP_ENTRIES};
+use calls_stacks::dump::contexts::{AnyContext, Arm64Context, X64Context};
 use calls_stacks::dump::lists::{DumpMemoryRegion, DumpModule, DumpThreadName};
 use calls_stacks::dump::memory::{DumpPiece, Memory64Walk};
 use calls_stacks::dump::records::{DumpProcess, DumpSystem};
+use calls_stacks::stack::frames::FrameRegisters;
 use pe_minidump::{
     DirectoryEntry, EXCEPTION_STREAM, Exception, FixedFileInfo, HANDLE_DATA_STREAM, Handle,
     Location, MEMORY_INFO_LIST_STREAM, MEMORY_LIST_STREAM, MEMORY64_LIST_STREAM, MISC_INFO_STREAM,
@@ -282,4 +286,42 @@ pub(crate) fn pe_c_dump_process(bytes: &[u8], stream: &Range, out: &mut DumpProc
 pub(crate) fn pe_c_dump_memory64(bytes: &[u8], stream: &Range, out: &mut Memory64Walk) -> u32 {
     let (number, found) = record(bytes, stream, MEMORY64_LIST_STREAM, 0);
     take(number, found.memory64, out)
+}
+
+pub(crate) const NO_CONTEXT: AnyContext = AnyContext {
+    x64: X64Context {
+        registers: FrameRegisters {
+            general: [0; 16],
+            xmm: [0; 32],
+            rip: 0,
+        },
+        context_flags: 0,
+        eflags: 0,
+    },
+    arm64: Arm64Context {
+        registers: Arm64FrameRegisters {
+            general: [0; 31],
+            floats: [0; 8],
+            sp: 0,
+            pc: 0,
+        },
+        context_flags: 0,
+        cpsr: 0,
+    },
+};
+
+pub(crate) fn pe_c_dump_context(bytes: &[u8], location: &Location, out: &mut X64Context) -> u32 {
+    let mut found = NO_CONTEXT;
+    let number = pe_c_read_dump_context(bytes, location, 9, &mut found);
+    take(number, found.x64, out)
+}
+
+pub(crate) fn pe_c_dump_context_arm64(
+    bytes: &[u8],
+    location: &Location,
+    out: &mut Arm64Context,
+) -> u32 {
+    let mut found = NO_CONTEXT;
+    let number = pe_c_read_dump_context(bytes, location, 12, &mut found);
+    take(number, found.arm64, out)
 }

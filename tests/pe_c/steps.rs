@@ -18,6 +18,7 @@ use crate::lists::x64::{pe_c_list_codes, pe_c_list_functions};
 use crate::resources::version::{pe_c_fixed_version_in, pe_c_version_text_in};
 use crate::resources::version_blocks::pe_c_version_blocks;
 use crate::stack::walk::pe_c_next_frames;
+use crate::unwinding::pe_c_exception_table;
 use calls_directories::directories::base_relocations::{Relocation, RelocationBlock};
 use calls_directories::directories::bound_imports::{BoundForwarder, BoundImport};
 use calls_directories::directories::delay_imports::{
@@ -202,6 +203,14 @@ pub(crate) fn pe_c_next_pogo_entry(bytes: &[u8], walk: &mut Range, out: &mut Pog
     let number = pe_c_list_pogo_entries(bytes, walk, &mut entries, &mut written);
     *out = entries[0];
     one(number, written, NOTHING)
+}
+
+pub(crate) fn pe_c_function_table(view: &View, out: &mut Range) -> u32 {
+    pe_c_exception_table(view, 0x8664, out)
+}
+
+pub(crate) fn pe_c_arm64_table(view: &View, out: &mut Range) -> u32 {
+    pe_c_exception_table(view, 0xAA64, out)
 }
 
 pub(crate) fn pe_c_function_at(

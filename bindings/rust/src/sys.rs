@@ -2872,6 +2872,18 @@ pub struct Arm64Context {
 }
 const _: () = assert!(core::mem::size_of::<Arm64Context>() == 336);
 
+/// The registers of a thread on any machine: [`pe_c_read_dump_context`] writes those of one.
+#[repr(C)]
+#[derive(Clone, Copy, Debug, Default, PartialEq, Eq)]
+#[non_exhaustive]
+pub struct DumpAnyContext {
+    /// On x64.
+    pub x64: Context,
+    /// On ARM64.
+    pub arm64: Arm64Context,
+}
+const _: () = assert!(core::mem::size_of::<DumpAnyContext>() == 736);
+
 /// What a PDB says of itself.
 ///
 /// Streams are numbers for [`pe_c_pdb_stream`], or 0xFFFF for none.
@@ -3606,13 +3618,14 @@ extern "C" {
     ///
     /// Errors: those of [`pe_c_write_image`] but for [`Error::WRITE_ALIGNMENT`] and [`Error::WRITE_SYMBOLS`].
     pub fn pe_c_write_whole(view: *const View, room: *mut u8, room_length: usize, written: *mut u64) -> u32;
-    /// Returns the range of the function table, entries of 12 bytes.
+    /// Returns the range of the function table of an image for a machine, 0x8664 for x64 or 0xAA64 for ARM64,
+    /// `IMAGE_FILE_MACHINE_*`.
     ///
-    /// [`NOTHING`] without one, or for a machine other than x64.
+    /// [`NOTHING`] without one, in an image for another machine, and for other numbers.
     ///
     /// Errors: [`Error::EXCEPTION_SIZE`], [`Error::UNMAPPED`], [`Error::EXCEPTION_OFFSET`],
     /// [`Error::EXCEPTION_BOUNDS`].
-    pub fn pe_c_function_table(view: *const View, out: *mut Range) -> u32;
+    pub fn pe_c_exception_table(view: *const View, machine: u32, out: *mut Range) -> u32;
     /// Returns the function that covers an RVA, by binary search, or [`NOTHING`].
     ///
     /// In a table sorted by start RVA that is the last function that starts at or before the RVA, if the RVA is before
@@ -3741,13 +3754,6 @@ extern "C" {
         frame_count: usize,
         count: *mut u64,
     ) -> u32;
-    /// Returns the range of the function table, entries of 8 bytes.
-    ///
-    /// [`NOTHING`] without one, or for a machine other than ARM64.
-    ///
-    /// Errors: [`Error::EXCEPTION_SIZE`], [`Error::UNMAPPED`], [`Error::EXCEPTION_OFFSET`],
-    /// [`Error::EXCEPTION_BOUNDS`].
-    pub fn pe_c_arm64_table(view: *const View, out: *mut Range) -> u32;
     /// Returns the function that covers an RVA, by binary search, or [`NOTHING`].
     ///
     /// In a table sorted by start RVA that is the last function that starts at or before the RVA, if it is long enough;
@@ -4606,20 +4612,18 @@ extern "C" {
     ///
     /// Errors: [`Error::SHORT`] where the entries are not inside the bytes, or the last one is truncated.
     pub fn pe_c_next_memory64(bytes: *const u8, length: usize, walk: *mut Memory64Walk, out: *mut DumpPiece) -> u32;
-    /// Reads a context of x64: that of the exception, or of a thread.
+    /// Reads a context of a machine, 9 for x64 or 12 for ARM64, `PROCESSOR_ARCHITECTURE_*`, into the field of that
+    /// machine: that of the exception, or of a thread.
     ///
-    /// Errors: [`Error::DUMP_LOCATION`] where it is not inside the bytes; [`Error::DUMP_CONTEXT_SIZE`] where it has
-    /// fewer than 1,232 bytes; [`Error::DUMP_MACHINE`] where its flags are not of x64; [`Error::DUMP_CONTEXT_FLAGS`]
-    /// where control or integer registers were not saved.
-    pub fn pe_c_dump_context(bytes: *const u8, length: usize, location: *const DumpLocation, out: *mut Context) -> u32;
-    /// The same of ARM64, whose contexts have 912 bytes.
+    /// The other field is unchanged. The functions below return the field of one machine each.
     ///
-    /// Errors: those of [`pe_c_dump_context`].
-    pub fn pe_c_dump_context_arm64(
+    /// Errors: [`Error::DUMP_MACHINE`] of another machine; those of the function of the machine.
+    pub fn pe_c_read_dump_context(
         bytes: *const u8,
         length: usize,
         location: *const DumpLocation,
-        out: *mut Arm64Context,
+        machine: u32,
+        out: *mut DumpAnyContext,
     ) -> u32;
     /// Returns [`DONE`] where an image is that of a module: its time stamp and its size are the module's.
     ///
@@ -4946,6 +4950,40 @@ extern "C" {
         name_length: usize,
         out: *mut u32,
     ) -> u32;
+}
+
+/// Returns the range of the function table, entries of 12 bytes.
+///
+/// [`NOTHING`] without one, or for a machine other than x64.
+///
+/// Errors: [`Error::EXCEPTION_SIZE`], [`Error::UNMAPPED`], [`Error::EXCEPTION_OFFSET`], [`Error::EXCEPTION_BOUNDS`].
+///
+/// # Safety
+///
+/// As of [`pe_c_exception_table`], which it calls.
+#[rustfmt::skip]
+pub unsafe extern "C" fn pe_c_function_table(
+    view: *const View,
+    out: *mut Range,
+) -> u32 {
+    unsafe { pe_c_exception_table(view, 0x8664, out) }
+}
+
+/// Returns the range of the function table, entries of 8 bytes.
+///
+/// [`NOTHING`] without one, or for a machine other than ARM64.
+///
+/// Errors: [`Error::EXCEPTION_SIZE`], [`Error::UNMAPPED`], [`Error::EXCEPTION_OFFSET`], [`Error::EXCEPTION_BOUNDS`].
+///
+/// # Safety
+///
+/// As of [`pe_c_exception_table`], which it calls.
+#[rustfmt::skip]
+pub unsafe extern "C" fn pe_c_arm64_table(
+    view: *const View,
+    out: *mut Range,
+) -> u32 {
+    unsafe { pe_c_exception_table(view, 0xAA64, out) }
 }
 
 /// Returns the next code of a record, in the order in which they are undone: the last instruction of the prolog first.
@@ -5769,6 +5807,52 @@ pub unsafe extern "C" fn pe_c_dump_memory64(
     let result = unsafe { pe_c_dump_record(bytes, length, stream, MEMORY64_LIST_STREAM, 0, &mut found) };
     if result == DONE {
         unsafe { *out = found.memory64 };
+    }
+    result
+}
+
+/// Reads a context of x64: that of the exception, or of a thread.
+///
+/// Errors: [`Error::DUMP_LOCATION`] where it is not inside the bytes; [`Error::DUMP_CONTEXT_SIZE`] where it has fewer
+/// than 1,232 bytes; [`Error::DUMP_MACHINE`] where its flags are not of x64; [`Error::DUMP_CONTEXT_FLAGS`] where
+/// control or integer registers were not saved.
+///
+/// # Safety
+///
+/// As of [`pe_c_read_dump_context`], which it calls.
+#[rustfmt::skip]
+pub unsafe extern "C" fn pe_c_dump_context(
+    bytes: *const u8,
+    length: usize,
+    location: *const DumpLocation,
+    out: *mut Context,
+) -> u32 {
+    let mut found = DumpAnyContext::default();
+    let result = unsafe { pe_c_read_dump_context(bytes, length, location, 9, &mut found) };
+    if result == DONE {
+        unsafe { *out = found.x64 };
+    }
+    result
+}
+
+/// The same of ARM64, whose contexts have 912 bytes.
+///
+/// Errors: those of [`pe_c_dump_context`].
+///
+/// # Safety
+///
+/// As of [`pe_c_read_dump_context`], which it calls.
+#[rustfmt::skip]
+pub unsafe extern "C" fn pe_c_dump_context_arm64(
+    bytes: *const u8,
+    length: usize,
+    location: *const DumpLocation,
+    out: *mut Arm64Context,
+) -> u32 {
+    let mut found = DumpAnyContext::default();
+    let result = unsafe { pe_c_read_dump_context(bytes, length, location, 12, &mut found) };
+    if result == DONE {
+        unsafe { *out = found.arm64 };
     }
     result
 }

@@ -15,6 +15,7 @@ ghost use Rattle.pe_minidump.specs.Records.{handle_descriptor, memory_descriptor
 ghost use Rattle.pe_minidump.specs.Streams.{exception};
 ghost use Rattle.pe_minidump.specs.declared.dump.DumpHeader.{DumpHeader};
 ghost use Rattle.pe_minidump.specs.declared.exception.Exception.{Exception};
+ghost use Rattle.pe_minidump.specs.declared.location.Location.{Location};
 ghost use Rattle.pe_minidump.specs.declared.module.Module.{Module};
 ghost use Rattle.pe_minidump.specs.declared.stream_type.TheConstants.{EXCEPTION_STREAM, HANDLE_DATA_STREAM, MEMORY64_LIST_STREAM, MEMORY_INFO_LIST_STREAM, MEMORY_LIST_STREAM, MISC_INFO_STREAM, MODULE_LIST_STREAM, SYSTEM_INFO_STREAM, THREAD_INFO_LIST_STREAM, THREAD_LIST_STREAM, THREAD_NAMES_STREAM, UNLOADED_MODULE_LIST_STREAM};
 ghost use Rattle.pe_minidump.specs.declared.thread.Thread.{Thread};
@@ -23,7 +24,7 @@ ghost use Rattle.pe_stacks.specs.MemoryRuns.{AreRuns, bytes_at};
 ghost use Rattle.pe_stacks.specs.ThreadContexts.{thread_context};
 ghost use Rattle.calls_stacks.specs.Arm64StackWalks.{arm64_stack_walks};
 ghost use Rattle.calls_stacks.specs.Arm64StackWalks as arm64_walks;
-ghost use Rattle.calls_stacks.specs.DumpContexts.{arm64_reported, context_arm64_at, context_x64_at, thread_context_at, x64_reported};
+ghost use Rattle.calls_stacks.specs.DumpContexts.{any_context, arm64_reported, context_arm64_at, context_x64_at, thread_context_at, x64_reported};
 ghost use Rattle.calls_stacks.specs.DumpImages.{fits};
 ghost use Rattle.pe_c.specs.DumpLaws.{IsStreamOf, as_reported, memory_range};
 ghost use Rattle.calls_stacks.specs.AnyRecords.{any_record};
@@ -39,6 +40,8 @@ ghost use Rattle.calls_stacks.specs.declared.arm64.stack_walk.Arm64StackWalk.{Ar
 ghost use Rattle.calls_base.specs.declared.ranges.Range.{Range};
 ghost use Rattle.calls_stacks.specs.declared.dump.any_record.AnyRecord.{AnyRecord};
 ghost use Rattle.calls_stacks.specs.declared.dump.any_record.TheConstants.{DUMP_ENTRIES};
+ghost use Rattle.calls_stacks.specs.declared.dump.contexts.AnyContext.{AnyContext};
+ghost use Rattle.calls_stacks.specs.declared.dump.contexts.TheConstants.{ARM64_MACHINE, X64_MACHINE};
 ghost use Rattle.calls_stacks.specs.declared.stack.walk.ModuleView.{ModuleView};
 ghost use Rattle.calls_stacks.specs.declared.stack.walk.StackWalk.{StackWalk};
 
@@ -102,6 +105,16 @@ pub fn records_are_those_of_their_kinds()
     ensures memory64 { (b : List ℕ) (r : Range) (number : ℕ) (old new : AnyRecord) →
         DumpHandsOutIf number old new (any_record MEMORY64_LIST_STREAM b r 0 old) →
         DumpHandsOut number old.memory64 new.memory64 (memory64_at b r) }
+{}
+
+/// The same of `pe_c_dump_context` and `pe_c_dump_context_arm64` over `pe_c_read_dump_context`: the context of the machine.
+pub fn contexts_are_those_of_their_machines()
+    ensures x64 { (b : List ℕ) (l : Location) (number : ℕ) (old new : AnyContext) →
+        DumpHandsOut number old new (any_context X64_MACHINE b l old) →
+        DumpHandsOut number old.x64 new.x64 (context_x64_at b l) }
+    ensures arm64 { (b : List ℕ) (l : Location) (number : ℕ) (old new : AnyContext) →
+        DumpHandsOut number old new (any_context ARM64_MACHINE b l old) →
+        DumpHandsOut number old.arm64 new.arm64 (context_arm64_at b l) }
 {}
 
 /// Where `pe_c_dump_exception` returns the exception of a dump, the registers that a thread has by it, as `pe_c_dump_thread_context` of
