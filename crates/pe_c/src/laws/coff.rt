@@ -30,7 +30,6 @@ pub fn walks_give_the_symbols()
 
 /// `pe_c_next_symbol` of `pe.h`, a list with room for one symbol, is a step over the symbols, whatever the string table is: it returns
 /// the symbol in the next entry, and moves the walk past it.
-#[tactic(auto, using(crate::proofs::OneSymbols::is_a_step))]
 pub fn lists_of_one_symbol_are_steps()
     ensures { (b : List ℕ) (strings : Range) (w v : SymbolWalk) (number written : ℕ)
         (before found : NamedSymbol) (out : Symbol) →
