@@ -1,7 +1,6 @@
 //! The calls of `arm64::functions` in calls_unwind.
 
 ghost use Rattle.std.specs.Prelude.{◌≡◌};
-ghost use Rattle.calls_base.specs.HandsOut.{HandsOutIf};
 ghost use Rattle.calls_unwind.specs.Arm64.{HandsOutArm64Found, packed_fields};
 ghost use Rattle.calls_base.specs.Views.{map_of};
 
