@@ -85,7 +85,6 @@
  *   pe_c_coff                       Reads the header of an object, the 20 bytes at its start
  *   pe_c_coff_symbols               Returns a walk over the symbols of an object or of an image, with the range of their table
  *   pe_c_coff_strings               Returns the string table of an object or of an image, from its size field on
- *   pe_c_next_symbol                Reads the next symbol of a walk
  *   pe_c_symbol_name                Returns the name of the symbol in an entry of a symbol table
  * the Rich header
  *   pe_c_rich_header                Returns the Rich header
@@ -138,6 +137,7 @@
  *   pe_c_write_image                Writes the image into the array
  *   pe_c_write_whole                Writes the whole file into the array, and over it what pe_c_write_image writes, but no ..
  * x64 functions and unwind records
+ *   pe_c_exception_table            Returns the range of the function table of an image for a machine, 0x8664 for x64 or ..
  *   pe_c_function_table             Returns the range of the function table, entries of 12 bytes
  *   pe_c_find_function              Returns the function that covers an RVA, by binary search, or PE_C_NOTHING. In a table ..
  *   pe_c_unwind_record              Returns the unwind record of an unwind RVA, the field `unwind` of a function of this ..
@@ -214,7 +214,7 @@
  *   pe_c_list_all_imports           Lists the imports of all libraries, one library after the other, and reads the names ..
  *   pe_c_list_export_addresses      Lists all exports as pe_c_export_at reads them, from the index `next` on, which moves ..
  *   pe_c_list_long_section_names    Lists the long names of the sections of an image, from the index `next` on, which ..
- *   pe_c_list_symbols               Lists the symbols of a walk as pe_c_next_symbol returns them, each with what ..
+ *   pe_c_list_symbols               Lists the symbols of a walk, each with what pe_c_symbol_name returns of it
  *   pe_c_list_resource_leaves       Lists the leaves of a resource tree
  *   pe_c_list_version_blocks        Lists blocks of version information
  *   pe_c_list_relocation_blocks     Lists the blocks of base relocations
@@ -242,6 +242,7 @@
  *   pe_c_next_relocation            Returns the next relocation of a block
  *   pe_c_next_guard_entry           Returns the next entry of a table
  *   pe_c_next_pogo_entry            Returns the next entry of a POGO record
+ *   pe_c_next_symbol                Reads the next symbol of a walk
  *   pe_c_next_frame                 Returns the next frame of a stack walk on x64, in the walk
  *   pe_c_next_arm64_frame           The same on ARM64
  *   pe_c_function_at                Returns the function with an index, from 0
@@ -268,9 +269,10 @@
  *   pe_c_symbol_name_failure        Of pe_c_symbol_name, which takes the same
  * minidumps
  *   pe_c_dump                       Reads the header of a minidump, and tests that its directory is inside the bytes
- *   pe_c_dump_entry_at              Returns the entry of the directory with an index, or PE_C_NOTHING. Errors
  *   pe_c_dump_stream                Returns the range of the stream of a kind, that of the first entry of the kind, or ..
  *   pe_c_dump_text                  Returns the range of a string, in UTF-16LE without its final zero
+ *   pe_c_dump_record                Reads the record with an index of the stream of a kind, PE_C_THREAD_LIST_STREAM and ..
+ *   pe_c_dump_entry_at              Returns the entry of the directory with an index, or PE_C_NOTHING. Errors
  *   pe_c_dump_thread_at             Returns the thread with an index in the stream of threads, or PE_C_NOTHING. Errors
  *   pe_c_dump_module_at             The same of modules, which stand in no order
  *   pe_c_dump_thread_name_at        The same of names of threads
@@ -278,12 +280,13 @@
  *   pe_c_dump_thread_info_at        The same of thread information
  *   pe_c_dump_handle_at             The same of handles
  *   pe_c_dump_region_at             The same of regions of memory
+ *   pe_c_dump_memory_at             Returns the piece of memory with an index in PE_C_MEMORY_LIST_STREAM, or PE_C_NOTHING. ..
  *   pe_c_dump_exception             Reads the exception, by its stream
  *   pe_c_dump_system                Reads the system, by its stream
  *   pe_c_dump_process               Reads what is known of the process, by its stream
- *   pe_c_dump_memory_at             Returns the piece of memory with an index in PE_C_MEMORY_LIST_STREAM, or PE_C_NOTHING. ..
  *   pe_c_dump_memory64              Returns a walk over the pieces of memory of a full dump, by PE_C_MEMORY64_LIST_STREAM. ..
  *   pe_c_next_memory64              Returns the next piece of memory of a full dump
+ *   pe_c_read_dump_context          Reads a context of a machine, 9 for x64 or 12 for ARM64, PROCESSOR_ARCHITECTURE_* ..
  *   pe_c_dump_context               Reads a context of x64
  *   pe_c_dump_context_arm64         The same of ARM64, whose contexts have 912 bytes
  *   pe_c_dump_thread_context        Reads the registers of a thread that count, on x64
@@ -1031,11 +1034,6 @@ uint32_t pe_c_coff_symbols(const uint8_t *bytes, size_t length, const pe_c_coff_
  * the symbols is 0, and where the bytes end after these.
  * Errors: PE_C_SHORT where the symbols are truncated; PE_C_STRING_TABLE where the string table is. */
 uint32_t pe_c_coff_strings(const uint8_t *bytes, size_t length, const pe_c_coff_header *coff, pe_c_range *out)
-    PE_C_RESULT(3, 4);
-
-/* Reads the next symbol of a walk.
- * Error: PE_C_SHORT where the table is not inside the bytes. */
-uint32_t pe_c_next_symbol(const uint8_t *bytes, size_t length, pe_c_symbol_walk *walk, pe_c_symbol_entry *out)
     PE_C_RESULT(3, 4);
 
 /* Returns the name of the symbol in an entry of a symbol table: UTF-8, not NUL-terminated, in the entry or in the string
@@ -2024,10 +2022,19 @@ PE_C_SIZE(pe_c_registers, 392);
 PE_C_SIZE(pe_c_frame, 424);
 PE_C_SIZE(pe_c_memory_piece, 24);
 
+/* Returns the range of the function table of an image for a machine, 0x8664 for x64 or 0xAA64 for ARM64, IMAGE_FILE_MACHINE_*.
+ * PE_C_NOTHING without one, in an image for another machine, and for other numbers.
+ * Errors: PE_C_EXCEPTION_SIZE, PE_C_UNMAPPED, PE_C_EXCEPTION_OFFSET, PE_C_EXCEPTION_BOUNDS. */
+uint32_t pe_c_exception_table(const pe_c_view *view, uint32_t machine, pe_c_range *out) PE_C_RESULT(1, 3);
+
 /* Returns the range of the function table, entries of 12 bytes. PE_C_NOTHING without one, or for a machine other than
  * x64.
  * Errors: PE_C_EXCEPTION_SIZE, PE_C_UNMAPPED, PE_C_EXCEPTION_OFFSET, PE_C_EXCEPTION_BOUNDS. */
-uint32_t pe_c_function_table(const pe_c_view *view, pe_c_range *out) PE_C_RESULT(1, 2);
+PE_C_RESULT(1, 2)
+static inline uint32_t pe_c_function_table(const pe_c_view *view, pe_c_range *out)
+{
+    return pe_c_exception_table(view, 0x8664, out);
+}
 
 /* Returns the function that covers an RVA, by binary search, or PE_C_NOTHING. In a table sorted by start RVA that is the
  * last function that starts at or before the RVA, if the RVA is before its end; in any other table it is some function
@@ -2265,7 +2272,11 @@ PE_C_SIZE(pe_c_arm64_frame, 360);
 /* Returns the range of the function table, entries of 8 bytes. PE_C_NOTHING without one, or for a machine other than
  * ARM64.
  * Errors: PE_C_EXCEPTION_SIZE, PE_C_UNMAPPED, PE_C_EXCEPTION_OFFSET, PE_C_EXCEPTION_BOUNDS. */
-uint32_t pe_c_arm64_table(const pe_c_view *view, pe_c_range *out) PE_C_RESULT(1, 2);
+PE_C_RESULT(1, 2)
+static inline uint32_t pe_c_arm64_table(const pe_c_view *view, pe_c_range *out)
+{
+    return pe_c_exception_table(view, 0xAA64, out);
+}
 
 /* Returns the function that covers an RVA, by binary search, or PE_C_NOTHING. In a table sorted by start RVA that is the
  * last function that starts at or before the RVA, if it is long enough; in any other table it is some function that covers
@@ -3411,7 +3422,7 @@ typedef struct {
 PE_C_SIZE(pe_c_named_symbol, 72);
 PE_C_SIZE(pe_c_named_symbol_walk, 40);
 
-/* Lists the symbols of a walk as pe_c_next_symbol returns them, each with what pe_c_symbol_name returns of it. Names are
+/* Lists the symbols of a walk, each with what pe_c_symbol_name returns of it. Auxiliary records are skipped. Names are
  * read together where they share much, as by pe_c_list_exports, here with one run for each entry that the symbol table has
  * left, or more; the string table stays as it is.
  * Errors: PE_C_ROOM; PE_C_SHORT where the symbol table is not inside the bytes. */
@@ -3659,6 +3670,21 @@ static inline uint32_t pe_c_next_pogo_entry(const uint8_t *bytes, size_t length,
     return result == PE_C_DONE && written == 0 ? (uint32_t)PE_C_NOTHING : result;
 }
 
+/* Reads the next symbol of a walk: what pe_c_list_symbols returns of one, without a string table.
+ * Error: PE_C_SHORT where the table is not inside the bytes. */
+PE_C_RESULT(3, 4)
+static inline uint32_t pe_c_next_symbol(const uint8_t *bytes, size_t length, pe_c_symbol_walk *walk, pe_c_symbol_entry *out)
+{
+    pe_c_named_symbol_walk all = {*walk, {0, 0}};
+    pe_c_named_symbol found = PE_C_EMPTY;
+    uint64_t written = 0;
+    uint32_t result = pe_c_list_symbols(bytes, length, &all, NULL, 0, &found, 1, &written);
+    *walk = all.symbols;
+    if (result == PE_C_DONE && written == 1)
+        *out = found.symbol;
+    return result == PE_C_DONE && written == 0 ? (uint32_t)PE_C_NOTHING : result;
+}
+
 /* Returns the next frame of a stack walk on x64, in the walk: what pe_c_next_frames returns of one, which tests the modules in each
  * call.
  * Errors, which change nothing: those of pe_c_next_frames. */
@@ -3862,7 +3888,8 @@ enum {
     PE_C_MISC_INFO_STREAM = 15,     /* the process */
     PE_C_MEMORY_INFO_LIST_STREAM = 16, /* regions of memory */
     PE_C_THREAD_INFO_LIST_STREAM = 17, /* more on threads */
-    PE_C_THREAD_NAMES_STREAM = 24   /* names of threads */
+    PE_C_THREAD_NAMES_STREAM = 24,  /* names of threads */
+    PE_C_DUMP_ENTRIES = 0           /* no stream: what pe_c_dump_record takes for the entries of the directory */
 };
 
 /* The header, MINIDUMP_HEADER. */
@@ -4054,6 +4081,24 @@ typedef struct {
     uint64_t next;                  /* offset of the bytes of the next piece */
 } pe_c_memory64_walk;
 
+/* A record of any kind: pe_c_dump_record writes the field of one kind. */
+typedef struct {
+    pe_c_dump_thread thread;        /* PE_C_THREAD_LIST_STREAM */
+    pe_c_dump_module loaded;        /* PE_C_MODULE_LIST_STREAM */
+    pe_c_dump_piece memory;         /* PE_C_MEMORY_LIST_STREAM */
+    pe_c_dump_raised exception;     /* PE_C_EXCEPTION_STREAM */
+    pe_c_memory64_walk memory64;    /* PE_C_MEMORY64_LIST_STREAM */
+    pe_c_dump_handle handle;        /* PE_C_HANDLE_DATA_STREAM */
+    pe_c_dump_unloaded unloaded;    /* PE_C_UNLOADED_MODULE_LIST_STREAM */
+    pe_c_dump_region region;        /* PE_C_MEMORY_INFO_LIST_STREAM */
+    pe_c_dump_thread_info thread_info; /* PE_C_THREAD_INFO_LIST_STREAM */
+    pe_c_dump_thread_name thread_name; /* PE_C_THREAD_NAMES_STREAM */
+    pe_c_dump_system_info system;   /* PE_C_SYSTEM_INFO_STREAM */
+    pe_c_dump_process_info process; /* PE_C_MISC_INFO_STREAM */
+    pe_c_dump_entry entry;          /* PE_C_DUMP_ENTRIES */
+    uint32_t spare;                 /* is never written */
+} pe_c_dump_any_record;
+
 /* An entry of an index of pieces of memory, which pe_c_memory_runs makes on the way: the addresses from `start` up to the
  * start of the next entry. */
 typedef struct {
@@ -4075,6 +4120,12 @@ typedef struct {
     uint32_t cpsr;                  /* the flags of the processor */
 } pe_c_arm64_context;
 
+/* The registers of a thread on any machine: pe_c_read_dump_context writes those of one. */
+typedef struct {
+    pe_c_context x64;               /* on x64 */
+    pe_c_arm64_context arm64;       /* on ARM64 */
+} pe_c_dump_any_context;
+
 PE_C_SIZE(pe_c_dump_info, 40);
 PE_C_SIZE(pe_c_dump_location, 8);
 PE_C_SIZE(pe_c_dump_entry, 12);
@@ -4094,18 +4145,15 @@ PE_C_SIZE(pe_c_dump_power, 20);
 PE_C_SIZE(pe_c_dump_process_info, 48);
 PE_C_SIZE(pe_c_dump_piece, 32);
 PE_C_SIZE(pe_c_memory64_walk, 24);
+PE_C_SIZE(pe_c_dump_any_record, 632);
 PE_C_SIZE(pe_c_range_entry, 16);
 PE_C_SIZE(pe_c_context, 400);
 PE_C_SIZE(pe_c_arm64_context, 336);
+PE_C_SIZE(pe_c_dump_any_context, 736);
 
 /* Reads the header of a minidump, and tests that its directory is inside the bytes.
  * Errors: PE_C_SHORT where there are fewer than 32 bytes; PE_C_DUMP_SIGNATURE; PE_C_DUMP_VERSION; PE_C_DUMP_DIRECTORY. */
 uint32_t pe_c_dump(const uint8_t *bytes, size_t length, pe_c_dump_info *out) PE_C_RESULT(3);
-
-/* Returns the entry of the directory with an index, or PE_C_NOTHING.
- * Errors: PE_C_DUMP_LOCATION where the directory is not inside the bytes. */
-uint32_t pe_c_dump_entry_at(const uint8_t *bytes, size_t length, const pe_c_range *directory, uint64_t index,
-                            pe_c_dump_entry *out) PE_C_RESULT(3, 5);
 
 /* Returns the range of the stream of a kind, that of the first entry of the kind, or PE_C_NOTHING.
  * Errors: PE_C_DUMP_LOCATION where the directory or the stream is not inside the bytes. */
@@ -4117,81 +4165,220 @@ uint32_t pe_c_dump_stream(const uint8_t *bytes, size_t length, const pe_c_range 
  * where the string is not inside the bytes. */
 uint32_t pe_c_dump_text(const uint8_t *bytes, size_t length, uint64_t rva, pe_c_range *out) PE_C_RESULT(4);
 
+/* Reads the record with an index of the stream of a kind, PE_C_THREAD_LIST_STREAM and others, into the field of that kind; with
+ * PE_C_DUMP_ENTRIES of the directory. The other fields are unchanged. PE_C_NOTHING past the last record, and of another kind. What
+ * a stream says in one record has index 0: the exception, the system, the process, the walk over the memory of a full dump. The
+ * functions below return the field of one kind each.
+ * Errors: those of the function of the kind. */
+uint32_t pe_c_dump_record(const uint8_t *bytes, size_t length, const pe_c_range *stream, uint32_t kind, uint64_t index,
+                          pe_c_dump_any_record *out) PE_C_RESULT(3, 6);
+
+/* Returns the entry of the directory with an index, or PE_C_NOTHING.
+ * Errors: PE_C_DUMP_LOCATION where the directory is not inside the bytes. */
+PE_C_RESULT(3, 5)
+static inline uint32_t pe_c_dump_entry_at(const uint8_t *bytes, size_t length, const pe_c_range *directory, uint64_t index,
+                                          pe_c_dump_entry *out)
+{
+    pe_c_dump_any_record found = PE_C_EMPTY;
+    uint32_t result = pe_c_dump_record(bytes, length, directory, PE_C_DUMP_ENTRIES, index, &found);
+    if (result == PE_C_DONE)
+        *out = found.entry;
+    return result;
+}
+
 /* Returns the thread with an index in the stream of threads, or PE_C_NOTHING.
  * Errors: PE_C_DUMP_LOCATION where the stream is not inside the bytes; PE_C_SHORT where it has fewer than 4 bytes;
  * PE_C_DUMP_LIST_SIZE where it has another size than the number of threads and so many threads. */
-uint32_t pe_c_dump_thread_at(const uint8_t *bytes, size_t length, const pe_c_range *stream, uint64_t index,
-                             pe_c_dump_thread *out) PE_C_RESULT(3, 5);
+PE_C_RESULT(3, 5)
+static inline uint32_t pe_c_dump_thread_at(const uint8_t *bytes, size_t length, const pe_c_range *stream, uint64_t index,
+                                           pe_c_dump_thread *out)
+{
+    pe_c_dump_any_record found = PE_C_EMPTY;
+    uint32_t result = pe_c_dump_record(bytes, length, stream, PE_C_THREAD_LIST_STREAM, index, &found);
+    if (result == PE_C_DONE)
+        *out = found.thread;
+    return result;
+}
 
 /* The same of modules, which stand in no order. Errors: those of pe_c_dump_thread_at. */
-uint32_t pe_c_dump_module_at(const uint8_t *bytes, size_t length, const pe_c_range *stream, uint64_t index,
-                             pe_c_dump_module *out) PE_C_RESULT(3, 5);
+PE_C_RESULT(3, 5)
+static inline uint32_t pe_c_dump_module_at(const uint8_t *bytes, size_t length, const pe_c_range *stream, uint64_t index,
+                                           pe_c_dump_module *out)
+{
+    pe_c_dump_any_record found = PE_C_EMPTY;
+    uint32_t result = pe_c_dump_record(bytes, length, stream, PE_C_MODULE_LIST_STREAM, index, &found);
+    if (result == PE_C_DONE)
+        *out = found.loaded;
+    return result;
+}
 
 /* The same of names of threads. Errors: those of pe_c_dump_thread_at. */
-uint32_t pe_c_dump_thread_name_at(const uint8_t *bytes, size_t length, const pe_c_range *stream, uint64_t index,
-                                  pe_c_dump_thread_name *out) PE_C_RESULT(3, 5);
+PE_C_RESULT(3, 5)
+static inline uint32_t pe_c_dump_thread_name_at(const uint8_t *bytes, size_t length, const pe_c_range *stream, uint64_t index,
+                                                pe_c_dump_thread_name *out)
+{
+    pe_c_dump_any_record found = PE_C_EMPTY;
+    uint32_t result = pe_c_dump_record(bytes, length, stream, PE_C_THREAD_NAMES_STREAM, index, &found);
+    if (result == PE_C_DONE)
+        *out = found.thread_name;
+    return result;
+}
 
 /* Returns the unloaded module with an index in their stream, or PE_C_NOTHING.
  * Errors: PE_C_DUMP_LOCATION where the stream is not inside the bytes; PE_C_SHORT where its header is truncated;
  * PE_C_DUMP_ENTRY_SIZE where its records are smaller than their fields; PE_C_DUMP_LIST_SIZE where they start in the header,
  * or end past the stream. */
-uint32_t pe_c_dump_unloaded_at(const uint8_t *bytes, size_t length, const pe_c_range *stream, uint64_t index,
-                               pe_c_dump_unloaded *out) PE_C_RESULT(3, 5);
+PE_C_RESULT(3, 5)
+static inline uint32_t pe_c_dump_unloaded_at(const uint8_t *bytes, size_t length, const pe_c_range *stream, uint64_t index,
+                                             pe_c_dump_unloaded *out)
+{
+    pe_c_dump_any_record found = PE_C_EMPTY;
+    uint32_t result = pe_c_dump_record(bytes, length, stream, PE_C_UNLOADED_MODULE_LIST_STREAM, index, &found);
+    if (result == PE_C_DONE)
+        *out = found.unloaded;
+    return result;
+}
 
 /* The same of thread information. Errors: those of pe_c_dump_unloaded_at. */
-uint32_t pe_c_dump_thread_info_at(const uint8_t *bytes, size_t length, const pe_c_range *stream, uint64_t index,
-                                  pe_c_dump_thread_info *out) PE_C_RESULT(3, 5);
+PE_C_RESULT(3, 5)
+static inline uint32_t pe_c_dump_thread_info_at(const uint8_t *bytes, size_t length, const pe_c_range *stream, uint64_t index,
+                                                pe_c_dump_thread_info *out)
+{
+    pe_c_dump_any_record found = PE_C_EMPTY;
+    uint32_t result = pe_c_dump_record(bytes, length, stream, PE_C_THREAD_INFO_LIST_STREAM, index, &found);
+    if (result == PE_C_DONE)
+        *out = found.thread_info;
+    return result;
+}
 
 /* The same of handles. Errors: those of pe_c_dump_unloaded_at. */
-uint32_t pe_c_dump_handle_at(const uint8_t *bytes, size_t length, const pe_c_range *stream, uint64_t index,
-                             pe_c_dump_handle *out) PE_C_RESULT(3, 5);
+PE_C_RESULT(3, 5)
+static inline uint32_t pe_c_dump_handle_at(const uint8_t *bytes, size_t length, const pe_c_range *stream, uint64_t index,
+                                           pe_c_dump_handle *out)
+{
+    pe_c_dump_any_record found = PE_C_EMPTY;
+    uint32_t result = pe_c_dump_record(bytes, length, stream, PE_C_HANDLE_DATA_STREAM, index, &found);
+    if (result == PE_C_DONE)
+        *out = found.handle;
+    return result;
+}
 
 /* The same of regions of memory. Errors: those of pe_c_dump_unloaded_at. */
-uint32_t pe_c_dump_region_at(const uint8_t *bytes, size_t length, const pe_c_range *stream, uint64_t index,
-                             pe_c_dump_region *out) PE_C_RESULT(3, 5);
-
-/* Reads the exception, by its stream.
- * Errors: PE_C_DUMP_LOCATION where the stream is not inside the bytes; PE_C_SHORT where it has fewer than 168 bytes. */
-uint32_t pe_c_dump_exception(const uint8_t *bytes, size_t length, const pe_c_range *stream, pe_c_dump_raised *out)
-    PE_C_RESULT(3, 4);
-
-/* Reads the system, by its stream.
- * Errors: PE_C_DUMP_LOCATION where the stream is not inside the bytes; PE_C_SHORT where it has fewer than 56 bytes. */
-uint32_t pe_c_dump_system(const uint8_t *bytes, size_t length, const pe_c_range *stream, pe_c_dump_system_info *out)
-    PE_C_RESULT(3, 4);
-
-/* Reads what is known of the process, by its stream.
- * Errors: PE_C_DUMP_LOCATION where the stream is not inside the bytes; PE_C_SHORT where it has fewer than 24 bytes. */
-uint32_t pe_c_dump_process(const uint8_t *bytes, size_t length, const pe_c_range *stream, pe_c_dump_process_info *out)
-    PE_C_RESULT(3, 4);
+PE_C_RESULT(3, 5)
+static inline uint32_t pe_c_dump_region_at(const uint8_t *bytes, size_t length, const pe_c_range *stream, uint64_t index,
+                                           pe_c_dump_region *out)
+{
+    pe_c_dump_any_record found = PE_C_EMPTY;
+    uint32_t result = pe_c_dump_record(bytes, length, stream, PE_C_MEMORY_INFO_LIST_STREAM, index, &found);
+    if (result == PE_C_DONE)
+        *out = found.region;
+    return result;
+}
 
 /* Returns the piece of memory with an index in PE_C_MEMORY_LIST_STREAM, or PE_C_NOTHING. Errors: those of
  * pe_c_dump_thread_at. */
-uint32_t pe_c_dump_memory_at(const uint8_t *bytes, size_t length, const pe_c_range *stream, uint64_t index,
-                             pe_c_dump_piece *out) PE_C_RESULT(3, 5);
+PE_C_RESULT(3, 5)
+static inline uint32_t pe_c_dump_memory_at(const uint8_t *bytes, size_t length, const pe_c_range *stream, uint64_t index,
+                                           pe_c_dump_piece *out)
+{
+    pe_c_dump_any_record found = PE_C_EMPTY;
+    uint32_t result = pe_c_dump_record(bytes, length, stream, PE_C_MEMORY_LIST_STREAM, index, &found);
+    if (result == PE_C_DONE)
+        *out = found.memory;
+    return result;
+}
+
+/* Reads the exception, by its stream.
+ * Errors: PE_C_DUMP_LOCATION where the stream is not inside the bytes; PE_C_SHORT where it has fewer than 168 bytes. */
+PE_C_RESULT(3, 4)
+static inline uint32_t pe_c_dump_exception(const uint8_t *bytes, size_t length, const pe_c_range *stream,
+                                           pe_c_dump_raised *out)
+{
+    pe_c_dump_any_record found = PE_C_EMPTY;
+    uint32_t result = pe_c_dump_record(bytes, length, stream, PE_C_EXCEPTION_STREAM, 0, &found);
+    if (result == PE_C_DONE)
+        *out = found.exception;
+    return result;
+}
+
+/* Reads the system, by its stream.
+ * Errors: PE_C_DUMP_LOCATION where the stream is not inside the bytes; PE_C_SHORT where it has fewer than 56 bytes. */
+PE_C_RESULT(3, 4)
+static inline uint32_t pe_c_dump_system(const uint8_t *bytes, size_t length, const pe_c_range *stream,
+                                        pe_c_dump_system_info *out)
+{
+    pe_c_dump_any_record found = PE_C_EMPTY;
+    uint32_t result = pe_c_dump_record(bytes, length, stream, PE_C_SYSTEM_INFO_STREAM, 0, &found);
+    if (result == PE_C_DONE)
+        *out = found.system;
+    return result;
+}
+
+/* Reads what is known of the process, by its stream.
+ * Errors: PE_C_DUMP_LOCATION where the stream is not inside the bytes; PE_C_SHORT where it has fewer than 24 bytes. */
+PE_C_RESULT(3, 4)
+static inline uint32_t pe_c_dump_process(const uint8_t *bytes, size_t length, const pe_c_range *stream,
+                                         pe_c_dump_process_info *out)
+{
+    pe_c_dump_any_record found = PE_C_EMPTY;
+    uint32_t result = pe_c_dump_record(bytes, length, stream, PE_C_MISC_INFO_STREAM, 0, &found);
+    if (result == PE_C_DONE)
+        *out = found.process;
+    return result;
+}
 
 /* Returns a walk over the pieces of memory of a full dump, by PE_C_MEMORY64_LIST_STREAM. It reads each size once.
  * Errors: PE_C_DUMP_LOCATION where the stream is not inside the bytes; PE_C_SHORT where it has fewer than 16 bytes;
  * PE_C_DUMP_LIST_SIZE where it has another size than so many entries; PE_C_DUMP_LOCATION where the bytes of the pieces end
  * past offset 2^64 - 1. */
-uint32_t pe_c_dump_memory64(const uint8_t *bytes, size_t length, const pe_c_range *stream, pe_c_memory64_walk *out)
-    PE_C_RESULT(3, 4);
+PE_C_RESULT(3, 4)
+static inline uint32_t pe_c_dump_memory64(const uint8_t *bytes, size_t length, const pe_c_range *stream,
+                                          pe_c_memory64_walk *out)
+{
+    pe_c_dump_any_record found = PE_C_EMPTY;
+    uint32_t result = pe_c_dump_record(bytes, length, stream, PE_C_MEMORY64_LIST_STREAM, 0, &found);
+    if (result == PE_C_DONE)
+        *out = found.memory64;
+    return result;
+}
 
 /* Returns the next piece of memory of a full dump.
  * Errors: PE_C_SHORT where the entries are not inside the bytes, or the last one is truncated. */
 uint32_t pe_c_next_memory64(const uint8_t *bytes, size_t length, pe_c_memory64_walk *walk, pe_c_dump_piece *out)
     PE_C_RESULT(3, 4);
 
+/* Reads a context of a machine, 9 for x64 or 12 for ARM64, PROCESSOR_ARCHITECTURE_*, into the field of that machine: that of the
+ * exception, or of a thread. The other field is unchanged. The functions below return the field of one machine each.
+ * Errors: PE_C_DUMP_MACHINE of another machine; those of the function of the machine. */
+uint32_t pe_c_read_dump_context(const uint8_t *bytes, size_t length, const pe_c_dump_location *location, uint32_t machine,
+                                pe_c_dump_any_context *out) PE_C_RESULT(3, 5);
+
 /* Reads a context of x64: that of the exception, or of a thread.
  * Errors: PE_C_DUMP_LOCATION where it is not inside the bytes; PE_C_DUMP_CONTEXT_SIZE where it has fewer than 1,232 bytes;
  * PE_C_DUMP_MACHINE where its flags are not of x64; PE_C_DUMP_CONTEXT_FLAGS where control or integer registers were not
  * saved. */
-uint32_t pe_c_dump_context(const uint8_t *bytes, size_t length, const pe_c_dump_location *location, pe_c_context *out)
-    PE_C_RESULT(3, 4);
+PE_C_RESULT(3, 4)
+static inline uint32_t pe_c_dump_context(const uint8_t *bytes, size_t length, const pe_c_dump_location *location,
+                                         pe_c_context *out)
+{
+    pe_c_dump_any_context found = PE_C_EMPTY;
+    uint32_t result = pe_c_read_dump_context(bytes, length, location, 9, &found);
+    if (result == PE_C_DONE)
+        *out = found.x64;
+    return result;
+}
 
 /* The same of ARM64, whose contexts have 912 bytes. Errors: those of pe_c_dump_context. */
-uint32_t pe_c_dump_context_arm64(const uint8_t *bytes, size_t length, const pe_c_dump_location *location,
-                                 pe_c_arm64_context *out) PE_C_RESULT(3, 4);
+PE_C_RESULT(3, 4)
+static inline uint32_t pe_c_dump_context_arm64(const uint8_t *bytes, size_t length, const pe_c_dump_location *location,
+                                               pe_c_arm64_context *out)
+{
+    pe_c_dump_any_context found = PE_C_EMPTY;
+    uint32_t result = pe_c_read_dump_context(bytes, length, location, 12, &found);
+    if (result == PE_C_DONE)
+        *out = found.arm64;
+    return result;
+}
 
 /* Reads the registers of a thread that count, on x64: those of the exception, if it names the thread and they can be read,
  * since the thread's own may be of the code that wrote the dump; else the thread's own. `raised` is what pe_c_dump_exception

@@ -83,7 +83,8 @@ class Function(Call):
     function returns where the call is done and writes no entry, and "" where it returns what the call does. `walk` has the fields of a
     walk that it makes for the call, as they stand there. One that makes a call over a list of one entry, which the walk has too, has the
     record `found`. One that makes two calls has the record `found` that the first writes, and the second as `then` with `then_passed`;
-    `most` is the parameter above whose largest number it returns PE_C_NOTHING, and that number."""
+    `most` is the parameter above whose largest number it returns PE_C_NOTHING, and that number. One that returns a field of the record
+    `found` that the call writes has its name as `field`, and as `moved` that of the field of its own walk that is the caller's."""
     made: str
     passed: tuple
     none: str = ""
@@ -92,6 +93,8 @@ class Function(Call):
     then: str = ""
     then_passed: tuple = ()
     most: tuple = ()
+    field: str = ""
+    moved: str = ""
 
 
 class Unknown(Exception):
@@ -204,7 +207,7 @@ class Header:
     def read_steps(text, comments, kinds):
         """The functions that make one call or two, by their names, and the text without them."""
         form = re.compile(r"^(?:PE_C_RESULT\([\d, ]+\)\n)?static inline (uint32_t) (pe_c_\w+)\(([^)]*)\)\n\{\n"
-                          r"(?:    pe_c_\w+ walk = \{(.*)\};\n    return (\w+)\((.*)\);\n"
+                          r"(?:(?:    pe_c_\w+ walk = \{(.*)\};\n)?    return (\w+)\((.*)\);\n"
                           r"|    (pe_c_\w+) found = PE_C_EMPTY;\n    uint64_t written = 0;\n    return (\w+)\((.*)\);\n"
                           r"|    uint64_t written = 0;\n    uint32_t result = (\w+)\((.*)\);\n"
                           r"    return result == PE_C_DONE && written == 0 \? \(uint32_t\)(PE_C_\w+) : result;\n)\}\n", re.M)
@@ -220,7 +223,23 @@ class Header:
             steps[name] = Function(name, result, Header.parameters(name, body, kinds), comments.get(name, ""), made,
                                    tuple(passed.split(", ")), found=found, then=then, then_passed=tuple(then_passed.split(", ")),
                                    most=(own, most) if own else ())
-        return steps, two.sub("", form.sub("", text))
+        fields, text = Header.read_fields(two.sub("", form.sub("", text)), comments, kinds)
+        return steps | fields, text
+
+    @staticmethod
+    def read_fields(text, comments, kinds):
+        """The functions that return a field of what a call writes, by their names, and the text without them: of a record, or of the one
+        entry of a list, whose walk they make of the caller's."""
+        form = re.compile(r"^(?:PE_C_RESULT\([\d, ]+\)\n)?static inline (uint32_t) (pe_c_\w+)\(([^)]*)\)\n\{\n"
+                          r"(?:    pe_c_\w+ all = \{(\*\w+), \{0, 0\}\};\n)?    (pe_c_\w+) found = PE_C_EMPTY;\n(?:    uint64_t written = 0;\n)?"
+                          r"    uint32_t result = (\w+)\((.*)\);\n(?:    \*walk = all\.(\w+);\n)?"
+                          r"    if \(result == PE_C_DONE(?: && written == 1)?\)\n        \*out = found\.(\w+);\n"
+                          r"    return (?:result|result == PE_C_DONE && written == 0 \? \(uint32_t\)(PE_C_\w+) : result);\n\}\n", re.M)
+        fields = {}
+        for result, name, body, walk, found, made, passed, moved, field, none in form.findall(text):
+            fields[name] = Function(name, result, Header.parameters(name, body, kinds), comments.get(name, ""), made,
+                                    tuple(passed.split(", ")), none, (walk,) if walk else (), found, field=field, moved=moved)
+        return fields, form.sub("", text)
 
     @staticmethod
     def parameters(name, body, kinds):

@@ -78,12 +78,28 @@ export class Caller {
     return found === null ? null : this.call(then, words(second, found));
   }
 
+  /** Makes the call of a function of pe.h that passes it numbers of its own, and returns what that writes or one field of it; or the
+   * field of the one entry of a list, whose walk it makes of the one that is given. */
+  #passed([made, , , , field, passed, moved], given) {
+    if (!moved) {
+      const word = (it) => given[it] ?? constants[it] ?? Number(it);
+      return this.#called(made, Object.fromEntries(Object.entries(passed).map(([name, it]) => [name, word(it)])), field);
+    }
+    const all = { [moved]: given.walk }, entries = [{}];
+    try {
+      return this.call(made, { walk: all, entries }) > 0n ? entries[0][field] : null;
+    } finally {
+      Object.assign(given.walk, all[moved]);
+    }
+  }
+
   /** Makes the call of a function of pe.h: a list with room for one entry, or a step of a walk that starts at an index; or two calls. */
   #stepped(name, { index, ...given }) {
-    const [made, none, then, list] = steps[name], entries = [{}];
+    const [made, none, then, list, , passed] = steps[name], entries = [{}];
     expected(name, index === undefined ? given : { ...given, index }, this.#own);
     try {
       if (then) return this.#joined(steps[name], given);
+      if (passed) return this.#passed(steps[name], { ...given, index });
       if (list) return this.call(made, { ...given, [list]: [{}] }) && true;
       if (!none) return this.call(made, { walk: { ...given, next: index } });
       const said = this.call(made, { ...given, ...(index !== undefined && { next: index }), entries });
@@ -96,14 +112,15 @@ export class Caller {
     return null;
   }
 
-  #called(name, given) {
+  /** What a call returns, of a record that it writes one field where its name is given. */
+  #called(name, given, field) {
     const words = [], changed = [], filled = [], made = {}, counted = {}, refusal = {}, memory = this.#memory;
     for (const parameter of expected(name, given, this.#own)) {
       const [own, type, way, array] = parameter;
       if (way === 'own') words.push(this.#own[own]);
       else if (way === 'length') words.push(BigInt(given[array]?.length ?? 0));
       else if (array) words.push(this.#array(filled, parameter, given));
-      else if (way === 'out') words.push(this.#made(filled, made, parameter));
+      else if (way === 'out') words.push(this.#made(filled, made, parameter, undefined, field));
       else if (way === 'count') words.push(this.#made(changed, counted, parameter));
       else if (way === 'refusal') words.push(this.#made(changed, refusal, parameter));
       else if (way === 'next') words.push(this.#made(filled, made, parameter, given[own]));
@@ -148,10 +165,10 @@ export class Caller {
     return BigInt(at);
   }
 
-  #made(filled, made, [own, type], start) {
+  #made(filled, made, [own, type], start, field) {
     const memory = this.#memory, at = memory.reserve(width(type));
     if (start !== undefined) memory.write(type, at, start);
-    filled.push(() => { made[own] = memory.read(type, at); });
+    filled.push(() => { made[own] = field ? memory.field(type, field, at) : memory.read(type, at); });
     return BigInt(at);
   }
 

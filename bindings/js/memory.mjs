@@ -116,6 +116,12 @@ export class Memory {
     return this.readerOf(type)(this.all && this.#view, at);
   }
 
+  /** A field of a record. */
+  field(type, field, at) {
+    const [, kind, offset] = records[type][1].find(([name]) => name === field);
+    return this.read(kind, at + offset);
+  }
+
   /** So many records side by side. */
   readAll(type, at, count) {
     const one = this.readerOf(type), size = width(type), view = this.all && this.#view, found = new Array(count);

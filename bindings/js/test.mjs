@@ -217,6 +217,7 @@ test('the mode of a call for a debug entry', () => {
 
 test('parameters that are missing or unknown', () => {
   const image = opened('functions'), table = image.call('pe_c_function_table');
+  assert.deepEqual([0x8664, 0xAA64].map((machine) => image.call('pe_c_exception_table', { machine })), [table, null]);
   assert.throws(() => image.call('pe_c_find_function', { table }), TypeError);
   assert.throws(() => image.call('pe_c_find_function', { table, rva: 1, rvo: 1 }), TypeError);
   assert.throws(() => image.call('pe_c_nothing'), TypeError);
@@ -915,6 +916,13 @@ test('each stream of a minidump', () => {
   assert.deepEqual([name.thread_id, x64.text(name.rva_of_thread_name)], [0x24, 'a.exe']);
   assert.deepEqual([only('unloadedModules').base_of_image, only('regions').region_size], [0x70000000n, 0x1000n]);
   assert.equal(only('handles').pointer_count, 4);
+  // records and contexts of any kind, of which one field is written
+  const stream = x64.stream(constants.PE_C_THREAD_LIST_STREAM), read = (kind, index) => x64.call('pe_c_dump_record', { stream, kind, index });
+  const any = read(constants.PE_C_THREAD_LIST_STREAM, 0n), thread = only('threads');
+  assert.deepEqual([any.thread, any.loaded.base_of_image, read(constants.PE_C_THREAD_LIST_STREAM, 2n), read(99, 0n)], [thread, 0n, null, null]);
+  const context = (machine) => x64.call('pe_c_read_dump_context', { location: thread.thread_context, machine });
+  assert.deepEqual([context(9).x64, context(9).arm64.registers.pc], [x64.context(thread.thread_context), 0n]);
+  assert.equal(refused(() => context(5)).constant, 'PE_C_DUMP_MACHINE');
   assert.deepEqual([only('threadInfos').exit_status, only('threadInfos').affinity], [259, 6n]);
   assert.deepEqual([only('pieces').memory.start, [...x64.fullPieces()].map((it) => [it.memory.start, it.memory.length, it.lost])],
     [0x20000n, [[0x20000n, 400n, 0x400n - 400n]]]);

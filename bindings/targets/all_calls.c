@@ -958,6 +958,8 @@ static void dump_lists(const struct file *file, const pe_c_range *stream)
     pe_c_range range = PE_C_EMPTY;
     pe_c_context context = PE_C_EMPTY;
     pe_c_arm64_context arm64_context = PE_C_EMPTY;
+    pe_c_dump_any_record any = PE_C_EMPTY;
+    pe_c_dump_any_context any_context = PE_C_EMPTY;
     uint32_t is_image = 0;
     for (uint64_t i = 0; i < 4; i++) {
         CALL(pe_c_dump_thread_at, thread, BYTES, stream, i, &thread);
@@ -977,6 +979,10 @@ static void dump_lists(const struct file *file, const pe_c_range *stream)
         CALL(pe_c_dump_handle_at, handle, BYTES, stream, i, &handle);
         CALL(pe_c_dump_region_at, region, BYTES, stream, i, &region);
         CALL(pe_c_dump_memory_at, piece, BYTES, stream, i, &piece);
+        for (uint32_t kind = 0; kind <= PE_C_THREAD_NAMES_STREAM; kind++)
+            CALL(pe_c_dump_record, any, BYTES, stream, kind, i, &any);
+        for (uint32_t machine = 0; machine <= 12; machine++)
+            CALL(pe_c_read_dump_context, any_context, BYTES, &thread.thread_context, machine, &any_context);
         pieces[i] = piece.memory;
     }
     dump_memory(file, pieces);

@@ -1,10 +1,8 @@
 //! The functions of ARM64 images, their unwind records and epilog scopes.
 
 use super::made::*;
-use super::steps::pe_c_arm64_function_at;
-use crate::arm64::functions::{
-    pe_c_arm64_packed_fields, pe_c_arm64_table, pe_c_find_arm64_function,
-};
+use super::steps::{pe_c_arm64_function_at, pe_c_arm64_table};
+use crate::arm64::functions::{pe_c_arm64_packed_fields, pe_c_find_arm64_function};
 use crate::arm64::records::{pe_c_arm64_unwind_record, pe_c_next_arm64_scope};
 use calls_unwind::arm64::functions::Arm64Packed;
 use calls_unwind::arm64::records::{Arm64Record, Arm64Scope};

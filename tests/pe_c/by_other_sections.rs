@@ -11,11 +11,10 @@ use super::made::*;
 use super::plan::plan_from;
 use super::resource_leaves::{NO_LEAF, walk as walk_over_leaves, with_tree};
 use super::steps::{
-    pe_c_next_delay_import, pe_c_next_delayed_function, pe_c_next_export, pe_c_next_import,
-    pe_c_next_library, pe_c_next_resource_leaf,
+    pe_c_function_table, pe_c_next_delay_import, pe_c_next_delayed_function, pe_c_next_export,
+    pe_c_next_import, pe_c_next_library, pe_c_next_resource_leaf,
 };
 use crate::directories::delay_imports::pe_c_delay_imports;
-use crate::unwinding::pe_c_function_table;
 use crate::unwinding::plan::pe_c_next_record;
 use calls_directories::names::exports::Exports;
 use calls_directories::names::imports::{Imports, Libraries};

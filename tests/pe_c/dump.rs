@@ -1,16 +1,18 @@
 //! Minidumps: every call on a dump that is made by hand from minidumpapiset.h and winnt.h, with a stream of each kind.
 
+use super::dump_steps::{
+    EMPTY, NO_CONTEXT, pe_c_dump_context, pe_c_dump_context_arm64, pe_c_dump_entry_at,
+    pe_c_dump_exception, pe_c_dump_handle_at, pe_c_dump_memory_at, pe_c_dump_memory64,
+    pe_c_dump_module_at, pe_c_dump_process, pe_c_dump_region_at, pe_c_dump_system,
+    pe_c_dump_thread_at, pe_c_dump_thread_info_at, pe_c_dump_thread_name_at, pe_c_dump_unloaded_at,
+};
 use super::made::*;
 use crate::debug::records::pe_c_codeview;
-use crate::dump::contexts::{pe_c_dump_context, pe_c_dump_context_arm64};
+use crate::dump::contexts::pe_c_read_dump_context;
 use crate::dump::images::pe_c_is_image_of;
-use crate::dump::lists::{
-    pe_c_dump_handle_at, pe_c_dump_module_at, pe_c_dump_region_at, pe_c_dump_thread_at,
-    pe_c_dump_thread_info_at, pe_c_dump_thread_name_at, pe_c_dump_unloaded_at,
-};
-use crate::dump::memory::{pe_c_dump_memory_at, pe_c_dump_memory64, pe_c_next_memory64};
-use crate::dump::records::{pe_c_dump_exception, pe_c_dump_process, pe_c_dump_system};
-use crate::dump::{pe_c_dump, pe_c_dump_entry_at, pe_c_dump_stream, pe_c_dump_text};
+use crate::dump::memory::pe_c_next_memory64;
+use crate::dump::records::pe_c_dump_record;
+use crate::dump::{pe_c_dump, pe_c_dump_stream, pe_c_dump_text};
 use calls_headers::debug::records::SymbolKey;
 use calls_stacks::dump::DumpInfo;
 use calls_stacks::dump::contexts::{Arm64Context, X64Context};
@@ -289,6 +291,30 @@ fn threads_by_their_index(rt: HostRuntime) -> Result<(), Fail> {
     let found = pe_c_dump_thread_at(&bytes, &range(0xB0, 56), 0, &mut out);
     assert_eq!(rt; found, DONE);
     assert_eq!(rt; (out.thread_id, out.suspend_count), (0x99, 2));
+    Ok(())
+}
+
+/// The kinds that have records, `MINIDUMP_STREAM_TYPE`, and 0 for the directory.
+#[test]
+fn records_by_their_kind(rt: HostRuntime) -> Result<(), Fail> {
+    let bytes = dump(rt.alloc())?;
+    let mut out = EMPTY;
+    for [kind, offset, size] in STREAMS {
+        let bounds = range(u64::from(offset), u64::from(size));
+        let found = pe_c_dump_record(&bytes, &bounds, kind, 0, &mut out);
+        assert_eq!(rt; found, DONE);
+        // There are at most three of each.
+        let found = pe_c_dump_record(&bytes, &bounds, kind, 3, &mut out);
+        assert_eq!(rt; found, NOTHING);
+    }
+    assert_eq!(rt; (out.thread.thread_id, out.entry), (0x24, EMPTY.entry));
+    let found = pe_c_dump_record(&bytes, &range(32, 144), 0, 11, &mut out);
+    assert_eq!(rt; (found, out.entry.stream_type), (DONE, 17));
+    assert_eq!(rt; out.spare, 0);
+    for kind in [1, 2, 8, 10, 11, 13, 18, 23, 25, 0x4767_0001] {
+        let found = pe_c_dump_record(&bytes, &range(0, 0), kind, 0, &mut out);
+        assert_eq!(rt; found, NOTHING);
+    }
     Ok(())
 }
 
@@ -578,6 +604,28 @@ fn context_of_arm64(rt: HostRuntime) -> Result<(), Fail> {
     assert_eq!(rt; (out.context_flags, out.cpsr), (0x40_0007, 0x66));
     let found = pe_c_dump_context_arm64(&bytes, &NO_BYTES, &mut out);
     assert_eq!(rt; found, DUMP_CONTEXT_SIZE);
+    Ok(())
+}
+
+/// Of a machine that no context here is of, of both, and of a context of the other machine.
+#[test]
+fn contexts_by_their_machine(rt: HostRuntime) -> Result<(), Fail> {
+    let bytes = dump(rt.alloc())?;
+    let mut out = NO_CONTEXT;
+    for (machine, location, wanted) in [
+        (0, X64, DUMP_MACHINE),
+        (5, ARM64, DUMP_MACHINE),
+        (9, X64, DONE),
+        (12, X64, DUMP_MACHINE),
+        (12, ARM64, DONE),
+    ] {
+        let found = pe_c_read_dump_context(&bytes, &location, machine, &mut out);
+        assert_eq!(rt; found, wanted);
+    }
+    assert_eq!(rt;
+        (out.x64.registers.rip, out.arm64.registers.pc),
+        (0x33, 0x44)
+    );
     Ok(())
 }
 

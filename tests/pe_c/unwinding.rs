@@ -1,9 +1,9 @@
 //! The functions of x64 images, their unwind records and scope tables.
 
 use super::made::*;
-use super::steps::pe_c_function_at;
+use super::steps::{pe_c_function_at, pe_c_function_table};
 use crate::unwinding::{
-    pe_c_find_function, pe_c_function_table, pe_c_next_scope, pe_c_scope_table, pe_c_unwind_record,
+    pe_c_exception_table, pe_c_find_function, pe_c_next_scope, pe_c_scope_table, pe_c_unwind_record,
 };
 use calls_unwind::unwinding::{CodeWalk, UnwindRecord};
 use pe_unwind::{RuntimeFunction, ScopeTableEntry};
@@ -47,6 +47,14 @@ fn function_tables(rt: HostRuntime) {
     );
     assert_eq!(rt; table_of(&bytes, &other), (NOTHING, UNTOUCHED));
     assert_eq!(rt; table_of(&bytes, &odd), (EXCEPTION_SIZE, UNTOUCHED));
+    // x86 has no such table.
+    let mut out = untouched();
+    let x86 = Image {
+        machine: 0x14C,
+        ..whole
+    };
+    let answer = pe_c_exception_table(&view(&bytes, &x86, &sections()), 0x14C, &mut out);
+    assert_eq!(rt; (answer, of_range(out)), (NOTHING, UNTOUCHED));
 }
 
 /// A table of three functions at offset 4; the last two start at the same address.

@@ -693,9 +693,11 @@ fn read_by_lies(bytes: &[u8], random: &mut Random, seen: &mut Seen) {
     call!(pe_c_dump_handle_at(&range, index), DumpHandle);
     call!(pe_c_dump_region_at(&range, index), DumpRegion);
     call!(pe_c_dump_memory_at(&range, index), DumpPiece);
+    call!(pe_c_dump_record(&range, few % 26, index), DumpAnyRecord);
     call!(pe_c_dump_exception(&range), DumpException);
     call!(pe_c_dump_system(&range), DumpSystem);
     call!(pe_c_dump_process(&range), DumpProcess);
+    call!(pe_c_read_dump_context(&location, few % 13), DumpAnyContext);
     call!(pe_c_dump_context(&location), Context);
     call!(pe_c_dump_context_arm64(&location), Arm64Context);
     call!(pe_c_dump_thread_at(&range, 0), DumpThread);
@@ -725,6 +727,7 @@ fn read_by_lies(bytes: &[u8], random: &mut Random, seen: &mut Seen) {
     call_of_image!(pe_c_symbol_key(), Key);
     call_of_image!(pe_c_debug_data(), DebugRecords);
     call_of_image!(pe_c_overlay(), Range);
+    call_of_image!(pe_c_exception_table(few), Range);
     call_of_image!(pe_c_function_table(), Range);
     call_of_image!(pe_c_arm64_table(), Range);
     let (unwind, mut record) = (directory.virtual_address ^ (few & 1), sys::Record::default());

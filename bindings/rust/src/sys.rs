@@ -46,6 +46,8 @@ pub const MEMORY_INFO_LIST_STREAM: u32 = 16;
 pub const THREAD_INFO_LIST_STREAM: u32 = 17;
 /// Names of threads.
 pub const THREAD_NAMES_STREAM: u32 = 24;
+/// No stream: what [`pe_c_dump_record`] takes for the entries of the directory.
+pub const DUMP_ENTRIES: u32 = 0;
 
 /// A range of the bytes of the image.
 #[repr(C)]
@@ -2794,6 +2796,42 @@ pub struct Memory64Walk {
 }
 const _: () = assert!(core::mem::size_of::<Memory64Walk>() == 24);
 
+/// A record of any kind: [`pe_c_dump_record`] writes the field of one kind.
+#[repr(C)]
+#[derive(Clone, Copy, Debug, Default, PartialEq, Eq)]
+#[non_exhaustive]
+pub struct DumpAnyRecord {
+    /// [`THREAD_LIST_STREAM`].
+    pub thread: DumpThread,
+    /// [`MODULE_LIST_STREAM`].
+    pub loaded: DumpModule,
+    /// [`MEMORY_LIST_STREAM`].
+    pub memory: DumpPiece,
+    /// [`EXCEPTION_STREAM`].
+    pub exception: DumpException,
+    /// [`MEMORY64_LIST_STREAM`].
+    pub memory64: Memory64Walk,
+    /// [`HANDLE_DATA_STREAM`].
+    pub handle: DumpHandle,
+    /// [`UNLOADED_MODULE_LIST_STREAM`].
+    pub unloaded: DumpUnloaded,
+    /// [`MEMORY_INFO_LIST_STREAM`].
+    pub region: DumpRegion,
+    /// [`THREAD_INFO_LIST_STREAM`].
+    pub thread_info: DumpThreadInfo,
+    /// [`THREAD_NAMES_STREAM`].
+    pub thread_name: DumpThreadName,
+    /// [`SYSTEM_INFO_STREAM`].
+    pub system: DumpSystem,
+    /// [`MISC_INFO_STREAM`].
+    pub process: DumpProcess,
+    /// [`DUMP_ENTRIES`].
+    pub entry: DumpEntry,
+    /// Is never written.
+    pub spare: u32,
+}
+const _: () = assert!(core::mem::size_of::<DumpAnyRecord>() == 632);
+
 /// An entry of an index of pieces of memory, which [`pe_c_memory_runs`] makes on the way: the addresses from `start` up
 /// to the start of the next entry.
 #[repr(C)]
@@ -2833,6 +2871,18 @@ pub struct Arm64Context {
     pub cpsr: u32,
 }
 const _: () = assert!(core::mem::size_of::<Arm64Context>() == 336);
+
+/// The registers of a thread on any machine: [`pe_c_read_dump_context`] writes those of one.
+#[repr(C)]
+#[derive(Clone, Copy, Debug, Default, PartialEq, Eq)]
+#[non_exhaustive]
+pub struct DumpAnyContext {
+    /// On x64.
+    pub x64: Context,
+    /// On ARM64.
+    pub arm64: Arm64Context,
+}
+const _: () = assert!(core::mem::size_of::<DumpAnyContext>() == 736);
 
 /// What a PDB says of itself.
 ///
@@ -3167,10 +3217,6 @@ extern "C" {
     ///
     /// Errors: [`Error::SHORT`] where the symbols are truncated; [`Error::STRING_TABLE`] where the string table is.
     pub fn pe_c_coff_strings(bytes: *const u8, length: usize, coff: *const CoffHeader, out: *mut Range) -> u32;
-    /// Reads the next symbol of a walk.
-    ///
-    /// Error: [`Error::SHORT`] where the table is not inside the bytes.
-    pub fn pe_c_next_symbol(bytes: *const u8, length: usize, walk: *mut SymbolWalk, out: *mut SymbolEntry) -> u32;
     /// Returns the name of the symbol in an entry of a symbol table: UTF-8, not NUL-terminated, in the entry or in the
     /// string table.
     ///
@@ -3572,13 +3618,14 @@ extern "C" {
     ///
     /// Errors: those of [`pe_c_write_image`] but for [`Error::WRITE_ALIGNMENT`] and [`Error::WRITE_SYMBOLS`].
     pub fn pe_c_write_whole(view: *const View, room: *mut u8, room_length: usize, written: *mut u64) -> u32;
-    /// Returns the range of the function table, entries of 12 bytes.
+    /// Returns the range of the function table of an image for a machine, 0x8664 for x64 or 0xAA64 for ARM64,
+    /// `IMAGE_FILE_MACHINE_*`.
     ///
-    /// [`NOTHING`] without one, or for a machine other than x64.
+    /// [`NOTHING`] without one, in an image for another machine, and for other numbers.
     ///
     /// Errors: [`Error::EXCEPTION_SIZE`], [`Error::UNMAPPED`], [`Error::EXCEPTION_OFFSET`],
     /// [`Error::EXCEPTION_BOUNDS`].
-    pub fn pe_c_function_table(view: *const View, out: *mut Range) -> u32;
+    pub fn pe_c_exception_table(view: *const View, machine: u32, out: *mut Range) -> u32;
     /// Returns the function that covers an RVA, by binary search, or [`NOTHING`].
     ///
     /// In a table sorted by start RVA that is the last function that starts at or before the RVA, if the RVA is before
@@ -3707,13 +3754,6 @@ extern "C" {
         frame_count: usize,
         count: *mut u64,
     ) -> u32;
-    /// Returns the range of the function table, entries of 8 bytes.
-    ///
-    /// [`NOTHING`] without one, or for a machine other than ARM64.
-    ///
-    /// Errors: [`Error::EXCEPTION_SIZE`], [`Error::UNMAPPED`], [`Error::EXCEPTION_OFFSET`],
-    /// [`Error::EXCEPTION_BOUNDS`].
-    pub fn pe_c_arm64_table(view: *const View, out: *mut Range) -> u32;
     /// Returns the function that covers an RVA, by binary search, or [`NOTHING`].
     ///
     /// In a table sorted by start RVA that is the last function that starts at or before the RVA, if it is long enough;
@@ -4289,11 +4329,10 @@ extern "C" {
         number_of_entries: usize,
         written: *mut u64,
     ) -> u32;
-    /// Lists the symbols of a walk as [`pe_c_next_symbol`] returns them, each with what [`pe_c_symbol_name`] returns of
-    /// it.
+    /// Lists the symbols of a walk, each with what [`pe_c_symbol_name`] returns of it.
     ///
-    /// Names are read together where they share much, as by [`pe_c_list_exports`], here with one run for each entry
-    /// that the symbol table has left, or more; the string table stays as it is.
+    /// Auxiliary records are skipped. Names are read together where they share much, as by [`pe_c_list_exports`], here
+    /// with one run for each entry that the symbol table has left, or more; the string table stays as it is.
     ///
     /// Errors: [`ROOM`]; [`Error::SHORT`] where the symbol table is not inside the bytes.
     pub fn pe_c_list_symbols(
@@ -4536,16 +4575,6 @@ extern "C" {
     /// Errors: [`Error::SHORT`] where there are fewer than 32 bytes; [`Error::DUMP_SIGNATURE`];
     /// [`Error::DUMP_VERSION`]; [`Error::DUMP_DIRECTORY`].
     pub fn pe_c_dump(bytes: *const u8, length: usize, out: *mut DumpInfo) -> u32;
-    /// Returns the entry of the directory with an index, or [`NOTHING`].
-    ///
-    /// Errors: [`Error::DUMP_LOCATION`] where the directory is not inside the bytes.
-    pub fn pe_c_dump_entry_at(
-        bytes: *const u8,
-        length: usize,
-        directory: *const Range,
-        index: u64,
-        out: *mut DumpEntry,
-    ) -> u32;
     /// Returns the range of the stream of a kind, that of the first entry of the kind, or [`NOTHING`].
     ///
     /// Errors: [`Error::DUMP_LOCATION`] where the directory or the stream is not inside the bytes.
@@ -4563,131 +4592,38 @@ extern "C" {
     /// Errors: [`Error::DUMP_LOCATION`] where its length is not inside the bytes; [`Error::DUMP_TEXT`] where that is
     /// odd; [`Error::DUMP_LOCATION`] where the string is not inside the bytes.
     pub fn pe_c_dump_text(bytes: *const u8, length: usize, rva: u64, out: *mut Range) -> u32;
-    /// Returns the thread with an index in the stream of threads, or [`NOTHING`].
+    /// Reads the record with an index of the stream of a kind, [`THREAD_LIST_STREAM`] and others, into the field of
+    /// that kind; with [`DUMP_ENTRIES`] of the directory.
     ///
-    /// Errors: [`Error::DUMP_LOCATION`] where the stream is not inside the bytes; [`Error::SHORT`] where it has fewer
-    /// than 4 bytes; [`Error::DUMP_LIST_SIZE`] where it has another size than the number of threads and so many
-    /// threads.
-    pub fn pe_c_dump_thread_at(
+    /// The other fields are unchanged. [`NOTHING`] past the last record, and of another kind. What a stream says in one
+    /// record has index 0: the exception, the system, the process, the walk over the memory of a full dump. The
+    /// functions below return the field of one kind each.
+    ///
+    /// Errors: those of the function of the kind.
+    pub fn pe_c_dump_record(
         bytes: *const u8,
         length: usize,
         stream: *const Range,
+        kind: u32,
         index: u64,
-        out: *mut DumpThread,
+        out: *mut DumpAnyRecord,
     ) -> u32;
-    /// The same of modules, which stand in no order.
-    ///
-    /// Errors: those of [`pe_c_dump_thread_at`].
-    pub fn pe_c_dump_module_at(
-        bytes: *const u8,
-        length: usize,
-        stream: *const Range,
-        index: u64,
-        out: *mut DumpModule,
-    ) -> u32;
-    /// The same of names of threads.
-    ///
-    /// Errors: those of [`pe_c_dump_thread_at`].
-    pub fn pe_c_dump_thread_name_at(
-        bytes: *const u8,
-        length: usize,
-        stream: *const Range,
-        index: u64,
-        out: *mut DumpThreadName,
-    ) -> u32;
-    /// Returns the unloaded module with an index in their stream, or [`NOTHING`].
-    ///
-    /// Errors: [`Error::DUMP_LOCATION`] where the stream is not inside the bytes; [`Error::SHORT`] where its header is
-    /// truncated; [`Error::DUMP_ENTRY_SIZE`] where its records are smaller than their fields; [`Error::DUMP_LIST_SIZE`]
-    /// where they start in the header, or end past the stream.
-    pub fn pe_c_dump_unloaded_at(
-        bytes: *const u8,
-        length: usize,
-        stream: *const Range,
-        index: u64,
-        out: *mut DumpUnloaded,
-    ) -> u32;
-    /// The same of thread information.
-    ///
-    /// Errors: those of [`pe_c_dump_unloaded_at`].
-    pub fn pe_c_dump_thread_info_at(
-        bytes: *const u8,
-        length: usize,
-        stream: *const Range,
-        index: u64,
-        out: *mut DumpThreadInfo,
-    ) -> u32;
-    /// The same of handles.
-    ///
-    /// Errors: those of [`pe_c_dump_unloaded_at`].
-    pub fn pe_c_dump_handle_at(
-        bytes: *const u8,
-        length: usize,
-        stream: *const Range,
-        index: u64,
-        out: *mut DumpHandle,
-    ) -> u32;
-    /// The same of regions of memory.
-    ///
-    /// Errors: those of [`pe_c_dump_unloaded_at`].
-    pub fn pe_c_dump_region_at(
-        bytes: *const u8,
-        length: usize,
-        stream: *const Range,
-        index: u64,
-        out: *mut DumpRegion,
-    ) -> u32;
-    /// Reads the exception, by its stream.
-    ///
-    /// Errors: [`Error::DUMP_LOCATION`] where the stream is not inside the bytes; [`Error::SHORT`] where it has fewer
-    /// than 168 bytes.
-    pub fn pe_c_dump_exception(bytes: *const u8, length: usize, stream: *const Range, out: *mut DumpException) -> u32;
-    /// Reads the system, by its stream.
-    ///
-    /// Errors: [`Error::DUMP_LOCATION`] where the stream is not inside the bytes; [`Error::SHORT`] where it has fewer
-    /// than 56 bytes.
-    pub fn pe_c_dump_system(bytes: *const u8, length: usize, stream: *const Range, out: *mut DumpSystem) -> u32;
-    /// Reads what is known of the process, by its stream.
-    ///
-    /// Errors: [`Error::DUMP_LOCATION`] where the stream is not inside the bytes; [`Error::SHORT`] where it has fewer
-    /// than 24 bytes.
-    pub fn pe_c_dump_process(bytes: *const u8, length: usize, stream: *const Range, out: *mut DumpProcess) -> u32;
-    /// Returns the piece of memory with an index in [`MEMORY_LIST_STREAM`], or [`NOTHING`].
-    ///
-    /// Errors: those of [`pe_c_dump_thread_at`].
-    pub fn pe_c_dump_memory_at(
-        bytes: *const u8,
-        length: usize,
-        stream: *const Range,
-        index: u64,
-        out: *mut DumpPiece,
-    ) -> u32;
-    /// Returns a walk over the pieces of memory of a full dump, by [`MEMORY64_LIST_STREAM`].
-    ///
-    /// It reads each size once.
-    ///
-    /// Errors: [`Error::DUMP_LOCATION`] where the stream is not inside the bytes; [`Error::SHORT`] where it has fewer
-    /// than 16 bytes; [`Error::DUMP_LIST_SIZE`] where it has another size than so many entries;
-    /// [`Error::DUMP_LOCATION`] where the bytes of the pieces end past offset 2^64 - 1.
-    pub fn pe_c_dump_memory64(bytes: *const u8, length: usize, stream: *const Range, out: *mut Memory64Walk) -> u32;
     /// Returns the next piece of memory of a full dump.
     ///
     /// Errors: [`Error::SHORT`] where the entries are not inside the bytes, or the last one is truncated.
     pub fn pe_c_next_memory64(bytes: *const u8, length: usize, walk: *mut Memory64Walk, out: *mut DumpPiece) -> u32;
-    /// Reads a context of x64: that of the exception, or of a thread.
+    /// Reads a context of a machine, 9 for x64 or 12 for ARM64, `PROCESSOR_ARCHITECTURE_*`, into the field of that
+    /// machine: that of the exception, or of a thread.
     ///
-    /// Errors: [`Error::DUMP_LOCATION`] where it is not inside the bytes; [`Error::DUMP_CONTEXT_SIZE`] where it has
-    /// fewer than 1,232 bytes; [`Error::DUMP_MACHINE`] where its flags are not of x64; [`Error::DUMP_CONTEXT_FLAGS`]
-    /// where control or integer registers were not saved.
-    pub fn pe_c_dump_context(bytes: *const u8, length: usize, location: *const DumpLocation, out: *mut Context) -> u32;
-    /// The same of ARM64, whose contexts have 912 bytes.
+    /// The other field is unchanged. The functions below return the field of one machine each.
     ///
-    /// Errors: those of [`pe_c_dump_context`].
-    pub fn pe_c_dump_context_arm64(
+    /// Errors: [`Error::DUMP_MACHINE`] of another machine; those of the function of the machine.
+    pub fn pe_c_read_dump_context(
         bytes: *const u8,
         length: usize,
         location: *const DumpLocation,
-        out: *mut Arm64Context,
+        machine: u32,
+        out: *mut DumpAnyContext,
     ) -> u32;
     /// Returns [`DONE`] where an image is that of a module: its time stamp and its size are the module's.
     ///
@@ -5014,6 +4950,40 @@ extern "C" {
         name_length: usize,
         out: *mut u32,
     ) -> u32;
+}
+
+/// Returns the range of the function table, entries of 12 bytes.
+///
+/// [`NOTHING`] without one, or for a machine other than x64.
+///
+/// Errors: [`Error::EXCEPTION_SIZE`], [`Error::UNMAPPED`], [`Error::EXCEPTION_OFFSET`], [`Error::EXCEPTION_BOUNDS`].
+///
+/// # Safety
+///
+/// As of [`pe_c_exception_table`], which it calls.
+#[rustfmt::skip]
+pub unsafe extern "C" fn pe_c_function_table(
+    view: *const View,
+    out: *mut Range,
+) -> u32 {
+    unsafe { pe_c_exception_table(view, 0x8664, out) }
+}
+
+/// Returns the range of the function table, entries of 8 bytes.
+///
+/// [`NOTHING`] without one, or for a machine other than ARM64.
+///
+/// Errors: [`Error::EXCEPTION_SIZE`], [`Error::UNMAPPED`], [`Error::EXCEPTION_OFFSET`], [`Error::EXCEPTION_BOUNDS`].
+///
+/// # Safety
+///
+/// As of [`pe_c_exception_table`], which it calls.
+#[rustfmt::skip]
+pub unsafe extern "C" fn pe_c_arm64_table(
+    view: *const View,
+    out: *mut Range,
+) -> u32 {
+    unsafe { pe_c_exception_table(view, 0xAA64, out) }
 }
 
 /// Returns the next code of a record, in the order in which they are undone: the last instruction of the prolog first.
@@ -5509,4 +5479,380 @@ pub unsafe extern "C" fn pe_c_version_text(
     let mut found = Range::default();
     let result = unsafe { pe_c_version_blocks(view, &mut found) };
     if result == DONE { unsafe { pe_c_version_text_in((*view).bytes, (*view).length, &found, name, out) } } else { result }
+}
+
+/// Reads the next symbol of a walk: what [`pe_c_list_symbols`] returns of one, without a string table.
+///
+/// Error: [`Error::SHORT`] where the table is not inside the bytes.
+///
+/// # Safety
+///
+/// As of [`pe_c_list_symbols`], which it calls.
+#[rustfmt::skip]
+pub unsafe extern "C" fn pe_c_next_symbol(
+    bytes: *const u8,
+    length: usize,
+    walk: *mut SymbolWalk,
+    out: *mut SymbolEntry,
+) -> u32 {
+    let mut all = NamedSymbolWalk { symbols: unsafe { *walk }, ..Default::default() };
+    let mut found = NamedSymbol::default();
+    let mut written = 0;
+    let result = unsafe { pe_c_list_symbols(bytes, length, &mut all, core::ptr::null_mut(), 0, &mut found, 1, &mut written) };
+    unsafe { *walk = all.symbols };
+    if result == DONE && written == 1 {
+        unsafe { *out = found.symbol };
+    }
+    if result == DONE && written == 0 { NOTHING } else { result }
+}
+
+/// Returns the entry of the directory with an index, or [`NOTHING`].
+///
+/// Errors: [`Error::DUMP_LOCATION`] where the directory is not inside the bytes.
+///
+/// # Safety
+///
+/// As of [`pe_c_dump_record`], which it calls.
+#[rustfmt::skip]
+pub unsafe extern "C" fn pe_c_dump_entry_at(
+    bytes: *const u8,
+    length: usize,
+    directory: *const Range,
+    index: u64,
+    out: *mut DumpEntry,
+) -> u32 {
+    let mut found = DumpAnyRecord::default();
+    let result = unsafe { pe_c_dump_record(bytes, length, directory, DUMP_ENTRIES, index, &mut found) };
+    if result == DONE {
+        unsafe { *out = found.entry };
+    }
+    result
+}
+
+/// Returns the thread with an index in the stream of threads, or [`NOTHING`].
+///
+/// Errors: [`Error::DUMP_LOCATION`] where the stream is not inside the bytes; [`Error::SHORT`] where it has fewer than
+/// 4 bytes; [`Error::DUMP_LIST_SIZE`] where it has another size than the number of threads and so many threads.
+///
+/// # Safety
+///
+/// As of [`pe_c_dump_record`], which it calls.
+#[rustfmt::skip]
+pub unsafe extern "C" fn pe_c_dump_thread_at(
+    bytes: *const u8,
+    length: usize,
+    stream: *const Range,
+    index: u64,
+    out: *mut DumpThread,
+) -> u32 {
+    let mut found = DumpAnyRecord::default();
+    let result = unsafe { pe_c_dump_record(bytes, length, stream, THREAD_LIST_STREAM, index, &mut found) };
+    if result == DONE {
+        unsafe { *out = found.thread };
+    }
+    result
+}
+
+/// The same of modules, which stand in no order.
+///
+/// Errors: those of [`pe_c_dump_thread_at`].
+///
+/// # Safety
+///
+/// As of [`pe_c_dump_record`], which it calls.
+#[rustfmt::skip]
+pub unsafe extern "C" fn pe_c_dump_module_at(
+    bytes: *const u8,
+    length: usize,
+    stream: *const Range,
+    index: u64,
+    out: *mut DumpModule,
+) -> u32 {
+    let mut found = DumpAnyRecord::default();
+    let result = unsafe { pe_c_dump_record(bytes, length, stream, MODULE_LIST_STREAM, index, &mut found) };
+    if result == DONE {
+        unsafe { *out = found.loaded };
+    }
+    result
+}
+
+/// The same of names of threads.
+///
+/// Errors: those of [`pe_c_dump_thread_at`].
+///
+/// # Safety
+///
+/// As of [`pe_c_dump_record`], which it calls.
+#[rustfmt::skip]
+pub unsafe extern "C" fn pe_c_dump_thread_name_at(
+    bytes: *const u8,
+    length: usize,
+    stream: *const Range,
+    index: u64,
+    out: *mut DumpThreadName,
+) -> u32 {
+    let mut found = DumpAnyRecord::default();
+    let result = unsafe { pe_c_dump_record(bytes, length, stream, THREAD_NAMES_STREAM, index, &mut found) };
+    if result == DONE {
+        unsafe { *out = found.thread_name };
+    }
+    result
+}
+
+/// Returns the unloaded module with an index in their stream, or [`NOTHING`].
+///
+/// Errors: [`Error::DUMP_LOCATION`] where the stream is not inside the bytes; [`Error::SHORT`] where its header is
+/// truncated; [`Error::DUMP_ENTRY_SIZE`] where its records are smaller than their fields; [`Error::DUMP_LIST_SIZE`]
+/// where they start in the header, or end past the stream.
+///
+/// # Safety
+///
+/// As of [`pe_c_dump_record`], which it calls.
+#[rustfmt::skip]
+pub unsafe extern "C" fn pe_c_dump_unloaded_at(
+    bytes: *const u8,
+    length: usize,
+    stream: *const Range,
+    index: u64,
+    out: *mut DumpUnloaded,
+) -> u32 {
+    let mut found = DumpAnyRecord::default();
+    let result = unsafe { pe_c_dump_record(bytes, length, stream, UNLOADED_MODULE_LIST_STREAM, index, &mut found) };
+    if result == DONE {
+        unsafe { *out = found.unloaded };
+    }
+    result
+}
+
+/// The same of thread information.
+///
+/// Errors: those of [`pe_c_dump_unloaded_at`].
+///
+/// # Safety
+///
+/// As of [`pe_c_dump_record`], which it calls.
+#[rustfmt::skip]
+pub unsafe extern "C" fn pe_c_dump_thread_info_at(
+    bytes: *const u8,
+    length: usize,
+    stream: *const Range,
+    index: u64,
+    out: *mut DumpThreadInfo,
+) -> u32 {
+    let mut found = DumpAnyRecord::default();
+    let result = unsafe { pe_c_dump_record(bytes, length, stream, THREAD_INFO_LIST_STREAM, index, &mut found) };
+    if result == DONE {
+        unsafe { *out = found.thread_info };
+    }
+    result
+}
+
+/// The same of handles.
+///
+/// Errors: those of [`pe_c_dump_unloaded_at`].
+///
+/// # Safety
+///
+/// As of [`pe_c_dump_record`], which it calls.
+#[rustfmt::skip]
+pub unsafe extern "C" fn pe_c_dump_handle_at(
+    bytes: *const u8,
+    length: usize,
+    stream: *const Range,
+    index: u64,
+    out: *mut DumpHandle,
+) -> u32 {
+    let mut found = DumpAnyRecord::default();
+    let result = unsafe { pe_c_dump_record(bytes, length, stream, HANDLE_DATA_STREAM, index, &mut found) };
+    if result == DONE {
+        unsafe { *out = found.handle };
+    }
+    result
+}
+
+/// The same of regions of memory.
+///
+/// Errors: those of [`pe_c_dump_unloaded_at`].
+///
+/// # Safety
+///
+/// As of [`pe_c_dump_record`], which it calls.
+#[rustfmt::skip]
+pub unsafe extern "C" fn pe_c_dump_region_at(
+    bytes: *const u8,
+    length: usize,
+    stream: *const Range,
+    index: u64,
+    out: *mut DumpRegion,
+) -> u32 {
+    let mut found = DumpAnyRecord::default();
+    let result = unsafe { pe_c_dump_record(bytes, length, stream, MEMORY_INFO_LIST_STREAM, index, &mut found) };
+    if result == DONE {
+        unsafe { *out = found.region };
+    }
+    result
+}
+
+/// Returns the piece of memory with an index in [`MEMORY_LIST_STREAM`], or [`NOTHING`].
+///
+/// Errors: those of [`pe_c_dump_thread_at`].
+///
+/// # Safety
+///
+/// As of [`pe_c_dump_record`], which it calls.
+#[rustfmt::skip]
+pub unsafe extern "C" fn pe_c_dump_memory_at(
+    bytes: *const u8,
+    length: usize,
+    stream: *const Range,
+    index: u64,
+    out: *mut DumpPiece,
+) -> u32 {
+    let mut found = DumpAnyRecord::default();
+    let result = unsafe { pe_c_dump_record(bytes, length, stream, MEMORY_LIST_STREAM, index, &mut found) };
+    if result == DONE {
+        unsafe { *out = found.memory };
+    }
+    result
+}
+
+/// Reads the exception, by its stream.
+///
+/// Errors: [`Error::DUMP_LOCATION`] where the stream is not inside the bytes; [`Error::SHORT`] where it has fewer than
+/// 168 bytes.
+///
+/// # Safety
+///
+/// As of [`pe_c_dump_record`], which it calls.
+#[rustfmt::skip]
+pub unsafe extern "C" fn pe_c_dump_exception(
+    bytes: *const u8,
+    length: usize,
+    stream: *const Range,
+    out: *mut DumpException,
+) -> u32 {
+    let mut found = DumpAnyRecord::default();
+    let result = unsafe { pe_c_dump_record(bytes, length, stream, EXCEPTION_STREAM, 0, &mut found) };
+    if result == DONE {
+        unsafe { *out = found.exception };
+    }
+    result
+}
+
+/// Reads the system, by its stream.
+///
+/// Errors: [`Error::DUMP_LOCATION`] where the stream is not inside the bytes; [`Error::SHORT`] where it has fewer than
+/// 56 bytes.
+///
+/// # Safety
+///
+/// As of [`pe_c_dump_record`], which it calls.
+#[rustfmt::skip]
+pub unsafe extern "C" fn pe_c_dump_system(
+    bytes: *const u8,
+    length: usize,
+    stream: *const Range,
+    out: *mut DumpSystem,
+) -> u32 {
+    let mut found = DumpAnyRecord::default();
+    let result = unsafe { pe_c_dump_record(bytes, length, stream, SYSTEM_INFO_STREAM, 0, &mut found) };
+    if result == DONE {
+        unsafe { *out = found.system };
+    }
+    result
+}
+
+/// Reads what is known of the process, by its stream.
+///
+/// Errors: [`Error::DUMP_LOCATION`] where the stream is not inside the bytes; [`Error::SHORT`] where it has fewer than
+/// 24 bytes.
+///
+/// # Safety
+///
+/// As of [`pe_c_dump_record`], which it calls.
+#[rustfmt::skip]
+pub unsafe extern "C" fn pe_c_dump_process(
+    bytes: *const u8,
+    length: usize,
+    stream: *const Range,
+    out: *mut DumpProcess,
+) -> u32 {
+    let mut found = DumpAnyRecord::default();
+    let result = unsafe { pe_c_dump_record(bytes, length, stream, MISC_INFO_STREAM, 0, &mut found) };
+    if result == DONE {
+        unsafe { *out = found.process };
+    }
+    result
+}
+
+/// Returns a walk over the pieces of memory of a full dump, by [`MEMORY64_LIST_STREAM`].
+///
+/// It reads each size once.
+///
+/// Errors: [`Error::DUMP_LOCATION`] where the stream is not inside the bytes; [`Error::SHORT`] where it has fewer than
+/// 16 bytes; [`Error::DUMP_LIST_SIZE`] where it has another size than so many entries; [`Error::DUMP_LOCATION`] where
+/// the bytes of the pieces end past offset 2^64 - 1.
+///
+/// # Safety
+///
+/// As of [`pe_c_dump_record`], which it calls.
+#[rustfmt::skip]
+pub unsafe extern "C" fn pe_c_dump_memory64(
+    bytes: *const u8,
+    length: usize,
+    stream: *const Range,
+    out: *mut Memory64Walk,
+) -> u32 {
+    let mut found = DumpAnyRecord::default();
+    let result = unsafe { pe_c_dump_record(bytes, length, stream, MEMORY64_LIST_STREAM, 0, &mut found) };
+    if result == DONE {
+        unsafe { *out = found.memory64 };
+    }
+    result
+}
+
+/// Reads a context of x64: that of the exception, or of a thread.
+///
+/// Errors: [`Error::DUMP_LOCATION`] where it is not inside the bytes; [`Error::DUMP_CONTEXT_SIZE`] where it has fewer
+/// than 1,232 bytes; [`Error::DUMP_MACHINE`] where its flags are not of x64; [`Error::DUMP_CONTEXT_FLAGS`] where
+/// control or integer registers were not saved.
+///
+/// # Safety
+///
+/// As of [`pe_c_read_dump_context`], which it calls.
+#[rustfmt::skip]
+pub unsafe extern "C" fn pe_c_dump_context(
+    bytes: *const u8,
+    length: usize,
+    location: *const DumpLocation,
+    out: *mut Context,
+) -> u32 {
+    let mut found = DumpAnyContext::default();
+    let result = unsafe { pe_c_read_dump_context(bytes, length, location, 9, &mut found) };
+    if result == DONE {
+        unsafe { *out = found.x64 };
+    }
+    result
+}
+
+/// The same of ARM64, whose contexts have 912 bytes.
+///
+/// Errors: those of [`pe_c_dump_context`].
+///
+/// # Safety
+///
+/// As of [`pe_c_read_dump_context`], which it calls.
+#[rustfmt::skip]
+pub unsafe extern "C" fn pe_c_dump_context_arm64(
+    bytes: *const u8,
+    length: usize,
+    location: *const DumpLocation,
+    out: *mut Arm64Context,
+) -> u32 {
+    let mut found = DumpAnyContext::default();
+    let result = unsafe { pe_c_read_dump_context(bytes, length, location, 12, &mut found) };
+    if result == DONE {
+        unsafe { *out = found.arm64 };
+    }
+    result
 }

@@ -1,10 +1,10 @@
 -- What calls return of the contexts of a minidump.
-use Rattle.std.specs.Prelude.{ℕ, ◌+◌, ◌%◌, ◌^◌, ◌==◌, List, replicate, slice_index, Option, Some, None, Result, Ok, if◌then◌else◌}
+use Rattle.std.specs.Prelude.{ℕ, ◌+◌, ◌%◌, ◌^◌, ◌==◌, List, replicate, slice_index, Option, Some, None, Result, Ok, Err, if◌then◌else◌}
 use Rattle.pe_core.specs.Refusals.{◌>>=◌}
 use Rattle.pe_core.specs.Rows.{each}
 use Rattle.pe_minidump.specs.Contexts.{context_arm64, context_x64}
 use Rattle.pe_minidump.specs.Dumps.{located}
-use Rattle.pe_minidump.specs.Refusals.{DumpRefusal}
+use Rattle.pe_minidump.specs.Refusals.{DumpRefusal, Machine}
 use Rattle.pe_minidump.specs.declared.context_arm64.ContextArm64.{ContextArm64}
 use Rattle.pe_minidump.specs.declared.context_x64.ContextX64.{ContextX64}
 use Rattle.pe_minidump.specs.declared.exception.Exception.{Exception}
@@ -12,7 +12,9 @@ use Rattle.pe_minidump.specs.declared.location.Location.{Location}
 use Rattle.pe_minidump.specs.declared.thread.Thread.{Thread}
 use Rattle.pe_stacks.specs.ThreadContexts.{first_of}
 use Rattle.calls_stacks.specs.StackFrames.{flat_registers}
+use Rattle.calls_stacks.specs.declared.dump.contexts.AnyContext.{AnyContext}
 use Rattle.calls_stacks.specs.declared.dump.contexts.Arm64Context.{Arm64Context}
+use Rattle.calls_stacks.specs.declared.dump.contexts.TheConstants.{ARM64_MACHINE, X64_MACHINE}
 use Rattle.calls_stacks.specs.declared.dump.contexts.X64Context.{X64Context}
 
 -- XMM registers that were not saved are 0
@@ -48,6 +50,13 @@ arm64_reported c = record {
 
 abbrev pub context_arm64_at : List ℕ → Location → Result Arm64Context DumpRefusal
 context_arm64_at b l = located b l.rva l.size >>= λ s. context_arm64 s >>= λ c. Ok (arm64_reported c)
+
+-- the context of a machine as its field, with the other one as it was: x64 is 9, ARM64 12
+abbrev pub any_context : ℕ → List ℕ → Location → AnyContext → Result AnyContext DumpRefusal
+any_context machine b l old =
+    if machine == X64_MACHINE then (context_x64_at b l >>= λ c. Ok (record old { x64 = c }))
+    else if machine == ARM64_MACHINE then (context_arm64_at b l >>= λ c. Ok (record old { arm64 = c }))
+    else Err Machine
 
 -- where the context of an exception stands, if the exception names the thread
 abbrev pub raised_of : Exception → Thread → Option Location

@@ -11,3 +11,4 @@ pub mod DumpRecords
 pub mod DumpRuns
 pub mod DumpMemory
 pub mod DumpContexts
+pub mod AnyRecords

@@ -6,6 +6,7 @@ ghost use Rattle.std.specs.Prelude.{◌≡◌};
 ghost use Rattle.calls_stacks.specs.Dumps.{DumpHandsOut, DumpHandsOutIf, dump_answer, dump_at, dump_entry_at, dump_number, dump_range_at, dump_stream_at, dump_text_at};
 ghost use Rattle.pe_minidump.specs.Refusals.{dump_kind_of};
 
+pub mod any_record;
 pub mod contexts;
 pub mod images;
 pub mod lists;

@@ -3,6 +3,7 @@ use Rattle.std.specs.Prelude.{◌≡◌, ℕ, ◌+◌, ◌-◌, ◌==◌, ◌≤
 use Rattle.std.specs.Option.{option_map}
 use Rattle.pe_core.specs.Refusals.{Refusal, kind_of, outcome, ◌>>=◌}
 use Rattle.pe_core.specs.declared.error.Error.{Error}
+use Rattle.pe_core.specs.declared.header.TheConstants.{COFF_MACHINE_ARM64, COFF_MACHINE_X86_64}
 use Rattle.pe_core.specs.declared.section_table.SectionTable.{SectionTable}
 use Rattle.pe_unwind.specs.CodeStream.{CodeStream, ReturnsCode}
 use Rattle.pe_unwind.specs.ExceptionTable.{ExceptionView, exception_at, table_range, function_of}
@@ -38,6 +39,13 @@ exception_table_at machine width b image sections mode =
     if image.machine == machine
     then (if is_absent (exception_directory image) then Ok None
     else exception_at width b (exception_directory image) sections image.file_alignment (options_of mode) >>= λ v. Ok (Some (range_of (table_range v))))
+    else Ok None
+
+-- the same by the number of the machine: entries of 12 bytes on x64, of 8 on ARM64; there is none of another machine
+abbrev pub machine_table_at : ℕ → List ℕ → Image → List SectionTable → ℕ → Result (Option Range) Refusal
+machine_table_at machine b image sections mode =
+    if machine == COFF_MACHINE_X86_64 then exception_table_at COFF_MACHINE_X86_64 12 b image sections mode
+    else if machine == COFF_MACHINE_ARM64 then exception_table_at COFF_MACHINE_ARM64 8 b image sections mode
     else Ok None
 
 -- the result of a lookup of an RVA in these entries, or what refuses the table

@@ -15,19 +15,21 @@ ghost use Rattle.calls_base.specs.HandsOut.{HandsOut};
 ghost use Rattle.calls_base.specs.Ranges.{bytes_at, one_if_some};
 ghost use Rattle.pe_frame.specs.Undoing.{bytes_above};
 ghost use Rattle.calls_unwind.specs.NearRecords.{PutsRecord, codes_after};
-ghost use Rattle.calls_unwind.specs.Unwinding.{exception_table_at, function_in, or_no_function, handler_kind, handler_address, handler_range, flat_record, flat_record_at, FindsOffset, FollowsToRecord, HandsOutRecord, links_at, from_frame, saving, plain, flat, StepsOver, WalksIn, scopes_at};
+ghost use Rattle.calls_unwind.specs.Unwinding.{exception_table_at, function_in, machine_table_at, or_no_function, handler_kind, handler_address, handler_range, flat_record, flat_record_at, FindsOffset, FollowsToRecord, HandsOutRecord, links_at, from_frame, saving, plain, flat, StepsOver, WalksIn, scopes_at};
 ghost use Rattle.calls_base.specs.Views.{directory_sections, map_of};
 ghost use Rattle.calls_base.specs.Walks.{next_of, walk_of};
 
 pub mod plan;
 
+use crate::arm64::functions;
 use calls_base::image::{EXCEPTION_TABLE, directory, is_absent};
 use calls_base::ranges::{NO_BYTES, Range, last_range, range_of, slice_of};
 use calls_base::results::{DONE, hand_out, options};
 use calls_base::view::{View, map_by, sections_of};
 use calls_base::walks::next_entry;
 use pe_core::{
-    COFF_MACHINE_X86_64, CountedTable, Result, RvaMap, SectionTable, TableEntry, read_u8, read_u32,
+    COFF_MACHINE_ARM64, COFF_MACHINE_X86_64, CountedTable, Result, RvaMap, SectionTable,
+    TableEntry, read_u8, read_u32,
 };
 use pe_unwind::{
     ExceptionData, Register, RuntimeFunction, ScopeTableEntry, StackFrameOffset, UnwindCode,
@@ -129,6 +131,20 @@ pub fn table_of(view: &View) -> Result<Option<Range>>
         &options(view.image.mode),
     )?;
     Ok(Some(range_of(exceptions.table_range())))
+}
+
+/// The range of the function table of an image for a machine.
+pub fn machine_table(view: &View, machine: u32) -> Result<Option<Range>>
+    ensures { answer_of result ≡ machine_table_at machine view.now.bytes.now view.now.image.now
+        (directory_sections view.now 3) view.now.image.now.mode }
+{
+    if machine == u32::from(COFF_MACHINE_X86_64) {
+        return table_of(view);
+    }
+    if machine == u32::from(COFF_MACHINE_ARM64) {
+        return functions::table_of(view);
+    }
+    Ok(None)
 }
 
 /// The function that covers an RVA, in the bytes of a table.

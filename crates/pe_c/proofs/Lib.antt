@@ -17,3 +17,5 @@ pub mod OneImage
 pub mod LibrariesOfCalls
 pub mod ImageWriters
 pub mod TwoCalls
+pub mod OneSymbols
+pub mod DumpFields

@@ -1,20 +1,17 @@
 //! The calls of `dump` in calls_stacks.
 
-ghost use Rattle.calls_stacks.specs.Dumps.{DumpHandsOut, DumpHandsOutIf, dump_at, dump_entry_at, dump_stream_at, dump_text_at};
+ghost use Rattle.calls_stacks.specs.Dumps.{DumpHandsOut, DumpHandsOutIf, dump_at, dump_stream_at, dump_text_at};
 
 pub mod contexts;
 pub mod images;
-pub mod lists;
 pub mod memory;
 pub mod memory_runs;
 pub mod records;
 
 use calls_base::ranges::Range;
-use calls_base::results::NOTHING;
 use calls_stacks::dump::{
-    DumpInfo, dump_at, dump_entry_at, dump_stream_at, dump_text_at, hand_out_dump, hand_out_dump_if,
+    DumpInfo, dump_at, dump_stream_at, dump_text_at, hand_out_dump, hand_out_dump_if,
 };
-use pe_minidump::{DirectoryEntry, DumpRecord};
 
 /// Reads the header of a minidump, and tests that its directory lies in the bytes.
 ///
@@ -24,22 +21,6 @@ pub extern "C" fn pe_c_dump(bytes: &[u8], out: &mut DumpInfo) -> u32
     ensures { DumpHandsOut result out.old out.new (dump_at bytes.now) }
 {
     hand_out_dump(dump_at(bytes), out)
-}
-
-/// Reads the entry of the directory with an index: `NOTHING` past the last one.
-///
-/// Error: `DUMP_LOCATION` where the directory does not lie in the bytes.
-#[unsafe(no_mangle)]
-pub extern "C" fn pe_c_dump_entry_at(
-    bytes: &[u8],
-    directory: &Range,
-    index: u64,
-    out: &mut DirectoryEntry,
-) -> u32
-    ensures { DumpHandsOutIf result out.old out.new
-        (dump_entry_at bytes.now directory.now index) }
-{
-    hand_out_dump_if(dump_entry_at(bytes, directory, index), out)
 }
 
 /// Returns the range of the stream of a kind, that of the first entry of the kind: `NOTHING` without one. It reads the entries

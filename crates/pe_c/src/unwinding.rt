@@ -3,7 +3,7 @@
 ghost use Rattle.std.specs.Prelude.{◌≡◌, Some, Ok};
 ghost use Rattle.pe_unwind.specs.ScopeTable.{scope_at};
 ghost use Rattle.calls_base.specs.HandsOut.{HandsOutIf};
-ghost use Rattle.calls_unwind.specs.Unwinding.{exception_table_at, HandsOutFound, HandsOutRecord, links_at, scopes_at};
+ghost use Rattle.calls_unwind.specs.Unwinding.{machine_table_at, HandsOutFound, HandsOutRecord, links_at, scopes_at};
 ghost use Rattle.calls_base.specs.Views.{directory_sections, map_of};
 ghost use Rattle.calls_base.specs.Walks.{next_of, walk_of};
 
@@ -13,23 +13,23 @@ use calls_base::ranges::{Range, slice_of};
 use calls_base::results::{DONE, NOTHING, hand_out_some, number_of};
 use calls_base::view::View;
 use calls_unwind::unwinding::{
-    UnwindRecord, find, hand_out_far, hand_out_handled, near_offset, next_scope, put_plain,
-    scopes_in, table_of,
+    UnwindRecord, find, hand_out_far, hand_out_handled, machine_table, near_offset, next_scope,
+    put_plain, scopes_in,
 };
-use pe_core::{COFF_MACHINE_X86_64, RvaMap, TableEntry};
+use pe_core::{RvaMap, TableEntry};
 use pe_unwind::{RuntimeFunction, ScopeTableEntry, search};
 
-/// Returns the range of the function table of an x64 image, entries of 12 bytes: `NOTHING` where it has none, or is for
-/// another machine.
+/// Returns the range of the function table of an image for a machine: entries of 12 bytes on x64, of 8 on ARM64. `NOTHING` where it
+/// has none, or is for another machine, and for the numbers of other machines.
 ///
 /// Errors: `EXCEPTION_SIZE`, `UNMAPPED`, `EXCEPTION_OFFSET`, `EXCEPTION_BOUNDS`.
 #[unsafe(no_mangle)]
-pub extern "C" fn pe_c_function_table(view: &View, out: &mut Range) -> u32
+pub extern "C" fn pe_c_exception_table(view: &View, machine: u32, out: &mut Range) -> u32
     ensures { HandsOutIf result out.old out.new
-        (exception_table_at COFF_MACHINE_X86_64 12 view.now.bytes.now view.now.image.now
+        (machine_table_at machine view.now.bytes.now view.now.image.now
         (directory_sections view.now 3) view.now.image.now.mode) }
 {
-    hand_out_some(table_of(view), out)
+    hand_out_some(machine_table(view, machine), out)
 }
 
 /// Returns the function that covers an RVA, by one `search` of pe_unwind in the function table at this range: `NOTHING`

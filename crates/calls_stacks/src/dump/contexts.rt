@@ -2,13 +2,14 @@
 //! https://learn.microsoft.com/windows/win32/api/winnt/ns-winnt-context
 
 ghost use Rattle.std.specs.Prelude.{◌≡◌, ◌%◌, ◌^◌, ◌<◌, slice_index};
-ghost use Rattle.calls_stacks.specs.DumpContexts.{arm64_reported, context_arm64_at, context_x64_at, floats_or_zero, low_halves, x64_reported, xmm_or_zero};
-ghost use Rattle.calls_stacks.specs.Dumps.{dump_answer};
+ghost use Rattle.calls_stacks.specs.DumpContexts.{any_context, arm64_reported, context_arm64_at, context_x64_at, floats_or_zero, low_halves, x64_reported, xmm_or_zero};
+ghost use Rattle.calls_stacks.specs.Dumps.{DumpHandsOut, dump_answer};
 
 use crate::arm64::frames::Arm64FrameRegisters;
+use crate::dump::{hand_out_dump, number_of_dump};
 use crate::stack::frames::{FrameRegisters, flat_registers};
 use pe_frame::Registers;
-use pe_minidump::{ContextArm64, ContextX64, Location, Result, located};
+use pe_minidump::{ContextArm64, ContextX64, DumpError, Location, Result, located};
 
 /// The registers of a thread on x64 (`CONTEXT`).
 #[repr(C)]
@@ -32,6 +33,22 @@ pub struct Arm64Context {
     pub context_flags: u32,
     /// The flags of the processor.
     pub cpsr: u32,
+}
+
+/// The number of x64 as a machine, `PROCESSOR_ARCHITECTURE_AMD64`.
+pub const X64_MACHINE: u32 = 9;
+
+/// The number of ARM64, `PROCESSOR_ARCHITECTURE_ARM64`.
+pub const ARM64_MACHINE: u32 = 12;
+
+/// The registers of a thread on any machine: a call writes those of one.
+#[repr(C)]
+#[derive(Clone, Copy)]
+pub struct AnyContext {
+    /// On x64.
+    pub x64: X64Context,
+    /// On ARM64.
+    pub arm64: Arm64Context,
 }
 
 /// The XMM registers, 0 where they were not saved.
@@ -127,4 +144,21 @@ pub fn context_arm64_at(bytes: &[u8], location: &Location) -> Result<Arm64Contex
     let (offset, size) = (u64::from(location.rva), u64::from(location.size));
     let context = ContextArm64::parse(located(bytes, offset, size)?)?;
     Ok(arm64_reported(&context))
+}
+
+/// Reads the context of a machine into its field.
+pub fn hand_out_context(
+    bytes: &[u8],
+    location: &Location,
+    machine: u32,
+    out: &mut AnyContext,
+) -> u32
+    ensures { DumpHandsOut result out.old out.new
+        (any_context machine bytes.now location.now out.old) }
+{
+    match machine {
+        X64_MACHINE => hand_out_dump(context_x64_at(bytes, location), &mut out.x64),
+        ARM64_MACHINE => hand_out_dump(context_arm64_at(bytes, location), &mut out.arm64),
+        _ => number_of_dump(&DumpError::Machine(machine)),
+    }
 }

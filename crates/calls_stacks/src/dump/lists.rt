@@ -5,19 +5,19 @@ ghost use Rattle.std.specs.Prelude.{◌≡◌, ◌≤◌};
 ghost use Rattle.calls_stacks.specs.Dumps.{dump_answer};
 ghost use Rattle.calls_stacks.specs.DumpRecords.{entry_in, module_reported, name_reported, region_reported, reported_in};
 ghost use Rattle.pe_minidump.specs.Lists.{counted_list, headed_list};
-ghost use Rattle.pe_minidump.specs.Records.{memory_region, module_entry, thread, thread_name};
+ghost use Rattle.pe_minidump.specs.Records.{handle_descriptor, memory_region, module_entry, thread, thread_info, thread_name, unloaded_module};
 
 use calls_base::ranges::Range;
 use pe_minidump::{
-    DumpRecord, FixedFileInfo, Location, MemoryRegion, Module, Result, ThreadName, counted_list,
-    headed_list, headed_list_64, located,
+    DumpRecord, FixedFileInfo, Handle, Location, MemoryRegion, Module, Result, ThreadInfo,
+    ThreadName, UnloadedModule, counted_list, headed_list, headed_list_64, located,
 };
 
 /// The size of the header of the lists of unloaded modules and of thread information in bytes.
-pub const SIZE_OF_HEADER: usize = 12;
+const SIZE_OF_HEADER: usize = 12;
 
 /// The size of the header of the list of handles in bytes.
-pub const SIZE_OF_HANDLE_HEADER: usize = 16;
+const SIZE_OF_HANDLE_HEADER: usize = 16;
 
 /// A module (`MINIDUMP_MODULE`).
 #[repr(C)]
@@ -87,7 +87,7 @@ pub fn counted_at<E: DumpRecord>(bytes: &[u8], stream: &Range, index: u64) -> Re
 
 /// The record with an index of a list with a header of so many bytes, which says how large its records are.
 #[tactic(auto, using(crate::proofs::DumpEntries::listed))]
-pub fn headed_at<E: DumpRecord>(
+fn headed_at<E: DumpRecord>(
     bytes: &[u8],
     stream: &Range,
     index: u64,
@@ -99,6 +99,27 @@ pub fn headed_at<E: DumpRecord>(
 {
     let list = headed_list(located(bytes, stream.offset, stream.length)?, head)?;
     Ok(list.get(index as usize))
+}
+
+pub fn unloaded_at(bytes: &[u8], stream: &Range, index: u64) -> Result<Option<UnloadedModule>>
+    ensures { dump_answer result
+        ≡ entry_in (headed_list unloaded_module 24 12 4) bytes.now stream.now index }
+{
+    headed_at(bytes, stream, index, SIZE_OF_HEADER)
+}
+
+pub fn thread_info_at(bytes: &[u8], stream: &Range, index: u64) -> Result<Option<ThreadInfo>>
+    ensures { dump_answer result
+        ≡ entry_in (headed_list thread_info 64 12 4) bytes.now stream.now index }
+{
+    headed_at(bytes, stream, index, SIZE_OF_HEADER)
+}
+
+pub fn handle_at(bytes: &[u8], stream: &Range, index: u64) -> Result<Option<Handle>>
+    ensures { dump_answer result
+        ≡ entry_in (headed_list handle_descriptor 32 16 4) bytes.now stream.now index }
+{
+    headed_at(bytes, stream, index, SIZE_OF_HANDLE_HEADER)
 }
 
 /// A module as callers get it.

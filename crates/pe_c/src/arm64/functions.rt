@@ -1,30 +1,14 @@
 //! The calls of `arm64::functions` in calls_unwind.
 
 ghost use Rattle.std.specs.Prelude.{◌≡◌};
-ghost use Rattle.calls_base.specs.HandsOut.{HandsOutIf};
 ghost use Rattle.calls_unwind.specs.Arm64.{HandsOutArm64Found, packed_fields};
-ghost use Rattle.calls_unwind.specs.Unwinding.{exception_table_at};
-ghost use Rattle.calls_base.specs.Views.{directory_sections, map_of};
+ghost use Rattle.calls_base.specs.Views.{map_of};
 
 use calls_base::ranges::Range;
 use calls_base::results::{DONE, hand_out_some};
 use calls_base::view::View;
-use calls_unwind::arm64::functions::{Arm64Packed, find, table_of};
-use pe_core::COFF_MACHINE_ARM64;
+use calls_unwind::arm64::functions::{Arm64Packed, find};
 use pe_unwind::{Arm64RuntimeFunction, search_arm64};
-
-/// Returns the range of the function table of an ARM64 image, entries of 8 bytes: `NOTHING` where it has none, or is
-/// for another machine.
-///
-/// Errors: `EXCEPTION_SIZE`, `UNMAPPED`, `EXCEPTION_OFFSET`, `EXCEPTION_BOUNDS`.
-#[unsafe(no_mangle)]
-pub extern "C" fn pe_c_arm64_table(view: &View, out: &mut Range) -> u32
-    ensures { HandsOutIf result out.old out.new
-        (exception_table_at COFF_MACHINE_ARM64 8 view.now.bytes.now view.now.image.now
-        (directory_sections view.now 3) view.now.image.now.mode) }
-{
-    hand_out_some(table_of(view), out)
-}
 
 /// Returns the function that covers an RVA, by one `search_arm64` of pe_unwind in the function table at this range:
 /// `NOTHING` where it finds none. Lookup goes by the starts alone, and then reads the length of one function, which is

@@ -9,30 +9,39 @@ ghost use Rattle.pe_frame.specs.Walks.{Calls};
 ghost use Rattle.pe_frame.specs.declared.memory_list.MemoryPiece.{MemoryPiece};
 ghost use Rattle.pe_minidump.specs.Contexts.{context_arm64, context_x64};
 ghost use Rattle.pe_minidump.specs.Dumps.{DumpView, located};
+ghost use Rattle.pe_minidump.specs.Lists.{counted_list, headed_list};
 ghost use Rattle.pe_minidump.specs.Pieces.{bytes_from, piece};
+ghost use Rattle.pe_minidump.specs.Records.{handle_descriptor, memory_descriptor, memory_region, module_entry, thread, thread_info, thread_name, unloaded_module};
 ghost use Rattle.pe_minidump.specs.Streams.{exception};
 ghost use Rattle.pe_minidump.specs.declared.dump.DumpHeader.{DumpHeader};
 ghost use Rattle.pe_minidump.specs.declared.exception.Exception.{Exception};
+ghost use Rattle.pe_minidump.specs.declared.location.Location.{Location};
 ghost use Rattle.pe_minidump.specs.declared.module.Module.{Module};
+ghost use Rattle.pe_minidump.specs.declared.stream_type.TheConstants.{EXCEPTION_STREAM, HANDLE_DATA_STREAM, MEMORY64_LIST_STREAM, MEMORY_INFO_LIST_STREAM, MEMORY_LIST_STREAM, MISC_INFO_STREAM, MODULE_LIST_STREAM, SYSTEM_INFO_STREAM, THREAD_INFO_LIST_STREAM, THREAD_LIST_STREAM, THREAD_NAMES_STREAM, UNLOADED_MODULE_LIST_STREAM};
 ghost use Rattle.pe_minidump.specs.declared.thread.Thread.{Thread};
 ghost use Rattle.pe_stacks.specs.Images.{is_image_of};
 ghost use Rattle.pe_stacks.specs.MemoryRuns.{AreRuns, bytes_at};
 ghost use Rattle.pe_stacks.specs.ThreadContexts.{thread_context};
 ghost use Rattle.calls_stacks.specs.Arm64StackWalks.{arm64_stack_walks};
 ghost use Rattle.calls_stacks.specs.Arm64StackWalks as arm64_walks;
-ghost use Rattle.calls_stacks.specs.DumpContexts.{arm64_reported, context_arm64_at, context_x64_at, thread_context_at, x64_reported};
+ghost use Rattle.calls_stacks.specs.DumpContexts.{any_context, arm64_reported, context_arm64_at, context_x64_at, thread_context_at, x64_reported};
 ghost use Rattle.calls_stacks.specs.DumpImages.{fits};
 ghost use Rattle.pe_c.specs.DumpLaws.{IsStreamOf, as_reported, memory_range};
-ghost use Rattle.calls_stacks.specs.DumpMemory.{piece_reported};
-ghost use Rattle.calls_stacks.specs.DumpRecords.{module_reported};
+ghost use Rattle.calls_stacks.specs.AnyRecords.{any_record};
+ghost use Rattle.calls_stacks.specs.DumpMemory.{described, memory64_at, piece_reported};
+ghost use Rattle.calls_stacks.specs.DumpRecords.{entry_in, exception_at, misc_at, module_reported, name_reported, region_reported, reported_in, system_at};
 ghost use Rattle.calls_stacks.specs.DumpRuns.{range_in};
-ghost use Rattle.calls_stacks.specs.Dumps.{dump_stream_at};
+ghost use Rattle.calls_stacks.specs.Dumps.{DumpHandsOut, DumpHandsOutIf, dump_entry_at, dump_stream_at};
 ghost use Rattle.calls_stacks.specs.FrameCalls.{HandsOutFrame};
 ghost use Rattle.calls_base.specs.Images.{image_info_of};
 ghost use Rattle.calls_base.specs.Ranges.{IsRange};
 ghost use Rattle.calls_stacks.specs.StackWalks.{marked, stack_walks};
 ghost use Rattle.calls_stacks.specs.declared.arm64.stack_walk.Arm64StackWalk.{Arm64StackWalk};
 ghost use Rattle.calls_base.specs.declared.ranges.Range.{Range};
+ghost use Rattle.calls_stacks.specs.declared.dump.any_record.AnyRecord.{AnyRecord};
+ghost use Rattle.calls_stacks.specs.declared.dump.any_record.TheConstants.{DUMP_ENTRIES};
+ghost use Rattle.calls_stacks.specs.declared.dump.contexts.AnyContext.{AnyContext};
+ghost use Rattle.calls_stacks.specs.declared.dump.contexts.TheConstants.{ARM64_MACHINE, X64_MACHINE};
 ghost use Rattle.calls_stacks.specs.declared.stack.walk.ModuleView.{ModuleView};
 ghost use Rattle.calls_stacks.specs.declared.stack.walk.StackWalk.{StackWalk};
 
@@ -52,6 +61,60 @@ pub fn pieces_of_dumps_are_inside()
     ensures { (b : List ℕ) (start offset size : ℕ) →
         IsRange b (memory_range (piece_reported b (piece b start offset size)).memory)
         (bytes_from b offset size) }
+{}
+
+/// The functions of `pe.h` that return the field of a kind of what `pe_c_dump_record` writes return the record of that kind, and no
+/// more: a record of a list by its index, as `pe_c_dump_thread_at` does, and of a stream that has one, as `pe_c_dump_exception`.
+pub fn records_are_those_of_their_kinds()
+    ensures entries { (b : List ℕ) (r : Range) (i number : ℕ) (old new : AnyRecord) →
+        DumpHandsOutIf number old new (any_record DUMP_ENTRIES b r i old) →
+        DumpHandsOutIf number old.entry new.entry (dump_entry_at b r i) }
+    ensures threads { (b : List ℕ) (r : Range) (i number : ℕ) (old new : AnyRecord) →
+        DumpHandsOutIf number old new (any_record THREAD_LIST_STREAM b r i old) →
+        DumpHandsOutIf number old.thread new.thread (entry_in (counted_list thread 48) b r i) }
+    ensures modules { (b : List ℕ) (r : Range) (i number : ℕ) (old new : AnyRecord) →
+        DumpHandsOutIf number old new (any_record MODULE_LIST_STREAM b r i old) →
+        DumpHandsOutIf number old.loaded new.loaded (reported_in module_reported (counted_list module_entry 108) b r i) }
+    ensures thread_names { (b : List ℕ) (r : Range) (i number : ℕ) (old new : AnyRecord) →
+        DumpHandsOutIf number old new (any_record THREAD_NAMES_STREAM b r i old) →
+        DumpHandsOutIf number old.thread_name new.thread_name (reported_in name_reported (counted_list thread_name 12) b r i) }
+    ensures unloaded { (b : List ℕ) (r : Range) (i number : ℕ) (old new : AnyRecord) →
+        DumpHandsOutIf number old new (any_record UNLOADED_MODULE_LIST_STREAM b r i old) →
+        DumpHandsOutIf number old.unloaded new.unloaded (entry_in (headed_list unloaded_module 24 12 4) b r i) }
+    ensures thread_infos { (b : List ℕ) (r : Range) (i number : ℕ) (old new : AnyRecord) →
+        DumpHandsOutIf number old new (any_record THREAD_INFO_LIST_STREAM b r i old) →
+        DumpHandsOutIf number old.thread_info new.thread_info (entry_in (headed_list thread_info 64 12 4) b r i) }
+    ensures handles { (b : List ℕ) (r : Range) (i number : ℕ) (old new : AnyRecord) →
+        DumpHandsOutIf number old new (any_record HANDLE_DATA_STREAM b r i old) →
+        DumpHandsOutIf number old.handle new.handle (entry_in (headed_list handle_descriptor 32 16 4) b r i) }
+    ensures regions { (b : List ℕ) (r : Range) (i number : ℕ) (old new : AnyRecord) →
+        DumpHandsOutIf number old new (any_record MEMORY_INFO_LIST_STREAM b r i old) →
+        DumpHandsOutIf number old.region new.region (reported_in region_reported (headed_list memory_region 48 16 8) b r i) }
+    ensures memory { (b : List ℕ) (r : Range) (i number : ℕ) (old new : AnyRecord) →
+        DumpHandsOutIf number old new (any_record MEMORY_LIST_STREAM b r i old) →
+        DumpHandsOutIf number old.memory new.memory (reported_in (described b) (counted_list memory_descriptor 16) b r i) }
+    ensures exception { (b : List ℕ) (r : Range) (number : ℕ) (old new : AnyRecord) →
+        DumpHandsOutIf number old new (any_record EXCEPTION_STREAM b r 0 old) →
+        DumpHandsOut number old.exception new.exception (exception_at b r) }
+    ensures system { (b : List ℕ) (r : Range) (number : ℕ) (old new : AnyRecord) →
+        DumpHandsOutIf number old new (any_record SYSTEM_INFO_STREAM b r 0 old) →
+        DumpHandsOut number old.system new.system (system_at b r) }
+    ensures process { (b : List ℕ) (r : Range) (number : ℕ) (old new : AnyRecord) →
+        DumpHandsOutIf number old new (any_record MISC_INFO_STREAM b r 0 old) →
+        DumpHandsOut number old.process new.process (misc_at b r) }
+    ensures memory64 { (b : List ℕ) (r : Range) (number : ℕ) (old new : AnyRecord) →
+        DumpHandsOutIf number old new (any_record MEMORY64_LIST_STREAM b r 0 old) →
+        DumpHandsOut number old.memory64 new.memory64 (memory64_at b r) }
+{}
+
+/// The same of `pe_c_dump_context` and `pe_c_dump_context_arm64` over `pe_c_read_dump_context`: the context of the machine.
+pub fn contexts_are_those_of_their_machines()
+    ensures x64 { (b : List ℕ) (l : Location) (number : ℕ) (old new : AnyContext) →
+        DumpHandsOut number old new (any_context X64_MACHINE b l old) →
+        DumpHandsOut number old.x64 new.x64 (context_x64_at b l) }
+    ensures arm64 { (b : List ℕ) (l : Location) (number : ℕ) (old new : AnyContext) →
+        DumpHandsOut number old new (any_context ARM64_MACHINE b l old) →
+        DumpHandsOut number old.arm64 new.arm64 (context_arm64_at b l) }
 {}
 
 /// Where `pe_c_dump_exception` returns the exception of a dump, the registers that a thread has by it, as `pe_c_dump_thread_context` of
