@@ -1,4 +1,4 @@
-//! The calls of `arm64` in the rooms.
+//! Calls on functions of ARM64, their unwind records and codes, and on stacks there, over calls_unwind and calls_stacks.
 
 pub mod codes;
 pub mod frames;

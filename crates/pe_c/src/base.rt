@@ -1,4 +1,4 @@
-//! The calls of `base` in the rooms.
+//! Calls on results, texts and indexes of sections, over calls_base.
 
 pub mod ended_texts;
 pub mod results;

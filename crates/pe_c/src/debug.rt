@@ -1,4 +1,4 @@
-//! The calls of `debug` in calls_headers.
+//! Calls on the debug directory and its records, over calls_headers.
 
 ghost use Rattle.std.specs.Prelude.{◌≡◌, IfOk};
 ghost use Rattle.pe_core.specs.Offsets.{IsWithin};

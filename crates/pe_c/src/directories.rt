@@ -1,4 +1,4 @@
-//! The calls of `directories` in the rooms.
+//! Calls on the other directories of an image: relocations, TLS, the load configuration and others, over calls_directories.
 
 pub mod base_relocations;
 pub mod bound_imports;

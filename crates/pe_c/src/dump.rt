@@ -1,4 +1,4 @@
-//! The calls of `dump` in calls_stacks.
+//! Calls on minidumps, over calls_stacks.
 
 ghost use Rattle.calls_stacks.specs.Dumps.{DumpHandsOut, DumpHandsOutIf, dump_at, dump_stream_at, dump_text_at};
 

@@ -1,4 +1,4 @@
-//! The calls of `failures` in the rooms.
+//! Calls that say why another call refuses, with the numbers of the refusal, over calls_failures.
 
 pub mod debug;
 pub mod directories;

@@ -1,4 +1,4 @@
-//! The calls of `headers` in calls_headers.
+//! Calls on headers, section maps, objects and TE images, over calls_headers.
 
 ghost use Rattle.calls_base.specs.HandsOut.{HandsOut};
 ghost use Rattle.calls_headers.specs.Headers.{headers_at};

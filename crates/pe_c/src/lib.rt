@@ -7,8 +7,8 @@
 //! without `PE_C_`. Records hold numbers and ranges of the caller's bytes. No call allocates, keeps state or calls
 //! back.
 //!
-//! Each call is proved to return what its definition in `specs/` says, for every byte string and for every value of
-//! every field that is passed: no call has a `requires`.
+//! Each call is a few lines over a room, one of the crates `calls_..`, whose `specs/` has its definition. It is proved to return
+//! what that says, for every byte string and for every value of every field that is passed: no call has a `requires`.
 #![tactic(auto)]
 
 // What all calls share.

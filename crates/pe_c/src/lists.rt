@@ -1,4 +1,4 @@
-//! The calls of `lists` in the rooms.
+//! Calls that write the next entries of a list into the caller's room, over the room of each list.
 
 pub mod arm64;
 pub mod bound_imports;

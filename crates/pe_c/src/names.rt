@@ -1,4 +1,4 @@
-//! The calls of `names` in the rooms.
+//! Calls on exports and imports, over calls_directories.
 
 pub mod export_addresses;
 pub mod exports;

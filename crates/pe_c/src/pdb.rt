@@ -1,4 +1,4 @@
-//! The calls of `pdb` in calls_pdb.
+//! Calls on PDB files, over calls_pdb.
 
 ghost use Rattle.std.specs.Prelude.{Ok, length};
 ghost use Rattle.calls_pdb.specs.Pdbs.{HandsOutStarts, Matches, PdbHandsOut, PdbHandsOutIf, pdb_at, stream_at, stream_numbered, stream_range};

@@ -1,4 +1,4 @@
-//! The calls of `resources` in the rooms.
+//! Calls on resources: the tree, its leaves, version information, over calls_directories.
 
 pub mod leaves;
 pub mod version;

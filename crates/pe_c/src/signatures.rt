@@ -1,4 +1,4 @@
-//! The calls of `signatures` in the rooms.
+//! Calls on signatures: elements, signers, certificates, names and times, over calls_signatures.
 
 pub mod elements;
 pub mod name;

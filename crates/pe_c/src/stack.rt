@@ -1,4 +1,4 @@
-//! The calls of `stack` in the rooms.
+//! Calls that walk stacks on x64 and name functions, over calls_stacks.
 
 pub mod frames;
 pub mod function_names;

@@ -1,4 +1,4 @@
-//! The calls of `unwinding` in calls_unwind.
+//! Calls on functions of x64 and their unwind records, over calls_unwind.
 
 ghost use Rattle.std.specs.Prelude.{◌≡◌, Some, Ok};
 ghost use Rattle.pe_unwind.specs.ScopeTable.{scope_at};

@@ -1,4 +1,4 @@
-//! The calls of `write` in the rooms.
+//! Calls that write images, sections, resources, version information and certificates, over calls_write.
 
 pub mod image;
 pub mod resources;
