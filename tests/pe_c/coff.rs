@@ -57,18 +57,8 @@ pub(crate) fn object(alloc: Global) -> Result<Vec<u8>, AllocError> {
     )
 }
 
-const NO_HEADER: CoffFields = CoffFields {
-    time_date_stamp: 9,
-    pointer_to_symbol_table: 9,
-    number_of_symbol_table: 9,
-    machine: 9,
-    number_of_sections: 9,
-    size_of_optional_header: 9,
-    characteristics: 9,
-};
-
 pub(crate) fn header_of(bytes: &[u8]) -> (u32, [u32; 7], CoffFields) {
-    let mut out = NO_HEADER;
+    let mut out: CoffFields = filled();
     let answer = pe_c_coff(bytes, &mut out);
     let numbers = [
         u32::from(out.machine),
@@ -193,22 +183,6 @@ fn tables_of_an_object(rt: HostRuntime) -> Result<(), Fail> {
     Ok(())
 }
 
-const NO_SYMBOL: Symbol = Symbol {
-    auxiliary: Range {
-        offset: 9,
-        length: 9,
-    },
-    index: 9,
-    name: [9; 8],
-    value: 9,
-    string_offset: 9,
-    section_number: 9,
-    typ: 9,
-    storage_class: 9,
-    number_of_aux_symbols: 9,
-    spare: 9,
-};
-
 /// A symbol as its name and its other fields.
 fn parts(symbol: Symbol) -> ([u8; 8], [u64; 9], i16) {
     let [offset, length] = of_range(symbol.auxiliary);
@@ -226,10 +200,8 @@ fn parts(symbol: Symbol) -> ([u8; 8], [u64; 9], i16) {
     (symbol.name, numbers, symbol.section_number)
 }
 
-const UNCHANGED: ([u8; 8], [u64; 9], i16) = ([9; 8], [9; 9], 9);
-
 fn symbol_of(bytes: &[u8], table: &Range, index: u64) -> (u32, ([u8; 8], [u64; 9], i16)) {
-    let mut out = NO_SYMBOL;
+    let mut out: Symbol = filled();
     let answer = pe_c_symbol(bytes, table, index, &mut out);
     (answer, parts(out))
 }
@@ -255,17 +227,17 @@ fn symbols_of_an_object(rt: HostRuntime) -> Result<(), Fail> {
     let table = range(SYMBOLS, 18 * ENTRIES);
     let mut walk = SymbolWalk { table, next: 0 };
     for (name, numbers, section) in WANTED {
-        let mut out = NO_SYMBOL;
+        let mut out: Symbol = filled();
         assert_eq!(rt; pe_c_next_symbol(&bytes, &mut walk, &mut out), DONE);
         assert_eq!(rt; parts(out), (name, numbers, section));
         let [_, _, index, ..] = numbers;
         let found = symbol_of(&bytes, &table, index);
         assert_eq!(rt; found, (DONE, (name, numbers, section)));
     }
-    let mut out = NO_SYMBOL;
+    let mut out: Symbol = filled();
     assert_eq!(rt; pe_c_next_symbol(&bytes, &mut walk, &mut out), NOTHING);
-    assert_eq!(rt; (parts(out), walk.next), (UNCHANGED, 12));
-    assert_eq!(rt; symbol_of(&bytes, &table, 12), (NOTHING, UNCHANGED));
+    assert_eq!(rt; (is_filled(&out), walk.next), (true, 12));
+    assert_eq!(rt; symbol_of(&bytes, &table, 12), (NOTHING, parts(filled())));
     Ok(())
 }
 

@@ -12,27 +12,12 @@ use calls_directories::resources::leaves::ResourceName;
 /// The fields in the order of winnt.h.
 type Fields = ([u32; 2], [u16; 2], [u32; 7]);
 
-const NO_FIELDS: Fields = ([1, 2], [3, 4], [5, 6, 7, 8, 9, 10, 11]);
-
-/// What `out` is before each call.
-pub(crate) const NO_EXPORT_FIELDS: ExportFields = ExportFields {
-    characteristics: 1,
-    time_date_stamp: 2,
-    major_version: 3,
-    minor_version: 4,
-    name: 5,
-    base: 6,
-    number_of_functions: 7,
-    number_of_names: 8,
-    address_of_functions: 9,
-    address_of_names: 10,
-    address_of_name_ordinals: 11,
-};
+const NO_FIELDS: Fields = ([0x0909_0909; 2], [0x0909; 2], [0x0909_0909; 7]);
 
 /// With the RVA and the size 0 the directory is absent.
 fn fields_of(bytes: &[u8], address: u32) -> (u32, Fields) {
     let image = having(image(X64), 0, directory(address, u32::from(address != 0)));
-    let mut out = NO_EXPORT_FIELDS;
+    let mut out: ExportFields = filled();
     let answer = pe_c_export_directory(&view(bytes, &image, &sections()), &mut out);
     let ExportFields {
         characteristics,
@@ -85,21 +70,7 @@ fn fields_of_the_export_directory(rt: HostRuntime) -> Result<(), Fail> {
 /// The numbers of a directory, and the range of its entries.
 type Numbers = ([u32; 2], [u16; 4], [u64; 2]);
 
-const NO_DIRECTORY: Numbers = ([1, 2], [3, 4, 5, 6], [7, 8]);
-
-/// What `out` is before each call.
-pub(crate) const NO_RESOURCE_DIRECTORY: ResourceDirectory = ResourceDirectory {
-    characteristics: 1,
-    time_date_stamp: 2,
-    major_version: 3,
-    minor_version: 4,
-    number_of_named_entries: 5,
-    number_of_id_entries: 6,
-    entries: Range {
-        offset: 7,
-        length: 8,
-    },
-};
+const NO_DIRECTORY: Numbers = ([0x0909_0909; 2], [0x0909; 4], [0x0909_0909_0909_0909; 2]);
 
 fn numbers_of(directory: ResourceDirectory) -> Numbers {
     let ResourceDirectory {
@@ -122,13 +93,13 @@ fn numbers_of(directory: ResourceDirectory) -> Numbers {
 }
 
 fn directory_at(bytes: &[u8], tree: Range, offset: u32) -> (u32, Numbers) {
-    let mut out = NO_RESOURCE_DIRECTORY;
+    let mut out: ResourceDirectory = filled();
     let answer = pe_c_resource_directory_at(bytes, &tree, offset, &mut out);
     (answer, numbers_of(out))
 }
 
 fn first_of(bytes: &[u8], image: &Image) -> (u32, Numbers) {
-    let mut out = NO_RESOURCE_DIRECTORY;
+    let mut out: ResourceDirectory = filled();
     let answer = pe_c_resource_root(&view(bytes, image, &sections()), &mut out);
     (answer, numbers_of(out))
 }

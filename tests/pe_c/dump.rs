@@ -1,11 +1,5 @@
 //! Minidumps: every call on a dump that is made by hand from minidumpapiset.h and winnt.h, with a stream of each kind.
 
-use super::dump_steps::{
-    EMPTY, NO_CONTEXT, pe_c_dump_context, pe_c_dump_context_arm64, pe_c_dump_entry_at,
-    pe_c_dump_exception, pe_c_dump_handle_at, pe_c_dump_memory_at, pe_c_dump_memory64,
-    pe_c_dump_module_at, pe_c_dump_process, pe_c_dump_region_at, pe_c_dump_system,
-    pe_c_dump_thread_at, pe_c_dump_thread_info_at, pe_c_dump_thread_name_at, pe_c_dump_unloaded_at,
-};
 use super::made::*;
 use crate::debug::records::pe_c_codeview;
 use crate::dump::contexts::pe_c_read_dump_context;
@@ -15,13 +9,12 @@ use crate::dump::records::pe_c_dump_record;
 use crate::dump::{pe_c_dump, pe_c_dump_stream, pe_c_dump_text};
 use calls_headers::debug::records::SymbolKey;
 use calls_stacks::dump::DumpInfo;
-use calls_stacks::dump::contexts::{Arm64Context, X64Context};
-use calls_stacks::dump::lists::{DumpMemoryRegion, DumpModule, DumpThreadName};
-use calls_stacks::dump::memory::{DumpPiece, Memory64Walk};
-use calls_stacks::dump::records::{DumpProcess, DumpSystem};
+use calls_stacks::dump::any_record::AnyRecord;
+use calls_stacks::dump::contexts::AnyContext;
+use calls_stacks::dump::memory::DumpPiece;
 use pe_images::image as bytes_of;
 use pe_minidump::{
-    DirectoryEntry, Exception, FixedFileInfo, Handle, Location, MemoryDescriptor, ProcessTimes,
+    DirectoryEntry, FixedFileInfo, Handle, Location, MemoryDescriptor, ProcessTimes,
     ProcessorPower, Thread, ThreadInfo, UnloadedModule,
 };
 
@@ -166,6 +159,17 @@ fn stream(index: usize) -> Range {
     range(u64::from(offset), u64::from(length))
 }
 
+/// The record with an index in one of these streams, or in a range of its kind, as a call hands it out.
+fn record_of(bytes: &[u8], index: usize, bounds: &Range, number: u64) -> (u32, AnyRecord) {
+    let mut out = filled();
+    let answer = pe_c_dump_record(bytes, bounds, STREAMS[index][0], number, &mut out);
+    (answer, out)
+}
+
+fn record(bytes: &[u8], index: usize, number: u64) -> (u32, AnyRecord) {
+    record_of(bytes, index, &stream(index), number)
+}
+
 fn info_of(bytes: &[u8]) -> (u32, DumpInfo) {
     let mut out = filled();
     let answer = pe_c_dump(bytes, &mut out);
@@ -217,8 +221,9 @@ fn streams_are_found_by_kind(rt: HostRuntime) -> Result<(), Fail> {
 fn entries_of_the_directory(rt: HostRuntime) -> Result<(), Fail> {
     let bytes = dump(rt.alloc())?;
     let directory = range(32, 144);
-    let mut out: DirectoryEntry = filled();
-    assert_eq!(rt; pe_c_dump_entry_at(&bytes, &directory, 11, &mut out), DONE);
+    let mut out: AnyRecord = filled();
+    let found = pe_c_dump_record(&bytes, &directory, 0, 11, &mut out);
+    assert_eq!(rt; found, DONE);
     let want = DirectoryEntry {
         stream_type: 17,
         location: Location {
@@ -226,8 +231,8 @@ fn entries_of_the_directory(rt: HostRuntime) -> Result<(), Fail> {
             rva: 0x3A8,
         },
     };
-    assert_eq!(rt; out, want);
-    let found = pe_c_dump_entry_at(&bytes, &directory, 12, &mut out);
+    assert_eq!(rt; out.entry, want);
+    let found = pe_c_dump_record(&bytes, &directory, 0, 12, &mut out);
     assert_eq!(rt; found, NOTHING);
     Ok(())
 }
@@ -260,8 +265,8 @@ fn strings_and_locations(rt: HostRuntime) -> Result<(), Fail> {
 #[test]
 fn threads_by_their_index(rt: HostRuntime) -> Result<(), Fail> {
     let mut bytes = dump(rt.alloc())?;
-    let mut out: Thread = filled();
-    assert_eq!(rt; pe_c_dump_thread_at(&bytes, &stream(0), 0, &mut out), DONE);
+    let (found, out) = record(&bytes, 0, 0);
+    assert_eq!(rt; found, DONE);
     let first = Thread {
         thread_id: 0x24,
         suspend_count: 1,
@@ -277,20 +282,18 @@ fn threads_by_their_index(rt: HostRuntime) -> Result<(), Fail> {
         },
         thread_context: X64,
     };
-    assert_eq!(rt; out, first);
-    assert_eq!(rt; pe_c_dump_thread_at(&bytes, &stream(0), 1, &mut out), DONE);
-    assert_eq!(rt; (out.thread_id, out.thread_context), (0x25, NO_BYTES));
-    out = filled();
-    let found = pe_c_dump_thread_at(&bytes, &stream(0), 2, &mut out);
-    assert_eq!(rt; found, NOTHING);
-    let found = pe_c_dump_thread_at(&bytes, &range(0xB0, 99), 0, &mut out);
-    assert_eq!(rt; found, DUMP_LIST_SIZE);
-    assert!(rt; is_filled(&out));
+    assert_eq!(rt; out.thread, first);
+    let (found, AnyRecord { thread, .. }) = record(&bytes, 0, 1);
+    assert_eq!(rt; (found, thread.thread_id), (DONE, 0x25));
+    assert_eq!(rt; thread.thread_context, NO_BYTES);
+    assert_eq!(rt; record(&bytes, 0, 2).0, NOTHING);
+    let (found, out) = record_of(&bytes, 0, &range(0xB0, 99), 0);
+    assert_eq!(rt; (found, is_filled(&out)), (DUMP_LIST_SIZE, true));
     // With 4 bytes between the number and the first of them.
     put(&mut bytes, &[(0xB4, b"\x77\0\0\0\x99"), (0xB0, b"\x01")]);
-    let found = pe_c_dump_thread_at(&bytes, &range(0xB0, 56), 0, &mut out);
+    let (found, AnyRecord { thread, .. }) = record_of(&bytes, 0, &range(0xB0, 56), 0);
     assert_eq!(rt; found, DONE);
-    assert_eq!(rt; (out.thread_id, out.suspend_count), (0x99, 2));
+    assert_eq!(rt; (thread.thread_id, thread.suspend_count), (0x99, 2));
     Ok(())
 }
 
@@ -298,7 +301,7 @@ fn threads_by_their_index(rt: HostRuntime) -> Result<(), Fail> {
 #[test]
 fn records_by_their_kind(rt: HostRuntime) -> Result<(), Fail> {
     let bytes = dump(rt.alloc())?;
-    let mut out = EMPTY;
+    let mut out: AnyRecord = filled();
     for [kind, offset, size] in STREAMS {
         let bounds = range(u64::from(offset), u64::from(size));
         let found = pe_c_dump_record(&bytes, &bounds, kind, 0, &mut out);
@@ -307,10 +310,10 @@ fn records_by_their_kind(rt: HostRuntime) -> Result<(), Fail> {
         let found = pe_c_dump_record(&bytes, &bounds, kind, 3, &mut out);
         assert_eq!(rt; found, NOTHING);
     }
-    assert_eq!(rt; (out.thread.thread_id, out.entry), (0x24, EMPTY.entry));
+    assert_eq!(rt; (out.thread.thread_id, is_filled(&out.entry)), (0x24, true));
     let found = pe_c_dump_record(&bytes, &range(32, 144), 0, 11, &mut out);
     assert_eq!(rt; (found, out.entry.stream_type), (DONE, 17));
-    assert_eq!(rt; out.spare, 0);
+    assert!(rt; is_filled(&out.spare));
     for kind in [1, 2, 8, 10, 11, 13, 18, 23, 25, 0x4767_0001] {
         let found = pe_c_dump_record(&bytes, &range(0, 0), kind, 0, &mut out);
         assert_eq!(rt; found, NOTHING);
@@ -338,8 +341,8 @@ const VERSION: FixedFileInfo = FixedFileInfo {
 #[test]
 fn modules_by_their_index(rt: HostRuntime) -> Result<(), Fail> {
     let bytes = dump(rt.alloc())?;
-    let mut out: DumpModule = filled();
-    assert_eq!(rt; pe_c_dump_module_at(&bytes, &stream(1), 0, &mut out), DONE);
+    let (found, AnyRecord { loaded: out, .. }) = record(&bytes, 1, 0);
+    assert_eq!(rt; found, DONE);
     let found = (out.base_of_image, out.size_of_image);
     assert_eq!(rt; found, (0x1_8000_0000, 0x2_1000));
     assert_eq!(rt; (out.check_sum, out.time_date_stamp), (6, 7));
@@ -354,8 +357,13 @@ fn modules_by_their_index(rt: HostRuntime) -> Result<(), Fail> {
 #[test]
 fn names_of_threads_by_their_index(rt: HostRuntime) -> Result<(), Fail> {
     let bytes = dump(rt.alloc())?;
-    let mut out: DumpThreadName = filled();
-    let found = pe_c_dump_thread_name_at(&bytes, &stream(7), 0, &mut out);
+    let (
+        found,
+        AnyRecord {
+            thread_name: out,
+            ..
+        },
+    ) = record(&bytes, 7, 0);
     assert_eq!(rt; found, DONE);
     let found = (out.rva_of_thread_name, out.thread_id, out.spare);
     assert_eq!(rt; found, (0x1_0000_0400, 0x24, 0));
@@ -365,8 +373,7 @@ fn names_of_threads_by_their_index(rt: HostRuntime) -> Result<(), Fail> {
 #[test]
 fn unloaded_modules_by_their_index(rt: HostRuntime) -> Result<(), Fail> {
     let mut bytes = dump(rt.alloc())?;
-    let mut out: UnloadedModule = filled();
-    let found = pe_c_dump_unloaded_at(&bytes, &stream(8), 0, &mut out);
+    let (found, out) = record(&bytes, 8, 0);
     assert_eq!(rt; found, DONE);
     let want = UnloadedModule {
         base_of_image: 0x1_7000_0000,
@@ -375,19 +382,23 @@ fn unloaded_modules_by_their_index(rt: HostRuntime) -> Result<(), Fail> {
         time_date_stamp: 9,
         module_name_rva: 0x400,
     };
-    assert_eq!(rt; out, want);
+    assert_eq!(rt; out.unloaded, want);
     put(&mut bytes, &[(0x314, b"\x17")]);
-    let found = pe_c_dump_unloaded_at(&bytes, &stream(8), 0, &mut out);
-    assert_eq!(rt; found, DUMP_ENTRY_SIZE);
-    assert_eq!(rt; out, want);
+    let (found, out) = record(&bytes, 8, 0);
+    assert_eq!(rt; (found, is_filled(&out)), (DUMP_ENTRY_SIZE, true));
     Ok(())
 }
 
 #[test]
 fn thread_infos_by_their_index(rt: HostRuntime) -> Result<(), Fail> {
     let bytes = dump(rt.alloc())?;
-    let mut out: ThreadInfo = filled();
-    let found = pe_c_dump_thread_info_at(&bytes, &stream(11), 0, &mut out);
+    let (
+        found,
+        AnyRecord {
+            thread_info: out,
+            ..
+        },
+    ) = record(&bytes, 11, 0);
     assert_eq!(rt; found, DONE);
     let want = ThreadInfo {
         thread_id: 0x24,
@@ -408,8 +419,8 @@ fn thread_infos_by_their_index(rt: HostRuntime) -> Result<(), Fail> {
 #[test]
 fn handles_by_their_index(rt: HostRuntime) -> Result<(), Fail> {
     let bytes = dump(rt.alloc())?;
-    let mut out: Handle = filled();
-    assert_eq!(rt; pe_c_dump_handle_at(&bytes, &stream(10), 0, &mut out), DONE);
+    let (found, AnyRecord { handle: out, .. }) = record(&bytes, 10, 0);
+    assert_eq!(rt; found, DONE);
     let want = Handle {
         handle: 0x44,
         type_name_rva: 0x400,
@@ -426,8 +437,8 @@ fn handles_by_their_index(rt: HostRuntime) -> Result<(), Fail> {
 #[test]
 fn regions_by_their_index(rt: HostRuntime) -> Result<(), Fail> {
     let bytes = dump(rt.alloc())?;
-    let mut out: DumpMemoryRegion = filled();
-    assert_eq!(rt; pe_c_dump_region_at(&bytes, &stream(9), 0, &mut out), DONE);
+    let (found, AnyRecord { region: out, .. }) = record(&bytes, 9, 0);
+    assert_eq!(rt; found, DONE);
     let found = (out.base_address, out.allocation_base, out.region_size);
     assert_eq!(rt; found, (0x1000, 0x800, 0x3000));
     let found = (out.allocation_protect, out.state, out.protect);
@@ -439,11 +450,10 @@ fn regions_by_their_index(rt: HostRuntime) -> Result<(), Fail> {
 #[test]
 fn exception_of_a_dump(rt: HostRuntime) -> Result<(), Fail> {
     let bytes = dump(rt.alloc())?;
-    let mut out: Exception = filled();
-    let found = pe_c_dump_exception(&bytes[..0x297], &stream(4), &mut out);
-    assert_eq!(rt; found, DUMP_LOCATION);
-    assert!(rt; is_filled(&out));
-    assert_eq!(rt; pe_c_dump_exception(&bytes, &stream(4), &mut out), DONE);
+    let (found, out) = record(&bytes[..0x297], 4, 0);
+    assert_eq!(rt; (found, is_filled(&out)), (DUMP_LOCATION, true));
+    let (found, AnyRecord { exception: out, .. }) = record(&bytes, 4, 0);
+    assert_eq!(rt; found, DONE);
     assert_eq!(rt; (out.thread_id, out.exception_code), (0x24, 0xC000_0005));
     assert_eq!(rt; (out.exception_flags, out.number_parameters), (1, 2));
     assert_eq!(rt; out.exception_record, 8);
@@ -460,8 +470,8 @@ fn exception_of_a_dump(rt: HostRuntime) -> Result<(), Fail> {
 #[test]
 fn system_of_a_dump(rt: HostRuntime) -> Result<(), Fail> {
     let bytes = dump(rt.alloc())?;
-    let mut out: DumpSystem = filled();
-    assert_eq!(rt; pe_c_dump_system(&bytes, &stream(5), &mut out), DONE);
+    let (found, AnyRecord { system: out, .. }) = record(&bytes, 5, 0);
+    assert_eq!(rt; found, DONE);
     assert_eq!(rt; (out.processor_architecture, out.processor_level), (9, 6));
     assert_eq!(rt; out.processor_revision, 0x0F01);
     assert_eq!(rt; (out.number_of_processors, out.product_type), (4, 1));
@@ -475,8 +485,8 @@ fn system_of_a_dump(rt: HostRuntime) -> Result<(), Fail> {
 #[test]
 fn process_of_a_dump(rt: HostRuntime) -> Result<(), Fail> {
     let mut bytes = dump(rt.alloc())?;
-    let mut out: DumpProcess = filled();
-    assert_eq!(rt; pe_c_dump_process(&bytes, &stream(6), &mut out), DONE);
+    let (found, AnyRecord { process: out, .. }) = record(&bytes, 6, 0);
+    assert_eq!(rt; found, DONE);
     assert_eq!(rt; (out.size_of_info, out.flags1, out.process_id), (44, 7, 32));
     let times = ProcessTimes {
         process_create_time: 10,
@@ -493,18 +503,14 @@ fn process_of_a_dump(rt: HostRuntime) -> Result<(), Fail> {
     };
     assert_eq!(rt; (out.has_processor_power, out.processor_power), (1, power));
     // What is not there is 0.
-    let found = pe_c_dump_process(&bytes, &range(0x2D0, 43), &mut out);
-    assert_eq!(rt; found, DONE);
-    let found = (
-        out.has_processor_power,
-        out.processor_power.processor_max_mhz,
-    );
-    assert_eq!(rt; found, (0, 0));
+    let (found, AnyRecord { process, .. }) = record_of(&bytes, 6, &range(0x2D0, 43), 0);
+    assert_eq!(rt; (found, process.has_processor_power), (DONE, 0));
+    assert_eq!(rt; process.processor_power.processor_max_mhz, 0);
     put(&mut bytes, &[(0x2D4, b"\x04")]);
-    assert_eq!(rt; pe_c_dump_process(&bytes, &stream(6), &mut out), DONE);
-    let found = (out.process_id, out.process_times.process_user_time);
+    let (found, AnyRecord { process, .. }) = record(&bytes, 6, 0);
+    assert_eq!(rt; (found, process.has_processor_power), (DONE, 1));
+    let found = (process.process_id, process.process_times.process_user_time);
     assert_eq!(rt; found, (0, 0));
-    assert_eq!(rt; out.has_processor_power, 1);
     Ok(())
 }
 
@@ -521,16 +527,14 @@ fn of_piece(piece: &DumpPiece) -> [u64; 4] {
 #[test]
 fn pieces_of_memory_by_their_index(rt: HostRuntime) -> Result<(), Fail> {
     let bytes = dump(rt.alloc())?;
-    let mut out = filled();
     let wanted = [
         [0x2010, 0x430, 16, 0],
         [0x3000, 0xCB0, 8, 1],
         [0x4000, SIZE as u64, 0, 2],
     ];
     for (index, want) in (0..3).zip(wanted) {
-        let found = pe_c_dump_memory_at(&bytes, &stream(2), index, &mut out);
-        assert_eq!(rt; found, DONE);
-        assert_eq!(rt; of_piece(&out), want);
+        let (found, out) = record(&bytes, 2, index);
+        assert_eq!(rt; (found, of_piece(&out.memory)), (DONE, want));
     }
     Ok(())
 }
@@ -538,11 +542,14 @@ fn pieces_of_memory_by_their_index(rt: HostRuntime) -> Result<(), Fail> {
 #[test]
 fn pieces_of_a_full_dump(rt: HostRuntime) -> Result<(), Fail> {
     let mut bytes = dump(rt.alloc())?;
-    let mut walk = Memory64Walk {
-        entries: range(7, 7),
-        next: 7,
-    };
-    assert_eq!(rt; pe_c_dump_memory64(&bytes, &stream(3), &mut walk), DONE);
+    let (
+        found,
+        AnyRecord {
+            memory64: mut walk,
+            ..
+        },
+    ) = record(&bytes, 3, 0);
+    assert_eq!(rt; found, DONE);
     assert_eq!(rt; (of_range(walk.entries), walk.next), ([0x1D0, 32], 0xCA0));
     let mut out = filled();
     assert_eq!(rt; pe_c_next_memory64(&bytes, &mut walk, &mut out), DONE);
@@ -556,16 +563,22 @@ fn pieces_of_a_full_dump(rt: HostRuntime) -> Result<(), Fail> {
     assert!(rt; is_filled(&out));
     // The sum of the sizes passes the last offset.
     put(&mut bytes, &[(0x1E8, &[0xFF; 8])]);
-    let found = pe_c_dump_memory64(&bytes, &stream(3), &mut walk);
-    assert_eq!(rt; found, DUMP_LOCATION);
+    assert_eq!(rt; record(&bytes, 3, 0).0, DUMP_LOCATION);
     Ok(())
+}
+
+/// The context that a call hands out of a machine.
+fn context(bytes: &[u8], location: &Location, machine: u32) -> (u32, AnyContext) {
+    let mut out = filled();
+    let answer = pe_c_read_dump_context(bytes, location, machine, &mut out);
+    (answer, out)
 }
 
 #[test]
 fn context_of_x64(rt: HostRuntime) -> Result<(), Fail> {
     let mut bytes = dump(rt.alloc())?;
-    let mut out: X64Context = filled();
-    assert_eq!(rt; pe_c_dump_context(&bytes, &X64, &mut out), DONE);
+    let (found, AnyContext { x64: out, .. }) = context(&bytes, &X64, 9);
+    assert_eq!(rt; found, DONE);
     let mut general = [0; 16];
     general[0] = 0x11;
     general[4] = 0x2010;
@@ -578,23 +591,22 @@ fn context_of_x64(rt: HostRuntime) -> Result<(), Fail> {
     assert_eq!(rt; (out.context_flags, out.eflags), (0x10_000B, 0x246));
     // XMM registers that were not saved are 0.
     put(&mut bytes, &[(0x470, b"\x03")]);
-    assert_eq!(rt; pe_c_dump_context(&bytes, &X64, &mut out), DONE);
-    assert_eq!(rt; (out.registers.xmm, out.registers.rip), ([0; 32], 0x33));
-    out = filled();
+    let (found, AnyContext { x64: out, .. }) = context(&bytes, &X64, 9);
+    assert_eq!(rt; (found, out.registers.xmm), (DONE, [0; 32]));
+    assert_eq!(rt; out.registers.rip, 0x33);
     put(&mut bytes, &[(0x470, b"\x02")]);
-    let found = pe_c_dump_context(&bytes, &X64, &mut out);
-    assert_eq!(rt; found, DUMP_CONTEXT_FLAGS);
+    assert_eq!(rt; context(&bytes, &X64, 9).0, DUMP_CONTEXT_FLAGS);
     put(&mut bytes, &[(0x472, b"\x40")]);
-    assert_eq!(rt; pe_c_dump_context(&bytes, &X64, &mut out), DUMP_MACHINE);
-    assert!(rt; is_filled(&out));
+    let (found, out) = context(&bytes, &X64, 9);
+    assert_eq!(rt; (found, is_filled(&out)), (DUMP_MACHINE, true));
     Ok(())
 }
 
 #[test]
 fn context_of_arm64(rt: HostRuntime) -> Result<(), Fail> {
     let mut bytes = dump(rt.alloc())?;
-    let mut out: Arm64Context = filled();
-    assert_eq!(rt; pe_c_dump_context_arm64(&bytes, &ARM64, &mut out), DONE);
+    let (found, AnyContext { arm64: out, .. }) = context(&bytes, &ARM64, 12);
+    assert_eq!(rt; found, DONE);
     let mut general = [0; 31];
     general[0] = 0x11;
     general[30] = 0x22;
@@ -602,8 +614,7 @@ fn context_of_arm64(rt: HostRuntime) -> Result<(), Fail> {
     assert_eq!(rt; (out.registers.sp, out.registers.pc), (0x33, 0x44));
     assert_eq!(rt; out.registers.floats, [0x55, 0, 0, 0, 0, 0, 0, 0]);
     assert_eq!(rt; (out.context_flags, out.cpsr), (0x40_0007, 0x66));
-    let found = pe_c_dump_context_arm64(&bytes, &NO_BYTES, &mut out);
-    assert_eq!(rt; found, DUMP_CONTEXT_SIZE);
+    assert_eq!(rt; context(&bytes, &NO_BYTES, 12).0, DUMP_CONTEXT_SIZE);
     Ok(())
 }
 
@@ -611,7 +622,7 @@ fn context_of_arm64(rt: HostRuntime) -> Result<(), Fail> {
 #[test]
 fn contexts_by_their_machine(rt: HostRuntime) -> Result<(), Fail> {
     let bytes = dump(rt.alloc())?;
-    let mut out = NO_CONTEXT;
+    let mut out: AnyContext = filled();
     for (machine, location, wanted) in [
         (0, X64, DUMP_MACHINE),
         (5, ARM64, DUMP_MACHINE),
@@ -622,36 +633,27 @@ fn contexts_by_their_machine(rt: HostRuntime) -> Result<(), Fail> {
         let found = pe_c_read_dump_context(&bytes, &location, machine, &mut out);
         assert_eq!(rt; found, wanted);
     }
-    assert_eq!(rt;
-        (out.x64.registers.rip, out.arm64.registers.pc),
-        (0x33, 0x44)
-    );
+    assert_eq!(rt; out.x64.registers.rip, 0x33);
+    assert_eq!(rt; out.arm64.registers.pc, 0x44);
     Ok(())
 }
 
 #[test]
 fn images_of_modules_match_by_stamp_and_size(rt: HostRuntime) -> Result<(), Fail> {
     let bytes = dump(rt.alloc())?;
-    let mut module = filled();
-    let found = pe_c_dump_module_at(&bytes, &stream(1), 0, &mut module);
+    let (found, AnyRecord { loaded: module, .. }) = record(&bytes, 1, 0);
     assert_eq!(rt; found, DONE);
-    let own = Image {
-        time_date_stamp: 7,
-        size_of_image: 0x2_1000,
-        ..image(0x8664)
-    };
-    assert_eq!(rt; pe_c_is_image_of(&own, &module), DONE);
-    for other in [
-        Image {
-            time_date_stamp: 6,
-            ..own
-        },
-        Image {
-            size_of_image: 0x2_1001,
-            ..own
-        },
+    for (time_date_stamp, size_of_image, wanted) in [
+        (7, 0x2_1000, DONE),
+        (6, 0x2_1000, NOTHING),
+        (7, 0x2_1001, NOTHING),
     ] {
-        assert_eq!(rt; pe_c_is_image_of(&other, &module), NOTHING);
+        let other = Image {
+            time_date_stamp,
+            size_of_image,
+            ..image(0x8664)
+        };
+        assert_eq!(rt; pe_c_is_image_of(&other, &module), wanted);
     }
     Ok(())
 }

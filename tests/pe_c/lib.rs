@@ -18,7 +18,6 @@ mod delay_imports;
 mod directory_failure;
 mod directory_tables;
 mod dump;
-mod dump_steps;
 mod ended_texts;
 mod exports;
 mod failure;
