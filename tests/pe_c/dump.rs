@@ -625,6 +625,7 @@ fn contexts_by_their_machine(rt: HostRuntime) -> Result<(), Fail> {
     let mut out: AnyContext = filled();
     for (machine, location, wanted) in [
         (0, X64, DUMP_MACHINE),
+        // shows: calls_stacks/src/dump/contexts.rt hand_out_context Machine
         (5, ARM64, DUMP_MACHINE),
         (9, X64, DONE),
         (12, X64, DUMP_MACHINE),
