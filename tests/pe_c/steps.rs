@@ -303,17 +303,18 @@ pub(crate) fn pe_c_next_symbol(bytes: &[u8], walk: &mut SymbolWalk, out: &mut Sy
         symbols: *walk,
         strings: NO_BYTES,
     };
-    let none = NamedSymbol {
+    let mut named = NamedSymbol {
         symbol: *out,
         name: NO_BYTES,
         name_result: 0,
         spare: 0,
     };
-    let (mut entries, mut written) = ([none], 0);
-    let number = pe_c_list_symbols(bytes, &mut all, &mut [], &mut entries, &mut written);
+    let number = one(&mut named, NOTHING, |entries, written| {
+        pe_c_list_symbols(bytes, &mut all, &mut [], entries, written)
+    });
     *walk = all.symbols;
-    *out = entries[0].symbol;
-    one(number, written, NOTHING)
+    *out = named.symbol;
+    number
 }
 
 pub(crate) fn pe_c_symbol(bytes: &[u8], table: &Range, index: u64, out: &mut Symbol) -> u32 {

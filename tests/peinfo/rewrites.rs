@@ -41,7 +41,8 @@ fn refuses_symbols(rt: HostRuntime) -> Result<(), Fail> {
     put(&mut image, &[(0x4C, &[1])]);
     let answer = rewritten(rt.alloc(), &image);
     let symbols = Reason::WriteSymbols(1);
-    assert_matches!(rt; answer =>
-        Err(ReportError::Parse(Error::Malformed(reason))) if reason == symbols);
+    assert!(rt;
+        matches!(answer, Err(ReportError::Parse(Error::Malformed(reason))) if reason == symbols)
+    );
     Ok(())
 }
