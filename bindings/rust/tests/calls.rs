@@ -295,7 +295,8 @@ fn debug_records_are_read_at_once() {
     check(&with_imports(), 0);
 }
 
-/// A table of 150,000 entries is read in few passes for all records, which take about as long as a walk: the least of nine times.
+/// A table of 150,000 entries is read in three passes for all records, which take about as long as walks; one for each record would be
+/// eight. The least of nine times.
 #[test]
 fn debug_records_are_read_in_few_passes() {
     let mut made = Made::new(X64);
@@ -315,7 +316,7 @@ fn debug_records_are_read_in_few_passes() {
     };
     let walk = least(&|| assert_eq!(image.debug_entry(2), Ok(None)));
     let all = least(&|| assert!(matches!(image.debug_records().pogo, Ok(None))));
-    assert!(all < 4 * walk, "{all:?} for all, {walk:?} for a walk");
+    assert!(all < 6 * walk, "{all:?} for all, {walk:?} for a walk");
 }
 
 /// Each record is read from the entry of its type too, and as one of any other type where its bytes are one.
