@@ -1,9 +1,10 @@
-//! Makes every call on damaged images: `fuzz SECONDS [--seed N] [FILE ..]`. The files are images; those below 64 bytes or
-//! above 1 MiB are skipped. Without files, the images of the tests are damaged.
+//! Makes every call on damaged files: `fuzz SECONDS [--seed N] [--first NUMBER | --only NUMBER] [FILE ..]`. Files below 64
+//! bytes or above 1 MiB are skipped. Without files, those of the tests are damaged.
 //!
 //! Each input is a file with a few bytes changed, and sometimes truncated. It ends where readable memory ends, so that a
-//! read past its end crashes. The calls that take ranges and walks get wrong ones too. A run with the same seed, files and
-//! machine makes the same inputs. The last line counts what was read.
+//! read past its end crashes. The calls that take ranges and walks get wrong ones too. An input depends on the seed, its
+//! number and the files alone. A run that fails prints its number, and `--only` makes it again; `--first` goes on at `next`
+//! of the run before. The last line counts what was read. `bench/fuzz` keeps the sums of many runs.
 
 #[path = "../tests/made/mod.rs"]
 mod made;
@@ -14,11 +15,15 @@ use pe_c::{sys, Image, Layout, Mode};
 use reading::{read_all, read_dump, read_others, Seen};
 use std::ffi::c_void;
 use std::ops::Range;
+use std::sync::atomic::{AtomicU64, Ordering::Relaxed};
 use std::time::Instant;
 
 extern "C" {
     fn mmap(at: *mut c_void, length: usize, may: i32, how: i32, file: i32, from: i64) -> *mut c_void;
     fn mprotect(at: *mut c_void, length: usize, may: i32) -> i32;
+    fn signal(number: i32, handler: extern "C" fn(i32)) -> usize;
+    fn alarm(seconds: u32) -> u32;
+    fn _exit(status: i32) -> !;
 }
 
 /// The most bytes of an input, and the bytes of a page.
@@ -26,7 +31,13 @@ const ROOM: usize = 1 << 20;
 const PAGE: usize = 1 << 16;
 
 /// Inputs made of one file before the next.
-const INPUTS_OF_A_FILE: usize = 64;
+const INPUTS_OF_A_FILE: u64 = 64;
+
+/// How many seconds these may take.
+const SECONDS_OF_A_FILE: u32 = 300;
+
+/// The number of the input that is made.
+static NUMBER: AtomicU64 = AtomicU64::new(0);
 
 /// The most items that a wrong walk may return.
 const MOST: usize = 16;
@@ -47,6 +58,14 @@ fn fenced() -> &'static mut [u8] {
 struct Random(u64);
 
 impl Random {
+    /// Those of a number of this seed, by splitmix64.
+    fn of(seed: u64, number: u64) -> Random {
+        let state = seed.wrapping_add(number.wrapping_mul(0x9E37_79B9_7F4A_7C15));
+        let state = (state ^ state >> 30).wrapping_mul(0xBF58_476D_1CE4_E5B9);
+        let state = (state ^ state >> 27).wrapping_mul(0x94D0_49BB_1331_11EB);
+        Random((state ^ state >> 31).max(1))
+    }
+
     fn next(&mut self) -> u64 {
         self.0 ^= self.0 << 13;
         self.0 ^= self.0 >> 7;
@@ -76,6 +95,9 @@ impl Random {
 fn hot_offsets(bytes: &[u8]) -> Vec<Range<usize>> {
     let mut offsets = vec![0..bytes.len(), 0..bytes.len().min(1024), 60..64];
     let Ok(image) = Image::parse(bytes, Mode::Permissive) else {
+        // A PDB or a minidump has gaps of zeros between what it says.
+        let pieces = bytes.chunks(64).enumerate().filter(|(_, piece)| piece.iter().any(|byte| *byte != 0));
+        offsets.extend(pieces.map(|(i, piece)| 64 * i..64 * i + piece.len()));
         return offsets;
     };
     let info = image.info();
@@ -1132,68 +1154,111 @@ fn read_by_lies(bytes: &[u8], random: &mut Random, seen: &mut Seen) {
     }
 }
 
-/// What the tests make that is no image.
-fn other_files() -> [Vec<u8>; 4] {
-    [made::object(), made::te_image(), made::full_dump(made::X64), made::full_dump(made::ARM64)]
+/// What the tests make, images and others.
+fn made_files() -> Vec<Vec<u8>> {
+    let others = [made::with_signature(), made::object(), made::te_image(), made::pdb(), made::pdb_inlined()];
+    let dumps = [made::X64, made::ARM64].map(made::full_dump);
+    made::all().into_iter().map(|(_, bytes)| bytes).chain(others).chain(dumps).collect()
 }
 
-/// The arguments: the seconds, the seed, and the files.
-fn words() -> Option<(u64, u64, Vec<String>)> {
-    let mut words = std::env::args().skip(1);
-    let seconds = words.next()?.parse().ok()?;
-    let mut files: Vec<String> = words.collect();
-    let mut seed = 0x9E37_79B9_7F4A_7C15;
-    if files.first().is_some_and(|word| word == "--seed") {
-        seed = files.get(1)?.parse().ok()?;
-        files.drain(..2);
+/// Says which input a signal ends.
+extern "C" fn fail(number: i32) {
+    eprintln!("fuzz: signal {number} at input {}", NUMBER.load(Relaxed));
+    // SAFETY: it ends the process.
+    unsafe { _exit(128 + number) };
+}
+
+/// Has a failed assertion, a fault, a failed test of a number and an endless call say which input it was.
+fn say_failures() {
+    let says = std::panic::take_hook();
+    std::panic::set_hook(Box::new(move |why| {
+        says(why);
+        std::process::abort();
+    }));
+    for number in [4, 5, 6, 7, 8, 11, 14] {
+        // SAFETY: the handler prints a number that is no pointer, and ends the process.
+        unsafe { signal(number, fail) };
     }
-    Some((seconds, seed, files))
+}
+
+/// Makes all calls on the input of a number.
+fn try_input(input: &mut [u8], offsets: &[Range<usize>], mut random: Random, seen: &mut Seen) {
+    let before = change(input, offsets, &mut random);
+    let mode = if random.below(2) == 0 { Mode::Strict } else { Mode::Permissive };
+    let layout = if random.below(4) == 0 { Layout::Mapped } else { Layout::File };
+    let most = [1, 1, 2, 4, 8, 64][random.below(6)];
+    seen.add(read_all(input, mode, layout, most));
+    if random.below(4) == 0 {
+        let mut others = Seen::up_to(most);
+        read_others(input, &mut others);
+        read_dump(input, &mut others);
+        seen.add(others);
+        read_by_lies(input, &mut random, seen);
+        read_by_steps(input, mode, layout, &mut random, seen);
+    }
+    for (at, byte) in before.into_iter().rev() {
+        input[at] = byte;
+    }
+}
+
+/// A file, and the offsets where it is changed.
+type Damaged = (Vec<Range<usize>>, Vec<u8>);
+
+/// Makes all calls on the inputs of these numbers, all of one file.
+fn try_inputs(numbers: Range<u64>, seed: u64, files: &[Damaged], memory: &mut [u8], seen: &mut Seen) {
+    let mut random = Random::of(!seed, numbers.start / INPUTS_OF_A_FILE);
+    let (offsets, bytes) = &files[random.below(files.len())];
+    let input = copy(memory, bytes, &mut random);
+    // SAFETY: a call that takes a number alone.
+    unsafe { alarm(SECONDS_OF_A_FILE) };
+    for number in numbers {
+        NUMBER.store(number, Relaxed);
+        try_input(input, offsets, Random::of(seed, number), seen);
+    }
+}
+
+/// The arguments: the seconds, the seed, the numbers of the first input and of the one after the last, and the files.
+fn words() -> Option<(u64, u64, Range<u64>, Vec<String>)> {
+    let mut words = std::env::args().skip(1).peekable();
+    let seconds = words.next()?.parse().ok()?;
+    let (mut seed, mut numbers) = (0x9E37_79B9_7F4A_7C15, 0..u64::MAX);
+    while let Some(option) = words.next_if(|word| word.starts_with("--")) {
+        let value = words.next()?.parse().ok()?;
+        match option.as_str() {
+            "--seed" => seed = value,
+            "--first" => numbers.start = value / INPUTS_OF_A_FILE * INPUTS_OF_A_FILE,
+            "--only" => numbers = value..value.checked_add(1)?,
+            _ => return None,
+        }
+    }
+    Some((seconds, seed, numbers, words.collect()))
 }
 
 fn main() {
-    let Some((seconds, seed, names)) = words() else {
-        eprintln!("usage: fuzz SECONDS [--seed N] [FILE ..]");
+    let Some((seconds, seed, numbers, names)) = words() else {
+        eprintln!("usage: fuzz SECONDS [--seed N] [--first NUMBER | --only NUMBER] [FILE ..]");
         std::process::exit(2);
     };
     let read = names.iter().filter_map(|name| std::fs::read(name).ok());
     let mut files: Vec<Vec<u8>> = read.filter(|bytes| (64..=ROOM).contains(&bytes.len())).collect();
     if files.is_empty() {
-        let others = [made::with_signature()].into_iter().chain(other_files());
-        files = made::all().into_iter().map(|(_, bytes)| bytes).chain(others).collect();
+        files = made_files();
     }
     let files: Vec<_> = files.into_iter().map(|bytes| (hot_offsets(&bytes), bytes)).collect();
-    let memory = fenced();
-    let mut random = Random(seed.max(1));
-    let (mut inputs, mut seen) = (0u64, Seen::up_to(0));
+    say_failures();
+    let (memory, mut seen, mut next) = (fenced(), Seen::up_to(0), numbers.start);
     let start = Instant::now();
-    while start.elapsed().as_secs() < seconds {
-        let (offsets, bytes) = &files[random.below(files.len())];
-        let input = copy(memory, bytes, &mut random);
-        for _ in 0..INPUTS_OF_A_FILE {
-            let before = change(input, offsets, &mut random);
-            let mode = if random.below(2) == 0 { Mode::Strict } else { Mode::Permissive };
-            let layout = if random.below(4) == 0 { Layout::Mapped } else { Layout::File };
-            let most = [1, 1, 2, 4, 8, 64][random.below(6)];
-            seen.add(read_all(input, mode, layout, most));
-            if random.below(4) == 0 {
-                let mut others = Seen::up_to(most);
-                read_others(input, &mut others);
-                read_dump(input, &mut others);
-                seen.add(others);
-                read_by_lies(input, &mut random, &mut seen);
-                read_by_steps(input, mode, layout, &mut random, &mut seen);
-            }
-            inputs += 1;
-            for (at, byte) in before.into_iter().rev() {
-                input[at] = byte;
-            }
-        }
+    while next < numbers.end && (start.elapsed().as_secs() < seconds || next == numbers.start) {
+        let end = numbers.end.min(next.saturating_add(INPUTS_OF_A_FILE));
+        try_inputs(next..end, seed, &files, memory, &mut seen);
+        next = end;
     }
+    let inputs = next - numbers.start;
     let rate = inputs as f64 / start.elapsed().as_secs_f64();
     let Seen { images, records, codes, slices, refusals, .. } = seen;
     println!(
         "{} files, {inputs} inputs, {images} images, {records} unwind records, {codes} codes, {slices} slices, \
-         {refusals} refusals, {rate:.0} inputs a second",
+         {refusals} refusals, {rate:.0} inputs a second, seed {seed}, next {next}",
         files.len()
     );
 }
