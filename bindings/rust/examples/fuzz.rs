@@ -12,7 +12,7 @@ mod made;
 mod reading;
 
 use pe_c::{sys, Image, Layout, Mode};
-use reading::{read_all, read_dump, read_others, Seen};
+use reading::{read_all, read_dump, read_others, read_pdb, Seen};
 use std::ffi::c_void;
 use std::ops::Range;
 use std::sync::atomic::{AtomicU64, Ordering::Relaxed};
@@ -201,12 +201,6 @@ fn pdb_of_lies(bytes: &[u8], random: &mut Random, number: u64) {
     symbols_of_lies(bytes, sections, random, number);
     lines_of_lies(bytes, sections, random, number);
     inlined_of_lies(bytes, sections, random, number);
-    if let Ok(pdb) = pe_c::Pdb::parse(bytes) {
-        let _ = (pdb.publics(), pdb.modules());
-        if let Ok(symbolizer) = pdb.symbolizer() {
-            let _ = symbolizer.frames(few);
-        }
-    }
 }
 
 /// Makes the calls that read modules and symbols, on the bytes as a stream, with wrong ranges and indexes.
@@ -488,6 +482,8 @@ fn read_by_lies(bytes: &[u8], random: &mut Random, seen: &mut Seen) {
         machine: if few & 1 == 0 { made::X64 } else { made::ARM64 },
         width: if few & 2 == 0 { 32 } else { 64 },
         number_of_sections: (few >> 2) as u16 % 4,
+        size_of_image: few >> 7 & 0xF_FFFF,
+        number_of_directories: 16,
         ..sys::ImageInfo::default()
     };
     let mut any_section = || sys::Section {
@@ -507,7 +503,7 @@ fn read_by_lies(bytes: &[u8], random: &mut Random, seen: &mut Seen) {
     let mut view = sys::View::of(bytes, &image, &sections, &lies[..few as usize % 4]);
     let (mut entries, mut made) = ([sys::IndexEntry::default(); 64], 0);
     // SAFETY: the pointers and lengths are those of slices, and each record is lent for its call; so are the view's.
-    if unsafe { sys::pe_c_index(&view, entries.as_mut_ptr(), entries.len(), &mut made) } == 0 && few % 2 == 0 {
+    if unsafe { sys::pe_c_index(&view, entries.as_mut_ptr(), entries.len(), &mut made) } == 0 && few & 0x80 == 0 {
         (view.index, view.entries) = (entries.as_ptr(), made as usize);
     }
     macro_rules! returned {
@@ -808,8 +804,8 @@ fn read_by_lies(bytes: &[u8], random: &mut Random, seen: &mut Seen) {
         content: sys::Range { offset: 0, length: u64::from(few % 8) },
         ..Default::default()
     };
-    let records = [small, record];
-    let count = few as usize % 3;
+    let records = [small, sys::Resource { language: few % 3, ..small }, record];
+    let count = few as usize % 4;
     let (mut needed, mut written) = (0, 0);
     // SAFETY: as above.
     unsafe {
@@ -832,7 +828,7 @@ fn read_by_lies(bytes: &[u8], random: &mut Random, seen: &mut Seen) {
             sys::VersionTable { first: few, count: 1, ..Default::default() },
         ];
         let (fixed, pairs) = (sys::Version::default(), [sys::VersionLanguage::default(); 2]);
-        let (tables, strings, pairs, few) = (tables.as_ptr(), strings.as_ptr(), pairs.as_ptr(), count);
+        let (tables, strings, pairs, few) = (tables.as_ptr(), strings.as_ptr(), pairs.as_ptr(), count.min(2));
         for (first, size, written) in [(none, 0, &mut needed), (first, size, &mut written)] {
             sys::pe_c_write_version(&fixed, tables, few, strings, few, pairs, few, start, length, first, size, written);
         }
@@ -1063,7 +1059,8 @@ fn read_by_lies(bytes: &[u8], random: &mut Random, seen: &mut Seen) {
         ..sys::Frame::default()
     };
     let table = call_of_image!(pe_c_function_table(), Range);
-    let piece = sys::MemoryPiece { start: random.edge(number), offset: 0, length: length as u64 };
+    let stack = if few & 16 == 0 { frame.registers.general[4] & !7 } else { random.edge(number) };
+    let piece = sys::MemoryPiece { start: stack, offset: 0, length: length as u64 };
     let lie = sys::MemoryPiece { offset: range.offset, length: range.length, ..piece };
     for (table, pieces) in [(table, [piece; 2]), (range, [piece; 2]), (table, [piece, lie])] {
         // SAFETY: as above. The bytes of the image stand for the code and for the stack.
@@ -1156,9 +1153,10 @@ fn read_by_lies(bytes: &[u8], random: &mut Random, seen: &mut Seen) {
 
 /// What the tests make, images and others.
 fn made_files() -> Vec<Vec<u8>> {
+    let calls = [made::with_calls(), made::with_arm64_calls(), made::editable(), made::with_names_in_one_text()];
     let others = [made::with_signature(), made::object(), made::te_image(), made::pdb(), made::pdb_inlined()];
     let dumps = [made::X64, made::ARM64].map(made::full_dump);
-    made::all().into_iter().map(|(_, bytes)| bytes).chain(others).chain(dumps).collect()
+    made::all().into_iter().map(|(_, bytes)| bytes).chain(calls).chain(others).chain(dumps).collect()
 }
 
 /// Says which input a signal ends.
@@ -1192,6 +1190,7 @@ fn try_input(input: &mut [u8], offsets: &[Range<usize>], mut random: Random, see
         let mut others = Seen::up_to(most);
         read_others(input, &mut others);
         read_dump(input, &mut others);
+        read_pdb(input, &mut others);
         seen.add(others);
         read_by_lies(input, &mut random, seen);
         read_by_steps(input, mode, layout, &mut random, seen);
