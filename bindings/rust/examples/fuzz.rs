@@ -466,6 +466,19 @@ fn read_by_steps(bytes: &[u8], mode: Mode, layout: Layout, random: &mut Random, 
     seen.records += count as u64;
 }
 
+/// The range of what may be an element of a signature: the first that starts after a random place.
+fn element_of(bytes: &[u8], random: &mut Random) -> sys::Range {
+    let at = random.below(bytes.len());
+    let start = at + bytes[at..].iter().take(64).position(|it| [0x30, 0x31, 0xA0].contains(it)).unwrap_or(0);
+    let length = match bytes[start..] {
+        [_, 0x82, high, low, ..] => 4 + u64::from(u16::from_be_bytes([high, low])),
+        [_, 0x81, low, ..] => 3 + u64::from(low),
+        [_, low, ..] => 2 + u64::from(low),
+        _ => 1,
+    };
+    sys::Range { offset: start as u64, length }
+}
+
 /// Makes calls with wrong records: none may touch anything but the bytes and its arguments.
 fn read_by_lies(bytes: &[u8], random: &mut Random, seen: &mut Seen) {
     let (start, length) = (bytes.as_ptr(), bytes.len());
@@ -588,7 +601,7 @@ fn read_by_lies(bytes: &[u8], random: &mut Random, seen: &mut Seen) {
         sys::pe_c_section_range(&view, &section, &mut range);
         assert!(range.offset <= number && range.length <= number - range.offset);
         let mut rest = sys::Range::default();
-        sys::pe_c_range_at(&view, few, &mut rest);
+        sys::pe_c_range_at(&view, few % 0x6000, &mut rest);
         assert!(rest.offset <= number && rest.length <= number - rest.offset);
         let mut rva = 0;
         sys::pe_c_rva(&view, range.offset, &mut rva);
@@ -685,9 +698,10 @@ fn read_by_lies(bytes: &[u8], random: &mut Random, seen: &mut Seen) {
     bound!(pe_c_list_bound_imports, BoundImport);
     bound!(pe_c_list_bound_forwarders, BoundForwarder);
     let (mut codes, mut written, room) = ([sys::Code::default(); 3], 0, few as usize % 4);
+    let some = bytes.get(index as usize..).map_or(bytes, |it| &it[..it.len().min(few as usize % 8)]);
     let form = sys::CodeForm { version: few as u8, frame_register: (few >> 8) as u8 };
     // SAFETY: as above.
-    unsafe { sys::pe_c_all_codes(bytes.as_ptr(), bytes.len(), &form, codes.as_mut_ptr(), room, &mut written) };
+    unsafe { sys::pe_c_all_codes(some.as_ptr(), some.len(), &form, codes.as_mut_ptr(), room, &mut written) };
     assert!(written <= room as u64 && codes[written as usize..].iter().all(|it| *it == sys::Code::default()));
     let entry = sys::DebugEntry {
         data_type: few % 24,
@@ -781,7 +795,7 @@ fn read_by_lies(bytes: &[u8], random: &mut Random, seen: &mut Seen) {
         sys::pe_c_attach(&view, part.as_ptr(), part.len(), few, first, size, &mut written);
         assert_eq!(written, needed);
         let mut next = index;
-        sys::pe_c_write_sections(&view, few, first, size, &mut next);
+        sys::pe_c_write_sections(&view, few % 513, first, size, &mut next);
         sys::pe_c_write_certificates(&view, first, size, &mut left);
         sys::pe_c_write_image(&view, none, 0, &mut needed);
         sys::pe_c_write_image(&view, first, size, &mut left);
@@ -986,6 +1000,7 @@ fn read_by_lies(bytes: &[u8], random: &mut Random, seen: &mut Seen) {
     assert!(written <= 3 && (answer == 0 || written == 0) && named.strings == strings);
     call!(pe_c_te(), TeHeader);
     call!(pe_c_te_debug_entries(&te), Range);
+    let range = if few & 0x100 == 0 { element_of(bytes, random) } else { range };
     let mut failure = sys::SignatureFailure::default();
     let signed = call!(pe_c_signature(&range, &mut failure), SignedData);
     let indirect = call!(pe_c_indirect_data(&signed.content, &mut failure), SpcIndirectData);
