@@ -145,7 +145,7 @@ fn change(input: &mut [u8], offsets: &[Range<usize>], random: &mut Random) -> Ve
     for _ in 0..1 + random.below(6) {
         let offset = &offsets[random.below(offsets.len())];
         let at = offset.start + random.below(offset.len());
-        let value = [0, 1, 0x7F, 0x80, 0xFF, random.next() as u8][random.below(6)];
+        let value = [0, 1, 0x7F, 0x80, 0xFF, 0xE0 | random.below(16) as u8, random.next() as u8][random.below(7)];
         if let Some(byte) = input.get_mut(at) {
             before.push((at, *byte));
             *byte = value;

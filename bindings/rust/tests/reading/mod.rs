@@ -397,14 +397,15 @@ fn stack_of(code: u32) -> [u8; 256] {
     bytes
 }
 
-/// Steps out of a function, from its start, its middle and its end, with and without its code; and a walk from there.
+/// Steps out of a function, from its start, its middle and around its end, with and without its code; and a walk from there.
 fn step_out(image: &Image, functions: &Functions, function: Function, seen: &mut Seen) {
     let words = stack_of(function.begin.wrapping_add(5));
     let stack = Stack { start: 0x2_0000, bytes: &words };
     let mut registers = Registers { general: [0x2_0080; 16], ..Registers::default() };
     registers.set_rsp(0x2_0010);
     let middle = function.begin.wrapping_add(function.end.wrapping_sub(function.begin) / 2);
-    for rva in [function.begin, middle, function.end] {
+    // Before the end may stand a return, or a jump out of the function.
+    for rva in [function.begin, middle, function.end, function.end.wrapping_sub(1), function.end.wrapping_sub(5)] {
         for code in [[].as_slice(), image.code(rva, function.end)] {
             let answer = functions.step(function, rva, code, &registers, stack);
             if let Err(StepError::NotRising(rsp)) = answer {
