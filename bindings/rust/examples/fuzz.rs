@@ -991,7 +991,7 @@ fn read_by_lies(bytes: &[u8], random: &mut Random, seen: &mut Seen) {
             bytes.len(),
             &mut named,
             room,
-            3,
+            few as usize % 4,
             symbols.as_mut_ptr(),
             most,
             &mut written,
