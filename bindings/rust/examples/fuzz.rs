@@ -794,7 +794,7 @@ fn read_by_lies(bytes: &[u8], random: &mut Random, seen: &mut Seen) {
         let (first, size) = (room.as_mut_ptr(), room.len());
         sys::pe_c_attach(&view, part.as_ptr(), part.len(), few, first, size, &mut written);
         assert_eq!(written, needed);
-        let mut next = index;
+        let mut next = index % 64;
         sys::pe_c_write_sections(&view, few % 513, first, size, &mut next);
         sys::pe_c_write_certificates(&view, first, size, &mut left);
         sys::pe_c_write_image(&view, none, 0, &mut needed);
@@ -813,9 +813,10 @@ fn read_by_lies(bytes: &[u8], random: &mut Random, seen: &mut Seen) {
         language: few,
         code_page: few,
     };
+    let text = sys::Range { offset: 60, length: u64::from(few % 8) };
     let small = sys::Resource {
-        resource_type: sys::ResourceName { id: few % 32, ..Default::default() },
-        content: sys::Range { offset: 0, length: u64::from(few % 8) },
+        resource_type: sys::ResourceName { name: text, id: few % 32, has_name: few >> 5 & 1 },
+        content: text,
         ..Default::default()
     };
     let records = [small, sys::Resource { language: few % 3, ..small }, record];
