@@ -1,9 +1,10 @@
-//! Makes every call on damaged images: `fuzz SECONDS [--seed N] [FILE ..]`. The files are images; those below 64 bytes or
-//! above 1 MiB are skipped. Without files, the images of the tests are damaged.
+//! Makes every call on damaged files: `fuzz SECONDS [--seed N] [--first NUMBER | --only NUMBER] [FILE ..]`. Files below 64
+//! bytes or above 1 MiB are skipped. Without files, those of the tests are damaged.
 //!
 //! Each input is a file with a few bytes changed, and sometimes truncated. It ends where readable memory ends, so that a
-//! read past its end crashes. The calls that take ranges and walks get wrong ones too. A run with the same seed, files and
-//! machine makes the same inputs. The last line counts what was read.
+//! read past its end crashes. The calls that take ranges and walks get wrong ones too. An input depends on the seed, its
+//! number and the files alone. A run that fails prints its number, and `--only` makes it again; `--first` goes on at `next`
+//! of the run before. The last line counts what was read. `bench/fuzz` keeps the sums of many runs.
 
 #[path = "../tests/made/mod.rs"]
 mod made;
@@ -11,14 +12,18 @@ mod made;
 mod reading;
 
 use pe_c::{sys, Image, Layout, Mode};
-use reading::{read_all, read_dump, read_others, Seen};
+use reading::{read_all, read_dump, read_others, read_pdb, Seen};
 use std::ffi::c_void;
 use std::ops::Range;
+use std::sync::atomic::{AtomicU64, Ordering::Relaxed};
 use std::time::Instant;
 
 extern "C" {
     fn mmap(at: *mut c_void, length: usize, may: i32, how: i32, file: i32, from: i64) -> *mut c_void;
     fn mprotect(at: *mut c_void, length: usize, may: i32) -> i32;
+    fn signal(number: i32, handler: extern "C" fn(i32)) -> usize;
+    fn alarm(seconds: u32) -> u32;
+    fn _exit(status: i32) -> !;
 }
 
 /// The most bytes of an input, and the bytes of a page.
@@ -26,7 +31,13 @@ const ROOM: usize = 1 << 20;
 const PAGE: usize = 1 << 16;
 
 /// Inputs made of one file before the next.
-const INPUTS_OF_A_FILE: usize = 64;
+const INPUTS_OF_A_FILE: u64 = 64;
+
+/// How many seconds these may take.
+const SECONDS_OF_A_FILE: u32 = 300;
+
+/// The number of the input that is made.
+static NUMBER: AtomicU64 = AtomicU64::new(0);
 
 /// The most items that a wrong walk may return.
 const MOST: usize = 16;
@@ -47,6 +58,14 @@ fn fenced() -> &'static mut [u8] {
 struct Random(u64);
 
 impl Random {
+    /// Those of a number of this seed, by splitmix64.
+    fn of(seed: u64, number: u64) -> Random {
+        let state = seed.wrapping_add(number.wrapping_mul(0x9E37_79B9_7F4A_7C15));
+        let state = (state ^ state >> 30).wrapping_mul(0xBF58_476D_1CE4_E5B9);
+        let state = (state ^ state >> 27).wrapping_mul(0x94D0_49BB_1331_11EB);
+        Random((state ^ state >> 31).max(1))
+    }
+
     fn next(&mut self) -> u64 {
         self.0 ^= self.0 << 13;
         self.0 ^= self.0 >> 7;
@@ -76,6 +95,9 @@ impl Random {
 fn hot_offsets(bytes: &[u8]) -> Vec<Range<usize>> {
     let mut offsets = vec![0..bytes.len(), 0..bytes.len().min(1024), 60..64];
     let Ok(image) = Image::parse(bytes, Mode::Permissive) else {
+        // A PDB or a minidump has gaps of zeros between what it says.
+        let pieces = bytes.chunks(64).enumerate().filter(|(_, piece)| piece.iter().any(|byte| *byte != 0));
+        offsets.extend(pieces.map(|(i, piece)| 64 * i..64 * i + piece.len()));
         return offsets;
     };
     let info = image.info();
@@ -123,7 +145,7 @@ fn change(input: &mut [u8], offsets: &[Range<usize>], random: &mut Random) -> Ve
     for _ in 0..1 + random.below(6) {
         let offset = &offsets[random.below(offsets.len())];
         let at = offset.start + random.below(offset.len());
-        let value = [0, 1, 0x7F, 0x80, 0xFF, random.next() as u8][random.below(6)];
+        let value = [0, 1, 0x7F, 0x80, 0xFF, 0xE0 | random.below(16) as u8, random.next() as u8][random.below(7)];
         if let Some(byte) = input.get_mut(at) {
             before.push((at, *byte));
             *byte = value;
@@ -179,12 +201,6 @@ fn pdb_of_lies(bytes: &[u8], random: &mut Random, number: u64) {
     symbols_of_lies(bytes, sections, random, number);
     lines_of_lies(bytes, sections, random, number);
     inlined_of_lies(bytes, sections, random, number);
-    if let Ok(pdb) = pe_c::Pdb::parse(bytes) {
-        let _ = (pdb.publics(), pdb.modules());
-        if let Ok(symbolizer) = pdb.symbolizer() {
-            let _ = symbolizer.frames(few);
-        }
-    }
 }
 
 /// Makes the calls that read modules and symbols, on the bytes as a stream, with wrong ranges and indexes.
@@ -450,6 +466,19 @@ fn read_by_steps(bytes: &[u8], mode: Mode, layout: Layout, random: &mut Random, 
     seen.records += count as u64;
 }
 
+/// The range of what may be an element of a signature: the first that starts after a random place.
+fn element_of(bytes: &[u8], random: &mut Random) -> sys::Range {
+    let at = random.below(bytes.len());
+    let start = at + bytes[at..].iter().take(64).position(|it| [0x30, 0x31, 0xA0].contains(it)).unwrap_or(0);
+    let length = match bytes[start..] {
+        [_, 0x82, high, low, ..] => 4 + u64::from(u16::from_be_bytes([high, low])),
+        [_, 0x81, low, ..] => 3 + u64::from(low),
+        [_, low, ..] => 2 + u64::from(low),
+        _ => 1,
+    };
+    sys::Range { offset: start as u64, length }
+}
+
 /// Makes calls with wrong records: none may touch anything but the bytes and its arguments.
 fn read_by_lies(bytes: &[u8], random: &mut Random, seen: &mut Seen) {
     let (start, length) = (bytes.as_ptr(), bytes.len());
@@ -466,6 +495,8 @@ fn read_by_lies(bytes: &[u8], random: &mut Random, seen: &mut Seen) {
         machine: if few & 1 == 0 { made::X64 } else { made::ARM64 },
         width: if few & 2 == 0 { 32 } else { 64 },
         number_of_sections: (few >> 2) as u16 % 4,
+        size_of_image: few >> 7 & 0xF_FFFF,
+        number_of_directories: 16,
         ..sys::ImageInfo::default()
     };
     let mut any_section = || sys::Section {
@@ -485,7 +516,7 @@ fn read_by_lies(bytes: &[u8], random: &mut Random, seen: &mut Seen) {
     let mut view = sys::View::of(bytes, &image, &sections, &lies[..few as usize % 4]);
     let (mut entries, mut made) = ([sys::IndexEntry::default(); 64], 0);
     // SAFETY: the pointers and lengths are those of slices, and each record is lent for its call; so are the view's.
-    if unsafe { sys::pe_c_index(&view, entries.as_mut_ptr(), entries.len(), &mut made) } == 0 && few % 2 == 0 {
+    if unsafe { sys::pe_c_index(&view, entries.as_mut_ptr(), entries.len(), &mut made) } == 0 && few & 0x80 == 0 {
         (view.index, view.entries) = (entries.as_ptr(), made as usize);
     }
     macro_rules! returned {
@@ -570,7 +601,7 @@ fn read_by_lies(bytes: &[u8], random: &mut Random, seen: &mut Seen) {
         sys::pe_c_section_range(&view, &section, &mut range);
         assert!(range.offset <= number && range.length <= number - range.offset);
         let mut rest = sys::Range::default();
-        sys::pe_c_range_at(&view, few, &mut rest);
+        sys::pe_c_range_at(&view, few % 0x6000, &mut rest);
         assert!(rest.offset <= number && rest.length <= number - rest.offset);
         let mut rva = 0;
         sys::pe_c_rva(&view, range.offset, &mut rva);
@@ -667,9 +698,10 @@ fn read_by_lies(bytes: &[u8], random: &mut Random, seen: &mut Seen) {
     bound!(pe_c_list_bound_imports, BoundImport);
     bound!(pe_c_list_bound_forwarders, BoundForwarder);
     let (mut codes, mut written, room) = ([sys::Code::default(); 3], 0, few as usize % 4);
+    let some = bytes.get(index as usize..).map_or(bytes, |it| &it[..it.len().min(few as usize % 8)]);
     let form = sys::CodeForm { version: few as u8, frame_register: (few >> 8) as u8 };
     // SAFETY: as above.
-    unsafe { sys::pe_c_all_codes(bytes.as_ptr(), bytes.len(), &form, codes.as_mut_ptr(), room, &mut written) };
+    unsafe { sys::pe_c_all_codes(some.as_ptr(), some.len(), &form, codes.as_mut_ptr(), room, &mut written) };
     assert!(written <= room as u64 && codes[written as usize..].iter().all(|it| *it == sys::Code::default()));
     let entry = sys::DebugEntry {
         data_type: few % 24,
@@ -765,8 +797,8 @@ fn read_by_lies(bytes: &[u8], random: &mut Random, seen: &mut Seen) {
         let (first, size) = (room.as_mut_ptr(), room.len());
         sys::pe_c_attach(&view, part.as_ptr(), part.len(), few, first, size, &mut written);
         assert_eq!(written, needed);
-        let mut next = index;
-        sys::pe_c_write_sections(&view, few, first, size, &mut next);
+        let mut next = index % 64;
+        sys::pe_c_write_sections(&view, few % 513, first, size, &mut next);
         sys::pe_c_write_certificates(&view, first, size, &mut left);
         sys::pe_c_write_image(&view, none, 0, &mut needed);
         sys::pe_c_write_image(&view, first, size, &mut left);
@@ -784,13 +816,14 @@ fn read_by_lies(bytes: &[u8], random: &mut Random, seen: &mut Seen) {
         language: few,
         code_page: few,
     };
+    let text = sys::Range { offset: 60, length: u64::from(few % 8) };
     let small = sys::Resource {
-        resource_type: sys::ResourceName { id: few % 32, ..Default::default() },
-        content: sys::Range { offset: 0, length: u64::from(few % 8) },
+        resource_type: sys::ResourceName { name: text, id: few % 32, has_name: few >> 5 & 1 },
+        content: text,
         ..Default::default()
     };
-    let records = [small, record];
-    let count = few as usize % 3;
+    let records = [small, sys::Resource { language: few % 3, ..small }, record];
+    let count = few as usize % 4;
     let (mut needed, mut written) = (0, 0);
     // SAFETY: as above.
     unsafe {
@@ -813,7 +846,7 @@ fn read_by_lies(bytes: &[u8], random: &mut Random, seen: &mut Seen) {
             sys::VersionTable { first: few, count: 1, ..Default::default() },
         ];
         let (fixed, pairs) = (sys::Version::default(), [sys::VersionLanguage::default(); 2]);
-        let (tables, strings, pairs, few) = (tables.as_ptr(), strings.as_ptr(), pairs.as_ptr(), count);
+        let (tables, strings, pairs, few) = (tables.as_ptr(), strings.as_ptr(), pairs.as_ptr(), count.min(2));
         for (first, size, written) in [(none, 0, &mut needed), (first, size, &mut written)] {
             sys::pe_c_write_version(&fixed, tables, few, strings, few, pairs, few, start, length, first, size, written);
         }
@@ -962,7 +995,7 @@ fn read_by_lies(bytes: &[u8], random: &mut Random, seen: &mut Seen) {
             bytes.len(),
             &mut named,
             room,
-            3,
+            few as usize % 4,
             symbols.as_mut_ptr(),
             most,
             &mut written,
@@ -971,6 +1004,7 @@ fn read_by_lies(bytes: &[u8], random: &mut Random, seen: &mut Seen) {
     assert!(written <= 3 && (answer == 0 || written == 0) && named.strings == strings);
     call!(pe_c_te(), TeHeader);
     call!(pe_c_te_debug_entries(&te), Range);
+    let range = if few & 0x100 == 0 { element_of(bytes, random) } else { range };
     let mut failure = sys::SignatureFailure::default();
     let signed = call!(pe_c_signature(&range, &mut failure), SignedData);
     let indirect = call!(pe_c_indirect_data(&signed.content, &mut failure), SpcIndirectData);
@@ -1044,7 +1078,8 @@ fn read_by_lies(bytes: &[u8], random: &mut Random, seen: &mut Seen) {
         ..sys::Frame::default()
     };
     let table = call_of_image!(pe_c_function_table(), Range);
-    let piece = sys::MemoryPiece { start: random.edge(number), offset: 0, length: length as u64 };
+    let stack = if few & 16 == 0 { frame.registers.general[4] & !7 } else { random.edge(number) };
+    let piece = sys::MemoryPiece { start: stack, offset: 0, length: length as u64 };
     let lie = sys::MemoryPiece { offset: range.offset, length: range.length, ..piece };
     for (table, pieces) in [(table, [piece; 2]), (range, [piece; 2]), (table, [piece, lie])] {
         // SAFETY: as above. The bytes of the image stand for the code and for the stack.
@@ -1135,68 +1170,113 @@ fn read_by_lies(bytes: &[u8], random: &mut Random, seen: &mut Seen) {
     }
 }
 
-/// What the tests make that is no image.
-fn other_files() -> [Vec<u8>; 4] {
-    [made::object(), made::te_image(), made::full_dump(made::X64), made::full_dump(made::ARM64)]
+/// What the tests make, images and others.
+fn made_files() -> Vec<Vec<u8>> {
+    let calls = [made::with_calls(), made::with_arm64_calls(), made::editable(), made::with_names_in_one_text()];
+    let others = [made::with_signature(), made::object(), made::te_image(), made::pdb(), made::pdb_inlined()];
+    let dumps = [made::X64, made::ARM64].map(made::full_dump);
+    made::all().into_iter().map(|(_, bytes)| bytes).chain(calls).chain(others).chain(dumps).collect()
 }
 
-/// The arguments: the seconds, the seed, and the files.
-fn words() -> Option<(u64, u64, Vec<String>)> {
-    let mut words = std::env::args().skip(1);
-    let seconds = words.next()?.parse().ok()?;
-    let mut files: Vec<String> = words.collect();
-    let mut seed = 0x9E37_79B9_7F4A_7C15;
-    if files.first().is_some_and(|word| word == "--seed") {
-        seed = files.get(1)?.parse().ok()?;
-        files.drain(..2);
+/// Says which input a signal ends.
+extern "C" fn fail(number: i32) {
+    eprintln!("fuzz: signal {number} at input {}", NUMBER.load(Relaxed));
+    // SAFETY: it ends the process.
+    unsafe { _exit(128 + number) };
+}
+
+/// Has a failed assertion, a fault, a failed test of a number and an endless call say which input it was.
+fn say_failures() {
+    let says = std::panic::take_hook();
+    std::panic::set_hook(Box::new(move |why| {
+        says(why);
+        std::process::abort();
+    }));
+    for number in [4, 5, 6, 7, 8, 11, 14] {
+        // SAFETY: the handler prints a number that is no pointer, and ends the process.
+        unsafe { signal(number, fail) };
     }
-    Some((seconds, seed, files))
+}
+
+/// Makes all calls on the input of a number.
+fn try_input(input: &mut [u8], offsets: &[Range<usize>], mut random: Random, seen: &mut Seen) {
+    let before = change(input, offsets, &mut random);
+    let mode = if random.below(2) == 0 { Mode::Strict } else { Mode::Permissive };
+    let layout = if random.below(4) == 0 { Layout::Mapped } else { Layout::File };
+    let most = [1, 1, 2, 4, 8, 64][random.below(6)];
+    seen.add(read_all(input, mode, layout, most));
+    if random.below(4) == 0 {
+        let mut others = Seen::up_to(most);
+        read_others(input, &mut others);
+        read_dump(input, &mut others);
+        read_pdb(input, &mut others);
+        seen.add(others);
+        read_by_lies(input, &mut random, seen);
+        read_by_steps(input, mode, layout, &mut random, seen);
+    }
+    for (at, byte) in before.into_iter().rev() {
+        input[at] = byte;
+    }
+}
+
+/// A file, and the offsets where it is changed.
+type Damaged = (Vec<Range<usize>>, Vec<u8>);
+
+/// Makes all calls on the inputs of these numbers, all of one file.
+fn try_inputs(numbers: Range<u64>, seed: u64, files: &[Damaged], memory: &mut [u8], seen: &mut Seen) {
+    let mut random = Random::of(!seed, numbers.start / INPUTS_OF_A_FILE);
+    let (offsets, bytes) = &files[random.below(files.len())];
+    let input = copy(memory, bytes, &mut random);
+    // SAFETY: a call that takes a number alone.
+    unsafe { alarm(SECONDS_OF_A_FILE) };
+    for number in numbers {
+        NUMBER.store(number, Relaxed);
+        try_input(input, offsets, Random::of(seed, number), seen);
+    }
+}
+
+/// The arguments: the seconds, the seed, the numbers of the first input and of the one after the last, and the files.
+fn words() -> Option<(u64, u64, Range<u64>, Vec<String>)> {
+    let mut words = std::env::args().skip(1).peekable();
+    let seconds = words.next()?.parse().ok()?;
+    let (mut seed, mut numbers) = (0x9E37_79B9_7F4A_7C15, 0..u64::MAX);
+    while let Some(option) = words.next_if(|word| word.starts_with("--")) {
+        let value = words.next()?.parse().ok()?;
+        match option.as_str() {
+            "--seed" => seed = value,
+            "--first" => numbers.start = value / INPUTS_OF_A_FILE * INPUTS_OF_A_FILE,
+            "--only" => numbers = value..value.checked_add(1)?,
+            _ => return None,
+        }
+    }
+    Some((seconds, seed, numbers, words.collect()))
 }
 
 fn main() {
-    let Some((seconds, seed, names)) = words() else {
-        eprintln!("usage: fuzz SECONDS [--seed N] [FILE ..]");
+    let Some((seconds, seed, numbers, names)) = words() else {
+        eprintln!("usage: fuzz SECONDS [--seed N] [--first NUMBER | --only NUMBER] [FILE ..]");
         std::process::exit(2);
     };
     let read = names.iter().filter_map(|name| std::fs::read(name).ok());
     let mut files: Vec<Vec<u8>> = read.filter(|bytes| (64..=ROOM).contains(&bytes.len())).collect();
     if files.is_empty() {
-        let others = [made::with_signature()].into_iter().chain(other_files());
-        files = made::all().into_iter().map(|(_, bytes)| bytes).chain(others).collect();
+        files = made_files();
     }
     let files: Vec<_> = files.into_iter().map(|bytes| (hot_offsets(&bytes), bytes)).collect();
-    let memory = fenced();
-    let mut random = Random(seed.max(1));
-    let (mut inputs, mut seen) = (0u64, Seen::up_to(0));
+    say_failures();
+    let (memory, mut seen, mut next) = (fenced(), Seen::up_to(0), numbers.start);
     let start = Instant::now();
-    while start.elapsed().as_secs() < seconds {
-        let (offsets, bytes) = &files[random.below(files.len())];
-        let input = copy(memory, bytes, &mut random);
-        for _ in 0..INPUTS_OF_A_FILE {
-            let before = change(input, offsets, &mut random);
-            let mode = if random.below(2) == 0 { Mode::Strict } else { Mode::Permissive };
-            let layout = if random.below(4) == 0 { Layout::Mapped } else { Layout::File };
-            let most = [1, 1, 2, 4, 8, 64][random.below(6)];
-            seen.add(read_all(input, mode, layout, most));
-            if random.below(4) == 0 {
-                let mut others = Seen::up_to(most);
-                read_others(input, &mut others);
-                read_dump(input, &mut others);
-                seen.add(others);
-                read_by_lies(input, &mut random, &mut seen);
-                read_by_steps(input, mode, layout, &mut random, &mut seen);
-            }
-            inputs += 1;
-            for (at, byte) in before.into_iter().rev() {
-                input[at] = byte;
-            }
-        }
+    while next < numbers.end && (start.elapsed().as_secs() < seconds || next == numbers.start) {
+        let end = numbers.end.min(next.saturating_add(INPUTS_OF_A_FILE));
+        try_inputs(next..end, seed, &files, memory, &mut seen);
+        next = end;
     }
+    let inputs = next - numbers.start;
     let rate = inputs as f64 / start.elapsed().as_secs_f64();
     let Seen { images, records, codes, slices, refusals, .. } = seen;
     println!(
         "{} files, {inputs} inputs, {images} images, {records} unwind records, {codes} codes, {slices} slices, \
-         {refusals} refusals, {rate:.0} inputs a second",
+         {refusals} refusals, {rate:.0} inputs a second, seed {seed}, next {next}",
         files.len()
     );
 }

@@ -3,7 +3,7 @@
 
 use pe_c::{
     Arm64Function, Arm64Functions, Arm64Record, Arm64Registers, Arm64Unwinding, Coff, Dump, DumpImages, Error, Frames,
-    Function, Functions, GuardTable, Handler, Image, Layout, MemoryList, MemoryPiece, Mode, Module, Placement,
+    Function, Functions, GuardTable, Handler, Image, Layout, MemoryList, MemoryPiece, Mode, Module, Pdb, Placement,
     Registers, ResourceName, Signature, SignatureError, Stack, Stacks, StepError, Symbols, Te, UnwindRecord,
     VersionBlocks, VersionName, X509,
 };
@@ -235,6 +235,26 @@ pub fn read_dump(bytes: &[u8], seen: &mut Seen) {
     }
 }
 
+/// Reads the bytes as a PDB, whatever they are: symbols, modules, lines, and what covers functions.
+pub fn read_pdb(bytes: &[u8], seen: &mut Seen) {
+    let Some(pdb) = seen.counted(Pdb::parse(bytes)) else {
+        return;
+    };
+    seen.counted(pdb.publics());
+    let (names, symbolizer) = (seen.counted(pdb.source_names()), seen.counted(pdb.symbolizer()));
+    for module in seen.counted(pdb.modules()).into_iter().flatten().take(seen.most) {
+        if let Some(names) = &names {
+            seen.counted(pdb.lines(&module, names));
+        }
+        for symbol in seen.counted(pdb.procedures(&module)).into_iter().flatten().take(seen.most) {
+            let Some(rva) = symbol.rva else { continue };
+            for rva in [rva, rva.wrapping_add(symbol.size / 2)] {
+                std::hint::black_box(symbolizer.as_ref().map(|it| it.frames(rva)));
+            }
+        }
+    }
+}
+
 fn read_certificates(image: &Image, seen: &mut Seen) {
     for certificate in image.certificates().take(seen.most) {
         if let Some(certificate) = seen.item(certificate) {
@@ -366,16 +386,26 @@ fn read_record(record: &UnwindRecord, seen: &mut Seen) {
     }
 }
 
-/// A stack, which any registers of a function may point into.
-static STACK: [u8; 256] = [0x21; 256];
+/// A stack, which any registers of a function may point into: by turns an address above, as of a frame, and this code, as of a
+/// return address.
+fn stack_of(code: u32) -> [u8; 256] {
+    let mut bytes = [0; 256];
+    for (i, word) in bytes.chunks_exact_mut(8).enumerate() {
+        let address = if i % 2 == 0 { 0x2_0010 + 8 * i as u64 } else { code.into() };
+        word.copy_from_slice(&address.to_le_bytes());
+    }
+    bytes
+}
 
-/// Steps out of a function, from its start, its middle and its end, with and without its code; and a walk from there.
+/// Steps out of a function, from its start, its middle and around its end, with and without its code; and a walk from there.
 fn step_out(image: &Image, functions: &Functions, function: Function, seen: &mut Seen) {
-    let stack = Stack { start: 0x2_0000, bytes: &STACK };
+    let words = stack_of(function.begin.wrapping_add(5));
+    let stack = Stack { start: 0x2_0000, bytes: &words };
     let mut registers = Registers { general: [0x2_0080; 16], ..Registers::default() };
     registers.set_rsp(0x2_0010);
     let middle = function.begin.wrapping_add(function.end.wrapping_sub(function.begin) / 2);
-    for rva in [function.begin, middle, function.end] {
+    // Before the end may stand a return, or a jump out of the function.
+    for rva in [function.begin, middle, function.end, function.end.wrapping_sub(1), function.end.wrapping_sub(5)] {
         for code in [[].as_slice(), image.code(rva, function.end)] {
             let answer = functions.step(function, rva, code, &registers, stack);
             if let Err(StepError::NotRising(rsp)) = answer {
@@ -385,8 +415,8 @@ fn step_out(image: &Image, functions: &Functions, function: Function, seen: &mut
         }
         registers.rip = rva.into();
         if let Ok(module) = Module::new(image, 0) {
-            let pieces = [MemoryPiece { start: 0x2_0000, offset: 0, length: STACK.len() as u64 }];
-            let memory = MemoryList::new(&STACK, &pieces).unwrap();
+            let pieces = [MemoryPiece { start: 0x2_0000, offset: 0, length: words.len() as u64 }];
+            let memory = MemoryList::new(&words, &pieces).unwrap();
             let modules = [module];
             let frames = Frames::new(registers, 4, &modules, memory);
             seen.print(&(module, memory, &frames, stack));
@@ -439,7 +469,8 @@ fn read_arm64_codes(record: &Arm64Record, start: u32, seen: &mut Seen) {
 
 /// Steps out of a function on ARM64, from its start and from further on; and a walk from there.
 fn step_out_arm64(image: &Image, functions: &Arm64Functions, function: Arm64Function, seen: &mut Seen) {
-    let stack = Stack { start: 0x2_0000, bytes: &STACK };
+    let words = stack_of(function.begin.wrapping_add(4));
+    let stack = Stack { start: 0x2_0000, bytes: &words };
     let mut registers = Arm64Registers { general: [0x2_0080; 31], sp: 0x2_0010, ..Arm64Registers::default() };
     for offset in [0, 8, 64] {
         let rva = function.begin.wrapping_add(offset);
@@ -450,8 +481,8 @@ fn step_out_arm64(image: &Image, functions: &Arm64Functions, function: Arm64Func
         seen.item(answer.map_err(StepError::error));
         registers.pc = rva.into();
         if let Ok(module) = Module::new(image, 0) {
-            let pieces = [MemoryPiece { start: 0x2_0000, offset: 0, length: STACK.len() as u64 }];
-            let memory = MemoryList::new(&STACK, &pieces).unwrap();
+            let pieces = [MemoryPiece { start: 0x2_0000, offset: 0, length: words.len() as u64 }];
+            let memory = MemoryList::new(&words, &pieces).unwrap();
             let modules = [module];
             let frames = Frames::new(registers, 4, &modules, memory);
             seen.print(&(module, memory, &frames, stack));
