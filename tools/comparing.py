@@ -1,14 +1,12 @@
-"""What the commands of this folder that compare with other readers share: finding files, running and building programs, reading
-the headers of an image and what llvm-readobj prints, counts of cases, and the rows of files and their counts."""
+"""What the commands of this folder that compare with other readers share: finding files, running programs, reading the headers of an
+image and what llvm-readobj prints, counts of cases, and the rows of files and their counts."""
 
-import contextlib
 import os
 import re
 import shutil
 import struct
 import subprocess
 import sys
-import tempfile
 
 from contents import bytes_of
 from limits import Failed
@@ -74,18 +72,6 @@ def run(words):
         return None
     text = done.stdout.decode("utf-8", "replace")
     return done.returncode, text, done.stderr.decode("utf-8", "replace")
-
-
-@contextlib.contextmanager
-def program_of(command, name, kept=None, *flags):
-    """The path of the program in Rattle of the folder NAME here, built by tools/build_program with flags: with checks at run time,
-    and not proved. It is the file that is to be kept, where it is built if it is not there yet, or one for this run."""
-    with tempfile.TemporaryDirectory() as folder:
-        program = os.path.abspath(kept or os.path.join(folder, name))
-        if not os.path.exists(program):
-            print(f"{command}: building {name}, which takes two minutes", file=sys.stderr)
-            subprocess.run([f"{HERE}/build_program", *flags, f"{HERE}/{name}", program], check=True)
-        yield program
 
 
 # The headers of an image.
