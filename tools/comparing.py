@@ -8,7 +8,7 @@ import struct
 import subprocess
 import sys
 
-from contents import bytes_of
+from contents import bytes_of, ended
 from limits import Failed
 
 HERE = os.path.dirname(os.path.realpath(__file__))
@@ -78,11 +78,12 @@ def run(words):
 
 
 class Image:
-    """The headers of an image, as far as the readers of these commands need them."""
+    """The headers of an image, as far as the readers of these commands need them: of a file, or of bytes. `pe` is the offset of the PE
+    signature."""
 
-    def __init__(self, path):
-        self.bytes = bytes_of(path)
-        place = self.number("<I", 0x3C)
+    def __init__(self, source):
+        self.bytes = bytes_of(source) if isinstance(source, str) else bytes(source)
+        self.pe = place = self.number("<I", 0x3C)
         if self.bytes[place:place + 4] != b"PE\0\0":
             raise Unread("PeMagic")
         self.machine, count, _, _, _, optional = self.numbers("<HHIIIH", place + 4)
@@ -238,5 +239,4 @@ class Counts:
 
     def end(self):
         """Prints the counts, and returns the status."""
-        print(f"{self.passed} passed, {self.failed} failed")
-        return 1 if self.failed else 0
+        return ended(self.passed, self.failed)

@@ -7,6 +7,7 @@ import os
 import struct
 import subprocess
 
+from comparing import Image
 from contents import bytes_of, write
 from signed_images import make_key, run, signature_of
 
@@ -104,21 +105,15 @@ def sign_plain(image, key, folder, *more):
 def with_size_of_headers(image, out):
     """A copy whose headers end where the raw data of the first section starts, and that offset: osslsigncode makes hashes of pages only
     where the headers say their size."""
-    content = bytearray(bytes_of(image))
-    pe = struct.unpack_from("<I", content, 60)[0]
-    start = struct.unpack_from("<I", content, pe + 24 + struct.unpack_from("<H", content, pe + 20)[0] + 20)[0]
-    struct.pack_into("<I", content, pe + 24 + 60, start)
-    write(content, out)
-    return out, start
+    read = Image(image)
+    content, start = bytearray(read.bytes), read.sections[0][3]
+    struct.pack_into("<I", content, read.pe + 24 + 60, start)
+    return write(content, out), start
 
 
 def pages_of(image):
     """How many pages have a hash: one of the headers, and of each section its raw data in pages of 4,096 bytes."""
-    content = bytes_of(image)
-    pe = struct.unpack_from("<I", content, 60)[0]
-    count, optional = struct.unpack_from("<H", content, pe + 6)[0], struct.unpack_from("<H", content, pe + 20)[0]
-    sizes = [struct.unpack_from("<I", content, pe + 24 + optional + 40 * it + 16)[0] for it in range(count)]
-    return 1 + sum(-(-size // 4096) for size in sizes)
+    return 1 + sum(-(-size // 4096) for _, _, size, _ in Image(image).sections)
 
 
 # Catalogs.
@@ -226,9 +221,8 @@ def say_another_type(path):
 
 def places(content):
     """Where the checksum of an image is, the entry of its certificate table, and the table."""
-    pe = struct.unpack_from("<I", content, 60)[0]
-    entry = pe + 24 + (112 if struct.unpack_from("<H", content, pe + 24)[0] == 0x20B else 96) + 32
-    return pe + 88, entry, *struct.unpack_from("<II", content, entry)
+    image = Image(content)
+    return image.pe + 88, image.rows + 32, *image.directory(4)
 
 
 def digest_of(content):
@@ -238,11 +232,10 @@ def digest_of(content):
 
 def start_of_code(content):
     """The file offset of the entry point, or of the first section's data where there is none."""
-    pe = struct.unpack_from("<I", content, 60)[0]
-    count, optional, entry = *struct.unpack_from("<H12xH", content, pe + 6), struct.unpack_from("<I", content, pe + 40)[0]
-    sections = [struct.unpack_from("<IIII", content, pe + 24 + optional + 40 * it + 8) for it in range(count)]
-    inside = [offset + entry - start for _, start, size, offset in sections if start <= entry < start + size]
-    return inside[0] if inside else sections[0][3]
+    image = Image(content)
+    entry = image.number("<I", image.pe + 40)
+    inside = [offset + entry - start for _, start, size, offset in image.sections if start <= entry < start + size]
+    return inside[0] if inside else image.sections[0][3]
 
 
 def remade(path):
