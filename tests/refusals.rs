@@ -3,11 +3,11 @@
 use crate::images::{MODES, directory_at, reason_in, short, short_in};
 use pe_core::Reason::{
     Arm64Cut, Arm64Stream, Arm64Version, CertificateRevision, CertificateSize, CertificateTable,
-    CertificateType, DebugBounds, DebugSize, ExceptionBounds, ExceptionOffset,
-    ExceptionSize, FunctionCycle, FunctionIndex, FunctionLink, HeaderPointer, ImportName,
-    ImportsLimit, NoOptionalHeader, PogoName, PogoSize, ResourceBounds, ResourceCycle,
-    ResourceString, StringTable, TeSize, Unmapped, UnwindCode, UnwindVersion, WriteAlignment,
-    WriteFit, WriteOverlap, WriteSection, WriteSymbols,
+    CertificateType, DebugBounds, DebugSize, ExceptionBounds, ExceptionOffset, ExceptionSize,
+    FunctionCycle, FunctionIndex, FunctionLink, HeaderPointer, ImportName, ImportsLimit,
+    NoOptionalHeader, PogoName, PogoSize, ResourceBounds, ResourceCycle, ResourceString,
+    StringTable, TeSize, Unmapped, UnwindCode, UnwindVersion, WriteAlignment, WriteFit,
+    WriteOverlap, WriteSection, WriteSymbols,
 };
 use pe_core::{
     Error, ParseOptions, Reason, put_slice, put_u8, put_u16, put_u32, put_u64, slice_at, u8_at,
