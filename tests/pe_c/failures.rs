@@ -9,7 +9,7 @@ use crate::failures::headers::{pe_c_image_failure, pe_c_sections_failure, pe_c_t
 use calls_headers::headers::CoffFields;
 use pe_images::{headers_alone, image as bytes_of, pointer_below_64, te};
 
-const NO_FAILURE: Failure = Failure {
+const NINES: Failure = Failure {
     offset: 9,
     needed: 9,
     value: 9,
@@ -19,13 +19,13 @@ const NO_FAILURE: Failure = Failure {
 
 /// The answer, and the error, offset, bytes and value.
 fn image_failure(bytes: &[u8], mode: u32) -> (u32, u32, [u64; 3]) {
-    let mut out = NO_FAILURE;
+    let mut out = NINES;
     let answer = pe_c_image_failure(bytes, mode, &mut out);
     (answer, out.result, [out.offset, out.needed, out.value])
 }
 
 fn te_failure(bytes: &[u8]) -> (u32, u32, [u64; 3]) {
-    let mut out = NO_FAILURE;
+    let mut out = NINES;
     let answer = pe_c_te_failure(bytes, &mut out);
     (answer, out.result, [out.offset, out.needed, out.value])
 }
@@ -102,7 +102,7 @@ fn failures_of_section_headers(rt: HostRuntime) -> Result<(), Fail> {
         (of(3, 0x148), whole - 1, (DONE, SHORT, [0x148, 120, 0])),
         (of(0, 0x149), 0, NO_ANSWER),
     ] {
-        let mut out = NO_FAILURE;
+        let mut out = NINES;
         let answer = pe_c_sections_failure(&bytes[..length], &image, &mut out);
         let found = (answer, out.result, [out.offset, out.needed, out.value]);
         assert_eq!(rt; found, wanted);
@@ -126,7 +126,7 @@ fn failures_of_section_headers_of_objects(rt: HostRuntime) -> Result<(), Fail> {
         (of(3, 5), 144, (DONE, SHORT, [25, 120, 0])),
         (of(0, u16::MAX), 0, NO_ANSWER),
     ] {
-        let mut out = NO_FAILURE;
+        let mut out = NINES;
         let answer = pe_c_sections_failure(&bytes[..length], &section_headers(&coff), &mut out);
         let found = (answer, out.result, [out.offset, out.needed, out.value]);
         assert_eq!(rt; found, wanted);
