@@ -25,7 +25,7 @@ fn main(rt: HostRuntime) -> Result<()> {
     let alloc = rt.alloc();
     let mut words = env::args(&rt)?;
     let _ = words.next();
-    // Without one it does nothing: so tools/build_program sees that it runs.
+    // Without one it does nothing: so bench/names sees that it runs.
     let Some(file) = words.next() else {
         return Ok(());
     };

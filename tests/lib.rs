@@ -9,10 +9,8 @@ macro_rules! assert_matches {
 }
 
 mod arm64_frames;
-mod arm64_functions;
 mod arm64_records;
 mod arm64_walks;
-mod attaching;
 mod bytes;
 mod certificates;
 mod damaged_images;
@@ -34,7 +32,6 @@ mod pdb_lines;
 mod pdb_symbols;
 mod pdbs;
 mod plans;
-mod refusal_numbers;
 mod refusals;
 mod refused_memory;
 mod refusing;
@@ -60,5 +57,4 @@ mod version_blocks;
 mod version_written;
 mod walks;
 mod whole_images;
-mod whole_objects;
 mod writing;

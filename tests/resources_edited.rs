@@ -2,10 +2,10 @@
 //! the second has the resources, and five bytes after them. Its checksum is at 0xD0, the entry of the resource directory at
 //! 0x110, and the header of the resource section at 0x1A8. The checksum that is expected is pefile's of the same bytes.
 
-use crate::attaching::OLD;
 use crate::images::with_part;
 use crate::resources_written::list;
 use crate::shared::with_two_sections;
+use crate::signing::OLD;
 use pe_core::{Header, ParseOptions};
 use pe_edit::{Leaves, Resource, ResourceKey};
 use pe_images::put;

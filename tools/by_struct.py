@@ -119,7 +119,7 @@ def load_config(image):
 
 
 def is_wide(image):
-    return image.number("<H", image.number("<I", 0x3C) + 24) == 0x20B
+    return image.number("<H", image.pe + 24) == 0x20B
 
 
 # Symbols, objects and TE images.
@@ -144,7 +144,7 @@ def symbols_of(data, place, count):
 
 
 def symbols_of_image(image):
-    return symbols_of(image.bytes, *image.numbers("<II", image.number("<I", 0x3C) + 12))
+    return symbols_of(image.bytes, *image.numbers("<II", image.pe + 12))
 
 
 def te_image(data):

@@ -1,16 +1,14 @@
-"""What the commands of this folder that compare with other readers share: finding files, running and building programs, reading
-the headers of an image and what llvm-readobj prints, counts of cases, and the rows of files and their counts."""
+"""What the commands of this folder that compare with other readers share: finding files, running programs, reading the headers of an
+image and what llvm-readobj prints, counts of cases, and the rows of files and their counts."""
 
-import contextlib
 import os
 import re
 import shutil
 import struct
 import subprocess
 import sys
-import tempfile
 
-from contents import bytes_of
+from contents import bytes_of, ended
 from limits import Failed
 
 HERE = os.path.dirname(os.path.realpath(__file__))
@@ -76,27 +74,16 @@ def run(words):
     return done.returncode, text, done.stderr.decode("utf-8", "replace")
 
 
-@contextlib.contextmanager
-def program_of(command, name, kept=None, *flags):
-    """The path of the program in Rattle of the folder NAME here, built by tools/build_program with flags: with checks at run time,
-    and not proved. It is the file that is to be kept, where it is built if it is not there yet, or one for this run."""
-    with tempfile.TemporaryDirectory() as folder:
-        program = os.path.abspath(kept or os.path.join(folder, name))
-        if not os.path.exists(program):
-            print(f"{command}: building {name}, which takes two minutes", file=sys.stderr)
-            subprocess.run([f"{HERE}/build_program", *flags, f"{HERE}/{name}", program], check=True)
-        yield program
-
-
 # The headers of an image.
 
 
 class Image:
-    """The headers of an image, as far as the readers of these commands need them."""
+    """The headers of an image, as far as the readers of these commands need them: of a file, or of bytes. `pe` is the offset of the PE
+    signature."""
 
-    def __init__(self, path):
-        self.bytes = bytes_of(path)
-        place = self.number("<I", 0x3C)
+    def __init__(self, source):
+        self.bytes = bytes_of(source) if isinstance(source, str) else bytes(source)
+        self.pe = place = self.number("<I", 0x3C)
         if self.bytes[place:place + 4] != b"PE\0\0":
             raise Unread("PeMagic")
         self.machine, count, _, _, _, optional = self.numbers("<HHIIIH", place + 4)
@@ -252,5 +239,4 @@ class Counts:
 
     def end(self):
         """Prints the counts, and returns the status."""
-        print(f"{self.passed} passed, {self.failed} failed")
-        return 1 if self.failed else 0
+        return ended(self.passed, self.failed)

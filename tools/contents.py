@@ -1,10 +1,12 @@
-"""What the tools share of files: their contents, and a tool as a module."""
+"""What the tools share: contents of files, a tool as a module, how each says its use and its counts."""
 
 import importlib.machinery
 import importlib.util
 import os
+import sys
 
 TOOLS = os.path.dirname(os.path.realpath(__file__))
+TOP = os.path.dirname(TOOLS)
 
 
 def bytes_of(*path):
@@ -33,3 +35,30 @@ def tool(name, folder=TOOLS):
     made = importlib.util.module_from_spec(importlib.util.spec_from_loader(loader.name, loader))
     loader.exec_module(made)
     return made
+
+
+def misused(about):
+    """Says how a tool is called. Returns its status."""
+    print(about.strip(), file=sys.stderr)
+    return 2
+
+
+def ended(passed, failed):
+    """The last line of a tool. Returns its status."""
+    print(f"{passed} passed, {failed} failed")
+    return 1 if failed else 0
+
+
+def written_or_checked(tool_name, words, texts, complaints=None):
+    """What a tool does that writes files whole, by their paths from the top: it writes those that differ, or with --check says which do,
+    and what else is wrong. Returns its status."""
+    if words not in ([], ["--check"]):
+        sys.exit(f"usage: tools/{tool_name} [--check]")
+    unlike = [it for it in texts if not os.path.exists(os.path.join(TOP, it)) or text_of(TOP, it) != texts[it]]
+    if not words:
+        for it in unlike:
+            write(texts[it], TOP, it)
+        return 0
+    wrong = [f"{it} is not what tools/{tool_name} writes" for it in unlike] + (complaints or [])
+    print("".join(f"{it}\n" for it in wrong), end="")
+    return ended(len(texts) - len(unlike) + (complaints == []), len(wrong))

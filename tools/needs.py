@@ -102,7 +102,7 @@ GROUPS = {
     "dumps": by_hand("dumps of programs that crash", **RUST, **{
         f"{MINGW}-gcc": "gcc-mingw-w64-x86-64-win32", f"{MINGW}-g++": "g++-mingw-w64-x86-64-win32", WINE: "wine64", "clang": "clang", "ld.lld": "lld"}),
     "emulator": by_hand("steps and walks at the states of an emulator", **{
-        "module unicorn": "python3-unicorn", "module capstone": "python3-capstone", "clang": "clang", "lld-link": "lld"}),
+        "module unicorn": "python3-unicorn", "module capstone": "python3-capstone", "cc": "gcc", "clang": "clang", "lld-link": "lld"}),
     "portable": by_hand("plain C", **TRIAL, **WASM, **{"node": "nodejs", "clang": "clang", "wasm2c": "wabt"}),
     "build-portable": by_hand("a build of plain C", **{"wasm2c": "wabt"}),
 }

@@ -67,21 +67,3 @@ copy_of_test() {
     *) echo "$folder/crates/pe_tests/src/$name.rt" ;;
   esac
 }
-
-# The crates' sources and one more crate, a program that stands in a folder of tools as files NAME.rs, and has the folder's
-# name.
-copy_with_program() {
-  local folder=$1 program=$2 name part sources
-  name=$(basename "$program")
-  sources=$folder/crates/$name/src
-  copy_crates "$folder"
-  mkdir -p "$sources"
-  for part in "$program"/*.rs; do
-    cp "$part" "$sources/$(basename "$part" .rs).rt"
-  done
-  {
-    cat crates.txt
-    echo
-    echo "$name: pe_core pe_records pe_unwind pe_plan pe_frame pe_resource pe_image pe_sign pe_edit pe_version pe_rewrite pe_directories pe_minidump pe_stacks pe_pdb pe_pkcs7 pe_images anyhow"
-  } >"$folder/crates.txt"
-}

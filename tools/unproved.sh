@@ -24,21 +24,18 @@ link_kit() {
 
 # Builds the program of the crate in the current folder at LLVM's -O2, into ROOM/program, and runs it once with the ARGUMENTS:
 #
-#     build_unproved ROOM with|without ARGUMENT..    with or without LLVM's address sanitizer
+#     build_unproved ROOM ARGUMENT..
 #
 # It stops at a number that overflows and at an index out of range, as under `rt try`, which compiles it at -O0. `rt try`
-# builds this one too, by a kit in which clang and the linker are scripts: they change the level of optimisation, may leave
-# out the sanitizer, and keep the program. ROOM is a new folder with an absolute name. What the kit says is printed. The
+# builds this one too, by a kit in which clang and the linker are scripts: they change the level of optimisation, leave
+# out LLVM's address sanitizer, and keep the program. ROOM is a new folder with an absolute name. What the kit says is printed. The
 # status is 1 where it made no program by these scripts, and 0 where it did, whatever status the program ends with.
 build_unproved() {
-  local room=$1 sanitizer=$2 own=$1/kit
-  shift 2
+  local room=$1 own=$1/kit
+  shift
   link_kit "$room"
   ln -s -- "$linked_kit/toolchain/bin" "$room/compilers"
   rm -f -- "$own/toolchain/bin/clang" "$own/toolchain/bin/ld.lld"
-  if [ "$sanitizer" = with ]; then
-    : >"$room/is_sanitized"
-  fi
 
   cat >"$own/toolchain/bin/clang" <<'END'
 #!/bin/sh
@@ -47,10 +44,7 @@ for word in "$@"; do
   shift
   case $word in
     -O0) set -- "$@" -O2 && : >"$room/raised" ;;
-    -fsanitize=address)
-      : >"$room/met_sanitizer"
-      [ ! -e "$room/is_sanitized" ] || set -- "$@" "$word"
-      ;;
+    -fsanitize=address) : >"$room/met_sanitizer" ;;
     *) set -- "$@" "$word" ;;
   esac
 done
@@ -66,7 +60,7 @@ is_left_out=false before=
 for word in "$@"; do
   shift
   case $word in
-    --whole-archive) [ -e "$room/is_sanitized" ] || is_left_out=true ;;
+    --whole-archive) is_left_out=true ;;
     --no-whole-archive) is_left_out=false ;;
   esac
   "$is_left_out" || set -- "$@" "$word"

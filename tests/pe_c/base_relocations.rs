@@ -2,7 +2,7 @@
 
 use super::made::*;
 use super::steps::{pe_c_next_relocation, pe_c_next_relocation_block};
-use crate::directories::base_relocations::pe_c_relocation_blocks;
+use crate::directories::pe_c_relocation_blocks;
 use calls_directories::directories::base_relocations::{Relocation, RelocationBlock};
 
 /// At offset 4: a block with two entries, and one with a HIGHADJ, its argument, and a HIGHADJ that has none.

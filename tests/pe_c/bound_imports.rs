@@ -2,7 +2,7 @@
 
 use super::made::*;
 use super::steps::{pe_c_next_bound_forwarder, pe_c_next_bound_import};
-use crate::directories::bound_imports::pe_c_bound_imports;
+use crate::directories::pe_c_bound_imports;
 use calls_directories::directories::bound_imports::{BoundForwarder, BoundImport};
 
 /// The directory at offset 4, 63 bytes: two DLLs, of which the first forwards to one, and an entry without a name. The last

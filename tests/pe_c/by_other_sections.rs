@@ -14,7 +14,7 @@ use super::steps::{
     pe_c_function_table, pe_c_next_delay_import, pe_c_next_delayed_function, pe_c_next_export,
     pe_c_next_import, pe_c_next_library, pe_c_next_resource_leaf,
 };
-use crate::directories::delay_imports::pe_c_delay_imports;
+use crate::directories::pe_c_delay_imports;
 use crate::unwinding::plan::pe_c_next_record;
 use calls_directories::names::exports::Exports;
 use calls_directories::names::imports::{Imports, Libraries};

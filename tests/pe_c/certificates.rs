@@ -1,7 +1,7 @@
 //! The certificates of a table, one a step.
 
 use super::made::*;
-use crate::directories::certificates::pe_c_next_certificate;
+use crate::directories::pe_c_next_certificate;
 use calls_directories::directories::certificates::Certificate;
 use pe_images::image as bytes_of;
 

@@ -1,7 +1,7 @@
 //! The CLR header of an image, the root of its metadata, and the streams of these, one a step.
 
 use super::made::*;
-use crate::directories::clr::{pe_c_clr_header, pe_c_clr_metadata, pe_c_next_metadata_stream};
+use crate::directories::{pe_c_clr_header, pe_c_clr_metadata, pe_c_next_metadata_stream};
 use calls_directories::directories::clr::{Metadata, MetadataStream, MetadataStreams};
 use pe_directories::ClrHeader;
 

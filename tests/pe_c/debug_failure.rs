@@ -1,7 +1,7 @@
 //! Why debug records are refused: the result of the call that reads each, and the numbers of its error. Every number is worked out by
 //! hand.
 
-use super::directory_failure::{NONE, Said, told};
+use super::failures::{NONE, Said, told};
 use super::made::*;
 use crate::failures::debug::pe_c_debug_failure;
 use pe_images::image as bytes_of;

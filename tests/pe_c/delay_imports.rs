@@ -2,7 +2,7 @@
 
 use super::made::*;
 use super::steps::{pe_c_next_delay_import, pe_c_next_delayed_function};
-use crate::directories::delay_imports::pe_c_delay_imports;
+use crate::directories::pe_c_delay_imports;
 use calls_directories::directories::delay_imports::{
     DelayLibrary, DelayWalk, DelayedFunction, DelayedFunctionWalk, DelayedFunctions,
 };

@@ -3,7 +3,7 @@
 use super::exports::with_exports;
 use super::made::*;
 use super::resource_leaves::{of_size, with_tree};
-use crate::directories::tables::{
+use crate::directories::{
     pe_c_export_directory, pe_c_next_resource_item, pe_c_resource_directory_at, pe_c_resource_root,
 };
 use calls_directories::directories::tables::{ExportFields, ResourceDirectory, ResourceItem};

@@ -1,7 +1,7 @@
 //! Texts for programs in C: GUIDs, texts in UTF-16, texts that end with a zero where they stand.
 
 use super::made::*;
-use crate::base::ended_texts::{pe_c_guid_text, pe_c_text_in, pe_c_utf16_text};
+use crate::base::{pe_c_guid_text, pe_c_text_in, pe_c_utf16_text};
 use calls_base::ended_texts::TextInBytes;
 
 /// The GUID of the README, as the bytes of a file have it.
@@ -31,7 +31,7 @@ fn guids_with_hyphens_and_without(rt: HostRuntime) -> Result<(), Fail> {
     }
     let mut room = [0x55; 40];
     let mut written = 9;
-    // shows: pe_c/src/base/ended_texts.rt pe_c_guid_text Short
+    // shows: pe_c/src/base.rt pe_c_guid_text Short
     let found = pe_c_guid_text(&GUID[..15], 0, &mut room, &mut written);
     assert_eq!(rt; found, SHORT);
     assert_eq!(rt; (written, room), (9, [0x55; 40]));

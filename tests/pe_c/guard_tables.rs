@@ -2,7 +2,7 @@
 
 use super::made::*;
 use super::steps::pe_c_next_guard_entry;
-use crate::directories::guard_tables::pe_c_guard_table;
+use crate::directories::pe_c_guard_table;
 use calls_directories::directories::guard_tables::{GuardEntries, GuardEntry};
 
 /// What `out` is before each call.

@@ -4,7 +4,7 @@
 use super::made::*;
 use super::signing::{has, having};
 use crate::headers::image::{pe_c_image, pe_c_sections};
-use crate::write::image::{pe_c_write_certificates, pe_c_write_image, pe_c_write_whole};
+use crate::write::{pe_c_write_certificates, pe_c_write_image, pe_c_write_whole};
 use pe_images::{pointer_below_64, with_every_directory, with_functions};
 
 const OLD_NUMBER: u64 = 0x7777;

@@ -2,7 +2,7 @@
 
 use super::made::*;
 use super::steps::{pe_c_next_import, pe_c_next_library};
-use crate::names::imports::pe_c_import_libraries;
+use crate::names::pe_c_import_libraries;
 use calls_directories::names::imports::{
     Import, ImportWalk, Imports, Libraries, Library, LibraryWalk,
 };

@@ -1,7 +1,7 @@
 //! The load configuration of an image: each field, and which are there.
 
 use super::made::*;
-use crate::directories::load_config::{pe_c_load_config, pe_c_load_config_field};
+use crate::directories::{pe_c_load_config, pe_c_load_config_field};
 use calls_directories::directories::load_config::LoadConfig;
 
 /// The fields of a structure as numbers, in the order of the structure: its size, then each field and whether it is there.

@@ -4,7 +4,7 @@
 
 use super::made::*;
 use super::shared::with_two_sections;
-use crate::write::resources::pe_c_edit;
+use crate::write::pe_c_edit;
 use pe_edit::{RecordKey, RecordRange, ResourceRecord};
 
 const LENGTH: usize = 0x605;

@@ -2,7 +2,7 @@
 
 use super::made::*;
 use super::steps::pe_c_next_resource_leaf;
-use crate::resources::leaves::pe_c_resource_leaves;
+use crate::resources::pe_c_resource_leaves;
 use calls_directories::resources::leaves::{LeafWalk, ResourceLeaf, ResourceLeaves, ResourceName};
 use pe_images::image as bytes_of;
 use pe_resource::ResourceEntry;

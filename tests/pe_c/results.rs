@@ -1,8 +1,7 @@
 //! The numbers of results, and their texts.
 
 use super::made::*;
-use crate::base::results::pe_c_abi_5;
-use crate::base::texts::pe_c_text;
+use crate::base::{pe_c_abi_5, pe_c_text};
 use calls_base::results::{number_of, number_of_directory, number_of_signing, number_of_tree};
 use pe_core::{Error, Reason};
 use pe_directories::DirectoryError;

@@ -3,7 +3,7 @@
 use super::made;
 use super::made::*;
 use super::maps::aligned;
-use crate::base::section_index::pe_c_index;
+use crate::base::pe_c_index;
 use crate::headers::map_ranges::pe_c_range_at;
 use crate::headers::maps::pe_c_section_at;
 

@@ -2,7 +2,7 @@
 //! numbers of four bytes virtual size, RVA, raw size, raw pointer.
 
 use super::made::*;
-use crate::write::sections::pe_c_write_sections;
+use crate::write::pe_c_write_sections;
 
 /// What the writer of sections returns into a room of 32 * 16 bytes, the offset after it, and the room.
 fn sections_written(

@@ -3,12 +3,12 @@
 
 use super::made::*;
 use super::signature_bytes::signature;
-use crate::signatures::elements::{pe_c_algorithm_identifier, pe_c_next_element};
-use crate::signatures::name::{pe_c_name, pe_c_next_name_attribute};
-use crate::signatures::signature::{pe_c_image_data, pe_c_indirect_data, pe_c_signature};
-use crate::signatures::signer::{pe_c_attribute, pe_c_find_attribute, pe_c_opus_info, pe_c_signer};
-use crate::signatures::time::{pe_c_time, pe_c_time_stamp};
-use crate::signatures::x509::{pe_c_extension, pe_c_key_usage, pe_c_x509};
+use crate::signatures::{
+    pe_c_algorithm_identifier, pe_c_attribute, pe_c_extension, pe_c_find_attribute,
+    pe_c_image_data, pe_c_indirect_data, pe_c_key_usage, pe_c_name, pe_c_next_element,
+    pe_c_next_name_attribute, pe_c_opus_info, pe_c_signature, pe_c_signer, pe_c_time,
+    pe_c_time_stamp, pe_c_x509,
+};
 use calls_signatures::elements::{Algorithm, DerElement, Oid};
 use calls_signatures::name::{NamePart, NameWalk};
 use calls_signatures::refused::SignatureFailure;

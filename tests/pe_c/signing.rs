@@ -3,7 +3,7 @@
 //! the checksums are those that `osslsigncode verify` 2.9 calculates of the same bytes.
 
 use super::made::*;
-use crate::write::signing::{pe_c_attach, pe_c_checksum, pe_c_detach, pe_c_digest_ranges};
+use crate::write::{pe_c_attach, pe_c_checksum, pe_c_detach, pe_c_digest_ranges};
 use calls_write::signing::{ChecksumField, Digest};
 use pe_images::with_functions;
 

@@ -15,8 +15,7 @@ use crate::lists::relocations::{pe_c_list_relocation_blocks, pe_c_list_relocatio
 use crate::lists::resources::{pe_c_list_resource_leaves, pe_c_list_version_blocks};
 use crate::lists::symbols::pe_c_list_symbols;
 use crate::lists::x64::{pe_c_list_codes, pe_c_list_functions};
-use crate::resources::version::{pe_c_fixed_version_in, pe_c_version_text_in};
-use crate::resources::version_blocks::pe_c_version_blocks;
+use crate::resources::{pe_c_fixed_version_in, pe_c_version_blocks, pe_c_version_text_in};
 use crate::stack::walk::pe_c_next_frames;
 use crate::unwinding::pe_c_exception_table;
 use calls_directories::directories::base_relocations::{Relocation, RelocationBlock};

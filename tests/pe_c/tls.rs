@@ -1,7 +1,7 @@
 //! The TLS directory of an image, and its callbacks, one a step.
 
 use super::made::*;
-use crate::directories::tls::{pe_c_next_tls_callback, pe_c_tls, pe_c_tls_callbacks};
+use crate::directories::{pe_c_next_tls_callback, pe_c_tls, pe_c_tls_callbacks};
 use pe_directories::TlsDirectory;
 
 /// What `out` is before each call.

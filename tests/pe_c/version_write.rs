@@ -1,7 +1,7 @@
 //! Blocks of version information that are written: the bytes, by Microsoft's page on the members of String, and refusals.
 
 use super::made::*;
-use crate::write::version::{pe_c_write_block, pe_c_write_version};
+use crate::write::{pe_c_write_block, pe_c_write_version};
 use pe_resource::VsFixedFileInfo;
 use pe_version::{LanguageRecord, StringRecord, TableRecord};
 

@@ -3,9 +3,7 @@
 mod engines;
 mod fake;
 mod lines;
-mod readers;
 mod refused_requests;
 mod refusing;
-mod rewrites;
 mod runs;
-mod writers;
+mod streams;

@@ -1,11 +1,289 @@
 //! Calls on the other directories of an image: relocations, TLS, the load configuration and others, over calls_directories.
 
-pub mod base_relocations;
-pub mod bound_imports;
-pub mod certificates;
-pub mod clr;
-pub mod delay_imports;
-pub mod guard_tables;
-pub mod load_config;
-pub mod tables;
-pub mod tls;
+ghost use Rattle.calls_base.specs.Directories.{callbacks_at, first_va_in, left_after, step_of, table_at, tls_at};
+ghost use Rattle.calls_base.specs.DirectoryResults.{DirectoryHandsOut};
+ghost use Rattle.calls_base.specs.HandsOut.{HandsOut, HandsOutIf};
+ghost use Rattle.calls_base.specs.Views.{directory_sections, map_of, may_map};
+ghost use Rattle.calls_base.specs.Walks.{walk_of};
+ghost use Rattle.calls_directories.specs.BoundImports.{bound_imports_at};
+ghost use Rattle.calls_directories.specs.Certificates.{certificate_step};
+ghost use Rattle.calls_directories.specs.Clr.{clr_header_at, clr_metadata_at, first_stream_in, stream_reported, streams_after};
+ghost use Rattle.calls_directories.specs.DirectoryTables.{export_directory_at, next_item_of, resource_directory_at, root_at};
+ghost use Rattle.calls_directories.specs.GuardTables.{guard_table_at};
+ghost use Rattle.calls_directories.specs.LoadConfigs.{load_config_at, numbered_field_at};
+ghost use Rattle.std.specs.Prelude.{◌≡◌};
+
+use calls_base::directories::table_at;
+use calls_base::image::{BASE_RELOCATION_TABLE, DELAY_IMPORT_DESCRIPTOR, directory};
+use calls_base::ranges::Range;
+use calls_base::results::{hand_out, hand_out_found, hand_out_some};
+use calls_base::view::View;
+use calls_directories::directories::bound_imports::bound_imports_at;
+use calls_directories::directories::certificates::{Certificate, step};
+use calls_directories::directories::clr::{
+    Metadata, MetadataStream, MetadataStreams, clr_header_at, clr_metadata_at, next_stream,
+    stream_reported,
+};
+use calls_directories::directories::guard_tables::{GuardEntries, guard_table_at};
+use calls_directories::directories::load_config::{LoadConfig, load_config_at, numbered_field_at};
+use calls_directories::directories::tables::{
+    ExportFields, ResourceDirectory, ResourceItem, export_directory_at, next_resource_item,
+    resource_directory_at, resource_root,
+};
+use calls_directories::directories::tls::{callbacks_at, next_callback, tls_at};
+use pe_core::{RvaMap, TableEntry};
+use pe_directories::{ClrHeader, TlsDirectory};
+
+// ---- base relocations
+
+/// Returns a walk through the blocks of the base relocations, the bytes of the directory: `NOTHING` where it is absent. Strict
+/// and permissive mode make no difference.
+///
+/// Errors: `UNMAPPED`, `SHORT`.
+#[unsafe(no_mangle)]
+pub extern "C" fn pe_c_relocation_blocks(view: &View, out: &mut Range) -> u32
+    ensures { DirectoryHandsOut result out.old out.new
+        (table_at 5 view.now.bytes.now view.now.image.now (directory_sections view.now 5)) }
+{
+    hand_out_found(table_at(view, BASE_RELOCATION_TABLE), out)
+}
+
+// ---- bound imports
+
+/// Returns the bytes of the directory of bound imports, at first a walk through them: `NOTHING` where it is absent. It stands
+/// in the headers, so its RVA is a file offset. Strict and permissive mode make no difference.
+///
+/// Error: `SHORT`.
+#[unsafe(no_mangle)]
+pub extern "C" fn pe_c_bound_imports(view: &View, out: &mut Range) -> u32
+    ensures { DirectoryHandsOut result out.old out.new (bound_imports_at view.now.bytes.now
+        view.now.image.now) }
+{
+    hand_out_found(bound_imports_at(view), out)
+}
+
+// ---- certificates
+
+/// Reads the next certificate of a table: `NOTHING` at the end of the walk. The walk starts as the range of the table
+/// and moves to the certificate's end, rounded up to a multiple of 8; it is over where that is not before its own end.
+/// The last body may end past the walk's end.
+///
+/// Errors: `CERTIFICATE_TABLE` where the walk is not inside the bytes; `SHORT` of the header; `CERTIFICATE_SIZE`,
+/// `CERTIFICATE_REVISION`, `CERTIFICATE_TYPE`. After an error the walk is over.
+#[unsafe(no_mangle)]
+pub extern "C" fn pe_c_next_certificate(
+    bytes: &[u8],
+    walk: &mut Range,
+    out: &mut Certificate,
+) -> u32
+    ensures returned { HandsOutIf result out.old out.new (certificate_step bytes.now walk.old).0 }
+    ensures walk { walk.new ≡ (certificate_step bytes.now walk.old).1 }
+{
+    let (reported, after) = step(bytes, *walk);
+    *walk = after;
+    hand_out_some(reported, out)
+}
+
+// ---- clr
+
+/// Returns the CLR header of an image: `NOTHING` where it is absent. Strict and permissive mode make no difference.
+///
+/// Errors: `UNMAPPED`, `SHORT`; `DIRECTORY_CLR_HEADER_SIZE`.
+#[unsafe(no_mangle)]
+pub extern "C" fn pe_c_clr_header(view: &View, out: &mut ClrHeader) -> u32
+    ensures { DirectoryHandsOut result out.old out.new
+        (clr_header_at view.now.bytes.now view.now.image.now (directory_sections view.now 14)) }
+{
+    hand_out_found(clr_header_at(view), out)
+}
+
+/// Returns the root of the metadata to which a CLR header leads, with a walk over the streams. Strict and permissive mode make
+/// no difference.
+///
+/// Errors: `UNMAPPED`; `SHORT` where the metadata are truncated, or do not hold the first 16 bytes of the root; `BAD_MAGIC`;
+/// `SHORT` where they do not hold the root.
+#[unsafe(no_mangle)]
+pub extern "C" fn pe_c_clr_metadata(view: &View, header: &ClrHeader, out: &mut Metadata) -> u32
+    ensures { DirectoryHandsOut result out.old out.new
+        (clr_metadata_at view.now.bytes.now view.now.image.now
+        (may_map view.now header.now.metadata.virtual_address) header.now) }
+{
+    hand_out_found(clr_metadata_at(view, header), out)
+}
+
+/// Steps through the streams of CLR metadata: returns the next one, and moves `walk` past it. `NOTHING` after the last.
+///
+/// Errors, after which the walk is over: `SHORT` where a range of `walk` is not inside the bytes, or the header of the
+/// stream is truncated; `DIRECTORY_STREAM_NAME`, then `SHORT` where its name or the zeros after it are.
+#[unsafe(no_mangle)]
+pub extern "C" fn pe_c_next_metadata_stream(
+    bytes: &[u8],
+    walk: &mut MetadataStreams,
+    out: &mut MetadataStream,
+) -> u32
+    ensures stream { DirectoryHandsOut result out.old out.new
+        (step_of (stream_reported walk.old) (first_stream_in bytes.now walk.old)) }
+    ensures walk { walk.new ≡ streams_after walk.old (first_stream_in bytes.now walk.old) }
+{
+    hand_out_found(next_stream(bytes, walk), out)
+}
+
+// ---- delay imports
+
+/// Returns a walk through the entries of the delay import directory, its bytes: `NOTHING` where it is absent. Strict and
+/// permissive mode make no difference.
+///
+/// Errors: `UNMAPPED`, `SHORT`.
+#[unsafe(no_mangle)]
+pub extern "C" fn pe_c_delay_imports(view: &View, out: &mut Range) -> u32
+    ensures { DirectoryHandsOut result out.old out.new
+        (table_at 13 view.now.bytes.now view.now.image.now (directory_sections view.now 13)) }
+{
+    hand_out_found(table_at(view, DELAY_IMPORT_DESCRIPTOR), out)
+}
+
+// ---- guard tables
+
+/// Returns a walk over a table of the load configuration of an image, by the table's number: 0 exception handlers of x86
+/// (`SEHandlerTable`), 1 functions that may be called indirectly (`GuardCFFunctionTable`), 2 entries of the import address
+/// table whose address is taken (`GuardAddressTakenIatEntryTable`), 3 targets of `longjmp` (`GuardLongJumpTargetTable`),
+/// 4 continuations of exceptions (`GuardEHContinuationTable`). `NOTHING` where the image has no load configuration, or this
+/// has no such table, and for another number. Strict and permissive mode make no difference.
+///
+/// Errors: those of `pe_c_load_config`; `DIRECTORY_VA_BELOW_BASE`, `UNMAPPED`.
+#[unsafe(no_mangle)]
+pub extern "C" fn pe_c_guard_table(view: &View, table: u32, out: &mut GuardEntries) -> u32
+    ensures { DirectoryHandsOut result out.old out.new
+        (guard_table_at table view.now.bytes.now view.now.image.now (may_map view.now)) }
+{
+    hand_out_found(guard_table_at(view, table), out)
+}
+
+// ---- load config
+
+/// Returns the load configuration of an image: `NOTHING` where it is absent. Strict and permissive mode make no difference. Where
+/// the image ends before the structure, it has the fields that are there.
+///
+/// Errors: `UNMAPPED`; `SHORT` of the 4 bytes of its size.
+#[unsafe(no_mangle)]
+pub extern "C" fn pe_c_load_config(view: &View, out: &mut LoadConfig) -> u32
+    ensures { DirectoryHandsOut result out.old out.new
+        (load_config_at view.now.bytes.now view.now.image.now (directory_sections view.now 10)) }
+{
+    hand_out_found(load_config_at(view), out)
+}
+
+/// Returns a field of the load configuration that `LoadConfig` does not have, by its number in the order of winnt.h: 0 to 11 what
+/// is set for a process, from `GlobalFlagsClear` to `EditList`, and 12 to 36 what follows the guard flags, from
+/// `CodeIntegrity.Flags` to `GuardMemcpyFunctionPointer`. `NOTHING` where the image has no load configuration, where its
+/// structure is too short for the field, or the image, and for another number. Strict and permissive mode make no difference.
+///
+/// Errors: those of `pe_c_load_config`.
+#[unsafe(no_mangle)]
+pub extern "C" fn pe_c_load_config_field(view: &View, field: u32, out: &mut u64) -> u32
+    ensures { DirectoryHandsOut result out.old out.new
+        (numbered_field_at field view.now.bytes.now view.now.image.now
+        (directory_sections view.now 10)) }
+{
+    hand_out_found(numbered_field_at(view, field), out)
+}
+
+// ---- tables
+
+/// Returns the fields of an image's export directory, whatever its tables are: `NOTHING` where it is absent. Strict and permissive
+/// mode make no difference.
+///
+/// Errors: `UNMAPPED`, `SHORT` of its 40 bytes.
+#[unsafe(no_mangle)]
+pub extern "C" fn pe_c_export_directory(view: &View, out: &mut ExportFields) -> u32
+    ensures { HandsOutIf result out.old out.new (export_directory_at
+        view.now.bytes.now view.now.image.now (map_of view.now)) }
+{
+    hand_out_some(export_directory_at(view), out)
+}
+
+/// Returns the directory at an offset of a resource tree: at 0 the first, whose entries are types, else one to which an entry
+/// leads. `tree` is that of the walk which `pe_c_resource_leaves` returns.
+///
+/// Errors: `SHORT` where `tree` is not inside the bytes, or the directory or its entries are not inside the tree.
+#[unsafe(no_mangle)]
+pub extern "C" fn pe_c_resource_directory_at(
+    bytes: &[u8],
+    tree: &Range,
+    offset: u32,
+    out: &mut ResourceDirectory,
+) -> u32
+    ensures { HandsOut result out.old out.new (resource_directory_at bytes.now tree.now offset) }
+{
+    hand_out(resource_directory_at(bytes, tree, offset as usize), out)
+}
+
+/// Returns the first directory of the resources, whose entries are types: `NOTHING` where `pe_c_resource_leaves` returns it. In
+/// permissive mode one whose entries are not all in the data has none.
+///
+/// Errors: those of `pe_c_resource_leaves`.
+#[unsafe(no_mangle)]
+pub extern "C" fn pe_c_resource_root(view: &View, out: &mut ResourceDirectory) -> u32
+    ensures { HandsOutIf result out.old out.new (root_at view.now.bytes.now view.now.image.now
+        (directory_sections view.now 2)) }
+{
+    hand_out_some(resource_root(view), out)
+}
+
+/// Reads the next entry of a resource directory, whose `entries` are the walk: `NOTHING` at its end. First come entries with a
+/// name. An entry leads to the directory at its offset, or else to a data entry, whose numbers `pe_c_next_resource_leaf` returns.
+///
+/// Errors: `SHORT` where the walk is not inside the bytes, or an entry is truncated: then the walk is over; `SHORT` where `tree` is not
+/// inside the bytes, or a name is not inside the tree: then the walk is past its entry.
+#[unsafe(no_mangle)]
+pub extern "C" fn pe_c_next_resource_item(
+    bytes: &[u8],
+    tree: &Range,
+    walk: &mut Range,
+    out: &mut ResourceItem,
+) -> u32
+    ensures entry { HandsOutIf result out.old out.new (next_item_of bytes.now tree.now walk.old) }
+    ensures walk { walk.new ≡ walk_of 8 bytes.now walk.old }
+{
+    hand_out_some(next_resource_item(bytes, tree, walk), out)
+}
+
+// ---- tls
+
+/// Returns the TLS directory of an image: `NOTHING` where it is absent. Strict and permissive mode make no difference.
+///
+/// Errors: `UNMAPPED`, `SHORT`.
+#[unsafe(no_mangle)]
+pub extern "C" fn pe_c_tls(view: &View, out: &mut TlsDirectory) -> u32
+    ensures { DirectoryHandsOut result out.old out.new (tls_at view.now.bytes.now view.now.image.now
+        (directory_sections view.now 9)) }
+{
+    hand_out_found(tls_at(view), out)
+}
+
+/// Returns a walk through the callbacks of a TLS directory, the range from the first to the end of the bytes: `NOTHING` where
+/// the directory has no table of them.
+///
+/// Errors: `DIRECTORY_VA_BELOW_BASE`, `UNMAPPED`.
+#[unsafe(no_mangle)]
+pub extern "C" fn pe_c_tls_callbacks(view: &View, tls: &TlsDirectory, out: &mut Range) -> u32
+    ensures { DirectoryHandsOut result out.old out.new
+        (callbacks_at view.now.bytes.now view.now.image.now
+        (may_map view.now) tls.now) }
+{
+    hand_out_found(callbacks_at(view, tls), out)
+}
+
+/// Steps through callbacks: returns the next one, a virtual address, and moves `walk` past it. `NOTHING` where the table ends:
+/// then `walk` stays.
+///
+/// Error: `SHORT` where the bytes end before the table does, or where `walk` is not inside the bytes: then the walk is over.
+#[unsafe(no_mangle)]
+pub extern "C" fn pe_c_next_tls_callback(view: &View, walk: &mut Range, out: &mut u64) -> u32
+    ensures callback { DirectoryHandsOut result out.old out.new
+        (step_of (λ x. x) (first_va_in view.now.image.now view.now.bytes.now walk.old)) }
+    ensures walk { walk.new ≡ left_after walk.old (first_va_in view.now.image.now view.now.bytes.now
+        walk.old) }
+{
+    hand_out_found(next_callback(view, walk), out)
+}
