@@ -3217,6 +3217,10 @@ extern "C" {
     ///
     /// Errors: [`Error::SHORT`] where the symbols are truncated; [`Error::STRING_TABLE`] where the string table is.
     pub fn pe_c_coff_strings(bytes: *const u8, length: usize, coff: *const CoffHeader, out: *mut Range) -> u32;
+    /// Reads the next symbol of a walk.
+    ///
+    /// Error: [`Error::SHORT`] where the table is not inside the bytes.
+    pub fn pe_c_next_symbol(bytes: *const u8, length: usize, walk: *mut SymbolWalk, out: *mut SymbolEntry) -> u32;
     /// Returns the name of the symbol in an entry of a symbol table: UTF-8, not NUL-terminated, in the entry or in the
     /// string table.
     ///
@@ -4329,10 +4333,11 @@ extern "C" {
         number_of_entries: usize,
         written: *mut u64,
     ) -> u32;
-    /// Lists the symbols of a walk, each with what [`pe_c_symbol_name`] returns of it.
+    /// Lists the symbols of a walk as [`pe_c_next_symbol`] returns them, each with what [`pe_c_symbol_name`] returns of
+    /// it.
     ///
-    /// Auxiliary records are skipped. Names are read together where they share much, as by [`pe_c_list_exports`], here
-    /// with one run for each entry that the symbol table has left, or more; the string table stays as it is.
+    /// Names are read together where they share much, as by [`pe_c_list_exports`], here with one run for each entry
+    /// that the symbol table has left, or more; the string table stays as it is.
     ///
     /// Errors: [`ROOM`]; [`Error::SHORT`] where the symbol table is not inside the bytes.
     pub fn pe_c_list_symbols(
@@ -4595,9 +4600,9 @@ extern "C" {
     /// Reads the record with an index of the stream of a kind, [`THREAD_LIST_STREAM`] and others, into the field of
     /// that kind; with [`DUMP_ENTRIES`] of the directory.
     ///
-    /// The other fields are unchanged. [`NOTHING`] past the last record, and of another kind. What a stream says in one
-    /// record has index 0: the exception, the system, the process, the walk over the memory of a full dump. The
-    /// functions below return the field of one kind each.
+    /// The other fields are unchanged, and need not be initialised. [`NOTHING`] past the last record, and of another
+    /// kind. What a stream says in one record has index 0: the exception, the system, the process, the walk over the
+    /// memory of a full dump. The functions below return the field of one kind each.
     ///
     /// Errors: those of the function of the kind.
     pub fn pe_c_dump_record(
@@ -4615,7 +4620,8 @@ extern "C" {
     /// Reads a context of a machine, 9 for x64 or 12 for ARM64, `PROCESSOR_ARCHITECTURE_*`, into the field of that
     /// machine: that of the exception, or of a thread.
     ///
-    /// The other field is unchanged. The functions below return the field of one machine each.
+    /// The other field is unchanged, and need not be initialised. The functions below return the field of one machine
+    /// each.
     ///
     /// Errors: [`Error::DUMP_MACHINE`] of another machine; those of the function of the machine.
     pub fn pe_c_read_dump_context(
@@ -5481,31 +5487,6 @@ pub unsafe extern "C" fn pe_c_version_text(
     if result == DONE { unsafe { pe_c_version_text_in((*view).bytes, (*view).length, &found, name, out) } } else { result }
 }
 
-/// Reads the next symbol of a walk: what [`pe_c_list_symbols`] returns of one, without a string table.
-///
-/// Error: [`Error::SHORT`] where the table is not inside the bytes.
-///
-/// # Safety
-///
-/// As of [`pe_c_list_symbols`], which it calls.
-#[rustfmt::skip]
-pub unsafe extern "C" fn pe_c_next_symbol(
-    bytes: *const u8,
-    length: usize,
-    walk: *mut SymbolWalk,
-    out: *mut SymbolEntry,
-) -> u32 {
-    let mut all = NamedSymbolWalk { symbols: unsafe { *walk }, ..Default::default() };
-    let mut found = NamedSymbol::default();
-    let mut written = 0;
-    let result = unsafe { pe_c_list_symbols(bytes, length, &mut all, core::ptr::null_mut(), 0, &mut found, 1, &mut written) };
-    unsafe { *walk = all.symbols };
-    if result == DONE && written == 1 {
-        unsafe { *out = found.symbol };
-    }
-    if result == DONE && written == 0 { NOTHING } else { result }
-}
-
 /// Returns the entry of the directory with an index, or [`NOTHING`].
 ///
 /// Errors: [`Error::DUMP_LOCATION`] where the directory is not inside the bytes.
@@ -5521,11 +5502,11 @@ pub unsafe extern "C" fn pe_c_dump_entry_at(
     index: u64,
     out: *mut DumpEntry,
 ) -> u32 {
-    let mut found = DumpAnyRecord::default();
-    let result = unsafe { pe_c_dump_record(bytes, length, directory, DUMP_ENTRIES, index, &mut found) };
-    if result == DONE {
-        unsafe { *out = found.entry };
-    }
+    let mut found = core::mem::MaybeUninit::<DumpAnyRecord>::uninit();
+    let field = unsafe { core::ptr::addr_of_mut!((*found.as_mut_ptr()).entry) };
+    unsafe { field.write(*out) };
+    let result = unsafe { pe_c_dump_record(bytes, length, directory, DUMP_ENTRIES, index, found.as_mut_ptr()) };
+    unsafe { *out = field.read() };
     result
 }
 
@@ -5545,11 +5526,11 @@ pub unsafe extern "C" fn pe_c_dump_thread_at(
     index: u64,
     out: *mut DumpThread,
 ) -> u32 {
-    let mut found = DumpAnyRecord::default();
-    let result = unsafe { pe_c_dump_record(bytes, length, stream, THREAD_LIST_STREAM, index, &mut found) };
-    if result == DONE {
-        unsafe { *out = found.thread };
-    }
+    let mut found = core::mem::MaybeUninit::<DumpAnyRecord>::uninit();
+    let field = unsafe { core::ptr::addr_of_mut!((*found.as_mut_ptr()).thread) };
+    unsafe { field.write(*out) };
+    let result = unsafe { pe_c_dump_record(bytes, length, stream, THREAD_LIST_STREAM, index, found.as_mut_ptr()) };
+    unsafe { *out = field.read() };
     result
 }
 
@@ -5568,11 +5549,11 @@ pub unsafe extern "C" fn pe_c_dump_module_at(
     index: u64,
     out: *mut DumpModule,
 ) -> u32 {
-    let mut found = DumpAnyRecord::default();
-    let result = unsafe { pe_c_dump_record(bytes, length, stream, MODULE_LIST_STREAM, index, &mut found) };
-    if result == DONE {
-        unsafe { *out = found.loaded };
-    }
+    let mut found = core::mem::MaybeUninit::<DumpAnyRecord>::uninit();
+    let field = unsafe { core::ptr::addr_of_mut!((*found.as_mut_ptr()).loaded) };
+    unsafe { field.write(*out) };
+    let result = unsafe { pe_c_dump_record(bytes, length, stream, MODULE_LIST_STREAM, index, found.as_mut_ptr()) };
+    unsafe { *out = field.read() };
     result
 }
 
@@ -5591,11 +5572,11 @@ pub unsafe extern "C" fn pe_c_dump_thread_name_at(
     index: u64,
     out: *mut DumpThreadName,
 ) -> u32 {
-    let mut found = DumpAnyRecord::default();
-    let result = unsafe { pe_c_dump_record(bytes, length, stream, THREAD_NAMES_STREAM, index, &mut found) };
-    if result == DONE {
-        unsafe { *out = found.thread_name };
-    }
+    let mut found = core::mem::MaybeUninit::<DumpAnyRecord>::uninit();
+    let field = unsafe { core::ptr::addr_of_mut!((*found.as_mut_ptr()).thread_name) };
+    unsafe { field.write(*out) };
+    let result = unsafe { pe_c_dump_record(bytes, length, stream, THREAD_NAMES_STREAM, index, found.as_mut_ptr()) };
+    unsafe { *out = field.read() };
     result
 }
 
@@ -5616,11 +5597,11 @@ pub unsafe extern "C" fn pe_c_dump_unloaded_at(
     index: u64,
     out: *mut DumpUnloaded,
 ) -> u32 {
-    let mut found = DumpAnyRecord::default();
-    let result = unsafe { pe_c_dump_record(bytes, length, stream, UNLOADED_MODULE_LIST_STREAM, index, &mut found) };
-    if result == DONE {
-        unsafe { *out = found.unloaded };
-    }
+    let mut found = core::mem::MaybeUninit::<DumpAnyRecord>::uninit();
+    let field = unsafe { core::ptr::addr_of_mut!((*found.as_mut_ptr()).unloaded) };
+    unsafe { field.write(*out) };
+    let result = unsafe { pe_c_dump_record(bytes, length, stream, UNLOADED_MODULE_LIST_STREAM, index, found.as_mut_ptr()) };
+    unsafe { *out = field.read() };
     result
 }
 
@@ -5639,11 +5620,11 @@ pub unsafe extern "C" fn pe_c_dump_thread_info_at(
     index: u64,
     out: *mut DumpThreadInfo,
 ) -> u32 {
-    let mut found = DumpAnyRecord::default();
-    let result = unsafe { pe_c_dump_record(bytes, length, stream, THREAD_INFO_LIST_STREAM, index, &mut found) };
-    if result == DONE {
-        unsafe { *out = found.thread_info };
-    }
+    let mut found = core::mem::MaybeUninit::<DumpAnyRecord>::uninit();
+    let field = unsafe { core::ptr::addr_of_mut!((*found.as_mut_ptr()).thread_info) };
+    unsafe { field.write(*out) };
+    let result = unsafe { pe_c_dump_record(bytes, length, stream, THREAD_INFO_LIST_STREAM, index, found.as_mut_ptr()) };
+    unsafe { *out = field.read() };
     result
 }
 
@@ -5662,11 +5643,11 @@ pub unsafe extern "C" fn pe_c_dump_handle_at(
     index: u64,
     out: *mut DumpHandle,
 ) -> u32 {
-    let mut found = DumpAnyRecord::default();
-    let result = unsafe { pe_c_dump_record(bytes, length, stream, HANDLE_DATA_STREAM, index, &mut found) };
-    if result == DONE {
-        unsafe { *out = found.handle };
-    }
+    let mut found = core::mem::MaybeUninit::<DumpAnyRecord>::uninit();
+    let field = unsafe { core::ptr::addr_of_mut!((*found.as_mut_ptr()).handle) };
+    unsafe { field.write(*out) };
+    let result = unsafe { pe_c_dump_record(bytes, length, stream, HANDLE_DATA_STREAM, index, found.as_mut_ptr()) };
+    unsafe { *out = field.read() };
     result
 }
 
@@ -5685,11 +5666,11 @@ pub unsafe extern "C" fn pe_c_dump_region_at(
     index: u64,
     out: *mut DumpRegion,
 ) -> u32 {
-    let mut found = DumpAnyRecord::default();
-    let result = unsafe { pe_c_dump_record(bytes, length, stream, MEMORY_INFO_LIST_STREAM, index, &mut found) };
-    if result == DONE {
-        unsafe { *out = found.region };
-    }
+    let mut found = core::mem::MaybeUninit::<DumpAnyRecord>::uninit();
+    let field = unsafe { core::ptr::addr_of_mut!((*found.as_mut_ptr()).region) };
+    unsafe { field.write(*out) };
+    let result = unsafe { pe_c_dump_record(bytes, length, stream, MEMORY_INFO_LIST_STREAM, index, found.as_mut_ptr()) };
+    unsafe { *out = field.read() };
     result
 }
 
@@ -5708,11 +5689,11 @@ pub unsafe extern "C" fn pe_c_dump_memory_at(
     index: u64,
     out: *mut DumpPiece,
 ) -> u32 {
-    let mut found = DumpAnyRecord::default();
-    let result = unsafe { pe_c_dump_record(bytes, length, stream, MEMORY_LIST_STREAM, index, &mut found) };
-    if result == DONE {
-        unsafe { *out = found.memory };
-    }
+    let mut found = core::mem::MaybeUninit::<DumpAnyRecord>::uninit();
+    let field = unsafe { core::ptr::addr_of_mut!((*found.as_mut_ptr()).memory) };
+    unsafe { field.write(*out) };
+    let result = unsafe { pe_c_dump_record(bytes, length, stream, MEMORY_LIST_STREAM, index, found.as_mut_ptr()) };
+    unsafe { *out = field.read() };
     result
 }
 
@@ -5731,11 +5712,11 @@ pub unsafe extern "C" fn pe_c_dump_exception(
     stream: *const Range,
     out: *mut DumpException,
 ) -> u32 {
-    let mut found = DumpAnyRecord::default();
-    let result = unsafe { pe_c_dump_record(bytes, length, stream, EXCEPTION_STREAM, 0, &mut found) };
-    if result == DONE {
-        unsafe { *out = found.exception };
-    }
+    let mut found = core::mem::MaybeUninit::<DumpAnyRecord>::uninit();
+    let field = unsafe { core::ptr::addr_of_mut!((*found.as_mut_ptr()).exception) };
+    unsafe { field.write(*out) };
+    let result = unsafe { pe_c_dump_record(bytes, length, stream, EXCEPTION_STREAM, 0, found.as_mut_ptr()) };
+    unsafe { *out = field.read() };
     result
 }
 
@@ -5754,11 +5735,11 @@ pub unsafe extern "C" fn pe_c_dump_system(
     stream: *const Range,
     out: *mut DumpSystem,
 ) -> u32 {
-    let mut found = DumpAnyRecord::default();
-    let result = unsafe { pe_c_dump_record(bytes, length, stream, SYSTEM_INFO_STREAM, 0, &mut found) };
-    if result == DONE {
-        unsafe { *out = found.system };
-    }
+    let mut found = core::mem::MaybeUninit::<DumpAnyRecord>::uninit();
+    let field = unsafe { core::ptr::addr_of_mut!((*found.as_mut_ptr()).system) };
+    unsafe { field.write(*out) };
+    let result = unsafe { pe_c_dump_record(bytes, length, stream, SYSTEM_INFO_STREAM, 0, found.as_mut_ptr()) };
+    unsafe { *out = field.read() };
     result
 }
 
@@ -5777,11 +5758,11 @@ pub unsafe extern "C" fn pe_c_dump_process(
     stream: *const Range,
     out: *mut DumpProcess,
 ) -> u32 {
-    let mut found = DumpAnyRecord::default();
-    let result = unsafe { pe_c_dump_record(bytes, length, stream, MISC_INFO_STREAM, 0, &mut found) };
-    if result == DONE {
-        unsafe { *out = found.process };
-    }
+    let mut found = core::mem::MaybeUninit::<DumpAnyRecord>::uninit();
+    let field = unsafe { core::ptr::addr_of_mut!((*found.as_mut_ptr()).process) };
+    unsafe { field.write(*out) };
+    let result = unsafe { pe_c_dump_record(bytes, length, stream, MISC_INFO_STREAM, 0, found.as_mut_ptr()) };
+    unsafe { *out = field.read() };
     result
 }
 
@@ -5803,11 +5784,11 @@ pub unsafe extern "C" fn pe_c_dump_memory64(
     stream: *const Range,
     out: *mut Memory64Walk,
 ) -> u32 {
-    let mut found = DumpAnyRecord::default();
-    let result = unsafe { pe_c_dump_record(bytes, length, stream, MEMORY64_LIST_STREAM, 0, &mut found) };
-    if result == DONE {
-        unsafe { *out = found.memory64 };
-    }
+    let mut found = core::mem::MaybeUninit::<DumpAnyRecord>::uninit();
+    let field = unsafe { core::ptr::addr_of_mut!((*found.as_mut_ptr()).memory64) };
+    unsafe { field.write(*out) };
+    let result = unsafe { pe_c_dump_record(bytes, length, stream, MEMORY64_LIST_STREAM, 0, found.as_mut_ptr()) };
+    unsafe { *out = field.read() };
     result
 }
 
@@ -5827,11 +5808,11 @@ pub unsafe extern "C" fn pe_c_dump_context(
     location: *const DumpLocation,
     out: *mut Context,
 ) -> u32 {
-    let mut found = DumpAnyContext::default();
-    let result = unsafe { pe_c_read_dump_context(bytes, length, location, 9, &mut found) };
-    if result == DONE {
-        unsafe { *out = found.x64 };
-    }
+    let mut found = core::mem::MaybeUninit::<DumpAnyContext>::uninit();
+    let field = unsafe { core::ptr::addr_of_mut!((*found.as_mut_ptr()).x64) };
+    unsafe { field.write(*out) };
+    let result = unsafe { pe_c_read_dump_context(bytes, length, location, 9, found.as_mut_ptr()) };
+    unsafe { *out = field.read() };
     result
 }
 
@@ -5849,10 +5830,10 @@ pub unsafe extern "C" fn pe_c_dump_context_arm64(
     location: *const DumpLocation,
     out: *mut Arm64Context,
 ) -> u32 {
-    let mut found = DumpAnyContext::default();
-    let result = unsafe { pe_c_read_dump_context(bytes, length, location, 12, &mut found) };
-    if result == DONE {
-        unsafe { *out = found.arm64 };
-    }
+    let mut found = core::mem::MaybeUninit::<DumpAnyContext>::uninit();
+    let field = unsafe { core::ptr::addr_of_mut!((*found.as_mut_ptr()).arm64) };
+    unsafe { field.write(*out) };
+    let result = unsafe { pe_c_read_dump_context(bytes, length, location, 12, found.as_mut_ptr()) };
+    unsafe { *out = field.read() };
     result
 }
