@@ -320,6 +320,10 @@
 #ifndef PE_C_H
 #define PE_C_H
 
+#if !defined(__cplusplus) && (!defined(__STDC_VERSION__) || __STDC_VERSION__ < 199901L)
+#error "pe.h is C11, and compiles as C99: pass -std=c11, or /std:c11"
+#endif
+
 #include <stddef.h>
 #include <stdint.h>
 
