@@ -4160,7 +4160,7 @@ uint32_t pe_c_dump_stream(const uint8_t *bytes, size_t length, const pe_c_range 
 uint32_t pe_c_dump_text(const uint8_t *bytes, size_t length, uint64_t rva, pe_c_range *out) PE_C_RESULT(4);
 
 /* Reads the record with an index of the stream of a kind, PE_C_THREAD_LIST_STREAM and others, into the field of that kind; with
- * PE_C_DUMP_ENTRIES of the directory. The other fields are unchanged, and need not be initialised. PE_C_NOTHING past the last
+ * PE_C_DUMP_ENTRIES of the directory. The other fields are unchanged, and none need be initialised. PE_C_NOTHING past the last
  * record, and of another kind. What a stream says in one record has index 0: the exception, the system, the process, the walk
  * over the memory of a full dump. The functions below return the field of one kind each.
  * Errors: those of the function of the kind. */
@@ -4174,9 +4174,9 @@ static inline uint32_t pe_c_dump_entry_at(const uint8_t *bytes, size_t length, c
                                           pe_c_dump_entry *out)
 {
     pe_c_dump_any_record found;
-    found.entry = *out;
     uint32_t result = pe_c_dump_record(bytes, length, directory, PE_C_DUMP_ENTRIES, index, &found);
-    *out = found.entry;
+    if (result == PE_C_DONE)
+        *out = found.entry;
     return result;
 }
 
@@ -4188,9 +4188,9 @@ static inline uint32_t pe_c_dump_thread_at(const uint8_t *bytes, size_t length, 
                                            pe_c_dump_thread *out)
 {
     pe_c_dump_any_record found;
-    found.thread = *out;
     uint32_t result = pe_c_dump_record(bytes, length, stream, PE_C_THREAD_LIST_STREAM, index, &found);
-    *out = found.thread;
+    if (result == PE_C_DONE)
+        *out = found.thread;
     return result;
 }
 
@@ -4200,9 +4200,9 @@ static inline uint32_t pe_c_dump_module_at(const uint8_t *bytes, size_t length, 
                                            pe_c_dump_module *out)
 {
     pe_c_dump_any_record found;
-    found.loaded = *out;
     uint32_t result = pe_c_dump_record(bytes, length, stream, PE_C_MODULE_LIST_STREAM, index, &found);
-    *out = found.loaded;
+    if (result == PE_C_DONE)
+        *out = found.loaded;
     return result;
 }
 
@@ -4212,9 +4212,9 @@ static inline uint32_t pe_c_dump_thread_name_at(const uint8_t *bytes, size_t len
                                                 pe_c_dump_thread_name *out)
 {
     pe_c_dump_any_record found;
-    found.thread_name = *out;
     uint32_t result = pe_c_dump_record(bytes, length, stream, PE_C_THREAD_NAMES_STREAM, index, &found);
-    *out = found.thread_name;
+    if (result == PE_C_DONE)
+        *out = found.thread_name;
     return result;
 }
 
@@ -4227,9 +4227,9 @@ static inline uint32_t pe_c_dump_unloaded_at(const uint8_t *bytes, size_t length
                                              pe_c_dump_unloaded *out)
 {
     pe_c_dump_any_record found;
-    found.unloaded = *out;
     uint32_t result = pe_c_dump_record(bytes, length, stream, PE_C_UNLOADED_MODULE_LIST_STREAM, index, &found);
-    *out = found.unloaded;
+    if (result == PE_C_DONE)
+        *out = found.unloaded;
     return result;
 }
 
@@ -4239,9 +4239,9 @@ static inline uint32_t pe_c_dump_thread_info_at(const uint8_t *bytes, size_t len
                                                 pe_c_dump_thread_info *out)
 {
     pe_c_dump_any_record found;
-    found.thread_info = *out;
     uint32_t result = pe_c_dump_record(bytes, length, stream, PE_C_THREAD_INFO_LIST_STREAM, index, &found);
-    *out = found.thread_info;
+    if (result == PE_C_DONE)
+        *out = found.thread_info;
     return result;
 }
 
@@ -4251,9 +4251,9 @@ static inline uint32_t pe_c_dump_handle_at(const uint8_t *bytes, size_t length, 
                                            pe_c_dump_handle *out)
 {
     pe_c_dump_any_record found;
-    found.handle = *out;
     uint32_t result = pe_c_dump_record(bytes, length, stream, PE_C_HANDLE_DATA_STREAM, index, &found);
-    *out = found.handle;
+    if (result == PE_C_DONE)
+        *out = found.handle;
     return result;
 }
 
@@ -4263,9 +4263,9 @@ static inline uint32_t pe_c_dump_region_at(const uint8_t *bytes, size_t length, 
                                            pe_c_dump_region *out)
 {
     pe_c_dump_any_record found;
-    found.region = *out;
     uint32_t result = pe_c_dump_record(bytes, length, stream, PE_C_MEMORY_INFO_LIST_STREAM, index, &found);
-    *out = found.region;
+    if (result == PE_C_DONE)
+        *out = found.region;
     return result;
 }
 
@@ -4276,9 +4276,9 @@ static inline uint32_t pe_c_dump_memory_at(const uint8_t *bytes, size_t length, 
                                            pe_c_dump_piece *out)
 {
     pe_c_dump_any_record found;
-    found.memory = *out;
     uint32_t result = pe_c_dump_record(bytes, length, stream, PE_C_MEMORY_LIST_STREAM, index, &found);
-    *out = found.memory;
+    if (result == PE_C_DONE)
+        *out = found.memory;
     return result;
 }
 
@@ -4289,9 +4289,9 @@ static inline uint32_t pe_c_dump_exception(const uint8_t *bytes, size_t length, 
                                            pe_c_dump_raised *out)
 {
     pe_c_dump_any_record found;
-    found.exception = *out;
     uint32_t result = pe_c_dump_record(bytes, length, stream, PE_C_EXCEPTION_STREAM, 0, &found);
-    *out = found.exception;
+    if (result == PE_C_DONE)
+        *out = found.exception;
     return result;
 }
 
@@ -4302,9 +4302,9 @@ static inline uint32_t pe_c_dump_system(const uint8_t *bytes, size_t length, con
                                         pe_c_dump_system_info *out)
 {
     pe_c_dump_any_record found;
-    found.system = *out;
     uint32_t result = pe_c_dump_record(bytes, length, stream, PE_C_SYSTEM_INFO_STREAM, 0, &found);
-    *out = found.system;
+    if (result == PE_C_DONE)
+        *out = found.system;
     return result;
 }
 
@@ -4315,9 +4315,9 @@ static inline uint32_t pe_c_dump_process(const uint8_t *bytes, size_t length, co
                                          pe_c_dump_process_info *out)
 {
     pe_c_dump_any_record found;
-    found.process = *out;
     uint32_t result = pe_c_dump_record(bytes, length, stream, PE_C_MISC_INFO_STREAM, 0, &found);
-    *out = found.process;
+    if (result == PE_C_DONE)
+        *out = found.process;
     return result;
 }
 
@@ -4330,9 +4330,9 @@ static inline uint32_t pe_c_dump_memory64(const uint8_t *bytes, size_t length, c
                                           pe_c_memory64_walk *out)
 {
     pe_c_dump_any_record found;
-    found.memory64 = *out;
     uint32_t result = pe_c_dump_record(bytes, length, stream, PE_C_MEMORY64_LIST_STREAM, 0, &found);
-    *out = found.memory64;
+    if (result == PE_C_DONE)
+        *out = found.memory64;
     return result;
 }
 
@@ -4342,7 +4342,7 @@ uint32_t pe_c_next_memory64(const uint8_t *bytes, size_t length, pe_c_memory64_w
     PE_C_RESULT(3, 4);
 
 /* Reads a context of a machine, 9 for x64 or 12 for ARM64, PROCESSOR_ARCHITECTURE_*, into the field of that machine: that of the
- * exception, or of a thread. The other field is unchanged, and need not be initialised. The functions below return the field of
+ * exception, or of a thread. The other field is unchanged, and none need be initialised. The functions below return the field of
  * one machine each.
  * Errors: PE_C_DUMP_MACHINE of another machine; those of the function of the machine. */
 uint32_t pe_c_read_dump_context(const uint8_t *bytes, size_t length, const pe_c_dump_location *location, uint32_t machine,
@@ -4357,9 +4357,9 @@ static inline uint32_t pe_c_dump_context(const uint8_t *bytes, size_t length, co
                                          pe_c_context *out)
 {
     pe_c_dump_any_context found;
-    found.x64 = *out;
     uint32_t result = pe_c_read_dump_context(bytes, length, location, 9, &found);
-    *out = found.x64;
+    if (result == PE_C_DONE)
+        *out = found.x64;
     return result;
 }
 
@@ -4369,9 +4369,9 @@ static inline uint32_t pe_c_dump_context_arm64(const uint8_t *bytes, size_t leng
                                                pe_c_arm64_context *out)
 {
     pe_c_dump_any_context found;
-    found.arm64 = *out;
     uint32_t result = pe_c_read_dump_context(bytes, length, location, 12, &found);
-    *out = found.arm64;
+    if (result == PE_C_DONE)
+        *out = found.arm64;
     return result;
 }
 

@@ -229,10 +229,10 @@ class Header:
     def read_fields(text, comments, kinds):
         """The functions that return a field of the record that a call writes, by their names, and the text without them."""
         form = re.compile(r"^(?:PE_C_RESULT\([\d, ]+\)\n)?static inline (uint32_t) (pe_c_\w+)\(([^)]*)\)\n\{\n"
-                          r"    (pe_c_\w+) found;\n    found\.(\w+) = \*out;\n    uint32_t result = (\w+)\((.*)\);\n"
-                          r"    \*out = found\.\5;\n    return result;\n\}\n", re.M)
+                          r"    (pe_c_\w+) found;\n    uint32_t result = (\w+)\((.*)\);\n"
+                          r"    if \(result == PE_C_DONE\)\n        \*out = found\.(\w+);\n    return result;\n\}\n", re.M)
         fields = {}
-        for result, name, body, found, field, made, passed in form.findall(text):
+        for result, name, body, found, made, passed, field in form.findall(text):
             fields[name] = Function(name, result, Header.parameters(name, body, kinds), comments.get(name, ""), made,
                                     tuple(passed.split(", ")), found=found, field=field)
         return fields, form.sub("", text)

@@ -4600,7 +4600,7 @@ extern "C" {
     /// Reads the record with an index of the stream of a kind, [`THREAD_LIST_STREAM`] and others, into the field of
     /// that kind; with [`DUMP_ENTRIES`] of the directory.
     ///
-    /// The other fields are unchanged, and need not be initialised. [`NOTHING`] past the last record, and of another
+    /// The other fields are unchanged, and none need be initialised. [`NOTHING`] past the last record, and of another
     /// kind. What a stream says in one record has index 0: the exception, the system, the process, the walk over the
     /// memory of a full dump. The functions below return the field of one kind each.
     ///
@@ -4620,7 +4620,7 @@ extern "C" {
     /// Reads a context of a machine, 9 for x64 or 12 for ARM64, `PROCESSOR_ARCHITECTURE_*`, into the field of that
     /// machine: that of the exception, or of a thread.
     ///
-    /// The other field is unchanged, and need not be initialised. The functions below return the field of one machine
+    /// The other field is unchanged, and none need be initialised. The functions below return the field of one machine
     /// each.
     ///
     /// Errors: [`Error::DUMP_MACHINE`] of another machine; those of the function of the machine.
@@ -5503,10 +5503,10 @@ pub unsafe extern "C" fn pe_c_dump_entry_at(
     out: *mut DumpEntry,
 ) -> u32 {
     let mut found = core::mem::MaybeUninit::<DumpAnyRecord>::uninit();
-    let field = unsafe { core::ptr::addr_of_mut!((*found.as_mut_ptr()).entry) };
-    unsafe { field.write(*out) };
     let result = unsafe { pe_c_dump_record(bytes, length, directory, DUMP_ENTRIES, index, found.as_mut_ptr()) };
-    unsafe { *out = field.read() };
+    if result == DONE {
+        unsafe { *out = (*found.as_ptr()).entry };
+    }
     result
 }
 
@@ -5527,10 +5527,10 @@ pub unsafe extern "C" fn pe_c_dump_thread_at(
     out: *mut DumpThread,
 ) -> u32 {
     let mut found = core::mem::MaybeUninit::<DumpAnyRecord>::uninit();
-    let field = unsafe { core::ptr::addr_of_mut!((*found.as_mut_ptr()).thread) };
-    unsafe { field.write(*out) };
     let result = unsafe { pe_c_dump_record(bytes, length, stream, THREAD_LIST_STREAM, index, found.as_mut_ptr()) };
-    unsafe { *out = field.read() };
+    if result == DONE {
+        unsafe { *out = (*found.as_ptr()).thread };
+    }
     result
 }
 
@@ -5550,10 +5550,10 @@ pub unsafe extern "C" fn pe_c_dump_module_at(
     out: *mut DumpModule,
 ) -> u32 {
     let mut found = core::mem::MaybeUninit::<DumpAnyRecord>::uninit();
-    let field = unsafe { core::ptr::addr_of_mut!((*found.as_mut_ptr()).loaded) };
-    unsafe { field.write(*out) };
     let result = unsafe { pe_c_dump_record(bytes, length, stream, MODULE_LIST_STREAM, index, found.as_mut_ptr()) };
-    unsafe { *out = field.read() };
+    if result == DONE {
+        unsafe { *out = (*found.as_ptr()).loaded };
+    }
     result
 }
 
@@ -5573,10 +5573,10 @@ pub unsafe extern "C" fn pe_c_dump_thread_name_at(
     out: *mut DumpThreadName,
 ) -> u32 {
     let mut found = core::mem::MaybeUninit::<DumpAnyRecord>::uninit();
-    let field = unsafe { core::ptr::addr_of_mut!((*found.as_mut_ptr()).thread_name) };
-    unsafe { field.write(*out) };
     let result = unsafe { pe_c_dump_record(bytes, length, stream, THREAD_NAMES_STREAM, index, found.as_mut_ptr()) };
-    unsafe { *out = field.read() };
+    if result == DONE {
+        unsafe { *out = (*found.as_ptr()).thread_name };
+    }
     result
 }
 
@@ -5598,10 +5598,10 @@ pub unsafe extern "C" fn pe_c_dump_unloaded_at(
     out: *mut DumpUnloaded,
 ) -> u32 {
     let mut found = core::mem::MaybeUninit::<DumpAnyRecord>::uninit();
-    let field = unsafe { core::ptr::addr_of_mut!((*found.as_mut_ptr()).unloaded) };
-    unsafe { field.write(*out) };
     let result = unsafe { pe_c_dump_record(bytes, length, stream, UNLOADED_MODULE_LIST_STREAM, index, found.as_mut_ptr()) };
-    unsafe { *out = field.read() };
+    if result == DONE {
+        unsafe { *out = (*found.as_ptr()).unloaded };
+    }
     result
 }
 
@@ -5621,10 +5621,10 @@ pub unsafe extern "C" fn pe_c_dump_thread_info_at(
     out: *mut DumpThreadInfo,
 ) -> u32 {
     let mut found = core::mem::MaybeUninit::<DumpAnyRecord>::uninit();
-    let field = unsafe { core::ptr::addr_of_mut!((*found.as_mut_ptr()).thread_info) };
-    unsafe { field.write(*out) };
     let result = unsafe { pe_c_dump_record(bytes, length, stream, THREAD_INFO_LIST_STREAM, index, found.as_mut_ptr()) };
-    unsafe { *out = field.read() };
+    if result == DONE {
+        unsafe { *out = (*found.as_ptr()).thread_info };
+    }
     result
 }
 
@@ -5644,10 +5644,10 @@ pub unsafe extern "C" fn pe_c_dump_handle_at(
     out: *mut DumpHandle,
 ) -> u32 {
     let mut found = core::mem::MaybeUninit::<DumpAnyRecord>::uninit();
-    let field = unsafe { core::ptr::addr_of_mut!((*found.as_mut_ptr()).handle) };
-    unsafe { field.write(*out) };
     let result = unsafe { pe_c_dump_record(bytes, length, stream, HANDLE_DATA_STREAM, index, found.as_mut_ptr()) };
-    unsafe { *out = field.read() };
+    if result == DONE {
+        unsafe { *out = (*found.as_ptr()).handle };
+    }
     result
 }
 
@@ -5667,10 +5667,10 @@ pub unsafe extern "C" fn pe_c_dump_region_at(
     out: *mut DumpRegion,
 ) -> u32 {
     let mut found = core::mem::MaybeUninit::<DumpAnyRecord>::uninit();
-    let field = unsafe { core::ptr::addr_of_mut!((*found.as_mut_ptr()).region) };
-    unsafe { field.write(*out) };
     let result = unsafe { pe_c_dump_record(bytes, length, stream, MEMORY_INFO_LIST_STREAM, index, found.as_mut_ptr()) };
-    unsafe { *out = field.read() };
+    if result == DONE {
+        unsafe { *out = (*found.as_ptr()).region };
+    }
     result
 }
 
@@ -5690,10 +5690,10 @@ pub unsafe extern "C" fn pe_c_dump_memory_at(
     out: *mut DumpPiece,
 ) -> u32 {
     let mut found = core::mem::MaybeUninit::<DumpAnyRecord>::uninit();
-    let field = unsafe { core::ptr::addr_of_mut!((*found.as_mut_ptr()).memory) };
-    unsafe { field.write(*out) };
     let result = unsafe { pe_c_dump_record(bytes, length, stream, MEMORY_LIST_STREAM, index, found.as_mut_ptr()) };
-    unsafe { *out = field.read() };
+    if result == DONE {
+        unsafe { *out = (*found.as_ptr()).memory };
+    }
     result
 }
 
@@ -5713,10 +5713,10 @@ pub unsafe extern "C" fn pe_c_dump_exception(
     out: *mut DumpException,
 ) -> u32 {
     let mut found = core::mem::MaybeUninit::<DumpAnyRecord>::uninit();
-    let field = unsafe { core::ptr::addr_of_mut!((*found.as_mut_ptr()).exception) };
-    unsafe { field.write(*out) };
     let result = unsafe { pe_c_dump_record(bytes, length, stream, EXCEPTION_STREAM, 0, found.as_mut_ptr()) };
-    unsafe { *out = field.read() };
+    if result == DONE {
+        unsafe { *out = (*found.as_ptr()).exception };
+    }
     result
 }
 
@@ -5736,10 +5736,10 @@ pub unsafe extern "C" fn pe_c_dump_system(
     out: *mut DumpSystem,
 ) -> u32 {
     let mut found = core::mem::MaybeUninit::<DumpAnyRecord>::uninit();
-    let field = unsafe { core::ptr::addr_of_mut!((*found.as_mut_ptr()).system) };
-    unsafe { field.write(*out) };
     let result = unsafe { pe_c_dump_record(bytes, length, stream, SYSTEM_INFO_STREAM, 0, found.as_mut_ptr()) };
-    unsafe { *out = field.read() };
+    if result == DONE {
+        unsafe { *out = (*found.as_ptr()).system };
+    }
     result
 }
 
@@ -5759,10 +5759,10 @@ pub unsafe extern "C" fn pe_c_dump_process(
     out: *mut DumpProcess,
 ) -> u32 {
     let mut found = core::mem::MaybeUninit::<DumpAnyRecord>::uninit();
-    let field = unsafe { core::ptr::addr_of_mut!((*found.as_mut_ptr()).process) };
-    unsafe { field.write(*out) };
     let result = unsafe { pe_c_dump_record(bytes, length, stream, MISC_INFO_STREAM, 0, found.as_mut_ptr()) };
-    unsafe { *out = field.read() };
+    if result == DONE {
+        unsafe { *out = (*found.as_ptr()).process };
+    }
     result
 }
 
@@ -5785,10 +5785,10 @@ pub unsafe extern "C" fn pe_c_dump_memory64(
     out: *mut Memory64Walk,
 ) -> u32 {
     let mut found = core::mem::MaybeUninit::<DumpAnyRecord>::uninit();
-    let field = unsafe { core::ptr::addr_of_mut!((*found.as_mut_ptr()).memory64) };
-    unsafe { field.write(*out) };
     let result = unsafe { pe_c_dump_record(bytes, length, stream, MEMORY64_LIST_STREAM, 0, found.as_mut_ptr()) };
-    unsafe { *out = field.read() };
+    if result == DONE {
+        unsafe { *out = (*found.as_ptr()).memory64 };
+    }
     result
 }
 
@@ -5809,10 +5809,10 @@ pub unsafe extern "C" fn pe_c_dump_context(
     out: *mut Context,
 ) -> u32 {
     let mut found = core::mem::MaybeUninit::<DumpAnyContext>::uninit();
-    let field = unsafe { core::ptr::addr_of_mut!((*found.as_mut_ptr()).x64) };
-    unsafe { field.write(*out) };
     let result = unsafe { pe_c_read_dump_context(bytes, length, location, 9, found.as_mut_ptr()) };
-    unsafe { *out = field.read() };
+    if result == DONE {
+        unsafe { *out = (*found.as_ptr()).x64 };
+    }
     result
 }
 
@@ -5831,9 +5831,9 @@ pub unsafe extern "C" fn pe_c_dump_context_arm64(
     out: *mut Arm64Context,
 ) -> u32 {
     let mut found = core::mem::MaybeUninit::<DumpAnyContext>::uninit();
-    let field = unsafe { core::ptr::addr_of_mut!((*found.as_mut_ptr()).arm64) };
-    unsafe { field.write(*out) };
     let result = unsafe { pe_c_read_dump_context(bytes, length, location, 12, found.as_mut_ptr()) };
-    unsafe { *out = field.read() };
+    if result == DONE {
+        unsafe { *out = (*found.as_ptr()).arm64 };
+    }
     result
 }
