@@ -85,6 +85,7 @@
  *   pe_c_coff                       Reads the header of an object, the 20 bytes at its start
  *   pe_c_coff_symbols               Returns a walk over the symbols of an object or of an image, with the range of their table
  *   pe_c_coff_strings               Returns the string table of an object or of an image, from its size field on
+ *   pe_c_next_symbol                Reads the next symbol of a walk
  *   pe_c_symbol_name                Returns the name of the symbol in an entry of a symbol table
  * the Rich header
  *   pe_c_rich_header                Returns the Rich header
@@ -214,7 +215,7 @@
  *   pe_c_list_all_imports           Lists the imports of all libraries, one library after the other, and reads the names ..
  *   pe_c_list_export_addresses      Lists all exports as pe_c_export_at reads them, from the index `next` on, which moves ..
  *   pe_c_list_long_section_names    Lists the long names of the sections of an image, from the index `next` on, which ..
- *   pe_c_list_symbols               Lists the symbols of a walk, each with what pe_c_symbol_name returns of it
+ *   pe_c_list_symbols               Lists the symbols of a walk as pe_c_next_symbol returns them, each with what ..
  *   pe_c_list_resource_leaves       Lists the leaves of a resource tree
  *   pe_c_list_version_blocks        Lists blocks of version information
  *   pe_c_list_relocation_blocks     Lists the blocks of base relocations
@@ -242,7 +243,6 @@
  *   pe_c_next_relocation            Returns the next relocation of a block
  *   pe_c_next_guard_entry           Returns the next entry of a table
  *   pe_c_next_pogo_entry            Returns the next entry of a POGO record
- *   pe_c_next_symbol                Reads the next symbol of a walk
  *   pe_c_next_frame                 Returns the next frame of a stack walk on x64, in the walk
  *   pe_c_next_arm64_frame           The same on ARM64
  *   pe_c_function_at                Returns the function with an index, from 0
@@ -319,6 +319,10 @@
 
 #ifndef PE_C_H
 #define PE_C_H
+
+#if !defined(__cplusplus) && (!defined(__STDC_VERSION__) || __STDC_VERSION__ < 199901L)
+#error "pe.h is C11, and compiles as C99: pass -std=c11, or /std:c11"
+#endif
 
 #include <stddef.h>
 #include <stdint.h>
@@ -1034,6 +1038,11 @@ uint32_t pe_c_coff_symbols(const uint8_t *bytes, size_t length, const pe_c_coff_
  * the symbols is 0, and where the bytes end after these.
  * Errors: PE_C_SHORT where the symbols are truncated; PE_C_STRING_TABLE where the string table is. */
 uint32_t pe_c_coff_strings(const uint8_t *bytes, size_t length, const pe_c_coff_header *coff, pe_c_range *out)
+    PE_C_RESULT(3, 4);
+
+/* Reads the next symbol of a walk.
+ * Error: PE_C_SHORT where the table is not inside the bytes. */
+uint32_t pe_c_next_symbol(const uint8_t *bytes, size_t length, pe_c_symbol_walk *walk, pe_c_symbol_entry *out)
     PE_C_RESULT(3, 4);
 
 /* Returns the name of the symbol in an entry of a symbol table: UTF-8, not NUL-terminated, in the entry or in the string
@@ -3422,7 +3431,7 @@ typedef struct {
 PE_C_SIZE(pe_c_named_symbol, 72);
 PE_C_SIZE(pe_c_named_symbol_walk, 40);
 
-/* Lists the symbols of a walk, each with what pe_c_symbol_name returns of it. Auxiliary records are skipped. Names are
+/* Lists the symbols of a walk as pe_c_next_symbol returns them, each with what pe_c_symbol_name returns of it. Names are
  * read together where they share much, as by pe_c_list_exports, here with one run for each entry that the symbol table has
  * left, or more; the string table stays as it is.
  * Errors: PE_C_ROOM; PE_C_SHORT where the symbol table is not inside the bytes. */
@@ -3667,21 +3676,6 @@ static inline uint32_t pe_c_next_pogo_entry(const uint8_t *bytes, size_t length,
 {
     uint64_t written = 0;
     uint32_t result = pe_c_list_pogo_entries(bytes, length, walk, out, 1, &written);
-    return result == PE_C_DONE && written == 0 ? (uint32_t)PE_C_NOTHING : result;
-}
-
-/* Reads the next symbol of a walk: what pe_c_list_symbols returns of one, without a string table.
- * Error: PE_C_SHORT where the table is not inside the bytes. */
-PE_C_RESULT(3, 4)
-static inline uint32_t pe_c_next_symbol(const uint8_t *bytes, size_t length, pe_c_symbol_walk *walk, pe_c_symbol_entry *out)
-{
-    pe_c_named_symbol_walk all = {*walk, {0, 0}};
-    pe_c_named_symbol found = PE_C_EMPTY;
-    uint64_t written = 0;
-    uint32_t result = pe_c_list_symbols(bytes, length, &all, NULL, 0, &found, 1, &written);
-    *walk = all.symbols;
-    if (result == PE_C_DONE && written == 1)
-        *out = found.symbol;
     return result == PE_C_DONE && written == 0 ? (uint32_t)PE_C_NOTHING : result;
 }
 
@@ -4166,9 +4160,9 @@ uint32_t pe_c_dump_stream(const uint8_t *bytes, size_t length, const pe_c_range 
 uint32_t pe_c_dump_text(const uint8_t *bytes, size_t length, uint64_t rva, pe_c_range *out) PE_C_RESULT(4);
 
 /* Reads the record with an index of the stream of a kind, PE_C_THREAD_LIST_STREAM and others, into the field of that kind; with
- * PE_C_DUMP_ENTRIES of the directory. The other fields are unchanged. PE_C_NOTHING past the last record, and of another kind. What
- * a stream says in one record has index 0: the exception, the system, the process, the walk over the memory of a full dump. The
- * functions below return the field of one kind each.
+ * PE_C_DUMP_ENTRIES of the directory. The other fields are unchanged, and none need be initialised. PE_C_NOTHING past the last
+ * record, and of another kind. What a stream says in one record has index 0: the exception, the system, the process, the walk
+ * over the memory of a full dump. The functions below return the field of one kind each.
  * Errors: those of the function of the kind. */
 uint32_t pe_c_dump_record(const uint8_t *bytes, size_t length, const pe_c_range *stream, uint32_t kind, uint64_t index,
                           pe_c_dump_any_record *out) PE_C_RESULT(3, 6);
@@ -4179,7 +4173,7 @@ PE_C_RESULT(3, 5)
 static inline uint32_t pe_c_dump_entry_at(const uint8_t *bytes, size_t length, const pe_c_range *directory, uint64_t index,
                                           pe_c_dump_entry *out)
 {
-    pe_c_dump_any_record found = PE_C_EMPTY;
+    pe_c_dump_any_record found;
     uint32_t result = pe_c_dump_record(bytes, length, directory, PE_C_DUMP_ENTRIES, index, &found);
     if (result == PE_C_DONE)
         *out = found.entry;
@@ -4193,7 +4187,7 @@ PE_C_RESULT(3, 5)
 static inline uint32_t pe_c_dump_thread_at(const uint8_t *bytes, size_t length, const pe_c_range *stream, uint64_t index,
                                            pe_c_dump_thread *out)
 {
-    pe_c_dump_any_record found = PE_C_EMPTY;
+    pe_c_dump_any_record found;
     uint32_t result = pe_c_dump_record(bytes, length, stream, PE_C_THREAD_LIST_STREAM, index, &found);
     if (result == PE_C_DONE)
         *out = found.thread;
@@ -4205,7 +4199,7 @@ PE_C_RESULT(3, 5)
 static inline uint32_t pe_c_dump_module_at(const uint8_t *bytes, size_t length, const pe_c_range *stream, uint64_t index,
                                            pe_c_dump_module *out)
 {
-    pe_c_dump_any_record found = PE_C_EMPTY;
+    pe_c_dump_any_record found;
     uint32_t result = pe_c_dump_record(bytes, length, stream, PE_C_MODULE_LIST_STREAM, index, &found);
     if (result == PE_C_DONE)
         *out = found.loaded;
@@ -4217,7 +4211,7 @@ PE_C_RESULT(3, 5)
 static inline uint32_t pe_c_dump_thread_name_at(const uint8_t *bytes, size_t length, const pe_c_range *stream, uint64_t index,
                                                 pe_c_dump_thread_name *out)
 {
-    pe_c_dump_any_record found = PE_C_EMPTY;
+    pe_c_dump_any_record found;
     uint32_t result = pe_c_dump_record(bytes, length, stream, PE_C_THREAD_NAMES_STREAM, index, &found);
     if (result == PE_C_DONE)
         *out = found.thread_name;
@@ -4232,7 +4226,7 @@ PE_C_RESULT(3, 5)
 static inline uint32_t pe_c_dump_unloaded_at(const uint8_t *bytes, size_t length, const pe_c_range *stream, uint64_t index,
                                              pe_c_dump_unloaded *out)
 {
-    pe_c_dump_any_record found = PE_C_EMPTY;
+    pe_c_dump_any_record found;
     uint32_t result = pe_c_dump_record(bytes, length, stream, PE_C_UNLOADED_MODULE_LIST_STREAM, index, &found);
     if (result == PE_C_DONE)
         *out = found.unloaded;
@@ -4244,7 +4238,7 @@ PE_C_RESULT(3, 5)
 static inline uint32_t pe_c_dump_thread_info_at(const uint8_t *bytes, size_t length, const pe_c_range *stream, uint64_t index,
                                                 pe_c_dump_thread_info *out)
 {
-    pe_c_dump_any_record found = PE_C_EMPTY;
+    pe_c_dump_any_record found;
     uint32_t result = pe_c_dump_record(bytes, length, stream, PE_C_THREAD_INFO_LIST_STREAM, index, &found);
     if (result == PE_C_DONE)
         *out = found.thread_info;
@@ -4256,7 +4250,7 @@ PE_C_RESULT(3, 5)
 static inline uint32_t pe_c_dump_handle_at(const uint8_t *bytes, size_t length, const pe_c_range *stream, uint64_t index,
                                            pe_c_dump_handle *out)
 {
-    pe_c_dump_any_record found = PE_C_EMPTY;
+    pe_c_dump_any_record found;
     uint32_t result = pe_c_dump_record(bytes, length, stream, PE_C_HANDLE_DATA_STREAM, index, &found);
     if (result == PE_C_DONE)
         *out = found.handle;
@@ -4268,7 +4262,7 @@ PE_C_RESULT(3, 5)
 static inline uint32_t pe_c_dump_region_at(const uint8_t *bytes, size_t length, const pe_c_range *stream, uint64_t index,
                                            pe_c_dump_region *out)
 {
-    pe_c_dump_any_record found = PE_C_EMPTY;
+    pe_c_dump_any_record found;
     uint32_t result = pe_c_dump_record(bytes, length, stream, PE_C_MEMORY_INFO_LIST_STREAM, index, &found);
     if (result == PE_C_DONE)
         *out = found.region;
@@ -4281,7 +4275,7 @@ PE_C_RESULT(3, 5)
 static inline uint32_t pe_c_dump_memory_at(const uint8_t *bytes, size_t length, const pe_c_range *stream, uint64_t index,
                                            pe_c_dump_piece *out)
 {
-    pe_c_dump_any_record found = PE_C_EMPTY;
+    pe_c_dump_any_record found;
     uint32_t result = pe_c_dump_record(bytes, length, stream, PE_C_MEMORY_LIST_STREAM, index, &found);
     if (result == PE_C_DONE)
         *out = found.memory;
@@ -4294,7 +4288,7 @@ PE_C_RESULT(3, 4)
 static inline uint32_t pe_c_dump_exception(const uint8_t *bytes, size_t length, const pe_c_range *stream,
                                            pe_c_dump_raised *out)
 {
-    pe_c_dump_any_record found = PE_C_EMPTY;
+    pe_c_dump_any_record found;
     uint32_t result = pe_c_dump_record(bytes, length, stream, PE_C_EXCEPTION_STREAM, 0, &found);
     if (result == PE_C_DONE)
         *out = found.exception;
@@ -4307,7 +4301,7 @@ PE_C_RESULT(3, 4)
 static inline uint32_t pe_c_dump_system(const uint8_t *bytes, size_t length, const pe_c_range *stream,
                                         pe_c_dump_system_info *out)
 {
-    pe_c_dump_any_record found = PE_C_EMPTY;
+    pe_c_dump_any_record found;
     uint32_t result = pe_c_dump_record(bytes, length, stream, PE_C_SYSTEM_INFO_STREAM, 0, &found);
     if (result == PE_C_DONE)
         *out = found.system;
@@ -4320,7 +4314,7 @@ PE_C_RESULT(3, 4)
 static inline uint32_t pe_c_dump_process(const uint8_t *bytes, size_t length, const pe_c_range *stream,
                                          pe_c_dump_process_info *out)
 {
-    pe_c_dump_any_record found = PE_C_EMPTY;
+    pe_c_dump_any_record found;
     uint32_t result = pe_c_dump_record(bytes, length, stream, PE_C_MISC_INFO_STREAM, 0, &found);
     if (result == PE_C_DONE)
         *out = found.process;
@@ -4335,7 +4329,7 @@ PE_C_RESULT(3, 4)
 static inline uint32_t pe_c_dump_memory64(const uint8_t *bytes, size_t length, const pe_c_range *stream,
                                           pe_c_memory64_walk *out)
 {
-    pe_c_dump_any_record found = PE_C_EMPTY;
+    pe_c_dump_any_record found;
     uint32_t result = pe_c_dump_record(bytes, length, stream, PE_C_MEMORY64_LIST_STREAM, 0, &found);
     if (result == PE_C_DONE)
         *out = found.memory64;
@@ -4348,7 +4342,8 @@ uint32_t pe_c_next_memory64(const uint8_t *bytes, size_t length, pe_c_memory64_w
     PE_C_RESULT(3, 4);
 
 /* Reads a context of a machine, 9 for x64 or 12 for ARM64, PROCESSOR_ARCHITECTURE_*, into the field of that machine: that of the
- * exception, or of a thread. The other field is unchanged. The functions below return the field of one machine each.
+ * exception, or of a thread. The other field is unchanged, and none need be initialised. The functions below return the field of
+ * one machine each.
  * Errors: PE_C_DUMP_MACHINE of another machine; those of the function of the machine. */
 uint32_t pe_c_read_dump_context(const uint8_t *bytes, size_t length, const pe_c_dump_location *location, uint32_t machine,
                                 pe_c_dump_any_context *out) PE_C_RESULT(3, 5);
@@ -4361,7 +4356,7 @@ PE_C_RESULT(3, 4)
 static inline uint32_t pe_c_dump_context(const uint8_t *bytes, size_t length, const pe_c_dump_location *location,
                                          pe_c_context *out)
 {
-    pe_c_dump_any_context found = PE_C_EMPTY;
+    pe_c_dump_any_context found;
     uint32_t result = pe_c_read_dump_context(bytes, length, location, 9, &found);
     if (result == PE_C_DONE)
         *out = found.x64;
@@ -4373,7 +4368,7 @@ PE_C_RESULT(3, 4)
 static inline uint32_t pe_c_dump_context_arm64(const uint8_t *bytes, size_t length, const pe_c_dump_location *location,
                                                pe_c_arm64_context *out)
 {
-    pe_c_dump_any_context found = PE_C_EMPTY;
+    pe_c_dump_any_context found;
     uint32_t result = pe_c_read_dump_context(bytes, length, location, 12, &found);
     if (result == PE_C_DONE)
         *out = found.arm64;

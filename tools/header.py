@@ -84,7 +84,7 @@ class Function(Call):
     walk that it makes for the call, as they stand there. One that makes a call over a list of one entry, which the walk has too, has the
     record `found`. One that makes two calls has the record `found` that the first writes, and the second as `then` with `then_passed`;
     `most` is the parameter above whose largest number it returns PE_C_NOTHING, and that number. One that returns a field of the record
-    `found` that the call writes has its name as `field`, and as `moved` that of the field of its own walk that is the caller's."""
+    `found` that the call writes has its name as `field`."""
     made: str
     passed: tuple
     none: str = ""
@@ -94,7 +94,6 @@ class Function(Call):
     then_passed: tuple = ()
     most: tuple = ()
     field: str = ""
-    moved: str = ""
 
 
 class Unknown(Exception):
@@ -228,17 +227,14 @@ class Header:
 
     @staticmethod
     def read_fields(text, comments, kinds):
-        """The functions that return a field of what a call writes, by their names, and the text without them: of a record, or of the one
-        entry of a list, whose walk they make of the caller's."""
+        """The functions that return a field of the record that a call writes, by their names, and the text without them."""
         form = re.compile(r"^(?:PE_C_RESULT\([\d, ]+\)\n)?static inline (uint32_t) (pe_c_\w+)\(([^)]*)\)\n\{\n"
-                          r"(?:    pe_c_\w+ all = \{(\*\w+), \{0, 0\}\};\n)?    (pe_c_\w+) found = PE_C_EMPTY;\n(?:    uint64_t written = 0;\n)?"
-                          r"    uint32_t result = (\w+)\((.*)\);\n(?:    \*walk = all\.(\w+);\n)?"
-                          r"    if \(result == PE_C_DONE(?: && written == 1)?\)\n        \*out = found\.(\w+);\n"
-                          r"    return (?:result|result == PE_C_DONE && written == 0 \? \(uint32_t\)(PE_C_\w+) : result);\n\}\n", re.M)
+                          r"    (pe_c_\w+) found;\n    uint32_t result = (\w+)\((.*)\);\n"
+                          r"    if \(result == PE_C_DONE\)\n        \*out = found\.(\w+);\n    return result;\n\}\n", re.M)
         fields = {}
-        for result, name, body, walk, found, made, passed, moved, field, none in form.findall(text):
+        for result, name, body, found, made, passed, field in form.findall(text):
             fields[name] = Function(name, result, Header.parameters(name, body, kinds), comments.get(name, ""), made,
-                                    tuple(passed.split(", ")), none, (walk,) if walk else (), found, field=field, moved=moved)
+                                    tuple(passed.split(", ")), found=found, field=field)
         return fields, form.sub("", text)
 
     @staticmethod

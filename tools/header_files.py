@@ -207,10 +207,10 @@ def step_of(it, header):
     """A function of pe.h over calls: the call that it makes, and what it returns where that writes no entry; of two calls also the
     second, what each is handed, and the largest number of a parameter; of one over a list of one entry, which the walk has too, the
     name of that list; of one that makes a call with numbers of its own what that is handed, and of one that returns a field of what the
-    call writes that field, and the field of the walk that is the caller's."""
-    made = header.calls.get(it.made) or header.steps[it.made]
+    call writes that field."""
+    made = header.calls[it.made]
     if it.field or not (it.walk or it.none or it.found):
-        return [it.made, it.none, "", "", it.field, handed(made, it.passed), it.moved]
+        return [it.made, it.none, "", "", it.field, handed(made, it.passed)]
     if it.found and not it.then:
         return [it.made, it.none, "", made.names()[it.passed.index("&found")]]
     both = (handed(made, it.passed), handed(header.calls[it.then], it.then_passed)) if it.then else ()

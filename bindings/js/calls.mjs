@@ -78,19 +78,10 @@ export class Caller {
     return found === null ? null : this.call(then, words(second, found));
   }
 
-  /** Makes the call of a function of pe.h that passes it numbers of its own, and returns what that writes or one field of it; or the
-   * field of the one entry of a list, whose walk it makes of the one that is given. */
-  #passed([made, , , , field, passed, moved], given) {
-    if (!moved) {
-      const word = (it) => given[it] ?? constants[it] ?? Number(it);
-      return this.#called(made, Object.fromEntries(Object.entries(passed).map(([name, it]) => [name, word(it)])), field);
-    }
-    const all = { [moved]: given.walk }, entries = [{}];
-    try {
-      return this.call(made, { walk: all, entries }) > 0n ? entries[0][field] : null;
-    } finally {
-      Object.assign(given.walk, all[moved]);
-    }
+  /** Makes the call of a function of pe.h that passes it numbers of its own, and returns what that writes or one field of it. */
+  #passed([made, , , , field, passed], given) {
+    const word = (it) => given[it] ?? constants[it] ?? Number(it);
+    return this.#called(made, Object.fromEntries(Object.entries(passed).map(([name, it]) => [name, word(it)])), field);
   }
 
   /** Makes the call of a function of pe.h: a list with room for one entry, or a step of a walk that starts at an index; or two calls. */

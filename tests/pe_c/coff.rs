@@ -13,8 +13,10 @@
 //! and what is wanted of it is what `llvm-readobj --file-headers --sections --symbols` (14.0.6) prints.
 
 use super::made::*;
-use super::steps::{pe_c_next_symbol, pe_c_symbol};
-use crate::headers::coff::{pe_c_coff, pe_c_coff_strings, pe_c_coff_symbols, pe_c_symbol_name};
+use super::steps::pe_c_symbol;
+use crate::headers::coff::{
+    pe_c_coff, pe_c_coff_strings, pe_c_coff_symbols, pe_c_next_symbol, pe_c_symbol_name,
+};
 use crate::headers::image::pe_c_sections;
 use calls_headers::coff::{Symbol, SymbolWalk};
 use calls_headers::headers::CoffFields;

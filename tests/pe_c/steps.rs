@@ -1,8 +1,9 @@
-//! The functions of `pe.h`: those that are a list with room for one entry, the next item of a walk and an entry by its index, those
-//! which return a field of what a call writes, and those that make two calls, the second over what the first writes.
+//! The functions of `pe.h`: those that are a list with room for one entry, the next item of a walk and an entry by its index, and
+//! those that make two calls, the second over what the first writes.
 
 use super::made::*;
 use crate::arm64::stack_walk::pe_c_next_arm64_frames;
+use crate::headers::coff::pe_c_next_symbol;
 use crate::lists::arm64::{pe_c_list_arm64_codes, pe_c_list_arm64_functions};
 use crate::lists::bound_imports::{pe_c_list_bound_forwarders, pe_c_list_bound_imports};
 use crate::lists::debug::pe_c_list_pogo_entries;
@@ -13,7 +14,6 @@ use crate::lists::guard_tables::pe_c_list_guard_entries;
 use crate::lists::imports::{pe_c_list_imports, pe_c_list_libraries};
 use crate::lists::relocations::{pe_c_list_relocation_blocks, pe_c_list_relocations};
 use crate::lists::resources::{pe_c_list_resource_leaves, pe_c_list_version_blocks};
-use crate::lists::symbols::pe_c_list_symbols;
 use crate::lists::x64::{pe_c_list_codes, pe_c_list_functions};
 use crate::resources::{pe_c_fixed_version_in, pe_c_version_blocks, pe_c_version_text_in};
 use crate::stack::walk::pe_c_next_frames;
@@ -31,7 +31,6 @@ use calls_directories::resources::leaves::{LeafWalk, ResourceLeaf};
 use calls_directories::resources::version_blocks::VersionBlock;
 use calls_headers::coff::{Symbol, SymbolWalk};
 use calls_headers::debug::walks::PogoEntry;
-use calls_headers::lists::symbols::{NamedSymbol, NamedSymbolWalk};
 use calls_stacks::arm64::stack_walk::Arm64StackWalk;
 use calls_stacks::stack::walk::{ModuleView, StackWalk};
 use calls_unwind::arm64::codes::{Arm64Code, Arm64CodeWalk};
@@ -295,25 +294,6 @@ pub(crate) fn pe_c_export_at(
             written,
         ),
     )
-}
-
-pub(crate) fn pe_c_next_symbol(bytes: &[u8], walk: &mut SymbolWalk, out: &mut Symbol) -> u32 {
-    let mut all = NamedSymbolWalk {
-        symbols: *walk,
-        strings: NO_BYTES,
-    };
-    let mut named = NamedSymbol {
-        symbol: *out,
-        name: NO_BYTES,
-        name_result: 0,
-        spare: 0,
-    };
-    let number = one(&mut named, NOTHING, |entries, written| {
-        pe_c_list_symbols(bytes, &mut all, &mut [], entries, written)
-    });
-    *walk = all.symbols;
-    *out = named.symbol;
-    number
 }
 
 pub(crate) fn pe_c_symbol(bytes: &[u8], table: &Range, index: u64, out: &mut Symbol) -> u32 {

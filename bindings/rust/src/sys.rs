@@ -3217,6 +3217,10 @@ extern "C" {
     ///
     /// Errors: [`Error::SHORT`] where the symbols are truncated; [`Error::STRING_TABLE`] where the string table is.
     pub fn pe_c_coff_strings(bytes: *const u8, length: usize, coff: *const CoffHeader, out: *mut Range) -> u32;
+    /// Reads the next symbol of a walk.
+    ///
+    /// Error: [`Error::SHORT`] where the table is not inside the bytes.
+    pub fn pe_c_next_symbol(bytes: *const u8, length: usize, walk: *mut SymbolWalk, out: *mut SymbolEntry) -> u32;
     /// Returns the name of the symbol in an entry of a symbol table: UTF-8, not NUL-terminated, in the entry or in the
     /// string table.
     ///
@@ -4329,10 +4333,11 @@ extern "C" {
         number_of_entries: usize,
         written: *mut u64,
     ) -> u32;
-    /// Lists the symbols of a walk, each with what [`pe_c_symbol_name`] returns of it.
+    /// Lists the symbols of a walk as [`pe_c_next_symbol`] returns them, each with what [`pe_c_symbol_name`] returns of
+    /// it.
     ///
-    /// Auxiliary records are skipped. Names are read together where they share much, as by [`pe_c_list_exports`], here
-    /// with one run for each entry that the symbol table has left, or more; the string table stays as it is.
+    /// Names are read together where they share much, as by [`pe_c_list_exports`], here with one run for each entry
+    /// that the symbol table has left, or more; the string table stays as it is.
     ///
     /// Errors: [`ROOM`]; [`Error::SHORT`] where the symbol table is not inside the bytes.
     pub fn pe_c_list_symbols(
@@ -4595,9 +4600,9 @@ extern "C" {
     /// Reads the record with an index of the stream of a kind, [`THREAD_LIST_STREAM`] and others, into the field of
     /// that kind; with [`DUMP_ENTRIES`] of the directory.
     ///
-    /// The other fields are unchanged. [`NOTHING`] past the last record, and of another kind. What a stream says in one
-    /// record has index 0: the exception, the system, the process, the walk over the memory of a full dump. The
-    /// functions below return the field of one kind each.
+    /// The other fields are unchanged, and none need be initialised. [`NOTHING`] past the last record, and of another
+    /// kind. What a stream says in one record has index 0: the exception, the system, the process, the walk over the
+    /// memory of a full dump. The functions below return the field of one kind each.
     ///
     /// Errors: those of the function of the kind.
     pub fn pe_c_dump_record(
@@ -4615,7 +4620,8 @@ extern "C" {
     /// Reads a context of a machine, 9 for x64 or 12 for ARM64, `PROCESSOR_ARCHITECTURE_*`, into the field of that
     /// machine: that of the exception, or of a thread.
     ///
-    /// The other field is unchanged. The functions below return the field of one machine each.
+    /// The other field is unchanged, and none need be initialised. The functions below return the field of one machine
+    /// each.
     ///
     /// Errors: [`Error::DUMP_MACHINE`] of another machine; those of the function of the machine.
     pub fn pe_c_read_dump_context(
@@ -5481,31 +5487,6 @@ pub unsafe extern "C" fn pe_c_version_text(
     if result == DONE { unsafe { pe_c_version_text_in((*view).bytes, (*view).length, &found, name, out) } } else { result }
 }
 
-/// Reads the next symbol of a walk: what [`pe_c_list_symbols`] returns of one, without a string table.
-///
-/// Error: [`Error::SHORT`] where the table is not inside the bytes.
-///
-/// # Safety
-///
-/// As of [`pe_c_list_symbols`], which it calls.
-#[rustfmt::skip]
-pub unsafe extern "C" fn pe_c_next_symbol(
-    bytes: *const u8,
-    length: usize,
-    walk: *mut SymbolWalk,
-    out: *mut SymbolEntry,
-) -> u32 {
-    let mut all = NamedSymbolWalk { symbols: unsafe { *walk }, ..Default::default() };
-    let mut found = NamedSymbol::default();
-    let mut written = 0;
-    let result = unsafe { pe_c_list_symbols(bytes, length, &mut all, core::ptr::null_mut(), 0, &mut found, 1, &mut written) };
-    unsafe { *walk = all.symbols };
-    if result == DONE && written == 1 {
-        unsafe { *out = found.symbol };
-    }
-    if result == DONE && written == 0 { NOTHING } else { result }
-}
-
 /// Returns the entry of the directory with an index, or [`NOTHING`].
 ///
 /// Errors: [`Error::DUMP_LOCATION`] where the directory is not inside the bytes.
@@ -5521,10 +5502,10 @@ pub unsafe extern "C" fn pe_c_dump_entry_at(
     index: u64,
     out: *mut DumpEntry,
 ) -> u32 {
-    let mut found = DumpAnyRecord::default();
-    let result = unsafe { pe_c_dump_record(bytes, length, directory, DUMP_ENTRIES, index, &mut found) };
+    let mut found = core::mem::MaybeUninit::<DumpAnyRecord>::uninit();
+    let result = unsafe { pe_c_dump_record(bytes, length, directory, DUMP_ENTRIES, index, found.as_mut_ptr()) };
     if result == DONE {
-        unsafe { *out = found.entry };
+        unsafe { *out = (*found.as_ptr()).entry };
     }
     result
 }
@@ -5545,10 +5526,10 @@ pub unsafe extern "C" fn pe_c_dump_thread_at(
     index: u64,
     out: *mut DumpThread,
 ) -> u32 {
-    let mut found = DumpAnyRecord::default();
-    let result = unsafe { pe_c_dump_record(bytes, length, stream, THREAD_LIST_STREAM, index, &mut found) };
+    let mut found = core::mem::MaybeUninit::<DumpAnyRecord>::uninit();
+    let result = unsafe { pe_c_dump_record(bytes, length, stream, THREAD_LIST_STREAM, index, found.as_mut_ptr()) };
     if result == DONE {
-        unsafe { *out = found.thread };
+        unsafe { *out = (*found.as_ptr()).thread };
     }
     result
 }
@@ -5568,10 +5549,10 @@ pub unsafe extern "C" fn pe_c_dump_module_at(
     index: u64,
     out: *mut DumpModule,
 ) -> u32 {
-    let mut found = DumpAnyRecord::default();
-    let result = unsafe { pe_c_dump_record(bytes, length, stream, MODULE_LIST_STREAM, index, &mut found) };
+    let mut found = core::mem::MaybeUninit::<DumpAnyRecord>::uninit();
+    let result = unsafe { pe_c_dump_record(bytes, length, stream, MODULE_LIST_STREAM, index, found.as_mut_ptr()) };
     if result == DONE {
-        unsafe { *out = found.loaded };
+        unsafe { *out = (*found.as_ptr()).loaded };
     }
     result
 }
@@ -5591,10 +5572,10 @@ pub unsafe extern "C" fn pe_c_dump_thread_name_at(
     index: u64,
     out: *mut DumpThreadName,
 ) -> u32 {
-    let mut found = DumpAnyRecord::default();
-    let result = unsafe { pe_c_dump_record(bytes, length, stream, THREAD_NAMES_STREAM, index, &mut found) };
+    let mut found = core::mem::MaybeUninit::<DumpAnyRecord>::uninit();
+    let result = unsafe { pe_c_dump_record(bytes, length, stream, THREAD_NAMES_STREAM, index, found.as_mut_ptr()) };
     if result == DONE {
-        unsafe { *out = found.thread_name };
+        unsafe { *out = (*found.as_ptr()).thread_name };
     }
     result
 }
@@ -5616,10 +5597,10 @@ pub unsafe extern "C" fn pe_c_dump_unloaded_at(
     index: u64,
     out: *mut DumpUnloaded,
 ) -> u32 {
-    let mut found = DumpAnyRecord::default();
-    let result = unsafe { pe_c_dump_record(bytes, length, stream, UNLOADED_MODULE_LIST_STREAM, index, &mut found) };
+    let mut found = core::mem::MaybeUninit::<DumpAnyRecord>::uninit();
+    let result = unsafe { pe_c_dump_record(bytes, length, stream, UNLOADED_MODULE_LIST_STREAM, index, found.as_mut_ptr()) };
     if result == DONE {
-        unsafe { *out = found.unloaded };
+        unsafe { *out = (*found.as_ptr()).unloaded };
     }
     result
 }
@@ -5639,10 +5620,10 @@ pub unsafe extern "C" fn pe_c_dump_thread_info_at(
     index: u64,
     out: *mut DumpThreadInfo,
 ) -> u32 {
-    let mut found = DumpAnyRecord::default();
-    let result = unsafe { pe_c_dump_record(bytes, length, stream, THREAD_INFO_LIST_STREAM, index, &mut found) };
+    let mut found = core::mem::MaybeUninit::<DumpAnyRecord>::uninit();
+    let result = unsafe { pe_c_dump_record(bytes, length, stream, THREAD_INFO_LIST_STREAM, index, found.as_mut_ptr()) };
     if result == DONE {
-        unsafe { *out = found.thread_info };
+        unsafe { *out = (*found.as_ptr()).thread_info };
     }
     result
 }
@@ -5662,10 +5643,10 @@ pub unsafe extern "C" fn pe_c_dump_handle_at(
     index: u64,
     out: *mut DumpHandle,
 ) -> u32 {
-    let mut found = DumpAnyRecord::default();
-    let result = unsafe { pe_c_dump_record(bytes, length, stream, HANDLE_DATA_STREAM, index, &mut found) };
+    let mut found = core::mem::MaybeUninit::<DumpAnyRecord>::uninit();
+    let result = unsafe { pe_c_dump_record(bytes, length, stream, HANDLE_DATA_STREAM, index, found.as_mut_ptr()) };
     if result == DONE {
-        unsafe { *out = found.handle };
+        unsafe { *out = (*found.as_ptr()).handle };
     }
     result
 }
@@ -5685,10 +5666,10 @@ pub unsafe extern "C" fn pe_c_dump_region_at(
     index: u64,
     out: *mut DumpRegion,
 ) -> u32 {
-    let mut found = DumpAnyRecord::default();
-    let result = unsafe { pe_c_dump_record(bytes, length, stream, MEMORY_INFO_LIST_STREAM, index, &mut found) };
+    let mut found = core::mem::MaybeUninit::<DumpAnyRecord>::uninit();
+    let result = unsafe { pe_c_dump_record(bytes, length, stream, MEMORY_INFO_LIST_STREAM, index, found.as_mut_ptr()) };
     if result == DONE {
-        unsafe { *out = found.region };
+        unsafe { *out = (*found.as_ptr()).region };
     }
     result
 }
@@ -5708,10 +5689,10 @@ pub unsafe extern "C" fn pe_c_dump_memory_at(
     index: u64,
     out: *mut DumpPiece,
 ) -> u32 {
-    let mut found = DumpAnyRecord::default();
-    let result = unsafe { pe_c_dump_record(bytes, length, stream, MEMORY_LIST_STREAM, index, &mut found) };
+    let mut found = core::mem::MaybeUninit::<DumpAnyRecord>::uninit();
+    let result = unsafe { pe_c_dump_record(bytes, length, stream, MEMORY_LIST_STREAM, index, found.as_mut_ptr()) };
     if result == DONE {
-        unsafe { *out = found.memory };
+        unsafe { *out = (*found.as_ptr()).memory };
     }
     result
 }
@@ -5731,10 +5712,10 @@ pub unsafe extern "C" fn pe_c_dump_exception(
     stream: *const Range,
     out: *mut DumpException,
 ) -> u32 {
-    let mut found = DumpAnyRecord::default();
-    let result = unsafe { pe_c_dump_record(bytes, length, stream, EXCEPTION_STREAM, 0, &mut found) };
+    let mut found = core::mem::MaybeUninit::<DumpAnyRecord>::uninit();
+    let result = unsafe { pe_c_dump_record(bytes, length, stream, EXCEPTION_STREAM, 0, found.as_mut_ptr()) };
     if result == DONE {
-        unsafe { *out = found.exception };
+        unsafe { *out = (*found.as_ptr()).exception };
     }
     result
 }
@@ -5754,10 +5735,10 @@ pub unsafe extern "C" fn pe_c_dump_system(
     stream: *const Range,
     out: *mut DumpSystem,
 ) -> u32 {
-    let mut found = DumpAnyRecord::default();
-    let result = unsafe { pe_c_dump_record(bytes, length, stream, SYSTEM_INFO_STREAM, 0, &mut found) };
+    let mut found = core::mem::MaybeUninit::<DumpAnyRecord>::uninit();
+    let result = unsafe { pe_c_dump_record(bytes, length, stream, SYSTEM_INFO_STREAM, 0, found.as_mut_ptr()) };
     if result == DONE {
-        unsafe { *out = found.system };
+        unsafe { *out = (*found.as_ptr()).system };
     }
     result
 }
@@ -5777,10 +5758,10 @@ pub unsafe extern "C" fn pe_c_dump_process(
     stream: *const Range,
     out: *mut DumpProcess,
 ) -> u32 {
-    let mut found = DumpAnyRecord::default();
-    let result = unsafe { pe_c_dump_record(bytes, length, stream, MISC_INFO_STREAM, 0, &mut found) };
+    let mut found = core::mem::MaybeUninit::<DumpAnyRecord>::uninit();
+    let result = unsafe { pe_c_dump_record(bytes, length, stream, MISC_INFO_STREAM, 0, found.as_mut_ptr()) };
     if result == DONE {
-        unsafe { *out = found.process };
+        unsafe { *out = (*found.as_ptr()).process };
     }
     result
 }
@@ -5803,10 +5784,10 @@ pub unsafe extern "C" fn pe_c_dump_memory64(
     stream: *const Range,
     out: *mut Memory64Walk,
 ) -> u32 {
-    let mut found = DumpAnyRecord::default();
-    let result = unsafe { pe_c_dump_record(bytes, length, stream, MEMORY64_LIST_STREAM, 0, &mut found) };
+    let mut found = core::mem::MaybeUninit::<DumpAnyRecord>::uninit();
+    let result = unsafe { pe_c_dump_record(bytes, length, stream, MEMORY64_LIST_STREAM, 0, found.as_mut_ptr()) };
     if result == DONE {
-        unsafe { *out = found.memory64 };
+        unsafe { *out = (*found.as_ptr()).memory64 };
     }
     result
 }
@@ -5827,10 +5808,10 @@ pub unsafe extern "C" fn pe_c_dump_context(
     location: *const DumpLocation,
     out: *mut Context,
 ) -> u32 {
-    let mut found = DumpAnyContext::default();
-    let result = unsafe { pe_c_read_dump_context(bytes, length, location, 9, &mut found) };
+    let mut found = core::mem::MaybeUninit::<DumpAnyContext>::uninit();
+    let result = unsafe { pe_c_read_dump_context(bytes, length, location, 9, found.as_mut_ptr()) };
     if result == DONE {
-        unsafe { *out = found.x64 };
+        unsafe { *out = (*found.as_ptr()).x64 };
     }
     result
 }
@@ -5849,10 +5830,10 @@ pub unsafe extern "C" fn pe_c_dump_context_arm64(
     location: *const DumpLocation,
     out: *mut Arm64Context,
 ) -> u32 {
-    let mut found = DumpAnyContext::default();
-    let result = unsafe { pe_c_read_dump_context(bytes, length, location, 12, &mut found) };
+    let mut found = core::mem::MaybeUninit::<DumpAnyContext>::uninit();
+    let result = unsafe { pe_c_read_dump_context(bytes, length, location, 12, found.as_mut_ptr()) };
     if result == DONE {
-        unsafe { *out = found.arm64 };
+        unsafe { *out = (*found.as_ptr()).arm64 };
     }
     result
 }

@@ -27,6 +27,7 @@ mod load_config;
 mod many_sections;
 mod names_in_one_text;
 mod objects;
+mod passes;
 mod pdbs;
 mod resource_edit;
 mod resources;

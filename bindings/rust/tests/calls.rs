@@ -295,30 +295,6 @@ fn debug_records_are_read_at_once() {
     check(&with_imports(), 0);
 }
 
-/// A table of 150,000 entries is read in three passes for all records, which take about as long as walks; one for each record would be
-/// eight. The least of nine times.
-#[test]
-fn debug_records_are_read_in_few_passes() {
-    let mut made = Made::new(X64);
-    let size = 28 * 150_000;
-    made.size_of_image = 0x100_0000;
-    let table = made.put(&vec![0; size]);
-    made.directory(6, table, size as u32);
-    let bytes = made.image();
-    let image = strict(&bytes);
-    let least = |read: &dyn Fn()| {
-        let times = (0..9).map(|_| {
-            let start = std::time::Instant::now();
-            read();
-            start.elapsed()
-        });
-        times.min().unwrap()
-    };
-    let walk = least(&|| assert_eq!(image.debug_entry(2), Ok(None)));
-    let all = least(&|| assert!(matches!(image.debug_records().pogo, Ok(None))));
-    assert!(all < 6 * walk, "{all:?} for all, {walk:?} for a walk");
-}
-
 /// Each record is read from the entry of its type too, and as one of any other type where its bytes are one.
 #[test]
 fn records_of_debug_entries_are_read() {

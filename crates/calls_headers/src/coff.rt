@@ -10,11 +10,11 @@ ghost use Rattle.std.specs.Prelude.{◌≡◌, ◌+◌, ◌*◌, ◌≤◌, ◌<
 ghost use Rattle.std.specs.List.{list_all};
 ghost use Rattle.pe_core.specs.Refusals.{ReturnsAs, answer_of};
 ghost use Rattle.pe_core.specs.Symbols.{symbol_in, symbol_name};
-ghost use Rattle.calls_headers.specs.Coff.{coff_header_of, coff_strings_at, name_range, name_range_by, IsNameOf, object_at, symbol_at, symbol_name_at, symbol_with, symbols_at};
+ghost use Rattle.calls_headers.specs.Coff.{coff_header_of, coff_strings_at, name_range, name_range_by, IsNameOf, object_at, symbol_at, symbol_name_at, symbol_with, symbols_after, symbols_at};
 ghost use Rattle.calls_base.specs.Ranges.{bytes_at};
 
 use crate::headers::{CoffFields, coff_fields};
-use calls_base::ranges::{Range, slice_of};
+use calls_base::ranges::{NO_BYTES, Range, slice_of};
 use calls_base::text_runs::{Run, TextCosts, Texts, end_of_next, first_zero};
 use pe_core::{CoffHeader, Error, Reason, Result, SIZE_OF_SYMBOL, Strtab, read_u32};
 
@@ -154,6 +154,25 @@ pub fn symbol_at(bytes: &[u8], table: &Range, index: u64) -> Result<Option<Symbo
     }
     let symbol = pe_core::Symbol::parse(entries, SIZE_OF_SYMBOL * index as usize)?;
     Ok(Some(symbol_with(table, rows as u64, index, &symbol)))
+}
+
+pub fn next_symbol(bytes: &[u8], walk: &mut SymbolWalk) -> Result<Option<Symbol>>
+    ensures symbol { answer_of result ≡ symbol_at bytes.now walk.old.table walk.old.next }
+    ensures walk { walk.new
+        ≡ symbols_after walk.old (symbol_at bytes.now walk.old.table walk.old.next) }
+{
+    let SymbolWalk { table, next } = *walk;
+    match symbol_at(bytes, &table, next) {
+        Ok(Some(symbol)) => {
+            walk.next = next + 1 + u64::from(symbol.number_of_aux_symbols);
+            Ok(Some(symbol))
+        }
+        Ok(None) => Ok(None),
+        Err(error) => {
+            walk.table = NO_BYTES;
+            Err(error)
+        }
+    }
 }
 
 /// The range of the name of the symbol in an entry.

@@ -11,7 +11,7 @@ ghost use Rattle.pe_core.specs.Refusals.{Returns, ReturnsAs, answer_of};
 ghost use Rattle.pe_records.specs.DebugDirectory.{directory_range};
 ghost use Rattle.pe_records.specs.DebugRecords.{of_entry};
 ghost use Rattle.pe_records.specs.declared.debug.constants.TheConstants.{IMAGE_DEBUG_TYPE_CODEVIEW, IMAGE_DEBUG_TYPE_EMBEDDEDPORTABLEPDB, IMAGE_DEBUG_TYPE_EX_DLLCHARACTERISTICS, IMAGE_DEBUG_TYPE_PDBCHECKSUM, IMAGE_DEBUG_TYPE_POGO, IMAGE_DEBUG_TYPE_REPRO, IMAGE_DEBUG_TYPE_VC_FEATURE};
-ghost use Rattle.calls_headers.specs.Debug.{characteristics_of, checksum_of, debug_entries_range, embedded_of, features_of, first_entry, if_of_type, key_of, pdb20_of, pogo_of, repro_of};
+ghost use Rattle.calls_headers.specs.Debug.{characteristics_of, checksum_of, debug_entries_range, embedded_of, features_of, first_entry, if_of_type, key_of, pdb20_of, pogo_of, read_first, repro_of};
 ghost use Rattle.calls_base.specs.HandsOut.{HandsOutIf};
 ghost use Rattle.calls_base.specs.Modes.{options_of};
 ghost use Rattle.calls_base.specs.Views.{directory_sections, may_map};
@@ -62,6 +62,31 @@ pub fn table_of(view: &View) -> Result<Option<Range>>
     }
     let range = entries_at(view, directory)?;
     Ok(Some(range_of(range)))
+}
+
+/// The first entry of a type, if there is one.
+#[inline(always)]
+#[tactic(auto, unfolding(crate::specs::Debug::first_entry, pe_records::specs::DebugDirectory::directory_table))]
+fn first_entry(view: &View, data_type: u32) -> Result<Option<ImageDebugDirectory>>
+    ensures { answer_of result ≡ first_entry view.now.bytes.now view.now.image.now
+        (directory_sections view.now 6) data_type }
+{
+    let directory = directory(view.image, DEBUG_TABLE);
+    if is_absent(directory) {
+        return Ok(None);
+    }
+    let range = entries_at(view, directory)?;
+    Ok(ImageDebugDirectoryIterator::new(range.of(view.bytes), 0).find_type(data_type))
+}
+
+/// The symbol key of the first CodeView entry, if there is one.
+#[inline(always)]
+pub fn first_key(view: &View) -> Result<Option<SymbolKey>>
+    ensures { answer_of result ≡ read_first key_of IMAGE_DEBUG_TYPE_CODEVIEW
+        view.now.bytes.now view.now.image.now (directory_sections view.now 6) }
+{
+    let entry = first_entry(view, IMAGE_DEBUG_TYPE_CODEVIEW)?;
+    key_at(view.bytes, view.image.mode, entry)
 }
 
 /// Entries whose records are read, each of its own type or none.
@@ -211,6 +236,7 @@ pub struct DebugRecords {
 }
 
 /// The symbol key of an entry, if there is one.
+#[inline(always)]
 fn key_at(bytes: &[u8], mode: u32, entry: Option<ImageDebugDirectory>) -> Result<Option<SymbolKey>>
     ensures { answer_of result ≡ of_entry (key_of bytes.now mode) entry }
 {

@@ -17,5 +17,4 @@ pub mod OneImage
 pub mod LibrariesOfCalls
 pub mod ImageWriters
 pub mod TwoCalls
-pub mod OneSymbols
 pub mod DumpFields

@@ -22,7 +22,7 @@ use Rattle.calls_base.specs.declared.image.Image.{Image}
 use Rattle.calls_base.specs.declared.ranges.Range.{Range}
 
 -- the number of a refusal is not that of a call that is done
-pub refused_number : (r : Refusal) → (result_number r == 0) ≡ false
+refused_number : (r : Refusal) → (result_number r == 0) ≡ false
 refused_number Memory = refl
 refused_number Short = refl
 refused_number BadMagic = refl

@@ -6,5 +6,4 @@ pub mod ImageOfCalls
 pub mod LibrariesOfCalls
 pub mod HeadersRead
 pub mod TwoCalls
-pub mod OneSymbols
 pub mod PdbFrames

@@ -1,36 +1,22 @@
 //! Calls on the debug directory and its records, over calls_headers.
 
-ghost use Rattle.std.specs.Prelude.{◌≡◌, IfOk};
-ghost use Rattle.pe_core.specs.Offsets.{IsWithin};
-ghost use Rattle.pe_core.specs.Refusals.{Returns, answer_of};
-ghost use Rattle.pe_records.specs.DebugDirectory.{directory_range};
+ghost use Rattle.std.specs.Prelude.{◌≡◌};
 ghost use Rattle.pe_records.specs.declared.debug.constants.TheConstants.{IMAGE_DEBUG_TYPE_CODEVIEW, IMAGE_DEBUG_TYPE_EMBEDDEDPORTABLEPDB, IMAGE_DEBUG_TYPE_EX_DLLCHARACTERISTICS, IMAGE_DEBUG_TYPE_PDBCHECKSUM, IMAGE_DEBUG_TYPE_POGO, IMAGE_DEBUG_TYPE_REPRO, IMAGE_DEBUG_TYPE_VC_FEATURE};
-ghost use Rattle.calls_headers.specs.Debug.{characteristics_of, checksum_of, debug_entries_range, embedded_of, features_of, first_entry, key_of, pdb20_of, pogo_of, read_by_type, read_first, repro_of};
+ghost use Rattle.calls_headers.specs.Debug.{characteristics_of, checksum_of, debug_entries_range, embedded_of, features_of, key_of, pdb20_of, pogo_of, read_by_type, read_first, repro_of};
 ghost use Rattle.calls_base.specs.HandsOut.{HandsOutIf};
-ghost use Rattle.calls_base.specs.Modes.{options_of};
-ghost use Rattle.calls_base.specs.Views.{directory_sections, may_map};
+ghost use Rattle.calls_base.specs.Views.{directory_sections};
 
 pub mod records;
 pub mod walks;
 
-use calls_base::image::{DEBUG_TABLE, directory, is_absent};
 use calls_base::ranges::Range;
-use calls_base::results::{DONE, hand_out_some, number_of, options};
-use calls_base::view::{View, sections_of};
-use calls_headers::debug::records::{
-    SymbolKey, characteristics_of, checksum_of, embedded_of, features_of, key_of, pdb20_of,
-    pogo_of, repro_of,
-};
+use calls_base::results::{DONE, hand_out_some, number_of};
+use calls_base::view::View;
+use calls_headers::debug::records::SymbolKey;
 use calls_headers::debug::{
-    DebugRecords, by_type, first_entries, read_records, refuse_records, table_of,
+    DebugRecords, by_type, first_entries, first_key, read_records, refuse_records, table_of,
 };
-use pe_core::{ByteRange, DataDirectory, Result};
-use pe_records::{
-    DebugData, IMAGE_DEBUG_TYPE_CODEVIEW, IMAGE_DEBUG_TYPE_EMBEDDEDPORTABLEPDB,
-    IMAGE_DEBUG_TYPE_EX_DLLCHARACTERISTICS, IMAGE_DEBUG_TYPE_PDBCHECKSUM, IMAGE_DEBUG_TYPE_POGO,
-    IMAGE_DEBUG_TYPE_REPRO, IMAGE_DEBUG_TYPE_VC_FEATURE, ImageDebugDirectory,
-    ImageDebugDirectoryIterator,
-};
+use pe_records::ImageDebugDirectory;
 
 /// Returns the entries of the debug directory as a walk for `pe_c_next_debug_entry`: `NOTHING` where the directory is
 /// absent. The records that the entries lead to are not read.
@@ -44,47 +30,6 @@ pub extern "C" fn pe_c_debug_entries(view: &View, out: &mut Range) -> u32
         view.now.image.now.mode) }
 {
     hand_out_some(table_of(view), out)
-}
-
-/// The range of the entries of a debug directory.
-#[inline(always)]
-fn entries_at(view: &View, directory: DataDirectory) -> Result<ByteRange>
-    ensures range { Returns result (directory_range (options_of view.now.image.now.mode)
-        view.now.bytes.now directory (may_map view.now directory.virtual_address)
-        view.now.image.now.file_alignment) }
-    ensures within { IfOk result (IsWithin view.now.bytes.now) }
-{
-    let sections = sections_of(view, directory.virtual_address);
-    let alignment = view.image.file_alignment;
-    let opts = options(view.image.mode);
-    DebugData::table_range(view.bytes, directory, sections, alignment, &opts)
-}
-
-/// The first entry of a type, if there is one.
-#[tactic(auto, unfolding(calls_headers::specs::Debug::first_entry, pe_records::specs::DebugDirectory::directory_table))]
-#[inline(always)]
-fn first_entry(view: &View, data_type: u32) -> Result<Option<ImageDebugDirectory>>
-    ensures { answer_of result ≡ first_entry view.now.bytes.now view.now.image.now
-        (directory_sections view.now 6) data_type }
-{
-    let directory = directory(view.image, DEBUG_TABLE);
-    if is_absent(directory) {
-        return Ok(None);
-    }
-    let range = entries_at(view, directory)?;
-    Ok(ImageDebugDirectoryIterator::new(range.of(view.bytes), 0).find_type(data_type))
-}
-
-/// The symbol key of the first CodeView entry, if there is one.
-#[inline(always)]
-fn first_key(view: &View) -> Result<Option<SymbolKey>>
-    ensures { answer_of result ≡ read_first key_of IMAGE_DEBUG_TYPE_CODEVIEW
-        view.now.bytes.now view.now.image.now (directory_sections view.now 6) }
-{
-    match first_entry(view, IMAGE_DEBUG_TYPE_CODEVIEW)? {
-        Some(entry) => key_of(view.bytes, view.image.mode, &entry),
-        None => Ok(None),
-    }
 }
 
 /// Returns the symbol key, by which symbol servers file the symbols of an image: that of the first CodeView entry, alone, which is

@@ -1,11 +1,5 @@
 """The names of the numbers of headers, as the program pe has them. Written by tools/make_python of bindings/pe/src."""
 
-PDB_FLAGS: dict[int, str] = {
-    1: "INCREMENTAL",
-    2: "STRIPPED",
-    4: "CONFLICTING_TYPES",
-}
-
 MACHINES: dict[int, str] = {
     332: "x86",
     358: "MIPS R4000",
@@ -154,12 +148,6 @@ STORAGE_CLASSES: dict[int, str] = {
     105: "WEAK_EXTERNAL",
     107: "CLR_TOKEN",
     255: "END_OF_FUNCTION",
-}
-
-SECTION_NUMBERS: dict[int, str] = {
-    0: "undefined",
-    -1: "absolute",
-    -2: "debug",
 }
 
 CERTIFICATE_TYPES: dict[int, str] = {
@@ -379,24 +367,6 @@ FAST_FAILS: dict[int, str] = {
     49: "FAST_FAIL_INVALID_IAT",
     50: "FAST_FAIL_HEAP_METADATA_CORRUPTION",
     51: "FAST_FAIL_PAYLOAD_RESTRICTION_VIOLATION",
-}
-
-PROCESSORS: dict[int, str] = {
-    0: "x86",
-    5: "ARM",
-    6: "Itanium",
-    9: "x64",
-    12: "ARM64",
-}
-
-PLATFORMS: dict[int, str] = {
-    1: "Windows 9x",
-    2: "Windows",
-    33025: "macOS",
-    33026: "iOS",
-    33281: "Linux",
-    33282: "Solaris",
-    33283: "Android",
 }
 
 LANGUAGES: dict[int, str] = {

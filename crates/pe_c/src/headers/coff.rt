@@ -1,11 +1,15 @@
 //! The calls of `coff` in calls_headers.
 
-ghost use Rattle.calls_headers.specs.Coff.{coff_strings_at, object_at, symbol_name_at, symbols_at};
+ghost use Rattle.std.specs.Prelude.{◌≡◌};
+ghost use Rattle.calls_headers.specs.Coff.{coff_strings_at, object_at, symbol_at, symbol_name_at, symbols_after, symbols_at};
 ghost use Rattle.calls_base.specs.HandsOut.{HandsOut, HandsOutIf};
 
 use calls_base::ranges::Range;
 use calls_base::results::{hand_out, hand_out_some};
-use calls_headers::coff::{SymbolWalk, coff_strings_at, object_at, symbol_name_at, symbols_at};
+use calls_headers::coff::{
+    Symbol, SymbolWalk, coff_strings_at, next_symbol, object_at, symbol_at, symbol_name_at,
+    symbols_at,
+};
 use calls_headers::headers::CoffFields;
 use pe_core::Error;
 
@@ -39,6 +43,19 @@ pub extern "C" fn pe_c_coff_strings(bytes: &[u8], coff: &CoffFields, out: &mut R
     ensures { HandsOutIf result out.old out.new (coff_strings_at bytes.now coff.now) }
 {
     hand_out_some(coff_strings_at(bytes, coff), out)
+}
+
+/// Reads the next symbol: `NOTHING` at the end of the walk. Its auxiliary records are skipped.
+///
+/// Error: `SHORT` where the table is not inside the bytes. After it the walk is over.
+#[unsafe(no_mangle)]
+pub extern "C" fn pe_c_next_symbol(bytes: &[u8], walk: &mut SymbolWalk, out: &mut Symbol) -> u32
+    ensures symbol { HandsOutIf result out.old out.new
+        (symbol_at bytes.now walk.old.table walk.old.next) }
+    ensures walk { walk.new
+        ≡ symbols_after walk.old (symbol_at bytes.now walk.old.table walk.old.next) }
+{
+    hand_out_some(next_symbol(bytes, walk), out)
 }
 
 /// Returns the name of the symbol in an entry of a symbol table, in UTF-8 without its final zero: in the entry itself, or in

@@ -1,18 +1,12 @@
 //! Laws of COFF objects: a walk over symbols returns those of its table, and the range of a name is the name.
 
 ghost use Rattle.std.specs.Prelude.{◌≡◌, ℕ, List, Ok, Err, Some, [], ◌∷◌, map};
-ghost use Rattle.pe_c.specs.OneSymbols.{field_of_one, number_of_one};
 ghost use Rattle.pe_core.specs.Refusals.{Refusal};
 ghost use Rattle.pe_core.specs.Symbols.{AreSymbols, SymbolItem, symbol_in, symbol_name};
-ghost use Rattle.calls_headers.specs.Coff.{StepsSymbols, symbol_at, symbol_name_at, symbol_reported, symbols_after};
-ghost use Rattle.calls_headers.specs.NamedSymbols.{StepsNamedSymbols};
-ghost use Rattle.calls_base.specs.HandsOut.{HandsOutIf, result_number};
-ghost use Rattle.calls_base.specs.Lists.{HandsOutList, Numbered};
+ghost use Rattle.calls_headers.specs.Coff.{StepsSymbols, symbol_name_at, symbol_reported};
 ghost use Rattle.calls_base.specs.Ranges.{IsRange, bytes_at};
 ghost use Rattle.calls_base.specs.Runs.{ReturnsItems};
-ghost use Rattle.calls_headers.specs.declared.coff.Symbol.{Symbol};
 ghost use Rattle.calls_headers.specs.declared.coff.SymbolWalk.{SymbolWalk};
-ghost use Rattle.calls_headers.specs.declared.lists.symbols.NamedSymbol.{NamedSymbol};
 ghost use Rattle.calls_base.specs.declared.ranges.Range.{Range};
 
 /// A walk over symbols returns, one a step, those of its table from its entry on, and then nothing: auxiliary records are
@@ -26,18 +20,6 @@ pub fn walks_give_the_symbols()
     ensures outside { (b : List ℕ) (walk : SymbolWalk) (refusal : Refusal) →
         bytes_at b walk.table ≡ Err refusal →
         ReturnsItems (StepsSymbols b) walk (Err refusal ∷ []) }
-{}
-
-/// `pe_c_next_symbol` of `pe.h`, a list with room for one symbol, is a step over the symbols, whatever the string table is: it returns
-/// the symbol in the next entry, and moves the walk past it.
-pub fn lists_of_one_symbol_are_steps()
-    ensures { (b : List ℕ) (strings : Range) (w v : SymbolWalk) (number written : ℕ)
-        (before found : NamedSymbol) (out : Symbol) →
-        HandsOutList (Numbered result_number (StepsNamedSymbols b strings)) number w v
-        (before ∷ []) (found ∷ []) 0 written →
-        HandsOutIf (number_of_one number written) out
-        (field_of_one number written out found.symbol) (symbol_at b w.table w.next)
-        × (v ≡ symbols_after w (symbol_at b w.table w.next)) }
 {}
 
 /// The range that `pe_c_symbol_name` returns lies in the bytes, and is the name of the symbol in that entry.

@@ -12,8 +12,8 @@ use calls_headers::lists::symbols::{
     Alone, NamedSymbol, NamedSymbolWalk, Together, list_alone, texts_of,
 };
 
-/// Lists the symbols of a walk, each with what `pe_c_symbol_name` returns of it, and moves the walk past them. Auxiliary records are
-/// skipped. Names that share much are read together: with one of `runs` for each entry that the symbol table has left, or
+/// Lists the symbols of a walk, as `pe_c_next_symbol` returns them, each with what `pe_c_symbol_name` returns of it, and moves the
+/// walk past them. Names that share much are read together: with one of `runs` for each entry that the symbol table has left, or
 /// more, a call takes about as long as to sort these and to read each byte of the string table a few times, however many of the
 /// names share a string. With fewer further names are read to their end each. What is in `runs` after the call is left open.
 ///
