@@ -4,8 +4,9 @@
 import { PeError, constants, results } from './library.mjs';
 import { Tables } from './metadata.mjs';
 import * as names from './names.mjs';
-import { namedExports } from './image.mjs';
+import { Image, namedExports } from './image.mjs';
 import { memoryOf } from './calls.mjs';
+import { Memory } from './memory.mjs';
 import { Budget } from './parts.mjs';
 import { signerOf } from './signatures.mjs';
 
@@ -639,14 +640,23 @@ export function facts(image, fileName = '') {
   };
 }
 
+// The instance that the next file of a library is read in, unless its memory has more bytes than these: facts are values, and the image
+// that they are of ends with them.
+const spare = new WeakMap(), MOST_SPARE = 1 << 24;
+
 /** The facts of a file: of one that is refused, why. */
-export function factsOf(library, bytes, fileName, options) {
-  let image;
+export function factsOf(library, bytes, fileName, { mode = constants.PE_C_STRICT } = {}) {
+  const memory = spare.get(library) ?? new Memory(library.module), { free } = memory;
+  let image, said;
+  spare.delete(library);
   try {
-    image = library.open(bytes, options);
+    image = new Image(memory, bytes, mode);
   } catch (error) {
     if (!(error instanceof PeError)) throw error;
-    return { file: fileName, file_size: bytes.length, error: refusal(error), file_kind: kindOf(bytes) };
+    said = { file: fileName, file_size: bytes.length, error: refusal(error), file_kind: kindOf(bytes) };
   }
-  return facts(image, fileName);
+  said ??= facts(image, fileName);
+  memory.free = free;
+  if (memory.all.length <= MOST_SPARE) spare.set(library, memory);
+  return said;
 }

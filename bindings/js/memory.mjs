@@ -47,11 +47,12 @@ export class Memory {
   #exports;
   #bytes = new Uint8Array();
   #view;
+  #used;
 
   constructor(module) {
     this.#exports = new WebAssembly.Instance(module).exports;
     if (this.exports[`pe_c_abi_${abi}`]?.() !== abi) throw new TypeError('the module is of another ABI than this library');
-    this.free = aligned(Number(this.exports.__heap_base.value));
+    this.#used = this.free = aligned(Number(this.exports.__heap_base.value));
   }
 
   get exports() {
@@ -59,13 +60,14 @@ export class Memory {
     return this.#exports;
   }
 
-  /** Room for so many bytes, zeros. A view of the memory ends where the memory grows, so each is made anew. */
+  /** Room for so many bytes, zeros, as bytes are that were never used. */
   reserve(length) {
     const at = this.free, end = aligned(at + length), { memory } = this.exports;
     const pages = Math.ceil((end - memory.buffer.byteLength) / PAGE);
     if (pages > 0) this.grow(pages);
     this.free = end;
-    new Uint8Array(memory.buffer, at, end - at).fill(0);
+    if (at < this.#used) this.all.fill(0, at, Math.min(end, this.#used));
+    this.#used = Math.max(end, this.#used);
     return at;
   }
 

@@ -92,6 +92,12 @@ test('an unmapped lookup table is said, and the address table is listed in its p
   assert.throws(() => [...image.addressTable(first)], (it) => it instanceof PeError && it.constant === 'PE_C_UNMAPPED');
 });
 
+test('facts of a file are the same whatever was read before it, in its instance too', () => {
+  const names = readdirSync(folder).filter((it) => it.endsWith('.bin')), mode = constants.PE_C_PERMISSIVE;
+  const said = (of, it) => factsOf(of, readFileSync(join(folder, it)), it, { mode });
+  for (const it of [...names, ...names.toReversed()]) assert.deepEqual(said(library, it), said(new Library(library.module), it), it);
+});
+
 test('names that are no text', () => {
   const bytes = Buffer.from(file('debug'));
   bytes.set([0xFF, 0xC3, 0xA4], bytes.indexOf('.rdata'));
