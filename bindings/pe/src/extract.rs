@@ -122,7 +122,7 @@ fn by_id<'a>(leaves: Vec<ResourceLeaf<'a>>, language: ResourceName<'_>) -> BTree
     let mut found: BTreeMap<u16, ResourceLeaf<'a>> = BTreeMap::new();
     for leaf in leaves {
         let ResourceName::Id(id) = leaf.name else { continue };
-        let is_better = found.get(&id).map_or(true, |it| it.language != language && leaf.language == language);
+        let is_better = found.get(&id).is_none_or(|it| it.language != language && leaf.language == language);
         if is_better {
             found.insert(id, leaf);
         }

@@ -38,7 +38,7 @@ use chrono::{TimeZone, Utc};
 use clap::ValueEnum;
 pub use name::Name;
 use others::Other;
-use pe_c::{DirectoryIndex, Error, Image};
+use pe_c::{DirectoryIndex, Error, Image, Mode};
 use serde::ser::SerializeMap;
 use serde::{Serialize, Serializer};
 use std::fmt;
@@ -191,6 +191,9 @@ pub struct Refusal {
     /// What is wrong, with its numbers, for text.
     #[serde(skip)]
     pub said: Option<String>,
+    /// What the file is, where it is one for another command, for text.
+    #[serde(skip)]
+    pub kind: Option<&'static str>,
 }
 
 impl Refusal {
@@ -199,18 +202,29 @@ impl Refusal {
         let failure = image.directory_failure(index).filter(|it| it.error == error);
         Refusal { said: failure.map(|it| it.to_string()), ..error.into() }
     }
+
+    /// The error of a file, with what it is and which command shows that, unless that is what was asked for.
+    pub fn of_file(error: Error, bytes: &[u8], asked: &str) -> Refusal {
+        let kind = match Image::parse(bytes, Mode::Permissive) {
+            Ok(_) => Some("an image, which pe FILE shows"),
+            Err(_) if bytes.starts_with(b"MZ") => Some(CUT),
+            Err(_) => kind_of(bytes),
+        };
+        Refusal { kind: kind.filter(|it| !it.contains(asked)), ..error.into() }
+    }
 }
 
 impl From<Error> for Refusal {
     fn from(error: Error) -> Refusal {
         let name = error.name().unwrap_or("UNKNOWN");
-        Refusal { number: error.number(), name, text: error.to_string(), said: None }
+        Refusal { number: error.number(), name, text: error.to_string(), said: None, kind: None }
     }
 }
 
 impl fmt::Display for Refusal {
     fn fmt(&self, f: &mut fmt::Formatter<'_>) -> fmt::Result {
-        write!(f, "{} ({})", self.said.as_ref().unwrap_or(&self.text), self.name)
+        write!(f, "{} ({})", self.said.as_ref().unwrap_or(&self.text), self.name)?;
+        self.kind.map_or(Ok(()), |kind| write!(f, "; it is {kind}"))
     }
 }
 
@@ -666,8 +680,8 @@ impl<'a> Facts<'a> {
     }
 
     /// Of a file that is no image.
-    pub fn refused(path: &Path, bytes: &[u8], error: Error) -> Facts<'a> {
-        Facts { error: Some(error.into()), file_kind: kind_of(bytes), ..Facts::empty(path, bytes.len()) }
+    pub fn refused(path: &Path, bytes: &[u8], error: Refusal) -> Facts<'a> {
+        Facts { error: Some(error), file_kind: kind_of(bytes), ..Facts::empty(path, bytes.len()) }
     }
 
     /// Of an image the parts that are wanted.

@@ -17,7 +17,7 @@ use crate::summary::kind_of;
 use crate::tables::{self, Row, Table};
 use crate::Status;
 use markup::Html;
-use pe_c::{Error, Image};
+use pe_c::Image;
 use sha2::{Digest as _, Sha256};
 use std::io::{self, Write};
 use std::path::Path;
@@ -35,13 +35,13 @@ const WARNINGS: usize = 100;
 /// Writes the page of a file, for `-` to `out`. One of a file that is no image says why.
 pub fn write_to(
     (path, bytes): (&Path, &[u8]),
-    image: Result<Image<'_>, Error>,
+    image: Result<Image<'_>, Refusal>,
     wanted: &Wanted,
     (to, out): (&Target, &mut dyn Write),
 ) -> io::Result<Status> {
     let facts = match &image {
         Ok(image) => Facts::of(path, image, wanted),
-        Err(error) => Facts::refused(path, bytes, *error),
+        Err(error) => Facts::refused(path, bytes, error.clone()),
     };
     let status = if facts.is_refused() { Status::Refused } else { Status::Done };
     files::deliver_written(to, status, out, &mut |out| write_page(&facts, image.as_ref().ok(), out))

@@ -162,8 +162,8 @@ impl Icons {
                 *users -= 1;
             }
         }
-        let is_alone = |id: &u16| self.languages.get(id).map_or(true, |it| it.iter().all(|it| *it == language));
-        ids.into_iter().filter(|id| self.users.get(id).map_or(true, |it| *it == 0) && is_alone(id)).collect()
+        let is_alone = |id: &u16| self.languages.get(id).is_none_or(|it| it.iter().all(|it| *it == language));
+        ids.into_iter().filter(|id| self.users.get(id).is_none_or(|it| *it == 0) && is_alone(id)).collect()
     }
 
     /// So many identifiers: a group's own, and then others that are free.

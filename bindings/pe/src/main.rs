@@ -37,7 +37,7 @@ use clap::error::ErrorKind;
 use clap::{CommandFactory, Parser, ValueEnum};
 use extract::ExtractedPart;
 use facts::others::Other;
-use facts::{Facts, Topic, Wanted};
+use facts::{Facts, Refusal, Topic, Wanted};
 use files::Report;
 use page::Style;
 use pe_c::{Error, Image, Mode, Placement};
@@ -149,7 +149,7 @@ fn run_command(command: &Command, out: &mut dyn Write) -> io::Result<Status> {
         Command::Digest { files, reading, output } => {
             refuse_mapped(reading, "a digest");
             files::each(files, out, |path, bytes| {
-                of_image(bytes, reading, |image| digest::report(path, image, output.json))
+                of_image((path, bytes), reading, |image| digest::report(path, image, output.json))
             })
         }
         Command::Verify { files, roots, system_roots, crls, catalogs, reading, output } => {
@@ -163,7 +163,7 @@ fn run_command(command: &Command, out: &mut dyn Write) -> io::Result<Status> {
                 return Ok(Status::FileError);
             };
             files::each(files, out, |path, bytes| {
-                of_image(bytes, reading, |image| verify::report(path, image, &given, output.json))
+                of_image((path, bytes), reading, |image| verify::report(path, image, &given, output.json))
             })
         }
         Command::Stack { dump, given, stacks, output } => {
@@ -232,7 +232,9 @@ fn unwind_functions(words: (&[PathBuf], Walk), is_all: bool, how: How, out: &mut
         None => misused("an RVA in hexadecimal has to come after the files, or --all before them"),
     };
     let asked = unwind::Asked { rva, is_json: how.is_json, is_named: files.is_several() };
-    files::each(&files, out, |path, bytes| of_image(bytes, how.reading, |image| unwind::report(path, image, asked)))
+    files::each(&files, out, |path, bytes| {
+        of_image((path, bytes), how.reading, |image| unwind::report(path, image, asked))
+    })
 }
 
 /// What `pe verify` is given, which is read once. `None` where a file of it is refused, which is said.
@@ -278,20 +280,20 @@ fn write_file(command: &Command, out: &mut dyn Write) -> io::Result<Status> {
                 misused("resources are written to a folder, and none to standard output");
             }
             files::each(&Files::one(file), out, |path, bytes| {
-                of_image(bytes, reading, |image| part.write_to((path, image), which, to))
+                of_image((path, bytes), reading, |image| part.write_to((path, image), which, to))
             })
         }
         Command::Attach { file, certificate, to, in_place, reading } => {
             refuse_mapped(reading, "a certificate");
             let placement = if *in_place { Placement::InPlace } else { Placement::After };
             files::each(&Files::one(file), out, |path, bytes| {
-                of_image(bytes, reading, |image| sign::attach(path, image, certificate, placement, to))
+                of_image((path, bytes), reading, |image| sign::attach(path, image, certificate, placement, to))
             })
         }
         Command::Detach { file, to, reading } => {
             refuse_mapped(reading, "a certificate");
             files::each(&Files::one(file), out, |path, bytes| {
-                of_image(bytes, reading, |image| sign::detach(path, image, to))
+                of_image((path, bytes), reading, |image| sign::detach(path, image, to))
             })
         }
         Command::Symbols { file, pdb, to, strict } => {
@@ -305,8 +307,8 @@ fn write_file(command: &Command, out: &mut dyn Write) -> io::Result<Status> {
             }
             let fix = fix.as_ref().map(|to| new_file::Target { to: to.clone(), replace: *replace });
             files::each(files, out, |path, bytes| match &fix {
-                Some(to) => of_image(bytes, reading, |image| sign::fix(path, image, to)),
-                None => of_image(bytes, reading, |image| sign::checksum(path, image, output.json)),
+                Some(to) => of_image((path, bytes), reading, |image| sign::fix(path, image, to)),
+                None => of_image((path, bytes), reading, |image| sign::checksum(path, image, output.json)),
             })
         }
         Command::Report { file, to, given, stacks, reading, hashing } => {
@@ -314,7 +316,10 @@ fn write_file(command: &Command, out: &mut dyn Write) -> io::Result<Status> {
             let there = given.are_there();
             let status = files::one(file, out, |bytes, out| match stack::is_dump(bytes) {
                 true => html::dump::write_to((file, bytes), (&given.places(), stacks.asked(false)), (to, out)),
-                false => html::write_to((file, bytes), parsed(bytes, reading), &wanted, (to, out)),
+                false => {
+                    let image = parsed(bytes, reading).map_err(|error| refusal_of(error, bytes, reading));
+                    html::write_to((file, bytes), image, &wanted, (to, out))
+                }
             })?;
             Ok(status.max(there))
         }
@@ -341,7 +346,7 @@ fn edit_file(command: &Command, out: &mut dyn Write) -> io::Result<Status> {
     }
     files::each(&Files::one(file), out, |path, bytes| {
         let paths = (path, to);
-        of_image(bytes, reading, |image| match command {
+        of_image((path, bytes), reading, |image| match command {
             _ if !strong_name.break_strong_name && image.as_ref().is_ok_and(edit::has_strong_name) => Report::refused(
                 path,
                 "it has a strong name (.NET), which a change breaks; --break-strong-name changes it all the same",
@@ -422,7 +427,7 @@ fn compare(paths: [&Path; 2], how: How, out: &mut dyn Write) -> io::Result<Statu
     for ((path, bytes), image) in paths.iter().zip(&contents).zip(&images) {
         facts.push(match image {
             Ok(image) => Facts::of(path, image, &wanted),
-            Err(error) => Facts::refused(path, bytes, *error),
+            Err(error) => Facts::refused(path, bytes, refusal_of(*error, bytes, how.reading)),
         });
     }
     facts.iter().for_each(|facts| complain(show::complaints(facts)));
@@ -471,7 +476,7 @@ fn shown(
     let (facts, is_image) = match (&image, &other) {
         (Ok(image), _) => (Facts::of(path, image, wanted), true),
         (Err(_), Some(other)) => (Facts::of_other(path, other, wanted), false),
-        (Err(error), None) => (Facts::refused(path, bytes, *error), !is_no_image(*error)),
+        (Err(error), None) => (Facts::refused(path, bytes, refusal_of(*error, bytes, reading)), !is_no_image(*error)),
     };
     let status = if facts.is_refused() { Status::Refused } else { Status::Done };
     let Said { head, text, complaints } = text(&facts, Style::of_stdout());
@@ -484,16 +489,26 @@ fn is_no_image(error: Error) -> bool {
 }
 
 /// What a command without parts says of an image.
-fn of_image<'a>(bytes: &'a [u8], reading: &Reading, report: impl FnOnce(Result<Image<'a>, Error>) -> Report) -> Report {
+fn of_image<'a>(
+    (path, bytes): (&Path, &'a [u8]),
+    reading: &Reading,
+    report: impl FnOnce(Result<Image<'a>, Error>) -> Report,
+) -> Report {
     let image = parsed(bytes, reading);
-    let is_image = image.as_ref().err().map_or(true, |error| !is_no_image(*error));
+    let error = image.as_ref().err().copied();
     let mut made = report(image);
-    if let (false, Status::Refused, false, Some(kind)) =
-        (is_image, made.status, made.complaints.is_empty(), facts::kind_of(bytes))
-    {
-        made.complaints = format!("{}; it is {kind}\n", made.complaints.trim_end());
+    made.is_image = error.is_none_or(|it| !is_no_image(it));
+    if let Some(error) = error.filter(|_| made.status == Status::Refused && !made.complaints.is_empty()) {
+        let kind = facts::kind_of(bytes).filter(|_| !made.is_image);
+        made.complaints = complaint(path, Refusal { kind, ..refusal_of(error, bytes, reading) });
     }
-    Report { is_image, ..made }
+    made
+}
+
+/// Why the headers of an image are refused, with its numbers.
+fn refusal_of(error: Error, bytes: &[u8], reading: &Reading) -> Refusal {
+    let failure = Image::failure(bytes, reading.mode(), reading.layout()).filter(|it| it.error == error);
+    Refusal { said: failure.map(|it| it.to_string()), ..error.into() }
 }
 
 /// A line of JSON.

@@ -49,7 +49,7 @@ fn argument(arg: &Arg) -> String {
 /// The arguments of the program, or those of a command that the program does not have.
 fn arguments_of(command: &Command, options_of_program: &[String]) -> String {
     let own = command.get_arguments().filter(|it| !["help", "version"].contains(&it.get_id().as_str()));
-    own.filter(|it| it.get_long().map_or(true, |long| !options_of_program.iter().any(|it| it == long)))
+    own.filter(|it| it.get_long().is_none_or(|long| !options_of_program.iter().any(|it| it == long)))
         .map(argument)
         .collect()
 }

@@ -191,7 +191,7 @@ fn fold(line: &str, width: usize, to: &mut String) {
     while let Some((end, next)) = end_of(&line[start..], indent, width) {
         to.push_str(line[start..start + end].trim_end_matches(' '));
         to.push('\n');
-        to.extend(std::iter::repeat(' ').take(next));
+        to.extend(std::iter::repeat_n(' ', next));
         (start, indent) = (start + end, next);
     }
     to.push_str(&line[start..]);

@@ -5,7 +5,7 @@ pub mod frames;
 mod lists;
 mod text;
 
-use crate::facts::{kind_of, Flags, Named, Origin, Refusal};
+use crate::facts::{Flags, Named, Origin, Refusal};
 use crate::files::Report;
 use crate::names::{MACHINES, PDB_FLAGS};
 use crate::page::Style;
@@ -121,17 +121,14 @@ struct AtRva {
 pub fn report(path: &Path, bytes: &[u8], asked: Asked<'_>) -> Report {
     let told = match Pdb::parse(bytes) {
         Ok(pdb) => told_of(path, &pdb, asked),
-        Err(error) => Told::refused(path, bytes.len(), error),
+        Err(error) => Told { error: Some(Refusal::of_file(error, bytes, "pe pdb")), ..Told::empty(path, bytes.len()) },
     };
     let status = if told.is_refused() { Status::Refused } else { Status::Done };
     if asked.is_json {
         return Report::of(crate::json(&told), status);
     }
     match &told.error {
-        Some(refusal) => {
-            let kind = kind_of(bytes).map_or(String::new(), |it| format!("; it is {it}"));
-            Report { complaints: complaint(path, format_args!("{refusal}{kind}")), ..Report::of("", status) }
-        }
+        Some(refusal) => Report { complaints: complaint(path, refusal), ..Report::of("", status) },
         None => Report::of(text::of(&told, Style::of_stdout()), status),
     }
 }
@@ -220,10 +217,6 @@ impl Told {
             symbols_error: None,
             error: None,
         }
-    }
-
-    fn refused(path: &Path, file_size: usize, error: Error) -> Told {
-        Told { error: Some(error.into()), ..Told::empty(path, file_size) }
     }
 
     /// Whether it, or a part of it, is refused.

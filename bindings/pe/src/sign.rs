@@ -5,6 +5,7 @@ use crate::facts::headers::checksum_state;
 use crate::facts::{Origin, Refusal};
 use crate::files::{self, Report};
 use crate::new_file::Target;
+use crate::streams::complaint;
 use crate::Status;
 use pe_c::{Error, Image, Placement};
 use serde::Serialize;
@@ -69,7 +70,12 @@ fn is_of_certificate(error: Error, given: &[u8]) -> bool {
 }
 
 pub fn detach(path: &Path, image: Result<Image<'_>, Error>, to: &Target) -> Report {
-    deliver(image.and_then(|it| it.detach()), path, to)
+    let has_none = image.as_ref().is_ok_and(|it| it.certificates().next().is_none());
+    let made = deliver(image.and_then(|it| it.detach()), path, to);
+    match has_none && made.status == Status::Done {
+        true => Report { complaints: complaint(path, "it has no certificates: nothing is detached"), ..made },
+        false => made,
+    }
 }
 
 /// The image with the right checksum.

@@ -89,7 +89,7 @@ pub fn write(path: &Path, bytes: &[u8], places: &Places, asked: Asked, out: &mut
 pub fn told(path: &Path, bytes: &[u8], places: &Places, asked: Asked) -> Told {
     match Dump::parse(bytes) {
         Ok(dump) => told_of(&dump, path, places, asked),
-        Err(error) => Told::refused(path, error),
+        Err(error) => Told::refused(path, Refusal::of_file(error, bytes, "pe stack")),
     }
 }
 
@@ -276,7 +276,7 @@ fn threads_of(dump: &Dump<'_>, loaded: Option<&Loaded<'_>>, asked: Asked, texts:
     };
     let crashed = dump.exception().ok().flatten().map(|it| it.thread_id);
     let mut threads: Vec<DumpThread> =
-        list.filter(|it| asked.thread.map_or(true, |wanted| wanted == it.thread_id)).collect();
+        list.filter(|it| asked.thread.is_none_or(|wanted| wanted == it.thread_id)).collect();
     threads.sort_by_key(|it| Some(it.thread_id) != crashed);
     let names = dump.thread_names().into_iter().flatten().flatten();
     let names: BTreeMap<u32, u64> = names.map(|it| (it.thread_id, it.rva_of_thread_name)).collect();

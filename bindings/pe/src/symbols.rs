@@ -60,7 +60,7 @@ pub fn write(path: &Path, bytes: &[u8], mode: Mode, pdb: Option<&Path>, to: &Tar
                     Err(error) => return Report::unread(pdb, error),
                 },
             },
-            Err(error) => Err(complaint(path, Refusal::from(error))),
+            Err(error) => Err(complaint(path, Refusal::of_file(error, bytes, "pe FILE"))),
         },
     };
     match made {
@@ -108,7 +108,8 @@ fn of_image(path: &Path, image: &Image<'_>) -> Result<SymbolFile, String> {
 
 fn of_both(path: &Path, image: &Image<'_>, (pdb_path, bytes): (&Path, &[u8])) -> Result<SymbolFile, String> {
     let refused = |path: &Path, error: Error| complaint(path, Refusal::from(error));
-    let pdb = Pdb::parse(bytes).and_then(|it| it.dbi().map(|()| it)).map_err(|error| refused(pdb_path, error))?;
+    let pdb = Pdb::parse(bytes).and_then(|it| it.dbi().map(|()| it));
+    let pdb = pdb.map_err(|error| complaint(pdb_path, Refusal::of_file(error, bytes, "pe pdb")))?;
     let key = image.symbol_key().map_err(|error| refused(path, error))?;
     match key {
         Some(key) if pdb.matches(&key) => (),
@@ -138,7 +139,10 @@ fn of_pdb(path: &Path, pdb: &Pdb<'_>) -> Result<SymbolFile, String> {
 /// The functions of a PDB, none where they are not those of the image as it is.
 fn functions_of(pdb: &Pdb<'_>, file: &mut SymbolFile) -> Functions {
     if pdb.is_moved() {
-        file.complain("functions", "a tool moved the code of the image after it was linked (OMAP): their ranges are not those of the image");
+        file.complain(
+            "functions",
+            "a tool moved the code of the image after it was linked (OMAP): their ranges are not those of the image",
+        );
         return Functions::default();
     }
     Functions::of_pdb(pdb, file)

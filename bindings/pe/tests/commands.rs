@@ -256,6 +256,11 @@ fn certificates_are_attached_and_detached() {
     let said = json_of("detached", &bytes);
     assert_eq!((&said["certificates"], &said["hardening"]["signed"]), (&json!(null), &json!(false)));
     assert_eq!(said["headers"]["checksum_state"], "right");
+    // Of an image without certificates nothing goes, which is said.
+    let same = path("same.exe");
+    let said = format!("pe: {bare}: it has no certificates: nothing is detached\n");
+    assert_eq!(run(&["detach", &bare, &same]), (String::new(), said, 0));
+    assert_eq!(fs::read(&same).unwrap(), bytes);
     // Signed data get a header of eight bytes.
     let data = folder.file("signature", &[0x30, 1, 2, 3, 4]);
     assert_eq!(run(&["attach", &bare, &data, &signed]).2, 0);
@@ -828,9 +833,9 @@ fn differences_are_what_came_went_and_changed() {
     let text = folder.file("text", b"no image");
     assert_eq!(run(&["diff", &text, &text]), (String::new(), String::new(), 0));
     let (_, error, status) = run(&["diff", &one, &folder.file("d.dll", b"MZ")]);
-    assert_eq!((error.contains("d.dll: image: truncated (SHORT)"), status), (true, 1));
+    assert_eq!((error.contains("d.dll: image: truncated: 64 bytes needed at offset 0x0 (SHORT)"), status), (true, 1));
     let (out, error, status) = run(&["diff", "--json", &folder.file("d.dll", b"MZ"), &one]);
-    assert_eq!((error.contains("d.dll: image: truncated (SHORT)"), status), (true, 1));
+    assert_eq!((error.contains("d.dll: image: truncated: 64 bytes needed at offset 0x0 (SHORT)"), status), (true, 1));
     let found: Value = serde_json::from_str(&out).unwrap();
     let length = made::with_exports().len();
     let region = json!([{"name": "file", "before": 2, "after": length, "different": length - 2}]);

@@ -297,8 +297,8 @@ const MADE: &[(&str, &[&str])] = &[
     (
         "short",
         &[
-            "short.bin: refused\n  warning       image: truncated (SHORT)\nstatus 1\n",
-            "pe: short.bin: truncated (SHORT)\nstatus 1\n",
+            "short.bin: refused\n  warning       image: truncated: 64 bytes needed at offset 0x0 (SHORT)\nstatus 1\n",
+            "pe: short.bin: truncated: 64 bytes needed at offset 0x0 (SHORT)\nstatus 1\n",
             "\"file_size\":2,\"error\":{\"number\":2,\"name\":\"SHORT\",\"text\":\"truncated\"},\"file_kind\":null}\nstatus 1\n",
         ],
     ),

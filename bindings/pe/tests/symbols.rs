@@ -125,12 +125,14 @@ fn in_small_blocks(bytes: &[u8], is_turned: impl Fn(u32) -> bool) -> Vec<u8> {
 fn streams_in_any_blocks_name_frames() {
     let pdb = of_pieces(crash::PDB);
     let headers = u32::from(pe_c::Pdb::parse(&pdb).unwrap().info().section_headers);
-    let turned: [&dyn Fn(u32) -> bool; 4] = [&|_| false, &|it| ![1, 3, headers].contains(&it), &|it| it == 3, &|_| true];
+    let turned: [&dyn Fn(u32) -> bool; 4] =
+        [&|_| false, &|it| ![1, 3, headers].contains(&it), &|it| it == 3, &|_| true];
     for (index, is_turned) in turned.into_iter().enumerate() {
         let folder = folder(&format!("symbols-blocks-{index}"));
         put(&folder, "syms/crash.pdb", &in_small_blocks(&pdb, is_turned));
         let said = stack_in(&folder, &["--symbols", "syms"], None);
-        let own: Vec<Value> = functions_of(&said).iter().map(|it| json!([line_of(it), it["inlined"][0]["name"]])).collect();
+        let own: Vec<Value> =
+            functions_of(&said).iter().map(|it| json!([line_of(it), it["inlined"][0]["name"]])).collect();
         let wanted = [
             json!([["reads", "crash.cpp", 8], "geo::load"]),
             json!([["middle", "generated\\else.inc", 900], null]),
@@ -457,7 +459,10 @@ fn what_is_no_pdb_is_refused() {
     let folder = Folder::new("pdb-none");
     let image = folder.file("a.exe", &of_pieces(crash::EXE));
     let (out, complaints, status) = run(&["pdb", &image]);
-    assert_eq!((out.as_str(), complaints, status), ("", format!("pe: {image}: not a PDB 7.0 (PDB_MAGIC)\n"), 1));
+    assert_eq!(
+        (out.as_str(), complaints, status),
+        ("", format!("pe: {image}: not a PDB 7.0 (PDB_MAGIC); it is an image, which pe FILE shows\n"), 1)
+    );
     let (out, _, status) = run(&["pdb", "--json", &image]);
     let said: Value = serde_json::from_str(&out).unwrap();
     assert_eq!((&said["error"]["name"], &said["guid"], status), (&json!("PDB_MAGIC"), &json!(null), 1));
@@ -466,10 +471,33 @@ fn what_is_no_pdb_is_refused() {
     assert!(complaints.ends_with("(PDB20); it is a PDB of version 2.0\n"), "{complaints}");
     let (_, complaints, status) = run(&["pdb", folder.0.join("nowhere").to_str().unwrap()]);
     assert!(complaints.contains("No such file") && status == 3, "{complaints}");
-    // And the other way round.
-    let pdb = folder.file("c.pdb", &of_pieces(crash::PDB));
+    // And the other ways round.
+    let (pdb, dump) = (folder.file("c.pdb", &of_pieces(crash::PDB)), folder.file("d.dmp", &of_pieces(crash::DUMP)));
     let (out, _, status) = run(&[&pdb]);
     assert!(out.starts_with(&format!("{pdb}: refused, a PDB, which pe pdb shows\n")) && status == 1, "{out}");
+    let (as_image, as_pdb, as_dump) = (
+        "it is an image, which pe FILE shows\n",
+        "it is a PDB, which pe pdb shows\n",
+        "it is a minidump, which pe stack shows\n",
+    );
+    let to = folder.0.join("out");
+    let to = to.to_str().unwrap();
+    for (words, kind) in [
+        (["stack", &image].as_slice(), as_image),
+        (&["stack", &pdb], as_pdb),
+        (&["pdb", &dump], as_dump),
+        (&["key", "--missing", &image], as_image),
+        (&["symbols", &dump, to], as_dump),
+        (&["symbols", &image, to, "--pdb", &dump], as_dump),
+        (&["checksum", &dump], as_dump),
+    ] {
+        let (out, complaints, status) = run(words);
+        assert!((out + &complaints).ends_with(kind) && status == 1, "{words:?}: {complaints}");
+    }
+    // One that is what is asked for, and damaged, is not named as another.
+    let damaged = folder.file("e.pdb", &of_pieces(crash::PDB)[..4096]);
+    let (_, complaints, status) = run(&["pdb", &damaged]);
+    assert!(complaints.ends_with(")\n") && status == 1, "{complaints}");
 }
 
 /// The lines of JSON that the schema is checked against, and texts: `golden/symbols.txt`, which `UPDATE_GOLDEN=1` writes anew.

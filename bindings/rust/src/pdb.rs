@@ -470,10 +470,7 @@ pub(crate) fn count_in(range: &Range, bytes: &[u8], size: usize) -> usize {
 
 /// What a call writes to a room, in one of as many entries as it asks for. The first one has so many: where these are enough the call does
 /// not read all twice.
-pub(crate) fn filled<T: Copy>(
-    first: usize,
-    call: impl Fn(*mut T, usize, &mut u64) -> u32,
-) -> Result<Vec<T>, Error> {
+pub(crate) fn filled<T: Copy>(first: usize, call: impl Fn(*mut T, usize, &mut u64) -> u32) -> Result<Vec<T>, Error> {
     let (mut room, mut most, mut written) = (Vec::new(), first, 0);
     room.try_reserve_exact(most).map_err(|_| Error::MEMORY)?;
     let mut number = call(room.as_mut_ptr(), most, &mut written);

@@ -60,7 +60,10 @@ fn code_that_was_moved_is_named() {
     let pdb = Pdb::parse(&bytes).unwrap();
     let omap = pdb.omap().unwrap().unwrap();
     assert!(pdb.is_moved());
-    assert_eq!([0xFFF, 0x1050, 0x3010, 0x304B, 0x304C].map(|it| omap.linked_rva(it)), [None, None, Some(0x1050), Some(0x108B), None]);
+    assert_eq!(
+        [0xFFF, 0x1050, 0x3010, 0x304B, 0x304C].map(|it| omap.linked_rva(it)),
+        [None, None, Some(0x1050), Some(0x108B), None]
+    );
     assert_eq!([0x1048, 0x1050, 0x108B].map(|it| omap.image_rva(it)), [None, Some(0x3010), Some(0x304B)]);
     let symbolizer = pdb.symbolizer().unwrap();
     let frames = symbolizer.frames(0x3025);

@@ -57,7 +57,9 @@ fn summary(told: &Told) -> Vec<Row> {
 
 fn warnings(told: &Told, page: &mut Page) {
     if told.head.is_moved {
-        page.warning("a tool moved the code of the image after it was linked (OMAP): RVAs of functions are those before that");
+        page.warning(
+            "a tool moved the code of the image after it was linked (OMAP): RVAs of functions are those before that",
+        );
     }
     if told.head.is_fastlink {
         page.warning("linked with /DEBUG:FASTLINK: symbols and lines are in the objects, which are not read");

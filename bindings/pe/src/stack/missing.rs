@@ -106,7 +106,7 @@ fn missing_of(path: &Path, bytes: &[u8], stores: &Stores) -> Missing {
     let mut seen = BTreeSet::new();
     let needs = dump.modules.entries().iter().flat_map(|it| needs_of(it, stores));
     let entries = needs
-        .filter(|it| it.symbol_server_path.as_ref().map_or(true, |path| seen.insert((it.kind, path.to_lowercase()))));
+        .filter(|it| it.symbol_server_path.as_ref().is_none_or(|path| seen.insert((it.kind, path.to_lowercase()))));
     let list = List { entries: entries.collect(), error: None, is_limited: dump.texts_is_limited };
     Missing {
         origin: Origin::of(path),

@@ -154,7 +154,7 @@ impl SymbolFolders {
         match &*self.listing(folder) {
             Ok(listing) => {
                 let mut paths = listing.get(&name.to_lowercase()).cloned().unwrap_or_default();
-                paths.sort_by_key(|it| it.file_name().map_or(true, |it| it != name));
+                paths.sort_by_key(|it| it.file_name().is_none_or(|it| it != name));
                 paths
             }
             Err(why) => {

@@ -4,7 +4,6 @@ use super::pdbs::ToldPdb;
 use crate::facts::{entry, field, List, Named, Origin, Part, Refusal, Stamp};
 use crate::pdb::frames::Line;
 use crate::Status;
-use pe_c::Error;
 use serde::ser::SerializeMap;
 use serde::{Serialize, Serializer};
 use std::collections::BTreeMap;
@@ -234,7 +233,7 @@ pub struct Memory {
 
 impl Told {
     /// A dump that is refused whole.
-    pub fn refused(path: &Path, error: Error) -> Told {
+    pub fn refused(path: &Path, error: Refusal) -> Told {
         Told {
             origin: Origin::of(path),
             written: Written(None),
@@ -250,7 +249,7 @@ impl Told {
             memory: None,
             symbols_left_out: Vec::new(),
             texts_is_limited: false,
-            error: Some(error.into()),
+            error: Some(error),
         }
     }
 

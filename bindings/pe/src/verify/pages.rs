@@ -107,7 +107,7 @@ impl<'a> Pages<'a, '_> {
     /// The hash of a page.
     fn hash_of(&self, hash: Hash, parts: &[&[u8]], length: u32) -> Vec<u8> {
         let zeros = self.size.saturating_sub(length) as usize;
-        let whole = iter::repeat(&ZEROS[..]).take(zeros / ZEROS.len());
+        let whole = iter::repeat_n(&ZEROS[..], zeros / ZEROS.len());
         hash.digest(parts.iter().copied().chain(whole).chain([&ZEROS[..zeros % ZEROS.len()]]))
     }
 
