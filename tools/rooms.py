@@ -24,8 +24,8 @@ PROOF_LEFT_OUT = "pub left_out {ℓ} : {A : Type ℓ} → A\nleft_out = ?\n"
 # The file of the hole. No type of a crate may have its name.
 HOLE = "HoleOfWhatIsLeftOut"
 ANSWERS = ("Answers.antt", "Invariants.antt")
-# An answer that antt refuses. Of a function whose file has one, a check offers no answers for the goals that are open: to do so antt runs
-# once more, which takes a tenth of a check in which many functions fail.
+# An answer that antt refuses. Of a function whose file has one, a check offers no answers for the goals that are open: to do so antt
+# runs once more.
 REFUSED_ANSWER = "is_no_answer"
 HEAD = re.compile(r"^[ \t]*(?:pub(?:\([a-z ]+\))? )?(?:const )?(?:unsafe )?(?:extern \"C\" )?fn (\w+)", re.M)
 IMPL = re.compile(r"^impl(?:<[^{]*?>)? (?:(?:\w+::)*(?P<trait>\w+)(?:<(?P<of>\w[^{]*?)>)? for )?(?P<ref>&'\w+ )?(?P<type>\w+)(?P<args><(?:[^<>{]|<[^<>{]*>)*>)?", re.M)
@@ -277,8 +277,7 @@ class Room:
                 file.write(f"\n\npub {REFUSED_ANSWER} : {REFUSED_ANSWER}\n{REFUSED_ANSWER} = {REFUSED_ANSWER}\n")
 
     def check(self, asked, jobs, is_kept=True):
-        """What a check of the room prints about the functions that are asked for. Its work is kept for another check, which takes a
-        twelfth of it."""
+        """What a check of the room prints about the functions that are asked for. To keep its work for another check takes time too."""
         words = [f"{self.kit}/bin/rattle", *self.crate.words(self.kit), "--allow-holes"]
         words += ["--jobs", str(jobs), *["--incremental", self.kept] * is_kept, "--margin"]
         for path in sorted(asked):
