@@ -276,10 +276,10 @@ class Room:
             with open(f"{folder}/Answers.antt", "a", encoding="utf-8") as file:
                 file.write(f"\n\npub {REFUSED_ANSWER} : {REFUSED_ANSWER}\n{REFUSED_ANSWER} = {REFUSED_ANSWER}\n")
 
-    def check(self, asked, jobs, is_kept=True):
-        """What a check of the room prints about the functions that are asked for. To keep its work for another check takes time too."""
+    def check(self, asked, jobs):
+        """What a check of the room prints about the functions that are asked for."""
         words = [f"{self.kit}/bin/rattle", *self.crate.words(self.kit), "--allow-holes"]
-        words += ["--jobs", str(jobs), *["--incremental", self.kept] * is_kept, "--margin"]
+        words += ["--jobs", str(jobs), "--incremental", self.kept, "--margin"]
         for path in sorted(asked):
             words += ["--only", path]
         how = {"cwd": self.room, "stdin": subprocess.DEVNULL, "stdout": subprocess.PIPE, "stderr": subprocess.STDOUT}
