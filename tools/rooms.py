@@ -5,6 +5,7 @@ not asked for are left out, as `unreachable!()` and one hole, since `rt ci` prov
 """
 
 import collections
+import functools
 import os
 import re
 import shutil
@@ -17,15 +18,15 @@ from contents import text_of, write
 PARTS = ("src", "specs", "proofs")
 # The body and the proof of a function that is left out. The borrow checker follows no raw pointer, so a check makes no part
 # of a proof for such a body. All such proofs cite one hole: of a hole in each, a check would print the goal, and offer a proof.
-BODY_LEFT_OUT = """{
-    let mut place = 0u8;
-    let _pointer = &raw mut place;
-    unreachable!()
-}"""
+# It is one line, since a brace at the start of a line ends an impl for functions_of.
+BODY_LEFT_OUT = "{ let mut place = 0u8; let _pointer = &raw mut place; unreachable!() }"
 PROOF_LEFT_OUT = "pub left_out {ℓ} : {A : Type ℓ} → A\nleft_out = ?\n"
 # The file of the hole. No type of a crate may have its name.
 HOLE = "HoleOfWhatIsLeftOut"
 ANSWERS = ("Answers.antt", "Invariants.antt")
+# An answer that antt refuses. Of a function whose file has one, a check offers no answers for the goals that are open: to do so antt
+# runs once more.
+REFUSED_ANSWER = "is_no_answer"
 HEAD = re.compile(r"^[ \t]*(?:pub(?:\([a-z ]+\))? )?(?:const )?(?:unsafe )?(?:extern \"C\" )?fn (\w+)", re.M)
 IMPL = re.compile(r"^impl(?:<[^{]*?>)? (?:(?:\w+::)*(?P<trait>\w+)(?:<(?P<of>\w[^{]*?)>)? for )?(?P<ref>&'\w+ )?(?P<type>\w+)(?P<args><(?:[^<>{]|<[^<>{]*>)*>)?", re.M)
 TYPE = re.compile(r"^(?:pub(?:\([a-z ]+\))? )?(?:struct|enum|trait) (\w+)", re.M)
@@ -33,6 +34,8 @@ OPENS_A_CLAUSE = re.compile(r"(?:requires|ensures|ghost)\*?(?:\s+\w+)?:?\s*\Z")
 SAID = re.compile(r"^fn (\S+): (.*)$", re.M)
 ERROR = re.compile(r"^(?:\./)?((?:src|specs|proofs)/[^\s:]+)(?::(\d+):\d+)?: error(.*)$", re.M)
 GOAL = re.compile(r"`search` did not prove ([^;]*)")
+# The same beside a stored answer that antt refuses: where the function stands, and the goal.
+OPEN_GOAL = re.compile(r"^note: (src/[^\s:]+):(\d+):\d+: it is not proved that [^\n]*?\((`[^`\n]+`)\)", re.M)
 # What a check prints as it ends with a function.
 ENDED = re.compile(r"checked \w+?::(\S+), \d+ of \d+")
 IS_UNPROVED = re.compile(r"not proved|no proof|could not tell")
@@ -59,6 +62,7 @@ def type_of(impl):
     return impl["type"] + "".join(f"+{it}" for it in re.findall(r"\b[A-Z]\w*", impl["args"] or "") if own)
 
 
+@functools.lru_cache(maxsize=None)
 def functions_of(text):
     """The functions with a body: their names, the impl that they stand in, and where head and body start and the body ends."""
     impls = [(m.start(), text.find("\n}", m.start()), type_of(m), trait_of(m)) for m in IMPL.finditer(text)]
@@ -167,7 +171,7 @@ class Crate:
         """Whether the body and the proof of a function stay where it is not asked for."""
         file = self.files.get(path)
         head = self.texts[file][self.functions[path].start:self.functions[path].body] if file else ""
-        return function.trait or path.startswith("laws::") or "const fn" in head or self.is_cycle(path)
+        return function.trait or path.startswith("laws::") or "const fn" in head
 
     def without_bodies(self, file, text, kept):
         """The text of a file in which the functions have no body, but for those that are kept."""
@@ -249,14 +253,28 @@ class Room:
                 write(old.sub(lambda found: found[1][:-len(copied)] + name, text), file)
 
     def leave_out(self, path):
-        """Puts the one hole in place of a function's proof."""
-        folder, proofs = f"{self.room}/proofs/{path.replace('::', '/')}", f"Rattle.{self.crate.name}.proofs"
-        shutil.rmtree(folder, ignore_errors=True)
+        """Puts the one hole in place of a function's proof. Without its body one that calls itself is as any other."""
+        folder, cycle = self.own_answers_of(path)
+        proofs = f"Rattle.{self.crate.name}.proofs"
+        for it in (folder, cycle):
+            shutil.rmtree(it, ignore_errors=True)
         os.makedirs(folder)
         name = path.split("::")[-1]
         with open(f"{folder}/Proof.antt", "w", encoding="utf-8") as file:
             file.write(f"use {proofs}.{path.replace('::', '.')}.Statement.{{statement}}\nuse {proofs}.{HOLE}.{{left_out}}\n\n")
             file.write(f"pub {name}_spec : {{M : Type 1}} → statement M\n{name}_spec = left_out\n")
+
+    def own_answers_of(self, path):
+        """The folders of a function's stored answers in the room."""
+        return [it.replace(self.crate.folder, self.room, 1) for it in self.crate.answers_of(path)]
+
+    def refuse_an_answer(self, path):
+        """Adds the answer that antt refuses to a function's file, but where its whole proof is written by hand."""
+        folder, cycle = self.own_answers_of(path)
+        if not (os.path.isdir(cycle) or os.path.exists(f"{folder}/Proof.antt")):
+            os.makedirs(folder, exist_ok=True)
+            with open(f"{folder}/Answers.antt", "a", encoding="utf-8") as file:
+                file.write(f"\n\npub {REFUSED_ANSWER} : {REFUSED_ANSWER}\n{REFUSED_ANSWER} = {REFUSED_ANSWER}\n")
 
     def check(self, asked, jobs):
         """What a check of the room prints about the functions that are asked for."""
@@ -301,7 +319,7 @@ class Room:
         head, _, name = f"proofs/{path.replace('::', '/')}".rpartition("/")
         # Functions that call one another, or one that calls itself, have one proof, +NAME.
         folders = (f"{head}/{name}/", f"{head}/+{name}/")
-        found = [it[3].strip(" :") for it in ERROR.finditer(said) if it[1].startswith(folders)]
+        found = [it[3].strip(" :") for it in ERROR.finditer(said) if it[1].startswith(folders) and REFUSED_ANSWER not in it[3]]
         return found if self.own_words(said, path) else []
 
 

@@ -6,6 +6,7 @@ files of the crates below. They stand in the user's cache, one file each, which 
 kept, and nothing of a check whose control failed. Each run makes ten that are kept again, by chance.
 """
 
+import functools
 import hashlib
 import os
 import re
@@ -32,6 +33,12 @@ def files_of(folder, leave=frozenset()):
         for it in sorted(files):
             found.append((os.path.relpath(f"{at}/{it}", folder), bytes_of(f"{at}/{it}")))
     return found
+
+
+@functools.lru_cache(maxsize=None)
+def sum_below(folder):
+    """The sum of all that a crate above reads of a crate."""
+    return sum_of([files_of(f"{folder}/{part}") for part in ("src", "specs", "proofs")])
 
 
 def bare(text):
@@ -92,7 +99,7 @@ class Verdicts(Store):
         own = {os.path.relpath(it, f"{crate.folder}/proofs") for path in crate.functions for it in crate.answers_of(path)}
         blank = [(file, bare(crate.without_bodies(file, text, set()))) for file, text in sorted(crate.texts.items())]
         specs = [(path, bare(text.decode())) for path, text in files_of(f"{crate.folder}/specs")]
-        below = [(it, files_of(f"{crate.top}/crates/{it}/{part}")) for it in crate.below for part in ("src", "specs", "proofs")]
+        below = [(it, sum_below(f"{crate.top}/crates/{it}")) for it in crate.below]
         tools = [open(f"{HERE}/{it}", "rb").read() for it in TOOLS if os.path.exists(f"{HERE}/{it}")]
         self.sum = sum_of(bytes_of(f"{kit}/KIT-ID"), tools, crate.kind, crate.uses, blank, specs,
                           files_of(f"{crate.folder}/proofs", own), below)

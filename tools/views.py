@@ -48,6 +48,7 @@ class Unseen(Exception):
     """Says why a view can have no law."""
 
 
+@functools.lru_cache(maxsize=None)
 def parts(text, mark=","):
     """The parts of a text between marks that stand in no brackets."""
     found, depth = [""], 0
@@ -66,6 +67,7 @@ def inside(text, at):
     return text[at + 1:end - 1]
 
 
+@functools.lru_cache(maxsize=None)
 def tree(text):
     """A type, as Rust or a definition writes it, as its head and what it is made of."""
     text = re.sub(r"'\w+ ?|\bmut |\b[a-z]\w*(?:::|\.)", "", text).strip()
