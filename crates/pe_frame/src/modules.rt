@@ -89,7 +89,6 @@ impl<'a> AddressRange for Module<'a> {
 
 impl<'a> Module<'a> {
     /// The sections that may map an RVA: one at most, where the module has an index.
-    #[inline(always)]
     fn sections_of(&self, rva: u32) -> &'a [SectionTable]
         ensures { result.now ≡ sections_by self.now.sections.now self.now.index.now rva }
     {
@@ -98,7 +97,6 @@ impl<'a> Module<'a> {
 
     /// The code at these RVAs, by a section map of the module: one of the sections that may map the first of them. Empty where it is
     /// not all in the image.
-    #[inline(always)]
     fn code_by(&self, map: &SectionMap<'_>, rvas: Range<u32>) -> &'a [u8]
         ensures { result.now ≡ bytes_or_none self.now.bytes.now
             (offset_in map.now rvas.start) (rvas.end - rvas.start) }
@@ -114,7 +112,6 @@ impl<'a> Module<'a> {
     }
 
     /// The code at these RVAs, by the section map of the module's exception data. Empty where it is not all in the image.
-    #[inline(always)]
     pub(crate) fn code(&self, exceptions: &ExceptionData<'a>, rvas: Range<u32>) -> &'a [u8]
         ensures { result.now ≡ code_in self.now exceptions.now rvas.start rvas.end }
     {
@@ -124,7 +121,6 @@ impl<'a> Module<'a> {
 
     /// The code at these RVAs, by the section map of the module's exception data, or without any by its sections alone. Empty where
     /// it is not all in the image.
-    #[inline(always)]
     fn called_code(&self, rvas: Range<u32>) -> &'a [u8]
         ensures { result.now ≡ code_at self.now
             (code_alignment (option_map (λ e. e.now) self.now.exceptions)) rvas.start rvas.end }
@@ -148,7 +144,6 @@ impl<'a> Module<'a> {
     }
 
     /// Whether the bytes before an RVA are a call of so many bytes.
-    #[inline(always)]
     fn follows_call(&self, rva: u32, size: u8) -> bool
         ensures { result ≡ follows_call self.now
             (code_alignment (option_map (λ e. e.now) self.now.exceptions)) rva size }
@@ -172,16 +167,6 @@ impl<'a> Module<'a> {
         ensures { result ≡ is_after_call_in self.now address }
     {
         self.follows_any(self.rva_of(address), &CALL_SIZES)
-    }
-
-    /// The same of a call of five bytes, which nearly all calls have. Inlined, so that nothing is made of the module but what is read.
-    #[inline(always)]
-    pub fn is_after_usual_call(&self, address: u64) -> bool
-        requires { address ≤ self.now.base + self.now.size }
-        ensures { result ≡ follows_call self.now
-            (code_alignment (option_map (λ e. e.now) self.now.exceptions)) (address - self.now.base) 5 }
-    {
-        self.follows_call(self.rva_of(address), CALL_SIZES[0])
     }
 
     /// Whether an address, which may be the end of the module, is one after a call on ARM64.
