@@ -7,7 +7,7 @@ use Rattle.pe_frame.specs.Machine.{loaded}
 use Rattle.pe_frame.specs.MemoryLists.{listed_byte, listed_word, lists_byte}
 use Rattle.pe_frame.specs.declared.memory_list.MemoryPiece.{MemoryPiece}
 use Rattle.pe_frame.proofs.Begun.{number_shown}
-use Rattle.pe_lookup.proofs.Lookups.{ends_before, has_it}
+use Rattle.pe_lookup.proofs.Lookups.{ends_before, has_it, is_within}
 use Rattle.pe_frame.proofs.PiecesShow.{word_known}
 
 -- ---- the range that has an address
@@ -47,13 +47,22 @@ module _ {X : Type 0} (start size : X → ℕ) (a b : ℕ) (x : X) where
 
 -- ---- the word
 
-byte_here : (bytes : List ℕ) (pieces : List MemoryPiece) (p : MemoryPiece) (a i : ℕ) → AreAscending (λ q. q.start) (λ q. q.length) pieces → find (lists_byte a) pieces ≡ Some p → p.start ≤ a → a + 8 ≤ p.start + p.length → i < 8 → listed_byte bytes pieces (a + i) ≡ Some (get_or bytes (p.offset + (a + i - p.start)) 0)
-byte_here bytes pieces p a i up found from to small =
-    let there : find (lists_byte (a + i)) pieces ≡ Some p = has_both (λ (q : MemoryPiece). q.start) (λ (q : MemoryPiece). q.length) a (a + i) p pieces up (omega (arith, from)) (omega (arith, to, small)) found in
-    rw there refl
+-- the piece that has one address is the first that has each other of its addresses
+pub first_near : (pieces : List MemoryPiece) (p : MemoryPiece) (a b : ℕ) → AreAscending (λ q. q.start) (λ q. q.length) pieces → find (lists_byte a) pieces ≡ Some p → lists_byte b p ≡ true → find (lists_byte b) pieces ≡ Some p
+first_near pieces p a b up found has =
+    let within = is_within p.start p.length b has in
+    has_both (λ (q : MemoryPiece). q.start) (λ (q : MemoryPiece). q.length) a b p pieces up within.0 within.1 found
+
+-- a word of a piece that is the first that has each of its addresses
+pub word_asked : (bytes : List ℕ) (pieces : List MemoryPiece) (p : MemoryPiece) (a : ℕ) → ((b : ℕ) → lists_byte b p ≡ true → find (lists_byte b) pieces ≡ Some p) → p.start ≤ a → a + 8 ≤ p.start + p.length → a + 8 ≤ 2 ^ 64 → listed_word bytes pieces a ≡ Some (le bytes (p.offset + (a - p.start)) 8)
+word_asked bytes pieces p a first from to fits =
+    let memory : ℕ → ℕ = λ b. get_or bytes (p.offset + (b - p.start)) 0 in
+    let byte : (i : ℕ) → i < 8 → listed_byte bytes pieces (a + i) ≡ Some (memory (a + i)) = λ i small.
+    let there : find (lists_byte (a + i)) pieces ≡ Some p = first (a + i) (has_it p.start p.length (a + i) (omega (arith, from)) (omega (arith, to, small))) in
+    rw there refl in
+    let word : listed_word bytes pieces a ≡ Some (loaded memory a) = word_known (listed_byte bytes pieces) memory a fits byte in
+    word ∙ sym (ap (λ (v : ℕ). Some v) (number_shown bytes (p.offset + (a - p.start)) a 8 memory (omega arith) (λ i small. ap (λ (k : ℕ). get_or bytes k 0) (omega (arith, from)))))
 
 pub word_in_piece : (bytes : List ℕ) (pieces : List MemoryPiece) (p : MemoryPiece) (a : ℕ) → AreAscending (λ q. q.start) (λ q. q.length) pieces → find (lists_byte a) pieces ≡ Some p → p.start ≤ a → a + 8 ≤ p.start + p.length → a + 8 ≤ 2 ^ 64 → listed_word bytes pieces a ≡ Some (le bytes (p.offset + (a - p.start)) 8)
 word_in_piece bytes pieces p a up found from to fits =
-    let memory : ℕ → ℕ = λ b. get_or bytes (p.offset + (b - p.start)) 0 in
-    let word : listed_word bytes pieces a ≡ Some (loaded memory a) = word_known (listed_byte bytes pieces) memory a fits (λ i small. byte_here bytes pieces p a i up found from to small) in
-    word ∙ sym (ap (λ (v : ℕ). Some v) (number_shown bytes (p.offset + (a - p.start)) a 8 memory (omega arith) (λ i small. ap (λ (k : ℕ). get_or bytes k 0) (omega (arith, from)))))
+    word_asked bytes pieces p a (λ b has. first_near pieces p a b up found has) from to fits

@@ -7,12 +7,12 @@ ghost use Rattle.std.specs.List.{find};
 ghost use Rattle.pe_core.specs.Bytes.{holds, le};
 ghost use Rattle.pe_core.specs.Refusals.{Short, answer_by, answer_of, outcome};
 ghost use Rattle.pe_lookup.specs.AddressRanges.{AreAscending};
-ghost use Rattle.pe_frame.specs.MemoryLists.{are_inside, ascend, has_word, listed_byte, lists_byte, memory_of};
+ghost use Rattle.pe_frame.specs.MemoryLists.{are_inside, ascend, has_word, listed_byte, listed_word, lists_byte, memory_of};
 ghost use Rattle.pe_frame.specs.declared.memory_list.MemoryPiece.{MemoryPiece};
 
 use crate::memory::{KnownBytes, Memory, SIZE_OF_WORD, known_word};
 use pe_core::{Result, read_u64, slice_at};
-use pe_lookup::{AddressRange, first_overlap, first_with, range_with};
+use pe_lookup::{AddressRange, first_overlap, first_with, has_address, range_with};
 
 /// A piece of memory: its address, and where its bytes are.
 #[repr(C)]
@@ -49,9 +49,12 @@ pub struct MemoryList<'a> {
     pieces: &'a [MemoryPiece],
     /// Whether they are in ascending order and do not overlap.
     is_ascending: bool,
+    /// The piece that is asked first: nearly all words of a walk stand in that of its stack pointer.
+    near: MemoryPiece,
     ghost ascending: { IsTrue is_ascending → AreAscending (λ p. p.start) (λ p. p.length) pieces.now },
     ghost tested: { is_ascending ≡ ascend pieces.now },
     ghost inside: { IsTrue (are_inside bytes.now pieces.now) },
+    ghost asked: { (a : ℕ) → IsTrue (lists_byte a near) → find (lists_byte a) pieces.now ≡ Some near },
 }
 
 /// Error: `Short` if one of the pieces does not lie in the bytes.
@@ -92,8 +95,23 @@ fn are_in_order(bytes: &[u8], pieces: &[MemoryPiece]) -> bool
     true
 }
 
+/// The first piece of a list. Without one a piece without bytes.
+fn first_piece(pieces: &[MemoryPiece]) -> MemoryPiece
+    ensures { (a : ℕ) → IsTrue (lists_byte a result) → find (lists_byte a) pieces.now ≡ Some result }
+{
+    match pieces.split_first() {
+        Some((piece, _)) => *piece,
+        None => MemoryPiece {
+            start: 0,
+            offset: 0,
+            length: 0,
+        },
+    }
+}
+
 impl<'a> MemoryList<'a> {
     /// Memory by a list of its pieces in these bytes. Error: `Short` if a piece does not lie in the bytes.
+    #[inline(always)]
     pub fn new(bytes: &'a [u8], pieces: &'a [MemoryPiece]) -> Result<MemoryList<'a>>
         ensures { answer_by {Y = List ℕ × List MemoryPiece} (λ s. (s.bytes.now, s.pieces.now)) result
             ≡ memory_of bytes.entry.now pieces.entry.now }
@@ -103,6 +121,7 @@ impl<'a> MemoryList<'a> {
                 bytes,
                 pieces,
                 is_ascending: true,
+                near: first_piece(pieces),
             });
         }
         require_inside(bytes, pieces)?;
@@ -111,7 +130,33 @@ impl<'a> MemoryList<'a> {
             bytes,
             pieces,
             is_ascending,
+            near: first_piece(pieces),
         })
+    }
+
+    /// The piece of an address; where none is found by halving, that which was asked first before.
+    fn piece_near(&self, address: u64) -> MemoryPiece
+        ensures { (a : ℕ) → IsTrue (lists_byte a result) → find (lists_byte a) self.now.pieces.now ≡ Some result }
+    {
+        if self.is_ascending {
+            if let Some(piece) = range_with(self.pieces, address) {
+                return *piece;
+            }
+        }
+        self.near
+    }
+
+    /// The same memory, for reads near an address: its piece is asked first.
+    pub fn near(self, address: u64) -> MemoryList<'a>
+        ensures bytes { result.bytes.now ≡ self.entry.bytes.now }
+        ensures pieces { result.pieces.now ≡ self.entry.pieces.now }
+    {
+        MemoryList {
+            bytes: self.bytes,
+            pieces: self.pieces,
+            is_ascending: self.is_ascending,
+            near: self.piece_near(address),
+        }
     }
 
     /// Whether the pieces are in ascending order and do not overlap.
@@ -126,6 +171,21 @@ impl<'a> MemoryList<'a> {
         ensures { option_map (λ p. p.now) result ≡ find (lists_byte address) self.now.pieces.now }
     {
         first_with(self.pieces, self.is_ascending, address)
+    }
+
+    /// The word at an address. In pieces that ascend one lookup finds a word that stands in one of them.
+    #[inline(never)]
+    fn word_elsewhere(&self, address: u64) -> Option<u64>
+        ensures { result ≡ listed_word self.now.bytes.now self.now.pieces.now address }
+    {
+        if self.is_ascending {
+            if let Some(piece) = range_with(self.pieces, address) {
+                if has_word(piece, address) {
+                    return word_of(self.bytes, piece, address);
+                }
+            }
+        }
+        known_word(self, address)
     }
 }
 
@@ -180,19 +240,14 @@ pub(crate) fn word_of(bytes: &[u8], piece: &MemoryPiece, address: u64) -> Option
 }
 
 impl<'a> Memory for MemoryList<'a> {
-    ghost use Rattle.pe_frame.specs.MemoryLists.{listed_word};
-
     ghost word = { λ s. listed_word s.bytes.now s.pieces.now };
 
-    /// In pieces that ascend one lookup finds a word that stands in one of them.
+    /// A word of the piece that is asked first takes no lookup.
+    #[inline(always)]
     fn u64_at(&self, address: u64) -> Option<u64> {
-        if self.is_ascending {
-            if let Some(piece) = range_with(self.pieces, address) {
-                if has_word(piece, address) {
-                    return word_of(self.bytes, piece, address);
-                }
-            }
+        if has_address(&self.near, address) && has_word(&self.near, address) {
+            return word_of(self.bytes, &self.near, address);
         }
-        known_word(self, address)
+        self.word_elsewhere(address)
     }
 }

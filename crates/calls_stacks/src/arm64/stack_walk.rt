@@ -82,6 +82,10 @@ impl WalkRecord for Arm64StackWalk {
         self.address = address.unwrap_or(0);
     }
 
+    fn stack_pointer(&self) -> u64 {
+        self.registers.sp
+    }
+
     fn is_searched(&self) -> bool {
         self.is_searched != 0
     }

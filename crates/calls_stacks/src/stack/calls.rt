@@ -39,6 +39,9 @@ pub trait WalkRecord: Copy {
     fn put_end(&mut self, end: &WalkEnd)
         ensures { self.new ≡ records.after_end self.old end.now };
 
+    /// An address near which it reads memory.
+    fn stack_pointer(&self) -> u64;
+
     /// Whether an earlier call found that the pieces of memory lie in the memory and ascend.
     fn is_searched(&self) -> bool
         ensures { result ≡ records.is_searched self.now };
@@ -224,5 +227,6 @@ pub fn next_frames_over<W: WalkRecord>(
         Err(error) => return number_of(&error),
     };
     mark_if(memory.is_ascending(), walk);
+    let memory = memory.near(walk.stack_pointer());
     fill_frames(&modules, &memory, walk, frames, count)
 }

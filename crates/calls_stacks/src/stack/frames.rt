@@ -20,7 +20,7 @@ use pe_frame::{FrameError, ImageFunctions, Memory, Registers, Stopped, step_in_f
 use pe_unwind::{ExceptionData, RuntimeFunction};
 
 /// The stack pointer among the integer registers.
-const RSP: usize = 4;
+pub(crate) const RSP: usize = 4;
 
 /// The bytes of a word of the stack.
 const SIZE_OF_WORD: u64 = 8;

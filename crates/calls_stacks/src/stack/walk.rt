@@ -15,7 +15,7 @@ ghost use Rattle.calls_stacks.specs.StackWalks.{after_frame, stack_walks};
 ghost use Rattle.calls_stacks.specs.WalkModules.{exceptions_of, has_table, module_of, module_with, modules_of, view_base, view_size, viewed};
 
 use crate::stack::calls::{WalkRecord, error_of_end, number_of_end, number_of_way, way_of};
-use crate::stack::frames::{FrameRegisters, put_registers, registers_of};
+use crate::stack::frames::{FrameRegisters, RSP, put_registers, registers_of};
 use calls_base::ranges::Range;
 use calls_base::results::options;
 use calls_base::view::View;
@@ -404,6 +404,10 @@ impl WalkRecord for StackWalk {
         self.end = number_of_end(end);
         self.error = error;
         self.address = address.unwrap_or(0);
+    }
+
+    fn stack_pointer(&self) -> u64 {
+        self.registers.general[RSP]
     }
 
     fn is_searched(&self) -> bool {
