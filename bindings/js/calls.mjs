@@ -225,7 +225,7 @@ export function firstOfType(entries, type) {
 }
 
 /** The bytes of a file: an ArrayBuffer, or any view of one, as a Buffer. One of another realm is none of this realm's class. */
-function bytesOf(given) {
+export function bytesOf(given) {
   if (ArrayBuffer.isView(given)) return new Uint8Array(given.buffer, given.byteOffset, given.byteLength);
   if (/^\[object (Shared)?ArrayBuffer\]$/.test(Object.prototype.toString.call(given))) return new Uint8Array(given);
   const kind = given && typeof given === 'object' ? given.constructor?.name ?? 'object' : given === null ? 'null' : typeof given;

@@ -1010,7 +1010,10 @@ test('bytes are an ArrayBuffer, any view, or those of another realm', () => {
     runInNewContext('new Uint8Array(bytes).buffer', { bytes: [...bytes] })]) {
     const image = library.open(it);
     assert.deepEqual([image.length, image.sections.length, [...image.list('libraries')].length], [bytes.length, 1, 2]);
+    assert.equal(factsOf(library, it, 'a.dll').file_size, bytes.length);
   }
+  const { file_size: size, file_kind: kind } = factsOf(library, Uint8Array.from(Buffer.from('MDMP')).buffer, 'a.dmp');
+  assert.deepEqual([size, kind], [4, 'a minidump, which pe stack shows']);
 });
 
 test('the memory of a minidump in order, and what in it is an image', () => {
