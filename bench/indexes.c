@@ -136,7 +136,7 @@ int main(int argc, char **argv)
     uint8_t *bytes = read_all(argv[1], &view.length);
     if (bytes == NULL || !read_view(bytes, &image, &view))
         return 1;
-    pe_c_index_entry *index = calloc(4 * view.count, sizeof *index);
+    pe_c_range_entry *index = calloc(4 * view.count, sizeof *index);
     if (index == NULL)
         return 1;
     if (strcmp(argv[2], "index") == 0) {

@@ -76,7 +76,9 @@
  * the image as a loader lays it out
  *   pe_c_map                        Writes the image as a loader lays it out to the start of the array, as many bytes as ..
  *   pe_c_relocate                   Relocates an image as loaded, which pe_c_map wrote to the array, by the base ..
- * the overlay
+ * ranges, and the overlay
+ *   pe_c_image_range                Returns the range of a kind
+ *   pe_c_directory_table            Returns the bytes of a directory by its index, PE_C_DIRECTORY_BASERELOC and others, as ..
  *   pe_c_overlay                    Returns the range of the bytes after the headers and the raw data of all sections ..
  * section names
  *   pe_c_string_table               Returns the COFF string table, from its size field on
@@ -102,15 +104,10 @@
  *   pe_c_te_sections                Writes the section headers of a TE image to the start of the array ..
  *   pe_c_te_debug_entries           Returns the entries of the debug directory as a walk for pe_c_next_te_debug_entry
  *   pe_c_next_te_debug_entry        Reads the next entry, the RVA and the file offset of its record reduced by te->rva_offset
- * why headers are refused
- *   pe_c_image_failure              Returns why pe_c_image refuses the bytes in this mode
- *   pe_c_sections_failure           Returns why pe_c_sections refuses the section headers of an image, whatever room it is ..
- *   pe_c_te_failure                 Returns why pe_c_te refuses the bytes
- *   pe_c_directory_failure          Returns what is wrong with a directory, PE_C_DIRECTORY_EXPORT and so on
- *   pe_c_debug_failure              Returns what is wrong with the record of an entry of the debug directory that is read ..
  * certificates
  *   pe_c_next_certificate           Returns the next attribute certificate
  * signatures
+ *   pe_c_signature_part             Reads the part that a range starts with, as one of a kind, PE_C_PART_SIGNATURE and ..
  *   pe_c_signature                  Reads a signature
  *   pe_c_next_element               Returns the next element of a list
  *   pe_c_algorithm_identifier       Reads an algorithm
@@ -252,7 +249,14 @@
  * two calls
  *   pe_c_fixed_version              Returns the fixed file information
  *   pe_c_version_text               Returns the value of a name, PE_C_COMMENTS .. PE_C_SPECIAL_BUILD: UTF-16 code units ..
- * why a step is refused
+ * why headers, a directory or a step are refused
+ *   pe_c_item_failure               Returns why an item of a kind is refused that bytes alone have
+ *   pe_c_image_item_failure         Returns why an item of another of these kinds is refused
+ *   pe_c_image_failure              Returns why pe_c_image refuses the bytes in this mode
+ *   pe_c_directory_failure          Returns what is wrong with a directory, PE_C_DIRECTORY_EXPORT and so on
+ *   pe_c_sections_failure           Returns why pe_c_sections refuses the section headers of an image, whatever room it is ..
+ *   pe_c_te_failure                 Returns why pe_c_te refuses the bytes
+ *   pe_c_debug_failure              Returns what is wrong with the record of an entry of the debug directory that is read ..
  *   pe_c_library_failure            Of pe_c_next_library
  *   pe_c_import_failure             Of pe_c_next_import
  *   pe_c_unwind_record_failure      Of pe_c_unwind_record, which takes the same
@@ -755,11 +759,12 @@ PE_C_SIZE(pe_c_directory, 8);
 PE_C_SIZE(pe_c_image_info, 208);
 PE_C_SIZE(pe_c_section, 40);
 
-/* An entry of an index of the sections, which pe_c_index makes: the RVAs from `start` up to the start of the next entry. */
+/* An entry of an index of the sections, which pe_c_index makes, or of pieces of memory, which pe_c_memory_runs makes on the way:
+ * the RVAs or addresses from `start` up to the start of the next entry. */
 typedef struct {
-    uint64_t start;                 /* the first RVA */
-    uint64_t section;               /* index of the section that maps them, plus 1; 0 where none does */
-} pe_c_index_entry;
+    uint64_t start;                 /* the first one */
+    uint64_t number;                /* index of the section or piece that has them, plus 1; 0 where none does */
+} pe_c_range_entry;
 
 /* An image as calls take it: its bytes, what pe_c_image and pe_c_sections returned of them, and an index of the sections or
  * none. A caller makes one view and passes it to all calls. Digests, certificates, edits, the string table and bound imports
@@ -770,7 +775,7 @@ typedef struct {
     const pe_c_image_info *image;   /* its headers, which say how it is read; not NULL */
     const pe_c_section *sections;   /* its section headers */
     size_t count;                   /* of the sections */
-    const pe_c_index_entry *index;  /* what pe_c_index made of these sections; NULL for no index */
+    const pe_c_range_entry *index;  /* what pe_c_index made of these sections; NULL for no index */
     size_t entries;                 /* of the index; 0 for no index, and then calls test the sections in turn */
 } pe_c_view;
 
@@ -784,7 +789,7 @@ typedef struct {
     uint32_t second;                /* the same of the one that was kept before it */
 } pe_c_kept_sections;
 
-PE_C_SIZE(pe_c_index_entry, 16);
+PE_C_SIZE(pe_c_range_entry, 16);
 PE_C_SIZE(pe_c_view, 56);
 PE_C_SIZE(pe_c_kept_sections, 8);
 
@@ -919,7 +924,7 @@ uint32_t pe_c_headers(const uint8_t *bytes, size_t length, uint32_t mode, pe_c_h
  * its walk keeps, and searches all of them only for an RVA elsewhere; all other calls search all for each RVA. A section
  * that may share an RVA with an earlier one, whose size is rounded up to a page, is not kept.
  * Errors: PE_C_ROOM where the array has too few entries; then `written` is how many it has to have. */
-uint32_t pe_c_index(const pe_c_view *view, pe_c_index_entry *room, size_t entries, uint64_t *written) PE_C_RESULT(1, 4);
+uint32_t pe_c_index(const pe_c_view *view, pe_c_range_entry *room, size_t entries, uint64_t *written) PE_C_RESULT(1, 4);
 
 /* Returns the index of the section that maps an RVA: the first that covers it, by which pe_c_offset maps it.
  * PE_C_NOTHING where none does, and in an image as loaded, where no section maps RVAs. It never returns an error. */
@@ -962,12 +967,30 @@ uint32_t pe_c_map(const pe_c_view *view, uint8_t *room, size_t room_length, uint
  * PE_C_DIRECTORY_RELOCATION_KIND of a type other than IMAGE_REL_BASED_ABSOLUTE, _HIGH, _LOW, _HIGHLOW and _DIR64. */
 uint32_t pe_c_relocate(const pe_c_view *view, uint64_t difference, uint8_t *room, size_t room_length) PE_C_RESULT(1);
 
-/* ---- the overlay */
+/* ---- ranges, and the overlay */
+
+/* Kinds of ranges of an image, each also by a function of its name. */
+enum {
+    PE_C_RANGE_OVERLAY = 1,         /* by pe_c_overlay */
+    PE_C_RANGE_STRING_TABLE = 2,    /* by pe_c_string_table */
+    PE_C_RANGE_DEBUG_ENTRIES = 3    /* by pe_c_debug_entries */
+};
+
+/* Returns the range of a kind. PE_C_NOTHING without one, and of another kind. Errors: those of the function of the kind. */
+uint32_t pe_c_image_range(const pe_c_view *view, uint32_t kind, pe_c_range *out) PE_C_RESULT(1, 3);
+
+/* Returns the bytes of a directory by its index, PE_C_DIRECTORY_BASERELOC and others, as RVAs lead to them. PE_C_NOTHING where it is
+ * absent. Errors: PE_C_UNMAPPED, PE_C_SHORT. */
+uint32_t pe_c_directory_table(const pe_c_view *view, uint32_t index, pe_c_range *out) PE_C_RESULT(1, 3);
 
 /* Returns the range of the bytes after the headers and the raw data of all sections, which no loader reads: where installers
  * keep their archives, and signed images their certificates. It may hold what headers lead to: the certificate table, COFF
  * symbols. PE_C_NOTHING where no byte follows, and in an image as loaded. It never returns an error. */
-uint32_t pe_c_overlay(const pe_c_view *view, pe_c_range *out) PE_C_RESULT(1, 2);
+PE_C_RESULT(1, 2)
+static inline uint32_t pe_c_overlay(const pe_c_view *view, pe_c_range *out)
+{
+    return pe_c_image_range(view, PE_C_RANGE_OVERLAY, out);
+}
 
 /* ---- section names
  *
@@ -978,7 +1001,11 @@ uint32_t pe_c_overlay(const pe_c_view *view, pe_c_range *out) PE_C_RESULT(1, 2);
 /* Returns the COFF string table, from its size field on. PE_C_NOTHING where the image has no COFF symbols, where the bytes
  * end after them, and in an image as loaded.
  * Errors: PE_C_SHORT of the headers and of the symbols; PE_C_STRING_TABLE where the table is truncated. */
-uint32_t pe_c_string_table(const pe_c_view *view, pe_c_range *out) PE_C_RESULT(1, 2);
+PE_C_RESULT(1, 2)
+static inline uint32_t pe_c_string_table(const pe_c_view *view, pe_c_range *out)
+{
+    return pe_c_image_range(view, PE_C_RANGE_STRING_TABLE, out);
+}
 
 /* Returns the name of a section in the string table: UTF-8, not NUL-terminated. PE_C_NOTHING where its header has the name
  * itself, and where no string is at the offset, NUL-terminated and UTF-8.
@@ -1195,7 +1222,11 @@ PE_C_SIZE(pe_c_debug_records, 232);
 
 /* Returns the entries of the debug directory as a walk for pe_c_next_debug_entry. PE_C_NOTHING without a directory.
  * Errors: PE_C_UNMAPPED; PE_C_DEBUG_BOUNDS in strict mode. */
-uint32_t pe_c_debug_entries(const pe_c_view *view, pe_c_range *out) PE_C_RESULT(1, 2);
+PE_C_RESULT(1, 2)
+static inline uint32_t pe_c_debug_entries(const pe_c_view *view, pe_c_range *out)
+{
+    return pe_c_image_range(view, PE_C_RANGE_DEBUG_ENTRIES, out);
+}
 
 /* Returns the next entry of the debug directory.
  * Errors: PE_C_SHORT where the walk is not inside the bytes, or its last entry is truncated. */
@@ -1278,9 +1309,10 @@ uint32_t pe_c_te_debug_entries(const uint8_t *bytes, size_t length, const pe_c_t
 uint32_t pe_c_next_te_debug_entry(const uint8_t *bytes, size_t length, const pe_c_te_image *te, pe_c_range *walk,
                                   pe_c_debug_entry *out) PE_C_RESULT(3, 4, 5);
 
-/* ---- why headers are refused
+/* ---- failures
  *
- * A result is one number. These calls return with it where the error is, and the number that stands there. */
+ * A result is one number. The calls that say why another one refuses return with it where the error is, and the number that
+ * stands there. */
 
 /* What is wrong with headers, with a directory or with an item of a walk. A number that the error does not have here is
  * 0. */
@@ -1295,35 +1327,6 @@ typedef struct {
 
 PE_C_SIZE(pe_c_failure, 32);
 
-/* Returns why pe_c_image refuses the bytes in this mode. PE_C_NOTHING where it does not. It never returns an error.
- *
- * A number that is refused has its offset, and `needed` is how many bytes it has. PE_C_SHORT has `offset` and `needed`. */
-uint32_t pe_c_image_failure(const uint8_t *bytes, size_t length, uint32_t mode, pe_c_failure *out) PE_C_RESULT(4);
-
-/* Returns why pe_c_sections refuses the section headers of an image, whatever room it is given. PE_C_NOTHING where it does
- * not. It never returns an error. The failure is PE_C_SHORT, with the offset of the headers and the bytes that they need. Of
- * pe_c_te_sections it is what this call returns with the sections_offset 40. */
-uint32_t pe_c_sections_failure(const uint8_t *bytes, size_t length, const pe_c_image_info *image,
-                               pe_c_failure *out) PE_C_RESULT(3, 4);
-
-/* Returns why pe_c_te refuses the bytes. PE_C_NOTHING where it does not. It never returns an error. */
-uint32_t pe_c_te_failure(const uint8_t *bytes, size_t length, pe_c_failure *out) PE_C_RESULT(3);
-
-/* Returns what is wrong with a directory, PE_C_DIRECTORY_EXPORT and so on: the result of the call that reads it, and the
- * numbers of that error. PE_C_NOTHING where that call returns no error, and of a directory that no call reads. It never
- * returns an error.
- *
- * The calls: pe_c_export_tables, pe_c_import_libraries, pe_c_resource_leaves; pe_c_function_table, of ARM64
- * pe_c_arm64_table; pe_c_next_certificate of the first certificate, in an image as loaded of what is at that offset;
- * pe_c_relocation_blocks, pe_c_debug_entries, pe_c_tls, pe_c_load_config, pe_c_bound_imports, pe_c_delay_imports,
- * pe_c_clr_header.
- *
- * The numbers: of PE_C_SHORT `offset` and `needed`; of PE_C_CERTIFICATE_SIZE `needed`; of PE_C_UNMAPPED `value`, the RVA; of
- * PE_C_EXCEPTION_SIZE, PE_C_CERTIFICATE_REVISION, PE_C_CERTIFICATE_TYPE and PE_C_DIRECTORY_CLR_HEADER_SIZE `value`; of
- * PE_C_EXCEPTION_OFFSET `offset`; of PE_C_EXCEPTION_BOUNDS, PE_C_DEBUG_BOUNDS, PE_C_RESOURCE_BOUNDS and
- * PE_C_CERTIFICATE_TABLE `offset`, where the table ends. */
-uint32_t pe_c_directory_failure(const pe_c_view *view, uint32_t index, pe_c_failure *out) PE_C_RESULT(1, 3);
-
 /* What a debug record is read as: which field of pe_c_debug_records. */
 enum {
     PE_C_RECORD_SYMBOL_KEY = 0,     /* key */
@@ -1335,15 +1338,6 @@ enum {
     PE_C_RECORD_EMBEDDED_PDB = 6,   /* embedded */
     PE_C_RECORD_PDB_CHECKSUM = 7    /* checksum */
 };
-
-/* Returns what is wrong with the record of an entry of the debug directory that is read as one of these, whatever the entry's type
- * is: its result by pe_c_debug_record, and the numbers of that error. PE_C_NOTHING where that is no error, and of a kind that is
- * none of these. It never returns an error.
- *
- * The numbers: of PE_C_SHORT `offset` and `needed`; of PE_C_DEBUG_DATA `needed`; of PE_C_DEBUG_SIZE and PE_C_POGO_SIZE
- * `value`, the size that the entry says; of PE_C_BAD_MAGIC `value`. */
-uint32_t pe_c_debug_failure(const uint8_t *bytes, size_t length, uint32_t mode, const pe_c_debug_entry *entry,
-                            uint32_t kind, pe_c_failure *out) PE_C_RESULT(4, 6);
 
 /* ---- certificates
  *
@@ -1631,6 +1625,41 @@ typedef struct {
     pe_c_range authority;           /* who stamps, a GeneralName */
 } pe_c_tst_info;
 
+/* Kinds of parts, which pe_c_signature_part reads, each also by a function of its name. */
+enum {
+    PE_C_PART_SIGNATURE = 1,        /* by pe_c_signature */
+    PE_C_PART_ALGORITHM = 2,        /* by pe_c_algorithm_identifier */
+    PE_C_PART_INDIRECT_DATA = 3,    /* by pe_c_indirect_data */
+    PE_C_PART_IMAGE_DATA = 4,       /* by pe_c_image_data */
+    PE_C_PART_SIGNER = 5,           /* by pe_c_signer */
+    PE_C_PART_ATTRIBUTE = 6,        /* by pe_c_attribute */
+    PE_C_PART_OPUS_INFO = 7,        /* by pe_c_opus_info */
+    PE_C_PART_X509 = 8,             /* by pe_c_x509 */
+    PE_C_PART_EXTENSION = 9,        /* by pe_c_extension */
+    PE_C_PART_KEY_USAGE = 10,       /* by pe_c_key_usage */
+    PE_C_PART_NAME = 11,            /* by pe_c_name */
+    PE_C_PART_TIME = 12,            /* by pe_c_time */
+    PE_C_PART_TIME_STAMP = 13       /* by pe_c_time_stamp */
+};
+
+/* A part of any kind: pe_c_signature_part writes the field of one kind. */
+typedef struct {
+    pe_c_signed_data signature;     /* PE_C_PART_SIGNATURE */
+    pe_c_algorithm algorithm;       /* PE_C_PART_ALGORITHM */
+    pe_c_spc_indirect_data indirect_data; /* PE_C_PART_INDIRECT_DATA */
+    pe_c_spc_pe_image_data image_data; /* PE_C_PART_IMAGE_DATA */
+    pe_c_signer_info signer;        /* PE_C_PART_SIGNER */
+    pe_c_signer_attribute attribute; /* PE_C_PART_ATTRIBUTE */
+    pe_c_spc_opus_info opus_info;   /* PE_C_PART_OPUS_INFO */
+    pe_c_x509_certificate x509;     /* PE_C_PART_X509 */
+    pe_c_x509_extension extension;  /* PE_C_PART_EXTENSION */
+    pe_c_name_walk name;            /* PE_C_PART_NAME */
+    pe_c_utc_time time;             /* PE_C_PART_TIME */
+    pe_c_tst_info time_stamp;       /* PE_C_PART_TIME_STAMP */
+    uint32_t key_usage;             /* PE_C_PART_KEY_USAGE */
+    uint32_t spare;                 /* is never written */
+} pe_c_any_part;
+
 PE_C_SIZE(pe_c_signature_failure, 32);
 PE_C_SIZE(pe_c_oid, 24);
 PE_C_SIZE(pe_c_algorithm, 40);
@@ -1647,11 +1676,26 @@ PE_C_SIZE(pe_c_name_walk, 24);
 PE_C_SIZE(pe_c_name_attribute, 48);
 PE_C_SIZE(pe_c_utc_time, 24);
 PE_C_SIZE(pe_c_tst_info, 168);
+PE_C_SIZE(pe_c_any_part, 1064);
+
+/* Reads the part that a range starts with, as one of a kind, PE_C_PART_SIGNATURE and others, into the field of the kind alone.
+ * The other fields are unchanged, and none need be initialised. PE_C_NOTHING of another kind. Errors: those of the function of
+ * the kind, below. */
+uint32_t pe_c_signature_part(const uint8_t *bytes, size_t length, const pe_c_range *range, uint32_t kind,
+                             pe_c_signature_failure *failure, pe_c_any_part *out) PE_C_RESULT(3, 5, 6);
 
 /* Reads a signature: the body of a certificate, or the value of an attribute that is a nested signature or a time stamp.
  * Errors, then: PE_C_SIGNATURE_CONTENT_TYPE where the content is no signed data. */
-uint32_t pe_c_signature(const uint8_t *bytes, size_t length, const pe_c_range *range, pe_c_signature_failure *failure,
-                        pe_c_signed_data *out) PE_C_RESULT(3, 4, 5);
+PE_C_RESULT(3, 4, 5)
+static inline uint32_t pe_c_signature(const uint8_t *bytes, size_t length, const pe_c_range *range,
+                                      pe_c_signature_failure *failure, pe_c_signed_data *out)
+{
+    pe_c_any_part found;
+    uint32_t result = pe_c_signature_part(bytes, length, range, PE_C_PART_SIGNATURE, failure, &found);
+    if (result == PE_C_DONE)
+        *out = found.signature;
+    return result;
+}
 
 /* Returns the next element of a list: certificates, signers, attributes, their values, extensions, algorithms. The walk
  * starts as the range of the list. A member of the list that another call refuses does not end the walk. */
@@ -1659,24 +1703,64 @@ uint32_t pe_c_next_element(const uint8_t *bytes, size_t length, pe_c_range *walk
                            pe_c_der_element *out) PE_C_RESULT(3, 4, 5);
 
 /* Reads an algorithm. */
-uint32_t pe_c_algorithm_identifier(const uint8_t *bytes, size_t length, const pe_c_range *range,
-                                   pe_c_signature_failure *failure, pe_c_algorithm *out) PE_C_RESULT(3, 4, 5);
+PE_C_RESULT(3, 4, 5)
+static inline uint32_t pe_c_algorithm_identifier(const uint8_t *bytes, size_t length, const pe_c_range *range,
+                                                 pe_c_signature_failure *failure, pe_c_algorithm *out)
+{
+    pe_c_any_part found;
+    uint32_t result = pe_c_signature_part(bytes, length, range, PE_C_PART_ALGORITHM, failure, &found);
+    if (result == PE_C_DONE)
+        *out = found.algorithm;
+    return result;
+}
 
 /* Reads what Authenticode signs: the content of a signature with the type PE_C_OID_SPC_INDIRECT_DATA. */
-uint32_t pe_c_indirect_data(const uint8_t *bytes, size_t length, const pe_c_range *range, pe_c_signature_failure *failure,
-                            pe_c_spc_indirect_data *out) PE_C_RESULT(3, 4, 5);
+PE_C_RESULT(3, 4, 5)
+static inline uint32_t pe_c_indirect_data(const uint8_t *bytes, size_t length, const pe_c_range *range,
+                                          pe_c_signature_failure *failure, pe_c_spc_indirect_data *out)
+{
+    pe_c_any_part found;
+    uint32_t result = pe_c_signature_part(bytes, length, range, PE_C_PART_INDIRECT_DATA, failure, &found);
+    if (result == PE_C_DONE)
+        *out = found.indirect_data;
+    return result;
+}
 
 /* Reads what a signature says of an image as a file. */
-uint32_t pe_c_image_data(const uint8_t *bytes, size_t length, const pe_c_range *range, pe_c_signature_failure *failure,
-                         pe_c_spc_pe_image_data *out) PE_C_RESULT(3, 4, 5);
+PE_C_RESULT(3, 4, 5)
+static inline uint32_t pe_c_image_data(const uint8_t *bytes, size_t length, const pe_c_range *range,
+                                       pe_c_signature_failure *failure, pe_c_spc_pe_image_data *out)
+{
+    pe_c_any_part found;
+    uint32_t result = pe_c_signature_part(bytes, length, range, PE_C_PART_IMAGE_DATA, failure, &found);
+    if (result == PE_C_DONE)
+        *out = found.image_data;
+    return result;
+}
 
 /* Reads a signer of a signature, or a counter-signature. */
-uint32_t pe_c_signer(const uint8_t *bytes, size_t length, const pe_c_range *range, pe_c_signature_failure *failure,
-                     pe_c_signer_info *out) PE_C_RESULT(3, 4, 5);
+PE_C_RESULT(3, 4, 5)
+static inline uint32_t pe_c_signer(const uint8_t *bytes, size_t length, const pe_c_range *range,
+                                   pe_c_signature_failure *failure, pe_c_signer_info *out)
+{
+    pe_c_any_part found;
+    uint32_t result = pe_c_signature_part(bytes, length, range, PE_C_PART_SIGNER, failure, &found);
+    if (result == PE_C_DONE)
+        *out = found.signer;
+    return result;
+}
 
 /* Reads an attribute of a signer. */
-uint32_t pe_c_attribute(const uint8_t *bytes, size_t length, const pe_c_range *range, pe_c_signature_failure *failure,
-                        pe_c_signer_attribute *out) PE_C_RESULT(3, 4, 5);
+PE_C_RESULT(3, 4, 5)
+static inline uint32_t pe_c_attribute(const uint8_t *bytes, size_t length, const pe_c_range *range,
+                                      pe_c_signature_failure *failure, pe_c_signer_attribute *out)
+{
+    pe_c_any_part found;
+    uint32_t result = pe_c_signature_part(bytes, length, range, PE_C_PART_ATTRIBUTE, failure, &found);
+    if (result == PE_C_DONE)
+        *out = found.attribute;
+    return result;
+}
 
 /* Finds an attribute of a signer by the id of its type, such as PE_C_OID_MESSAGE_DIGEST: the first in a walk over
  * signed_attributes or unsigned_attributes. Moves `walk` past it, so that the next call finds the next one. PE_C_NOTHING
@@ -1686,27 +1770,67 @@ uint32_t pe_c_find_attribute(const uint8_t *bytes, size_t length, pe_c_range *wa
                              pe_c_signature_failure *failure, pe_c_signer_attribute *out) PE_C_RESULT(3, 5, 6);
 
 /* Reads what a signer says of the program. */
-uint32_t pe_c_opus_info(const uint8_t *bytes, size_t length, const pe_c_range *range, pe_c_signature_failure *failure,
-                        pe_c_spc_opus_info *out) PE_C_RESULT(3, 4, 5);
+PE_C_RESULT(3, 4, 5)
+static inline uint32_t pe_c_opus_info(const uint8_t *bytes, size_t length, const pe_c_range *range,
+                                      pe_c_signature_failure *failure, pe_c_spc_opus_info *out)
+{
+    pe_c_any_part found;
+    uint32_t result = pe_c_signature_part(bytes, length, range, PE_C_PART_OPUS_INFO, failure, &found);
+    if (result == PE_C_DONE)
+        *out = found.opus_info;
+    return result;
+}
 
 /* Reads a certificate. */
-uint32_t pe_c_x509(const uint8_t *bytes, size_t length, const pe_c_range *range, pe_c_signature_failure *failure,
-                   pe_c_x509_certificate *out) PE_C_RESULT(3, 4, 5);
+PE_C_RESULT(3, 4, 5)
+static inline uint32_t pe_c_x509(const uint8_t *bytes, size_t length, const pe_c_range *range,
+                                 pe_c_signature_failure *failure, pe_c_x509_certificate *out)
+{
+    pe_c_any_part found;
+    uint32_t result = pe_c_signature_part(bytes, length, range, PE_C_PART_X509, failure, &found);
+    if (result == PE_C_DONE)
+        *out = found.x509;
+    return result;
+}
 
 /* Reads an extension of a certificate. */
-uint32_t pe_c_extension(const uint8_t *bytes, size_t length, const pe_c_range *range, pe_c_signature_failure *failure,
-                        pe_c_x509_extension *out) PE_C_RESULT(3, 4, 5);
+PE_C_RESULT(3, 4, 5)
+static inline uint32_t pe_c_extension(const uint8_t *bytes, size_t length, const pe_c_range *range,
+                                      pe_c_signature_failure *failure, pe_c_x509_extension *out)
+{
+    pe_c_any_part found;
+    uint32_t result = pe_c_signature_part(bytes, length, range, PE_C_PART_EXTENSION, failure, &found);
+    if (result == PE_C_DONE)
+        *out = found.extension;
+    return result;
+}
 
 /* Returns what a key is for, of an extension with the type PE_C_OID_KEY_USAGE: 0x80 digitalSignature, 0x40
  * contentCommitment, 0x20 keyEncipherment, 0x10 dataEncipherment, 8 keyAgreement, 4 keyCertSign, 2 cRLSign, 1 encipherOnly,
  * 0x8000 decipherOnly. PE_C_NOTHING where the value has no bits, more than 16, or unused bits that are more than 7 or not 0.
  * `range` is that of the extension. */
-uint32_t pe_c_key_usage(const uint8_t *bytes, size_t length, const pe_c_range *range, pe_c_signature_failure *failure,
-                        uint32_t *out) PE_C_RESULT(3, 4, 5);
+PE_C_RESULT(3, 4, 5)
+static inline uint32_t pe_c_key_usage(const uint8_t *bytes, size_t length, const pe_c_range *range,
+                                      pe_c_signature_failure *failure, uint32_t *out)
+{
+    pe_c_any_part found;
+    uint32_t result = pe_c_signature_part(bytes, length, range, PE_C_PART_KEY_USAGE, failure, &found);
+    if (result == PE_C_DONE)
+        *out = found.key_usage;
+    return result;
+}
 
 /* Returns a walk over the attributes of a name: of an issuer or a subject. */
-uint32_t pe_c_name(const uint8_t *bytes, size_t length, const pe_c_range *range, pe_c_signature_failure *failure,
-                   pe_c_name_walk *out) PE_C_RESULT(3, 4, 5);
+PE_C_RESULT(3, 4, 5)
+static inline uint32_t pe_c_name(const uint8_t *bytes, size_t length, const pe_c_range *range,
+                                 pe_c_signature_failure *failure, pe_c_name_walk *out)
+{
+    pe_c_any_part found;
+    uint32_t result = pe_c_signature_part(bytes, length, range, PE_C_PART_NAME, failure, &found);
+    if (result == PE_C_DONE)
+        *out = found.name;
+    return result;
+}
 
 /* Returns the next attribute of a name, in the order of the name: the country mostly first. */
 uint32_t pe_c_next_name_attribute(const uint8_t *bytes, size_t length, pe_c_name_walk *walk,
@@ -1715,12 +1839,28 @@ uint32_t pe_c_next_name_attribute(const uint8_t *bytes, size_t length, pe_c_name
 /* Reads a time: the end of a validity, the value of signingTime, the time of a time stamp.
  * Errors, then: PE_C_SIGNATURE_BAD_TIME where it is no UTCTime or GeneralizedTime, not in the form of RFC 5280 (seconds, and
  * Z), or has a number that no time has. */
-uint32_t pe_c_time(const uint8_t *bytes, size_t length, const pe_c_range *range, pe_c_signature_failure *failure,
-                   pe_c_utc_time *out) PE_C_RESULT(3, 4, 5);
+PE_C_RESULT(3, 4, 5)
+static inline uint32_t pe_c_time(const uint8_t *bytes, size_t length, const pe_c_range *range,
+                                 pe_c_signature_failure *failure, pe_c_utc_time *out)
+{
+    pe_c_any_part found;
+    uint32_t result = pe_c_signature_part(bytes, length, range, PE_C_PART_TIME, failure, &found);
+    if (result == PE_C_DONE)
+        *out = found.time;
+    return result;
+}
 
 /* Reads what a time stamp says: the content of a signature with the type PE_C_OID_TST_INFO. */
-uint32_t pe_c_time_stamp(const uint8_t *bytes, size_t length, const pe_c_range *range, pe_c_signature_failure *failure,
-                         pe_c_tst_info *out) PE_C_RESULT(3, 4, 5);
+PE_C_RESULT(3, 4, 5)
+static inline uint32_t pe_c_time_stamp(const uint8_t *bytes, size_t length, const pe_c_range *range,
+                                       pe_c_signature_failure *failure, pe_c_tst_info *out)
+{
+    pe_c_any_part found;
+    uint32_t result = pe_c_signature_part(bytes, length, range, PE_C_PART_TIME_STAMP, failure, &found);
+    if (result == PE_C_DONE)
+        *out = found.time_stamp;
+    return result;
+}
 
 /* ---- signing
  *
@@ -2695,7 +2835,11 @@ PE_C_SIZE(pe_c_library_function, 48);
 
 /* Returns the entries of the delay import directory, where a walk starts. PE_C_NOTHING where the directory is absent.
  * Errors: PE_C_UNMAPPED, PE_C_SHORT. */
-uint32_t pe_c_delay_imports(const pe_c_view *view, pe_c_range *out) PE_C_RESULT(1, 2);
+PE_C_RESULT(1, 2)
+static inline uint32_t pe_c_delay_imports(const pe_c_view *view, pe_c_range *out)
+{
+    return pe_c_directory_table(view, PE_C_DIRECTORY_DELAY_IMPORT, out);
+}
 
 /* ---- bound imports
  *
@@ -3203,7 +3347,11 @@ PE_C_SIZE(pe_c_relocation, 16);
 
 /* Returns the blocks of the base relocations as a walk. PE_C_NOTHING where the directory is absent.
  * Errors: PE_C_UNMAPPED, PE_C_SHORT. */
-uint32_t pe_c_relocation_blocks(const pe_c_view *view, pe_c_range *out) PE_C_RESULT(1, 2);
+PE_C_RESULT(1, 2)
+static inline uint32_t pe_c_relocation_blocks(const pe_c_view *view, pe_c_range *out)
+{
+    return pe_c_directory_table(view, PE_C_DIRECTORY_BASERELOC, out);
+}
 
 /* ---- CLR header and metadata
  *
@@ -3502,9 +3650,9 @@ uint32_t pe_c_list_guard_entries(const uint8_t *bytes, size_t length, pe_c_guard
 
 /* ---- the next item
  *
- * These functions are defined here, and are no calls of the library. Each is a list with room for one entry, and returns
- * PE_C_NOTHING where the list writes none: the items of a walk come one by one, and texts that overlap are read once each. A list
- * of many entries takes less for each of them. */
+ * The items of a walk come one by one, and texts that overlap are read once each. A list of many entries takes less for each of
+ * them. But for four calls, of which a list with room for one takes much more, these functions are defined here, and are no calls
+ * of the library: each is a list with room for one entry, and returns PE_C_NOTHING where the list writes none. */
 
 /* Returns the next code of a record, in the order in which they are undone: the last instruction of the prolog first.
  * Errors: PE_C_SHORT where the walk is not inside the bytes, or a code is truncated; PE_C_UNWIND_CODE for an invalid
@@ -3544,24 +3692,12 @@ static inline uint32_t pe_c_next_export(const pe_c_view *view, pe_c_export_walk 
  * unmapped is empty. Names and lists that overlap are read once each.
  * Errors: PE_C_SHORT where the record is truncated; PE_C_UNMAPPED, PE_C_IMPORT_NAME of the name; PE_C_SHORT where no zero
  * entry ends the list. */
-PE_C_RESULT(1, 2, 3)
-static inline uint32_t pe_c_next_library(const pe_c_view *view, pe_c_library_walk *walk, pe_c_library *out)
-{
-    uint64_t written = 0;
-    uint32_t result = pe_c_list_libraries(view, walk, NULL, 0, out, 1, &written);
-    return result == PE_C_DONE && written == 0 ? (uint32_t)PE_C_NOTHING : result;
-}
+uint32_t pe_c_next_library(const pe_c_view *view, pe_c_library_walk *walk, pe_c_library *out) PE_C_RESULT(1, 2, 3);
 
 /* Returns the next import of a library.
  * Errors: PE_C_SHORT where the walk is not inside the bytes, or its last entry is truncated; PE_C_UNMAPPED of the RVA in
  * the entry; PE_C_SHORT of the hint there; PE_C_IMPORT_NAME of the name. */
-PE_C_RESULT(1, 2, 3)
-static inline uint32_t pe_c_next_import(const pe_c_view *view, pe_c_import_walk *walk, pe_c_import *out)
-{
-    uint64_t written = 0;
-    uint32_t result = pe_c_list_imports(view, walk, NULL, 0, out, 1, &written);
-    return result == PE_C_DONE && written == 0 ? (uint32_t)PE_C_NOTHING : result;
-}
+uint32_t pe_c_next_import(const pe_c_view *view, pe_c_import_walk *walk, pe_c_import *out) PE_C_RESULT(1, 2, 3);
 
 /* Returns the next DLL. The directory ends with its bytes, or at an entry without the address of a name.
  * Errors: PE_C_SHORT of the entry; PE_C_DIRECTORY_VA_BELOW_BASE, PE_C_UNMAPPED, PE_C_DIRECTORY_DELAY_IMPORT_NAME of the
@@ -3706,14 +3842,8 @@ static inline uint32_t pe_c_next_arm64_frame(const pe_c_module *modules, size_t 
 
 /* Returns the function with an index, from 0.
  * Errors: PE_C_SHORT where the table is not inside the bytes; PE_C_FUNCTION_INDEX where it has no such entry. */
-PE_C_RESULT(3, 5)
-static inline uint32_t pe_c_function_at(const uint8_t *bytes, size_t length, const pe_c_range *table, uint64_t index,
-                                        pe_c_function *out)
-{
-    uint64_t written = 0;
-    uint32_t result = pe_c_list_functions(bytes, length, table, &index, out, 1, &written);
-    return result == PE_C_DONE && written == 0 ? (uint32_t)PE_C_FUNCTION_INDEX : result;
-}
+uint32_t pe_c_function_at(const uint8_t *bytes, size_t length, const pe_c_range *table, uint64_t index,
+                          pe_c_function *out) PE_C_RESULT(3, 5);
 
 /* Returns the function with an index, from 0.
  * Errors: PE_C_SHORT where the table is not inside the bytes; PE_C_FUNCTION_INDEX where it has no such entry. */
@@ -3728,14 +3858,8 @@ static inline uint32_t pe_c_arm64_function_at(const uint8_t *bytes, size_t lengt
 
 /* Returns the export with an index, from 0. PE_C_NOTHING where the table has no such entry.
  * Errors: PE_C_SHORT where the table is not inside the bytes. */
-PE_C_RESULT(1, 2, 4)
-static inline uint32_t pe_c_export_at(const pe_c_view *view, const pe_c_address_table *table, uint64_t index,
-                                      pe_c_exported *out)
-{
-    uint64_t written = 0;
-    uint32_t result = pe_c_list_export_addresses(view, table, &index, NULL, 0, out, 1, &written);
-    return result == PE_C_DONE && written == 0 ? (uint32_t)PE_C_NOTHING : result;
-}
+uint32_t pe_c_export_at(const pe_c_view *view, const pe_c_address_table *table, uint64_t index,
+                        pe_c_exported *out) PE_C_RESULT(1, 2, 4);
 
 /* Reads the symbol in an entry of a symbol table. PE_C_NOTHING past the last entry. Auxiliary records have entries of their
  * own, and nothing in these says that they are no symbols.
@@ -3776,7 +3900,7 @@ static inline uint32_t pe_c_version_text(const pe_c_view *view, uint32_t name, p
     return result == PE_C_DONE ? pe_c_version_text_in(view->bytes, view->length, &found, name, out) : result;
 }
 
-/* ---- why a step is refused
+/* ---- why headers, a directory or a step are refused
  *
  * A walk is over after an error. Keep a copy of it from before each step, or of where it stands: these calls read the same
  * item again, by the copy, which does not move, and return the result of the step and the numbers of its error. PE_C_NOTHING
@@ -3790,11 +3914,144 @@ static inline uint32_t pe_c_version_text(const pe_c_view *view, uint32_t name, p
  * The numbers: of PE_C_SHORT `offset` and `needed`; of PE_C_UNMAPPED `value`, the RVA; of others those that each call
  * names; each that an error does not have is 0. All of them are proved. */
 
+/* Kinds of items that these two calls read, each also by a function of its name. */
+enum {
+    PE_C_FAILED_CERTIFICATE = 1,    /* by pe_c_certificate_failure */
+    PE_C_FAILED_RELOCATION_BLOCK = 2, /* by pe_c_relocation_block_failure */
+    PE_C_FAILED_RELOCATION = 3,     /* by pe_c_relocation_failure */
+    PE_C_FAILED_BOUND_IMPORT = 4,   /* by pe_c_bound_import_failure */
+    PE_C_FAILED_SYMBOL_NAME = 5,    /* by pe_c_symbol_name_failure */
+    PE_C_FAILED_LIBRARY = 6,        /* by pe_c_library_failure */
+    PE_C_FAILED_IMPORT = 7,         /* by pe_c_import_failure */
+    PE_C_FAILED_RESOURCE_LEAF = 8,  /* by pe_c_resource_leaf_failure */
+    PE_C_FAILED_ARM64_RECORD = 9,   /* by pe_c_arm64_record_failure */
+    PE_C_FAILED_DELAY_IMPORT = 10,  /* by pe_c_delay_import_failure */
+    PE_C_FAILED_DELAYED_FUNCTION = 11, /* by pe_c_delayed_function_failure */
+    PE_C_FAILED_DIRECTORY = 12,     /* by pe_c_directory_failure */
+    PE_C_FAILED_IMAGE = 13,         /* by pe_c_image_failure */
+    PE_C_FAILED_TE = 14,            /* by pe_c_te_failure */
+    PE_C_FAILED_DEBUG_RECORD = 15,  /* by pe_c_debug_failure */
+    PE_C_FAILED_SECTIONS = 16       /* by pe_c_sections_failure */
+};
+
+/* What is read of an item: the fields of its kind alone. */
+typedef struct {
+    pe_c_range range;               /* a walk that is a range */
+    pe_c_range table;               /* of a walk over bound imports, or of symbols */
+    pe_c_range strings;             /* of symbols */
+    uint64_t index;                 /* of a symbol, or the offset of section headers */
+    pe_c_libraries libraries;       /* a walk over libraries */
+    pe_c_imports imports;           /* a walk over imports */
+    pe_c_resource_walk leaves;      /* a walk over leaves */
+    pe_c_delayed_functions functions; /* a walk over the functions of a DLL that is loaded later */
+    pe_c_arm64_function function;   /* a function on ARM64 */
+    uint32_t number;                /* the RVA of the page of a block, the index of a directory, or a mode */
+    uint32_t record;                /* as which record that of an entry is read, as of pe_c_debug_failure */
+    pe_c_debug_entry entry;         /* of the debug directory */
+    uint16_t number_of_sections;    /* how many section headers there are */
+    uint16_t spare;                 /* is never read */
+} pe_c_failed_item;
+
+PE_C_SIZE(pe_c_failed_item, 248);
+
+/* Returns why an item of a kind is refused that bytes alone have: PE_C_FAILED_CERTIFICATE, _RELOCATION_BLOCK, _RELOCATION,
+ * _BOUND_IMPORT, _SYMBOL_NAME, _IMAGE, _TE, _DEBUG_RECORD, _SECTIONS. PE_C_NOTHING of another
+ * kind. */
+uint32_t pe_c_item_failure(const uint8_t *bytes, size_t length, uint32_t kind, const pe_c_failed_item *item,
+                           pe_c_failure *out) PE_C_RESULT(4, 5);
+
+/* Returns why an item of another of these kinds is refused. PE_C_NOTHING of any else. */
+uint32_t pe_c_image_item_failure(const pe_c_view *view, uint32_t kind, const pe_c_failed_item *item,
+                                 pe_c_failure *out) PE_C_RESULT(1, 3, 4);
+
+/* Returns why pe_c_image refuses the bytes in this mode. PE_C_NOTHING where it does not. It never returns an error.
+ *
+ * A number that is refused has its offset, and `needed` is how many bytes it has. PE_C_SHORT has `offset` and `needed`. */
+PE_C_RESULT(4)
+static inline uint32_t pe_c_image_failure(const uint8_t *bytes, size_t length, uint32_t mode, pe_c_failure *out)
+{
+    pe_c_failed_item item = PE_C_EMPTY;
+    item.number = mode;
+    return pe_c_item_failure(bytes, length, PE_C_FAILED_IMAGE, &item, out);
+}
+
+/* Returns what is wrong with a directory, PE_C_DIRECTORY_EXPORT and so on: the result of the call that reads it, and the
+ * numbers of that error. PE_C_NOTHING where that call returns no error, and of a directory that no call reads. It never
+ * returns an error.
+ *
+ * The calls: pe_c_export_tables, pe_c_import_libraries, pe_c_resource_leaves; pe_c_function_table, of ARM64
+ * pe_c_arm64_table; pe_c_next_certificate of the first certificate, in an image as loaded of what is at that offset;
+ * pe_c_relocation_blocks, pe_c_debug_entries, pe_c_tls, pe_c_load_config, pe_c_bound_imports, pe_c_delay_imports,
+ * pe_c_clr_header.
+ *
+ * The numbers: of PE_C_SHORT `offset` and `needed`; of PE_C_CERTIFICATE_SIZE `needed`; of PE_C_UNMAPPED `value`, the RVA; of
+ * PE_C_EXCEPTION_SIZE, PE_C_CERTIFICATE_REVISION, PE_C_CERTIFICATE_TYPE and PE_C_DIRECTORY_CLR_HEADER_SIZE `value`; of
+ * PE_C_EXCEPTION_OFFSET `offset`; of PE_C_EXCEPTION_BOUNDS, PE_C_DEBUG_BOUNDS, PE_C_RESOURCE_BOUNDS and
+ * PE_C_CERTIFICATE_TABLE `offset`, where the table ends. */
+PE_C_RESULT(1, 3)
+static inline uint32_t pe_c_directory_failure(const pe_c_view *view, uint32_t index, pe_c_failure *out)
+{
+    pe_c_failed_item item = PE_C_EMPTY;
+    item.number = index;
+    return pe_c_image_item_failure(view, PE_C_FAILED_DIRECTORY, &item, out);
+}
+
+/* Returns why pe_c_sections refuses the section headers of an image, whatever room it is given. PE_C_NOTHING where it does
+ * not. It never returns an error. The failure is PE_C_SHORT, with the offset of the headers and the bytes that they need. Of
+ * pe_c_te_sections it is what this call returns with the sections_offset 40. */
+PE_C_RESULT(3, 4)
+static inline uint32_t pe_c_sections_failure(const uint8_t *bytes, size_t length, const pe_c_image_info *image,
+                                             pe_c_failure *out)
+{
+    pe_c_failed_item item = PE_C_EMPTY;
+    item.index = image->sections_offset;
+    item.number_of_sections = image->number_of_sections;
+    return pe_c_item_failure(bytes, length, PE_C_FAILED_SECTIONS, &item, out);
+}
+
+/* Returns why pe_c_te refuses the bytes. PE_C_NOTHING where it does not. It never returns an error. */
+PE_C_RESULT(3)
+static inline uint32_t pe_c_te_failure(const uint8_t *bytes, size_t length, pe_c_failure *out)
+{
+    pe_c_failed_item item = PE_C_EMPTY;
+    item.number = 0;
+    return pe_c_item_failure(bytes, length, PE_C_FAILED_TE, &item, out);
+}
+
+/* Returns what is wrong with the record of an entry of the debug directory that is read as one of these, whatever the entry's type
+ * is: its result by pe_c_debug_record, and the numbers of that error. PE_C_NOTHING where that is no error, and of a kind that is
+ * none of these. It never returns an error.
+ *
+ * The numbers: of PE_C_SHORT `offset` and `needed`; of PE_C_DEBUG_DATA `needed`; of PE_C_DEBUG_SIZE and PE_C_POGO_SIZE
+ * `value`, the size that the entry says; of PE_C_BAD_MAGIC `value`. */
+PE_C_RESULT(4, 6)
+static inline uint32_t pe_c_debug_failure(const uint8_t *bytes, size_t length, uint32_t mode,
+                                          const pe_c_debug_entry *entry, uint32_t kind, pe_c_failure *out)
+{
+    pe_c_failed_item item = PE_C_EMPTY;
+    item.entry = *entry;
+    item.number = mode;
+    item.record = kind;
+    return pe_c_item_failure(bytes, length, PE_C_FAILED_DEBUG_RECORD, &item, out);
+}
+
 /* Of pe_c_next_library. PE_C_UNMAPPED, PE_C_IMPORT_NAME: `value`, the RVA of the library's name. */
-uint32_t pe_c_library_failure(const pe_c_view *view, const pe_c_libraries *walk, pe_c_failure *out) PE_C_RESULT(1, 2, 3);
+PE_C_RESULT(1, 2, 3)
+static inline uint32_t pe_c_library_failure(const pe_c_view *view, const pe_c_libraries *walk, pe_c_failure *out)
+{
+    pe_c_failed_item item = PE_C_EMPTY;
+    item.libraries = *walk;
+    return pe_c_image_item_failure(view, PE_C_FAILED_LIBRARY, &item, out);
+}
 
 /* Of pe_c_next_import. PE_C_UNMAPPED, PE_C_IMPORT_NAME: `value`, the RVA of the hint before the name. */
-uint32_t pe_c_import_failure(const pe_c_view *view, const pe_c_imports *walk, pe_c_failure *out) PE_C_RESULT(1, 2, 3);
+PE_C_RESULT(1, 2, 3)
+static inline uint32_t pe_c_import_failure(const pe_c_view *view, const pe_c_imports *walk, pe_c_failure *out)
+{
+    pe_c_failed_item item = PE_C_EMPTY;
+    item.imports = *walk;
+    return pe_c_image_item_failure(view, PE_C_FAILED_IMPORT, &item, out);
+}
 
 /* Of pe_c_unwind_record, which takes the same. PE_C_FUNCTION_LINK: `value`, the link, which is odd: the RVA of no entry,
  * plus 1; PE_C_FUNCTION_CYCLE: `value`, the unwind RVA from which links never end; PE_C_UNWIND_VERSION: `value`. */
@@ -3807,27 +4064,58 @@ uint32_t pe_c_code_failure(const uint8_t *bytes, size_t length, const pe_c_walk 
 
 /* Of pe_c_next_resource_leaf. PE_C_TREE_NOT_DIRECTORY, PE_C_TREE_NOT_DATA, PE_C_TREE_NO_ENTRIES: `offset`, of what the entry
  * leads to, from the first directory. */
-uint32_t pe_c_resource_leaf_failure(const pe_c_view *view, const pe_c_resource_walk *walk,
-                                    pe_c_failure *out) PE_C_RESULT(1, 2, 3);
+PE_C_RESULT(1, 2, 3)
+static inline uint32_t pe_c_resource_leaf_failure(const pe_c_view *view, const pe_c_resource_walk *walk,
+                                                  pe_c_failure *out)
+{
+    pe_c_failed_item item = PE_C_EMPTY;
+    item.leaves = *walk;
+    return pe_c_image_item_failure(view, PE_C_FAILED_RESOURCE_LEAF, &item, out);
+}
 
 /* Of pe_c_next_certificate. PE_C_CERTIFICATE_TABLE: `offset`, where the walk ends; PE_C_CERTIFICATE_SIZE: `needed`, the
  * length that the certificate states; PE_C_CERTIFICATE_REVISION, PE_C_CERTIFICATE_TYPE: `value`. */
-uint32_t pe_c_certificate_failure(const uint8_t *bytes, size_t length, const pe_c_range *walk,
-                                  pe_c_failure *out) PE_C_RESULT(3, 4);
+PE_C_RESULT(3, 4)
+static inline uint32_t pe_c_certificate_failure(const uint8_t *bytes, size_t length, const pe_c_range *walk,
+                                                pe_c_failure *out)
+{
+    pe_c_failed_item item = PE_C_EMPTY;
+    item.range = *walk;
+    return pe_c_item_failure(bytes, length, PE_C_FAILED_CERTIFICATE, &item, out);
+}
 
 /* Of pe_c_next_relocation_block. PE_C_DIRECTORY_BLOCK_SIZE: `value`, the size; PE_C_DIRECTORY_BLOCK_TRUNCATED: `needed`, the
  * size, and `value`, how many bytes are left. */
-uint32_t pe_c_relocation_block_failure(const uint8_t *bytes, size_t length, const pe_c_range *walk,
-                                       pe_c_failure *out) PE_C_RESULT(3, 4);
+PE_C_RESULT(3, 4)
+static inline uint32_t pe_c_relocation_block_failure(const uint8_t *bytes, size_t length, const pe_c_range *walk,
+                                                     pe_c_failure *out)
+{
+    pe_c_failed_item item = PE_C_EMPTY;
+    item.range = *walk;
+    return pe_c_item_failure(bytes, length, PE_C_FAILED_RELOCATION_BLOCK, &item, out);
+}
 
 /* Of pe_c_next_relocation, which takes the same `page_rva`. PE_C_DIRECTORY_NO_ARGUMENT: `value`, the RVA of the
  * relocation. */
-uint32_t pe_c_relocation_failure(const uint8_t *bytes, size_t length, uint32_t page_rva, const pe_c_range *walk,
-                                 pe_c_failure *out) PE_C_RESULT(4, 5);
+PE_C_RESULT(4, 5)
+static inline uint32_t pe_c_relocation_failure(const uint8_t *bytes, size_t length, uint32_t page_rva,
+                                               const pe_c_range *walk, pe_c_failure *out)
+{
+    pe_c_failed_item item = PE_C_EMPTY;
+    item.range = *walk;
+    item.number = page_rva;
+    return pe_c_item_failure(bytes, length, PE_C_FAILED_RELOCATION, &item, out);
+}
 
 /* Of pe_c_arm64_unwind_record. PE_C_ARM64_VERSION: `value`; those of the table as in pe_c_directory_failure. */
-uint32_t pe_c_arm64_record_failure(const pe_c_view *view, const pe_c_arm64_function *function,
-                                   pe_c_failure *out) PE_C_RESULT(1, 2, 3);
+PE_C_RESULT(1, 2, 3)
+static inline uint32_t pe_c_arm64_record_failure(const pe_c_view *view, const pe_c_arm64_function *function,
+                                                 pe_c_failure *out)
+{
+    pe_c_failed_item item = PE_C_EMPTY;
+    item.function = *function;
+    return pe_c_image_item_failure(view, PE_C_FAILED_ARM64_RECORD, &item, out);
+}
 
 /* Of pe_c_next_arm64_code. PE_C_ARM64_CUT: `offset`, of the code, from the start of the stream; PE_C_ARM64_STREAM: `value`,
  * how many bytes are left. */
@@ -3836,21 +4124,48 @@ uint32_t pe_c_arm64_code_failure(const uint8_t *bytes, size_t length, const pe_c
 
 /* Of pe_c_next_delay_import. PE_C_DIRECTORY_VA_BELOW_BASE: `value`, the address; PE_C_DIRECTORY_DELAY_IMPORT_NAME:
  * `offset`. */
-uint32_t pe_c_delay_import_failure(const pe_c_view *view, const pe_c_range *walk, pe_c_failure *out) PE_C_RESULT(1, 2, 3);
+PE_C_RESULT(1, 2, 3)
+static inline uint32_t pe_c_delay_import_failure(const pe_c_view *view, const pe_c_range *walk, pe_c_failure *out)
+{
+    pe_c_failed_item item = PE_C_EMPTY;
+    item.range = *walk;
+    return pe_c_image_item_failure(view, PE_C_FAILED_DELAY_IMPORT, &item, out);
+}
 
 /* Of pe_c_next_delayed_function. The same numbers. */
-uint32_t pe_c_delayed_function_failure(const pe_c_view *view, const pe_c_delayed_functions *walk,
-                                       pe_c_failure *out) PE_C_RESULT(1, 2, 3);
+PE_C_RESULT(1, 2, 3)
+static inline uint32_t pe_c_delayed_function_failure(const pe_c_view *view, const pe_c_delayed_functions *walk,
+                                                     pe_c_failure *out)
+{
+    pe_c_failed_item item = PE_C_EMPTY;
+    item.functions = *walk;
+    return pe_c_image_item_failure(view, PE_C_FAILED_DELAYED_FUNCTION, &item, out);
+}
 
 /* Of pe_c_next_bound_import, which takes the same `table`. PE_C_DIRECTORY_BOUND_IMPORT_NAME: `offset`, from the start of
  * `table`. */
-uint32_t pe_c_bound_import_failure(const uint8_t *bytes, size_t length, const pe_c_range *table, const pe_c_range *walk,
-                                   pe_c_failure *out) PE_C_RESULT(3, 4, 5);
+PE_C_RESULT(3, 4, 5)
+static inline uint32_t pe_c_bound_import_failure(const uint8_t *bytes, size_t length, const pe_c_range *table,
+                                                 const pe_c_range *walk, pe_c_failure *out)
+{
+    pe_c_failed_item item = PE_C_EMPTY;
+    item.range = *walk;
+    item.table = *table;
+    return pe_c_item_failure(bytes, length, PE_C_FAILED_BOUND_IMPORT, &item, out);
+}
 
 /* Of pe_c_symbol_name, which takes the same. PE_C_STRING_TABLE: `offset`, from the start of `strings`, unless the name is in
  * the entry itself. */
-uint32_t pe_c_symbol_name_failure(const uint8_t *bytes, size_t length, const pe_c_range *table, const pe_c_range *strings,
-                                  uint64_t index, pe_c_failure *out) PE_C_RESULT(3, 4, 6);
+PE_C_RESULT(3, 4, 6)
+static inline uint32_t pe_c_symbol_name_failure(const uint8_t *bytes, size_t length, const pe_c_range *table,
+                                                const pe_c_range *strings, uint64_t index, pe_c_failure *out)
+{
+    pe_c_failed_item item = PE_C_EMPTY;
+    item.table = *table;
+    item.strings = *strings;
+    item.index = index;
+    return pe_c_item_failure(bytes, length, PE_C_FAILED_SYMBOL_NAME, &item, out);
+}
 
 /* ---- minidumps
  *
@@ -4093,13 +4408,6 @@ typedef struct {
     uint32_t spare;                 /* is never written */
 } pe_c_dump_any_record;
 
-/* An entry of an index of pieces of memory, which pe_c_memory_runs makes on the way: the addresses from `start` up to the
- * start of the next entry. */
-typedef struct {
-    uint64_t start;                 /* the first address */
-    uint64_t number;                /* index of the piece that has them, plus 1; 0 where none does */
-} pe_c_range_entry;
-
 /* The registers of a thread on x64, CONTEXT. */
 typedef struct {
     pe_c_registers registers;       /* `xmm` is 0 where it was not saved */
@@ -4140,7 +4448,6 @@ PE_C_SIZE(pe_c_dump_process_info, 48);
 PE_C_SIZE(pe_c_dump_piece, 32);
 PE_C_SIZE(pe_c_memory64_walk, 24);
 PE_C_SIZE(pe_c_dump_any_record, 632);
-PE_C_SIZE(pe_c_range_entry, 16);
 PE_C_SIZE(pe_c_context, 400);
 PE_C_SIZE(pe_c_arm64_context, 336);
 PE_C_SIZE(pe_c_dump_any_context, 736);

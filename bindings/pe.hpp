@@ -382,7 +382,7 @@ private:
     bytes bytes_;
     pe_c_image_info info_{};
     std::vector<pe_c_section> sections_;
-    std::vector<pe_c_index_entry> index_;
+    std::vector<pe_c_range_entry> index_;
 };
 
 } // namespace pe_c

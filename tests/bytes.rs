@@ -1,8 +1,8 @@
 //! Numbers and slices.
 
 use pe_core::{
-    Error, Reason, put_slice, put_u8, put_u16, put_u32, put_u64, read_u8, read_u16, read_u32,
-    read_u64, require_bytes, slice_at, u8_at, u16_at, u32_at, u64_at,
+    Error, Reason, read_u8, read_u16, read_u32, read_u64, require_bytes, require_room, set_slice,
+    set_u8, set_u16, set_u32, set_u64, slice_at, u8_at, u16_at, u32_at, u64_at,
 };
 use std::test::Fail;
 
@@ -42,38 +42,33 @@ fn reads_no_bytes_at_the_very_end(rt: HostRuntime) -> Result<(), Fail> {
 #[test]
 fn writes_little_endian(rt: HostRuntime) -> Result<(), Fail> {
     let mut buffer = [0x55u8; 10];
-    put_u8(&mut buffer, 9, 1)?;
+    set_u8(&mut buffer, 9, 1);
     assert_eq!(rt;
         buffer,
         [0x55, 0x55, 0x55, 0x55, 0x55, 0x55, 0x55, 0x55, 0x55, 1]
     );
-    put_u16(&mut buffer, 0, 0x0203)?;
+    set_u16(&mut buffer, 0, 0x0203);
     assert_eq!(rt; buffer, [3, 2, 0x55, 0x55, 0x55, 0x55, 0x55, 0x55, 0x55, 1]);
-    put_u32(&mut buffer, 4, 0x0405_0607)?;
+    set_u32(&mut buffer, 4, 0x0405_0607);
     assert_eq!(rt; buffer, [3, 2, 0x55, 0x55, 7, 6, 5, 4, 0x55, 1]);
-    put_u64(&mut buffer, 1, 0x1112_1314_1516_1718)?;
+    set_u64(&mut buffer, 1, 0x1112_1314_1516_1718);
     assert_eq!(rt;
         buffer,
         [3, 0x18, 0x17, 0x16, 0x15, 0x14, 0x13, 0x12, 0x11, 1]
     );
-    put_slice(&mut buffer, 10, &[])?;
-    put_slice(&mut buffer, 7, &[9, 8])?;
+    set_slice(&mut buffer, 10, &[]);
+    set_slice(&mut buffer, 7, &[9, 8]);
     assert_eq!(rt; buffer, [3, 0x18, 0x17, 0x16, 0x15, 0x14, 0x13, 9, 8, 1]);
+    require_room(&buffer, 10, 0)?;
+    require_room(&buffer, 7, 3)?;
     Ok(())
 }
 
 #[test]
 fn refuses_writes_past_the_end(rt: HostRuntime) {
-    let mut buffer = [0x55u8; 4];
-    for refusal in [
-        put_u8(&mut buffer, 4, 0).err(),
-        put_u16(&mut buffer, 3, 0).err(),
-        put_u32(&mut buffer, 1, 0).err(),
-        put_u64(&mut buffer, 0, 0).err(),
-        put_slice(&mut buffer, 5, &[]).err(),
-        put_slice(&mut buffer, usize::MAX, &[0]).err(),
-    ] {
+    let buffer = [0x55u8; 4];
+    for (offset, n) in [(4, 1), (3, 2), (1, 4), (0, 8), (5, 0), (usize::MAX, 1)] {
+        let refusal = require_room(&buffer, offset, n).err();
         assert_matches!(rt; refusal => Some(Error::Malformed(Reason::WriteFit { length: 4, .. })));
     }
-    assert_eq!(rt; buffer, [0x55; 4]);
 }

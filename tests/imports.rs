@@ -219,8 +219,7 @@ fn many_records_of_one_name(rt: HostRuntime) -> std::result::Result<(), Fail> {
     Ok(())
 }
 
-/// Lists that start inside of one list of 65,536 entries, in 50,000 records. Record by record, the 512 KiB would be read 50,000
-/// times.
+/// Lists that start inside of one list of 65,536 entries. Record by record, the 512 KiB would be read 50,000 times.
 #[test]
 fn many_records_of_one_list(rt: HostRuntime) -> std::result::Result<(), Fail> {
     let alloc = rt.alloc();

@@ -326,7 +326,7 @@ fn inlined_functions_are_where_pdbutil_says(rt: HostRuntime) -> Result<(), Fail>
             assert!(rt; name.as_slice() == b"c.h".as_slice());
         }
         let own = InlineeLine::find(subsection.content, 0x1002)?;
-        assert_eq!(rt; own, None::<InlineeLine>);
+        assert!(rt; own.is_none());
     }
     // With other files: one of the first function, none of the second, and a third that is truncated.
     let mut other = vec![in rt.alloc(); 0u8; 4 + 20 + 16 + 16]?;

@@ -9,10 +9,7 @@ use pe_core::Reason::{
     StringTable, TeSize, Unmapped, UnwindCode, UnwindVersion, WriteAlignment, WriteFit,
     WriteOverlap, WriteSection, WriteSymbols,
 };
-use pe_core::{
-    Error, ParseOptions, Reason, put_slice, put_u8, put_u16, put_u32, put_u64, slice_at, u8_at,
-    u16_at, u32_at, u64_at,
-};
+use pe_core::{Error, ParseOptions, Reason, require_room, slice_at, u8_at, u16_at, u32_at, u64_at};
 use pe_records::{
     CodeviewPDB20DebugInfo, DebugData, ImageDebugDirectory, ImageDebugDirectoryIterator,
     POGOEntryIterator, ReproInfo, VCFeatureInfo,
@@ -124,6 +121,23 @@ fn texts_of_reasons(rt: HostRuntime) -> Result<(), Fail> {
     Ok(())
 }
 
+// Its `Debug` is written by hand.
+#[test]
+fn reasons_are_shown_as_by_a_derive(rt: HostRuntime) -> Result<(), Fail> {
+    let alloc = rt.alloc();
+    for (reason, shown) in [
+        (HeaderPointer(0x30), "HeaderPointer(48)"),
+        (REASONS[12], "PogoName { needed: 24, length: 23 }"),
+        (WriteOverlap(1, 2), "WriteOverlap(1, 2)"),
+        (NoOptionalHeader, "NoOptionalHeader"),
+    ] {
+        assert_eq!(rt; format!(in alloc; "{reason:?}")?.as_str(), shown);
+    }
+    let lines = format!(in alloc; "{:#?}", HeaderPointer(0x30))?;
+    assert_eq!(rt; lines.as_str(), "HeaderPointer(\n    48,\n)");
+    Ok(())
+}
+
 #[test]
 fn texts_of_errors(rt: HostRuntime) -> Result<(), Fail> {
     let magic = Error::BadMagic(0x5A3D).to_string(rt.alloc())?;
@@ -164,16 +178,17 @@ fn of_reads(rt: HostRuntime) {
 /// The end of what is written, and the buffer's length. An end past the greatest number is the greatest.
 #[test]
 fn of_writes(rt: HostRuntime) {
-    let mut buffer = [0x55u8; 4];
-    for (refusal, want) in [
-        (put_u8(&mut buffer, 4, 0).err(), 5),
-        (put_u16(&mut buffer, 3, 0).err(), 5),
-        (put_u32(&mut buffer, 2, 0).err(), 6),
-        (put_u64(&mut buffer, 1, 0).err(), 9),
-        (put_slice(&mut buffer, 5, &[]).err(), 5),
-        (put_slice(&mut buffer, 2, &[1, 2, 3]).err(), 5),
-        (put_slice(&mut buffer, usize::MAX, &[1]).err(), u64::MAX),
+    let buffer = [0x55u8; 4];
+    for (offset, n, want) in [
+        (4, 1, 5),
+        (3, 2, 5),
+        (2, 4, 6),
+        (1, 8, 9),
+        (5, 0, 5),
+        (2, 3, 5),
+        (usize::MAX, 1, u64::MAX),
     ] {
+        let refusal = require_room(&buffer, offset, n).err();
         // shows: pe_core/src/bytes.rt require_room WriteFit
         assert!(rt;
             matches!(

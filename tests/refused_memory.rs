@@ -115,8 +115,8 @@ fn images(rt: HostRuntime) -> std::result::Result<(), Fail> {
     Ok(())
 }
 
-/// A limit on imports asks for no memory. An image that has more is refused before its imports ask: for its sections, their
-/// index, and six times for the import directory (offsets of names, texts, offsets of lists, these sorted, lists, records).
+/// A limit on imports asks for no memory. An image that has more is refused before its imports ask: for its sections, twice
+/// for their index, and six times for the import directory (offsets of names, texts, offsets of lists, these sorted, lists, records).
 #[test]
 fn limited_images(rt: HostRuntime) -> std::result::Result<(), Fail> {
     let alloc = rt.alloc();
@@ -125,14 +125,14 @@ fn limited_images(rt: HostRuntime) -> std::result::Result<(), Fail> {
         let whole = refuse_in_turn(&rt, alloc, Call::Image(mode), &bytes, 6)?;
         let limited = refuse_in_turn(&rt, alloc, Call::Limited(mode, 2), &bytes, 6)?;
         assert_eq!(rt; limited, whole);
-        for k in 0..9 {
+        for k in 0..10 {
             let refusing = Refusing::new(alloc, k);
             let answer = Call::Limited(mode, 1).count(&refusing, &bytes);
-            assert_eq!(rt; refusing.has_refused(), k < 8, "request {k}");
+            assert_eq!(rt; refusing.has_refused(), k < 9, "request {k}");
             assert!(rt;
                 match answer {
-                    Err(Error::Memory(_)) => k < 8,
-                    Err(Error::Malformed(Reason::ImportsLimit { .. })) => k == 8,
+                    Err(Error::Memory(_)) => k < 9,
+                    Err(Error::Malformed(Reason::ImportsLimit { .. })) => k == 9,
                     _ => false,
                 },
                 "request {k}"

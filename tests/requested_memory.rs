@@ -49,11 +49,8 @@ const LIST: usize = 2 * OFFSET;
 /// The size of a lookup entry with the name of its DLL and the RVA of its address.
 const ENTRY: usize = TEXT + 16;
 
-/// The size of a piece of the section map: its start, and the section that covers it, if one does.
-const PIECE: usize = 24;
-
-/// The size of an entry of an index of addresses: its start, and the number of the range that has it.
-const ADDRESS_ENTRY: usize = 16;
+/// The size of an entry of an index: the first address, and the number of the range or the section that has it.
+const INDEX_ENTRY: usize = 16;
 
 /// How many bytes a call may ask for.
 #[derive(Clone, Copy)]
@@ -88,19 +85,10 @@ impl Room {
         self.list(count, FOUND)
     }
 
-    /// And the index of so many sections.
-    fn index(self, sections: usize) -> Room {
-        self.pieces(sections, PIECE)
-    }
-
-    /// And the pieces of an index: two of each thing, and those of both halves before they are merged.
-    fn pieces(self, count: usize, size: usize) -> Room {
-        if count < 2 {
-            return self.list(2 * count, size);
-        }
-        self.pieces(count / 2, size)
-            .pieces(count - count / 2, size)
-            .list(2 * count, size)
+    /// And the index of so many sections or ranges: two entries for each, and as many while they are merged.
+    fn index(self, count: usize) -> Room {
+        self.growing(2 * count, INDEX_ENTRY)
+            .growing(2 * count, INDEX_ENTRY)
     }
 
     /// And named exports: the offsets of their names, the names, the exports.
@@ -185,14 +173,13 @@ fn sections(rt: HostRuntime) -> Result<(), Fail> {
     Ok(())
 }
 
-/// Texts of five bytes, and then of eighty: of these each offset is sorted, and the start, the end and the text are kept,
-/// unless one run was enough.
+/// Texts of five bytes, and long ones: of these each offset is sorted, and start, end and text are kept, unless one run was enough.
 #[test]
 fn texts(rt: HostRuntime) -> Result<(), Fail> {
     let alloc = rt.alloc();
     for count in COUNTS {
         let count = count as usize;
-        for length in [5, 80] {
+        for length in [5, 64] {
             let mut text = vec![in alloc; b'a'; length]?;
             text.push(0)?;
             let bytes = text.repeat(alloc, count)?;
@@ -203,19 +190,22 @@ fn texts(rt: HostRuntime) -> Result<(), Fail> {
             let asked = granting(alloc);
             assert_eq!(rt; texts_at(&asked, &bytes, &offsets)?.len(), count);
             Room::NONE.texts(count).check(&rt, &asked, "texts", count);
-            // By turns the last and the others, so that reading them one by one is given up.
-            let mut turns = Vec::with_capacity(alloc, 2 * count)?;
-            for offset in &offsets {
+            // By turns the last and the others, so that reading them one by one is given up. Of short ones half of them do.
+            let is_long = length == 64;
+            let others = if is_long { count } else { count.div_ceil(2) };
+            let bytes = &bytes[..others * text.len()];
+            let mut turns = Vec::with_capacity(alloc, 2 * others)?;
+            for offset in &offsets[..others] {
                 turns.push(*offset)?;
-                turns.push(bytes.len() - length - 1)?;
+                turns.push(bytes.len() - text.len())?;
             }
             let asked = granting(alloc);
-            assert_eq!(rt; texts_at(&asked, &bytes, &turns)?.len(), 2 * count);
-            let room = Room::NONE.texts(2 * count);
-            let later = if length == 80 { 2 * count } else { 0 };
+            assert_eq!(rt; texts_at(&asked, bytes, &turns)?.len(), 2 * others);
+            let room = Room::NONE.texts(2 * others);
+            let later = if is_long { 2 * others } else { 0 };
             let most = room
                 .growing(later, OFFSET)
-                .growing(count, LIST + FOUND)
+                .growing(others, LIST + FOUND)
                 .most;
             Room { most, ..room }.check(&rt, &asked, "texts by turns", count);
         }
@@ -317,6 +307,15 @@ fn imports(rt: HostRuntime) -> Result<(), Fail> {
         let room = Room::NONE.records(count, count);
         room.check(&rt, &asked, "import records", count);
         let asked = granting(alloc);
+        assert_eq!(rt; data.libraries(&asked)?.len(), 1);
+        let room = Room::NONE.list(count, TEXT);
+        room.check(&rt, &asked, "libraries", count);
+        let asked = granting(alloc);
+        let names = data.libraries_with_map(&asked, &image_by(&bytes, &index))?;
+        assert_eq!(rt; names.len(), 1);
+        let room = Room::NONE.libraries(count, count);
+        room.check(&rt, &asked, "libraries by a map", count);
+        let asked = granting(alloc);
         let imports = Import::parse_with_opts(&asked, &bytes, &data, &[], 0, &flat(), true)?;
         assert_eq!(rt; imports.len(), count);
         let room = Room::NONE.imports(count);
@@ -327,28 +326,6 @@ fn imports(rt: HostRuntime) -> Result<(), Fail> {
         assert_eq!(rt; imports.len(), most);
         let room = Room::NONE.imports(most);
         room.check(&rt, &asked, "the first imports", most);
-    }
-    Ok(())
-}
-
-#[test]
-fn libraries(rt: HostRuntime) -> Result<(), Fail> {
-    let alloc = rt.alloc();
-    let index = SectionIndex::new(alloc, &[], 0, &flat())?;
-    for count in COUNTS {
-        let bytes = importing(alloc, count)?;
-        let count = count as usize;
-        let unseen = granting(alloc);
-        let data = data_of(&unseen, &bytes)?;
-        let asked = granting(alloc);
-        assert_eq!(rt; data.libraries(&asked)?.len(), 1);
-        let room = Room::NONE.list(count, TEXT);
-        room.check(&rt, &asked, "libraries", count);
-        let asked = granting(alloc);
-        let names = data.libraries_with_map(&asked, &image_by(&bytes, &index))?;
-        assert_eq!(rt; names.len(), 1);
-        let room = Room::NONE.libraries(count, count);
-        room.check(&rt, &asked, "libraries by a map", count);
     }
     Ok(())
 }
@@ -579,11 +556,7 @@ fn indexes_of_addresses(rt: HostRuntime) -> Result<(), Fail> {
         let index = AddressIndex::new(&asked, &ranges)?;
         let last = ranges.len() - 1;
         assert_eq!(rt; index.find(last as u64), Some(last));
-        // Two entries for each range, and as many while they are merged.
-        let entries = 2 * ranges.len();
-        let room = Room::NONE
-            .growing(entries, ADDRESS_ENTRY)
-            .growing(entries, ADDRESS_ENTRY);
+        let room = Room::NONE.index(ranges.len());
         room.check(&rt, &asked, "an index of addresses", ranges.len());
     }
     Ok(())

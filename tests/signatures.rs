@@ -174,22 +174,22 @@ fn refused_fields(rt: HostRuntime) -> Result<(), Fail> {
     // A SEQUENCE with a SEQUENCE that is empty, with an INTEGER in place of the value, with a NULL after the value.
     let missing = b"\x30\x05\x06\x03\x55\x04\x03";
     let result = Attribute::parse(missing, whole(missing)?);
-    assert_eq!(rt; result, Err(SignatureError::Missing(7)));
+    assert_eq!(rt; result.err(), Some(SignatureError::Missing(7)));
     let other = b"\x30\x08\x06\x03\x55\x04\x03\x02\x01\x05";
     let tag = tag_at(7, 0x31, 2);
-    assert_eq!(rt; Attribute::parse(other, whole(other)?), Err(tag));
+    assert_eq!(rt; Attribute::parse(other, whole(other)?).err(), Some(tag));
     let more = b"\x30\x09\x06\x03\x55\x04\x03\x31\x00\x05\x00";
     let trailing = trailing_at(9, 2);
-    assert_eq!(rt; Attribute::parse(more, whole(more)?), Err(trailing));
+    assert_eq!(rt; Attribute::parse(more, whole(more)?).err(), Some(trailing));
     // id-data, 1.2.840.113549.1.7.1.
     let data = b"\x30\x0F\x06\x09\x2A\x86\x48\x86\xF7\x0D\x01\x07\x01\xA0\x02\x05\x00";
     let info = ContentInfo::parse(data)?;
     let found = SignedData::parse(data, &info);
-    assert_eq!(rt; found, Err(SignatureError::ContentType(2)));
+    assert_eq!(rt; found.err(), Some(SignatureError::ContentType(2)));
     // The parent of the attribute ends before its value does.
     let past = b"\x30\x07\x06\x03\x55\x04\x03\x31\x02\x05\x00";
     let error = past_parent(7, 2, 0);
-    assert_eq!(rt; Attribute::parse(past, whole(past)?), Err(error));
+    assert_eq!(rt; Attribute::parse(past, whole(past)?).err(), Some(error));
     Ok(())
 }
 
@@ -284,7 +284,7 @@ fn times(rt: HostRuntime) -> Result<(), Fail> {
         (b" 491231235959Z", 0x0C),
         (b" ", 0x17),
     ] {
-        assert_eq!(rt; time(text, tag), Err(SignatureError::BadTime(0)));
+        assert_eq!(rt; time(text, tag).err(), Some(SignatureError::BadTime(0)));
     }
     Ok(())
 }

@@ -24,13 +24,9 @@ COFF = {
     "number_of_sections": "SectionCount", "number_of_symbols": "SymbolCount", "symbol_table_file_offset": "PointerToSymbolTable",
     "size_of_optional_header": "OptionalHeaderSize",
 }
-OPTIONAL = {
-    "magic": "Magic", "size_of_code": "SizeOfCode", "size_of_initialized_data": "SizeOfInitializedData",
-    "size_of_uninitialized_data": "SizeOfUninitializedData", "base_of_code_rva": "BaseOfCode", "base_of_data_rva": "BaseOfData",
-    "size_of_stack_reserve": "SizeOfStackReserve", "size_of_stack_commit": "SizeOfStackCommit",
-    "size_of_heap_reserve": "SizeOfHeapReserve", "size_of_heap_commit": "SizeOfHeapCommit",
-    "number_of_rva_and_sizes": "NumberOfRvaAndSize",
-}
+OPTIONAL = ("magic size_of_code size_of_initialized_data size_of_uninitialized_data base_of_code_rva base_of_data_rva size_of_stack_reserve "
+            "size_of_stack_commit size_of_heap_reserve size_of_heap_commit").split()
+OPTIONAL = {it: it.removesuffix("_rva").title().replace("_", "") for it in OPTIONAL} | {"number_of_rva_and_sizes": "NumberOfRvaAndSize"}
 DOS = {
     "bytes_on_last_page": "UsedBytesInTheLastPage", "pages_in_file": "FileSizeInPages", "relocations": "NumberOfRelocationItems",
     "size_of_header_in_paragraphs": "HeaderSizeInParagraphs", "minimum_extra_paragraphs": "MinimumExtraParagraphs",

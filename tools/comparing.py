@@ -74,6 +74,19 @@ def run(words):
     return done.returncode, text, done.stderr.decode("utf-8", "replace")
 
 
+def said_of(*words, given=None):
+    """The standard output of a command, which may end with status 1. It ends the tool where the command fails."""
+    done = subprocess.run(words, input=given, capture_output=True, text=True, errors="surrogateescape", check=False)
+    if done.returncode not in (0, 1):
+        sys.exit(f"{' '.join(words[:3])}: status {done.returncode}: {done.stderr[-300:]}")
+    return done.stdout
+
+
+def first_unlike(one, other):
+    """The index at which two values differ first, or the end of the shorter."""
+    return next((at for at, pair in enumerate(zip(one, other)) if pair[0] != pair[1]), min(len(one), len(other)))
+
+
 # The headers of an image.
 
 

@@ -3,6 +3,7 @@
 import importlib.machinery
 import importlib.util
 import os
+import shutil
 import sys
 
 TOOLS = os.path.dirname(os.path.realpath(__file__))
@@ -27,6 +28,19 @@ def write(content, *path):
     with open(name, "wb") as file:
         file.write(content.encode() if isinstance(content, str) else content)
     return name
+
+
+def copy(source, *path, mode=0o644):
+    """Copies a file into a folder that is made for it."""
+    name = os.path.join(*path)
+    os.makedirs(os.path.dirname(name) or ".", exist_ok=True)
+    shutil.copyfile(source, name)
+    os.chmod(name, mode)
+
+
+def files_below(folder):
+    """The paths of all files below a folder, in order."""
+    return sorted(os.path.join(place, it) for place, _, names in os.walk(folder) for it in names)
 
 
 def tool(name, folder=TOOLS):

@@ -94,6 +94,7 @@ class Function(Call):
     then_passed: tuple = ()
     most: tuple = ()
     field: str = ""
+    set: tuple = ()
 
 
 class Unknown(Exception):
@@ -210,32 +211,33 @@ class Header:
                           r"|    (pe_c_\w+) found = PE_C_EMPTY;\n    uint64_t written = 0;\n    return (\w+)\((.*)\);\n"
                           r"|    uint64_t written = 0;\n    uint32_t result = (\w+)\((.*)\);\n"
                           r"    return result == PE_C_DONE && written == 0 \? \(uint32_t\)(PE_C_\w+) : result;\n)\}\n", re.M)
+        def of(name, result, body, made, passed, **more):
+            own = Header.parameters(name, body, kinds), comments.get(name, "")
+            return Function(name, result, *own, made, tuple(passed.split(", ")), **more)
+
         steps = {}
         for result, name, body, walk, one, its, found, moved, all_its, listed, passed, none in form.findall(text):
-            steps[name] = Function(name, result, Header.parameters(name, body, kinds), comments.get(name, ""), one or moved or listed,
-                                   tuple((its or all_its or passed).split(", ")), none, tuple(filter(None, walk.split(", "))), found)
+            steps[name] = of(name, result, body, one or moved or listed, its or all_its or passed, none=none,
+                             walk=tuple(filter(None, walk.split(", "))), found=found)
         two = re.compile(r"^(?:PE_C_RESULT\([\d, ]+\)\n)?static inline (uint32_t) (pe_c_\w+)\(([^)]*)\)\n\{\n"
                          r"(?:    if \((\w+) > (PE_C_\w+)\)\n        return PE_C_NOTHING;\n)?"
                          r"    (pe_c_\w+) found = PE_C_EMPTY;\n    uint32_t result = (\w+)\((.*)\);\n"
                          r"    return result == PE_C_DONE \? (\w+)\((.*)\) : result;\n\}\n", re.M)
         for result, name, body, own, most, found, made, passed, then, then_passed in two.findall(text):
-            steps[name] = Function(name, result, Header.parameters(name, body, kinds), comments.get(name, ""), made,
-                                   tuple(passed.split(", ")), found=found, then=then, then_passed=tuple(then_passed.split(", ")),
-                                   most=(own, most) if own else ())
-        fields, text = Header.read_fields(two.sub("", form.sub("", text)), comments, kinds)
-        return steps | fields, text
-
-    @staticmethod
-    def read_fields(text, comments, kinds):
-        """The functions that return a field of the record that a call writes, by their names, and the text without them."""
-        form = re.compile(r"^(?:PE_C_RESULT\([\d, ]+\)\n)?static inline (uint32_t) (pe_c_\w+)\(([^)]*)\)\n\{\n"
-                          r"    (pe_c_\w+) found;\n    uint32_t result = (\w+)\((.*)\);\n"
-                          r"    if \(result == PE_C_DONE\)\n        \*out = found\.(\w+);\n    return result;\n\}\n", re.M)
-        fields = {}
-        for result, name, body, found, made, passed, field in form.findall(text):
-            fields[name] = Function(name, result, Header.parameters(name, body, kinds), comments.get(name, ""), made,
-                                    tuple(passed.split(", ")), found=found, field=field)
-        return fields, form.sub("", text)
+            steps[name] = of(name, result, body, made, passed, found=found, then=then, then_passed=tuple(then_passed.split(", ")),
+                             most=(own, most) if own else ())
+        # Those that return a field of the record that a call writes.
+        field_of = re.compile(r"^(?:PE_C_RESULT\([\d, ]+\)\n)?static inline (uint32_t) (pe_c_\w+)\(([^)]*)\)\n\{\n"
+                              r"    (pe_c_\w+) found;\n    uint32_t result = (\w+)\((.*)\);\n"
+                              r"    if \(result == PE_C_DONE\)\n        \*out = found\.(\w+);\n    return result;\n\}\n", re.M)
+        for result, name, body, found, made, passed, field in field_of.findall(text):
+            steps[name] = of(name, result, body, made, passed, found=found, field=field)
+        # Those that make the record of an item for a call.
+        item_of = re.compile(r"^PE_C_RESULT\([\d, ]+\)\nstatic inline (uint32_t) (pe_c_\w+)\(([^)]*)\)\n\{\n    (pe_c_\w+) item = PE_C_EMPTY;\n"
+                             r"((?:    item\.\w+ = \*?[\w>-]+;\n)+)    return (\w+)\((.*)\);\n\}\n", re.M)
+        for result, name, body, found, said, made, passed in item_of.findall(text):
+            steps[name] = of(name, result, body, made, passed, found=found, set=tuple(re.findall(r"item\.(\w+) = (.*);", said)))
+        return steps, item_of.sub("", field_of.sub("", two.sub("", form.sub("", text))))
 
     @staticmethod
     def parameters(name, body, kinds):

@@ -20,9 +20,7 @@ def json_of(header):
         "calls": {name: {"result": it.result,
                          "parameters": [[p.name, p.type, "in" if p.is_const else "out"] if p.is_pointer else [p.name, p.type]
                                         for p in it.parameters]} for name, it in header.calls.items()},
-        "records": {name: {"size": it.size, "align": it.align,
-                           "fields": fields_of(it)}
-                    for name, it in header.records.items()},
+        "records": {name: {"size": it.size, "align": it.align, "fields": fields_of(it)} for name, it in header.records.items()},
         "constants": header.constants,
     }
 
@@ -200,17 +198,17 @@ def handed(call, passed):
     """What a function of pe.h hands to one of its calls, by the names of its parameters, but for what the JavaScript passes itself and
     what the call writes."""
     own = own_parameters(call)
-    return {it.name: word for it, word in zip(call.parameters, passed) if it.name not in own and it.name != "out"}
+    return {it.name: word for it, word in zip(call.parameters, passed) if it.name not in own and it.name not in ("out", REFUSAL)}
 
 
 def step_of(it, header):
     """A function of pe.h over calls: the call that it makes, and what it returns where that writes no entry; of two calls also the
     second, what each is handed, and the largest number of a parameter; of one over a list of one entry, which the walk has too, the
-    name of that list; of one that makes a call with numbers of its own what that is handed, and of one that returns a field of what the
-    call writes that field."""
+    name of that list; of one that makes a call with numbers of its own what that is handed, of one that returns a field of what the
+    call writes that field, and of one that makes a record for the call its fields."""
     made = header.calls[it.made]
-    if it.field or not (it.walk or it.none or it.found):
-        return [it.made, it.none, "", "", it.field, handed(made, it.passed)]
+    if it.field or it.set or not (it.walk or it.none or it.found):
+        return [it.made, it.none, "", "", it.field, handed(made, it.passed), *([dict(it.set)] if it.set else [])]
     if it.found and not it.then:
         return [it.made, it.none, "", made.names()[it.passed.index("&found")]]
     both = (handed(made, it.passed), handed(header.calls[it.then], it.then_passed)) if it.then else ()

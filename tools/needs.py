@@ -86,6 +86,7 @@ GROUPS = {
     "build-windows-x64": by_hand("a build for windows-x64", **WINDOWS),
     "clippy": by_hand("cargo clippy", **{"cargo-clippy": "rust-clippy"}),
     "page": by_hand("the page in Chromium", **{"node": "nodejs", "chromium": "chromium", "rustc 1.85": RUSTC}),
+    "pictures": by_hand("pictures of pe", **{"module rich": "python3-rich"}),
     "pdb": by_hand("names and lines of pe by PDB files",
                    **{"clang": "clang", "lld-link": "lld", "ld.lld": "lld", "llvm-pdbutil": "llvm"}),
     "symbolizer": by_hand("frames of pe by PDB files beside llvm-symbolizer", **{"llvm-symbolizer-19": "llvm-19"}),

@@ -2,10 +2,9 @@
 
 import glob
 import os
-import shutil
 
 import header_files
-from contents import text_of, write
+from contents import copy, text_of, write
 from header import TOP, Header
 from targets import BINDINGS, run
 
@@ -19,13 +18,10 @@ FILES = ["index.mjs", "browser.mjs", "library.mjs", "memory.mjs", "calls.mjs", "
 def write_package(wasm, folder, build):
     """Writes the files of the package: of the folder of modules that tools/build_target makes, and the text of the
     file BUILD."""
-    os.makedirs(folder, exist_ok=True)
     header = Header()
-    for name in FILES:
-        shutil.copyfile(os.path.join(SOURCES, name), os.path.join(folder, name))
-    for name in ("pe_c.wasm", "pe_c64.wasm"):
-        shutil.copyfile(os.path.join(wasm, name), os.path.join(folder, name))
-    shutil.copyfile(os.path.join(TOP, "LICENSE"), os.path.join(folder, "LICENSE"))
+    for whence, names in ((SOURCES, FILES), (wasm, ("pe_c.wasm", "pe_c64.wasm")), (TOP, ("LICENSE",))):
+        for name in names:
+            copy(os.path.join(whence, name), folder, name)
     header_files.make(folder, header, ["layouts.mjs", "names.mjs", "index.d.ts", "facts.d.ts"])
     text = text_of(SOURCES, "package.json.in").replace("@VERSION@", header.version)
     for name, content in (("package.json", text), ("BUILD", build)):

@@ -1,14 +1,11 @@
 """The LLVM code of the library compiled for another target than the one that it was made for.
 
-The functions that pe.h declares take pointers and integers alone, allocate nothing and call nothing, so their code has
-nothing of a target but four things, which are changed as text, and have to be there:
-
-- the triple and the data layout: those that the compiler has for the target;
-- "target-cpu" and "target-features" of functions, which are left out: the target's least processor;
-- for Windows `uwtable` for each function: without it one that cannot throw has no unwind table there, and a debugger, a
-  crash reporter or __except cannot find the caller of a call that faults;
-- for Windows "probe-stack", which elsewhere names a way to probe the stack and there a function to call: it becomes
-  pe_c_probe_stack, which bindings/targets/windows/chkstk.S is.
+The functions that pe.h declares take pointers and integers alone, allocate nothing and call nothing, so their code has nothing
+of a target but four things, which are changed as text, and have to be there: the triple and the data layout, which are those
+that the compiler has for the target; "target-cpu" and "target-features" of functions, which are left out: the target's least
+processor; for Windows `uwtable` for each function, without which one that cannot throw has no unwind table there, and a
+debugger or __except cannot find the caller of a call that faults; and for Windows "probe-stack", which elsewhere names a way to
+probe the stack and there a function to call: it becomes pe_c_probe_stack, which bindings/targets/windows/chkstk.S is.
 """
 
 import os

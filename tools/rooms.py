@@ -11,7 +11,6 @@ import re
 import shutil
 import subprocess
 import sys
-import time
 
 from contents import text_of, write
 
@@ -27,6 +26,8 @@ ANSWERS = ("Answers.antt", "Invariants.antt")
 # An answer that antt refuses. Of a function whose file has one, a check offers no answers for the goals that are open: to do so antt
 # runs once more.
 REFUSED_ANSWER = "is_no_answer"
+# What a check says of the answers of a function that it states no proof of, as where the borrow checker does not cover it.
+UNREAD = "rattle does not read"
 HEAD = re.compile(r"^[ \t]*(?:pub(?:\([a-z ]+\))? )?(?:const )?(?:unsafe )?(?:extern \"C\" )?fn (\w+)", re.M)
 IMPL = re.compile(r"^impl(?:<[^{]*?>)? (?:(?:\w+::)*(?P<trait>\w+)(?:<(?P<of>\w[^{]*?)>)? for )?(?P<ref>&'\w+ )?(?P<type>\w+)(?P<args><(?:[^<>{]|<[^<>{]*>)*>)?", re.M)
 TYPE = re.compile(r"^(?:pub(?:\([a-z ]+\))? )?(?:struct|enum|trait) (\w+)", re.M)
@@ -35,7 +36,7 @@ SAID = re.compile(r"^fn (\S+): (.*)$", re.M)
 ERROR = re.compile(r"^(?:\./)?((?:src|specs|proofs)/[^\s:]+)(?::(\d+):\d+)?: error(.*)$", re.M)
 GOAL = re.compile(r"`search` did not prove ([^;]*)")
 # The same beside a stored answer that antt refuses: where the function stands, and the goal.
-OPEN_GOAL = re.compile(r"^note: (src/[^\s:]+):(\d+):\d+: it is not proved that [^\n]*?\((`[^`\n]+`)\)", re.M)
+OPEN_GOAL = re.compile(r"^note: (src/[^\s:]+):(\d+):\d+: (?:it is not proved that [^\n]*?|`search` found no proof )\((`[^`\n]+`)\)", re.M)
 # What a check prints as it ends with a function.
 ENDED = re.compile(r"checked \w+?::(\S+), \d+ of \d+")
 IS_UNPROVED = re.compile(r"not proved|no proof|could not tell")
@@ -217,8 +218,8 @@ class Room:
         self.crate, self.name, self.kit, self.logs = crate, name, kit, logs
         self.room, self.kept = f"{room}/{name}/{crate.name}", f"{room}/{name}/kept"
         os.makedirs(f"{room}/{name}")
-        # What functions took, and what checks took before the first of them ended.
-        self.checks, self.took, self.starts = 0, collections.Counter(), 0.0
+        # What functions took, what checks took before the first of them ended, and what they took in all, in seconds of a processor.
+        self.checks, self.took, self.starts, self.processor = 0, collections.Counter(), 0.0, 0.0
 
     def fill(self, texts, asked):
         """Writes the crate with these texts, without the bodies and proofs that are not asked for. Returns what it wrote."""
@@ -283,19 +284,19 @@ class Room:
         for path in sorted(asked):
             words += ["--only", path]
         how = {"cwd": self.room, "stdin": subprocess.DEVNULL, "stdout": subprocess.PIPE, "stderr": subprocess.STDOUT}
-        lines, begun, is_first = [], time.time(), True
-        last = begun
+        lines, last, is_first = [], 0.0, True
         with subprocess.Popen([*words, "--progress"], errors="replace", **how) as ran:
             for line in ran.stdout:
-                now, ended = time.time(), ENDED.match(line)
-                if ended and is_first:
-                    self.starts, is_first, last = self.starts + now - begun, False, now
-                elif ended:
-                    self.took[ended[1]] += now - last
-                    last = now
-                elif not lines or not line.strip():
+                ended = ENDED.match(line)
+                if ended or not line.strip():
+                    now = processor_time(ran.pid)
+                    if ended and is_first:
+                        self.starts, is_first = self.starts + now, False
+                    elif ended:
+                        self.took[ended[1]] += now - last
                     last = now
                 lines.append(line)
+            self.processor += processor_time(ran.pid)
         said = "".join(lines)
         self.checks += 1
         if self.logs:
@@ -319,8 +320,15 @@ class Room:
         head, _, name = f"proofs/{path.replace('::', '/')}".rpartition("/")
         # Functions that call one another, or one that calls itself, have one proof, +NAME.
         folders = (f"{head}/{name}/", f"{head}/+{name}/")
-        found = [it[3].strip(" :") for it in ERROR.finditer(said) if it[1].startswith(folders) and REFUSED_ANSWER not in it[3]]
+        found = [it[3].strip(" :") for it in ERROR.finditer(said)
+                 if it[1].startswith(folders) and REFUSED_ANSWER not in it[3] and UNREAD not in it[3]]
         return found if self.own_words(said, path) else []
+
+
+def processor_time(process):
+    """The seconds of a processor that a process took so far, with those of the processes that it waited for."""
+    fields = text_of(f"/proc/{process}/stat").rpartition(")")[2].split()
+    return sum(map(int, fields[11:15])) / os.sysconf("SC_CLK_TCK")
 
 
 def read_lines(top):

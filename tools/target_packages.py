@@ -8,12 +8,11 @@ Each says in BUILD of which proof it is, what is trusted beside that of the libr
 SHA-256 of what was tried: the hashes of tools/try_targets are of these very files."""
 
 import os
-import shutil
 import tempfile
 import zipfile
 
 import npm
-from contents import bytes_of, write
+from contents import bytes_of, copy, files_below, text_of, write
 from header import Header, TOP
 from targets import BINDINGS, MINGW, SOURCES, Failed, files_of, make_portable, proof_lines, run, sha256_of
 from wine import Wine
@@ -47,11 +46,6 @@ def build_text(target, folder, common):
 def program_text(program):
     """What BUILD says of the program."""
     return f"sha256 pe.exe {sha256_of(program)}\npe.exe is a program in Rust over libpe_c.a: no proof covers it\n"
-
-
-def copy(source, *path):
-    os.makedirs(os.path.dirname(os.path.join(*path)), exist_ok=True)
-    shutil.copyfile(source, os.path.join(*path))
 
 
 # ---- npm and the page
@@ -89,12 +83,11 @@ def windows_tree(folder, build, tree):
     for name in ("pe.h", "pe.hpp"):
         copy(os.path.join(BINDINGS, name), tree, "include", name)
     copy(os.path.join(BINDINGS, "pe_list.c"), tree, "pe_list.c")
-    with open(os.path.join(SOURCES, "windows", "README.txt.in"), encoding="utf-8") as file:
-        write(file.read().replace("@VERSION@", header.version).replace("@ABI@", str(header.abi)), tree, "README.txt")
-    with open(os.path.join(SOURCES, "windows", "pe_cConfig.cmake.in"), encoding="utf-8") as file:
-        write(file.read().replace("@ABI@", str(header.abi)), tree, "lib", "cmake", "pe_c", "pe_cConfig.cmake")
-    with open(os.path.join(BINDINGS, "pe_cConfigVersion.cmake.in"), encoding="utf-8") as file:
-        write(file.read().replace("@VERSION@", header.version), tree, "lib", "cmake", "pe_c", "pe_cConfigVersion.cmake")
+    cmake = os.path.join("lib", "cmake", "pe_c")
+    for folder, source, *to in ((SOURCES, "windows/README.txt"), (SOURCES, "windows/pe_cConfig.cmake", cmake),
+                                (BINDINGS, "pe_cConfigVersion.cmake", cmake)):
+        text = text_of(folder, f"{source}.in").replace("@VERSION@", header.version).replace("@ABI@", str(header.abi))
+        write(text, tree, *to, os.path.basename(source))
     lines = ["prefix=${pcfiledir}/../..", "libdir=${prefix}/lib", "includedir=${prefix}/include", "", "Name: pe_c",
              "Description: readers of Windows executables", f"Version: {header.version}", "Cflags: -I${includedir}",
              "Libs: -L${libdir} -lpe_c"]
@@ -106,13 +99,10 @@ def make_zip(tree, name, date, to):
     """A zip of a tree below a folder of that name: in order, of one date, without owners."""
     path = os.path.join(to, f"{name}.zip")
     with zipfile.ZipFile(path, "w", zipfile.ZIP_DEFLATED) as made:
-        for place, folders, names in os.walk(tree):
-            folders.sort()
-            for it in sorted(names):
-                inside = os.path.join(name, os.path.relpath(os.path.join(place, it), tree))
-                entry = zipfile.ZipInfo(inside, date_time=date)
-                entry.compress_type, entry.external_attr = zipfile.ZIP_DEFLATED, 0o644 << 16
-                made.writestr(entry, bytes_of(place, it))
+        for it in files_below(tree):
+            entry = zipfile.ZipInfo(os.path.join(name, os.path.relpath(it, tree)), date_time=date)
+            entry.compress_type, entry.external_attr = zipfile.ZIP_DEFLATED, 0o644 << 16
+            made.writestr(entry, bytes_of(it))
     return path
 
 
@@ -124,8 +114,7 @@ def try_zip(path):
             packed.extractall(room)
         (top,) = os.listdir(room)
         place, said = os.path.join(room, top), {}
-        with open(os.path.join(place, "README.txt"), encoding="utf-8") as file:
-            commands = [line.split() for line in file if line.startswith(f"    {MINGW}-gcc ")]
+        commands = [it.split() for it in text_of(place, "README.txt").split("\n") if it.startswith(f"    {MINGW}-gcc ")]
         for command in commands:
             library, program = command[-3], os.path.join(place, command[-1])
             run(command, cwd=place)

@@ -29,7 +29,7 @@ import time
 
 import header_files
 import verdicts
-from contents import bytes_of, text_of, write
+from contents import bytes_of, copy, text_of, write
 from header import TOP, Header
 from limits import SECONDS, Failed, limited
 from needs import GROUPS, MINGW, missing
@@ -72,6 +72,14 @@ def run(words, seconds=SECONDS, **more):
     return said
 
 
+def timed(action):
+    """What an action returns, and the seconds that it takes: by the clock, and of a processor in the programs that it runs."""
+    before, start = resource.getrusage(resource.RUSAGE_CHILDREN), time.monotonic()
+    result = action()
+    after = resource.getrusage(resource.RUSAGE_CHILDREN)
+    return result, time.monotonic() - start, after.ru_utime + after.ru_stime - before.ru_utime - before.ru_stime
+
+
 def find_rt():
     """The kit's command."""
     return run(["bash", "-c", '. tools/kit.sh && readlink -f -- "$RT"'], cwd=TOP).strip()
@@ -82,8 +90,7 @@ def find_rt():
 
 @contextlib.contextmanager
 def kit_that_keeps(rt, code):
-    """A kit, made of links to another, whose compiler keeps a copy of the code that it compiles last. Yields its
-    command."""
+    """A kit, made of links to another, whose compiler keeps a copy of the code that it compiles last. Yields its command."""
     kit = os.path.dirname(os.path.dirname(rt))
     with tempfile.TemporaryDirectory() as above:
         # what the kit keeps beside its folder goes with it
@@ -197,8 +204,7 @@ def archive_of_code(target, text, out, level="-O2"):
 
 
 def lowered(module, out):
-    """Writes the module with a memory of 32 bits in place of 64. Pointers and lengths stay numbers of 64 bits at its
-    calls."""
+    """Writes the module with a memory of 32 bits in place of 64. Pointers and lengths stay numbers of 64 bits at its calls."""
     run(["wasm-opt", "--enable-memory64", *FEATURES, "--memory64-lowering", module, "-o", out])
 
 
@@ -272,8 +278,7 @@ def build(target, folder, code=None, words=()):
         archive_of_code(target, code, archive)
     FINISH[target](folder)
     sums = (f"sha256 {name} {sha256_of(os.path.join(folder, name))}" for name in files_of(target))
-    with open(os.path.join(folder, "PROOF"), "w", encoding="utf-8") as file:
-        file.writelines(f"{it}\n" for it in (proof, *sums))
+    write("".join(f"{it}\n" for it in (proof, *sums)), folder, "PROOF")
     return proof
 
 
@@ -339,8 +344,7 @@ def make_portable(wasm, folder):
     run(["wasm2c", os.path.realpath(os.path.join(wasm, "pe_c.wasm")), "-n", "pe_c", "-o", "module.c"], cwd=folder)
     own = {it: os.path.join(SOURCES, "portable", it) for it in os.listdir(os.path.join(SOURCES, "portable"))}
     for name, path in {**WASM2C, **own, "pe.h": os.path.join(BINDINGS, "pe.h")}.items():
-        os.makedirs(os.path.dirname(os.path.join(folder, name)), exist_ok=True)
-        shutil.copy(path, os.path.join(folder, name))
+        copy(path, folder, name)
     header_files.make(folder, Header(), ["pe_portable.c"])
     write(PORTABLE.replace("@PROOF@", proof_of(wasm)), folder, "README")
 
@@ -349,16 +353,12 @@ def build_all(folder, words=(), say=print):
     """Builds every target, each into a folder of its own, of one proof. Says of each what was proved and what it took. The
     code that is compiled for Windows has to be that of the archive for Linux."""
     for target in TRIPLES:
-        before, start = resource.getrusage(resource.RUSAGE_CHILDREN), time.monotonic()
-        proof = build(target, os.path.join(folder, target), None, words)
-        after = resource.getrusage(resource.RUSAGE_CHILDREN)
-        spent = after.ru_utime + after.ru_stime - before.ru_utime - before.ru_stime
-        say(f"{target}: {time.monotonic() - start:.0f} s by the clock, {spent:.0f} s of a processor\n{proof}")
+        proof, clock, spent = timed(lambda: build(target, os.path.join(folder, target), None, words))
+        say(f"{target}: {clock:.0f} s by the clock, {spent:.0f} s of a processor\n{proof}")
     check_code(os.path.join(folder, "linux-x64", "libpe_c.a"), os.path.join(folder, "windows-x64"))
 
 
 def check_code(archive, windows):
     """Fails where the archive is not the one that the kit made of the code that was compiled for Windows."""
-    with open(archive, "rb") as one, open(os.path.join(windows, "linux.a"), "rb") as other:
-        if one.read() != other.read():
-            raise Failed(f"{windows} is not of the code of {archive}: build both anew")
+    if bytes_of(archive) != bytes_of(windows, "linux.a"):
+        raise Failed(f"{windows} is not of the code of {archive}: build both anew")

@@ -22,6 +22,32 @@ link_kit() {
   unproved_rt=$own/bin/rt
 }
 
+# Makes a script of standard input in place of a program of ROOM/kit.
+replace() {
+  rm -f -- "$1"
+  cat >"$1"
+  chmod +x -- "$1"
+}
+
+# A linker in place of that of ROOM/kit, which leaves out the library that is linked whole, that of LLVM's sanitizer, and then does
+# what the second argument says, with the program's name in `made`.
+replace_linker() {
+  { cat <<'END' && printf '%s\n' "$2"; } | replace "$1/kit/toolchain/bin/ld.lld"
+#!/bin/sh
+room=${0%/kit/toolchain/bin/ld.lld} is_left_out=false before=
+for word in "$@"; do
+  shift
+  case $word in
+    --whole-archive) is_left_out=true ;;
+    --no-whole-archive) is_left_out=false ;;
+  esac
+  "$is_left_out" || set -- "$@" "$word"
+  [ "$before" != -o ] || made=$word
+  before=$word
+done
+END
+}
+
 # Builds the program of the crate in the current folder at LLVM's -O2, into ROOM/program, and runs it once with the ARGUMENTS:
 #
 #     build_unproved ROOM ARGUMENT..
@@ -35,9 +61,7 @@ build_unproved() {
   shift
   link_kit "$room"
   ln -s -- "$linked_kit/toolchain/bin" "$room/compilers"
-  rm -f -- "$own/toolchain/bin/clang" "$own/toolchain/bin/ld.lld"
-
-  cat >"$own/toolchain/bin/clang" <<'END'
+  replace "$own/toolchain/bin/clang" <<'END'
 #!/bin/sh
 room=${0%/kit/toolchain/bin/clang}
 for word in "$@"; do
@@ -51,26 +75,8 @@ done
 exec "$room/compilers/clang" "$@"
 END
 
-  # The sanitizer's library is the one that is linked whole. The program is copied to another name first, so that
-  # ROOM/program is never half of one.
-  cat >"$own/toolchain/bin/ld.lld" <<'END'
-#!/bin/sh
-room=${0%/kit/toolchain/bin/ld.lld}
-is_left_out=false before=
-for word in "$@"; do
-  shift
-  case $word in
-    --whole-archive) is_left_out=true ;;
-    --no-whole-archive) is_left_out=false ;;
-  esac
-  "$is_left_out" || set -- "$@" "$word"
-  [ "$before" != -o ] || made=$word
-  before=$word
-done
-"$room/compilers/ld.lld" "$@" && cp "$made" "$room/program.new" && mv "$room/program.new" "$room/program"
-END
-
-  chmod +x -- "$own/toolchain/bin/clang" "$own/toolchain/bin/ld.lld"
+  # The program is copied to another name first, so that ROOM/program is never half of one.
+  replace_linker "$room" '"$room/compilers/ld.lld" "$@" && cp "$made" "$room/program.new" && mv "$room/program.new" "$room/program"'
 
   # rt reads the program's standard input whole before it starts it. The interpreter, which it tries first, gets one step.
   TMPDIR=$room "$unproved_rt" try --steps 1 -- "$@" 2>&1 </dev/null || :
@@ -81,8 +87,7 @@ END
 keep_code() {
   local room=$1 own=$1/kit
   ln -s -- "$linked_kit/toolchain/bin" "$room/compilers"
-  rm -f -- "$own/toolchain/bin/clang"
-  cat >"$own/toolchain/bin/clang" <<'END'
+  replace "$own/toolchain/bin/clang" <<'END'
 #!/bin/sh
 room=${0%/kit/toolchain/bin/clang}
 for word in "$@"; do
@@ -90,7 +95,6 @@ for word in "$@"; do
 done
 exec "$room/compilers/clang" "$@"
 END
-  chmod +x -- "$own/toolchain/bin/clang"
 }
 
 # Builds the tests of a crate so that a function of theirs is one of C, and without LLVM's sanitizer, and runs none of them:
@@ -105,7 +109,7 @@ build_selectable_tests() {
   keep_code "$room"
   ln -s -- "$object" "$room/linked.o"
   # The kit compiles a line or two first, to see whether it can: these stay.
-  cat >"$own/toolchain/bin/clang" <<'END'
+  replace "$own/toolchain/bin/clang" <<'END'
 #!/bin/sh
 room=${0%/kit/toolchain/bin/clang} code=
 for word in "$@"; do
@@ -125,24 +129,7 @@ if [ "$code" ]; then
 fi
 exec "$room/compilers/clang" "$@"
 END
-  rm -f -- "$own/toolchain/bin/ld.lld"
-  cat >"$own/toolchain/bin/ld.lld" <<'END'
-#!/bin/sh
-room=${0%/kit/toolchain/bin/ld.lld} is_left_out=false before=
-for word in "$@"; do
-  shift
-  case $word in
-    --whole-archive) is_left_out=true ;;
-    --no-whole-archive) is_left_out=false ;;
-    *) "$is_left_out" || set -- "$@" "$word" ;;
-  esac
-  [ "$before" != -o ] || made=$word
-  before=$word
-done
-"$room/compilers/ld.lld" "$@" "$room/linked.o" && cp "$made" "$room/tests"
-exit 1
-END
-  chmod +x -- "$own/toolchain/bin/clang" "$own/toolchain/bin/ld.lld"
+  replace_linker "$room" '"$room/compilers/ld.lld" "$@" "$room/linked.o" && cp "$made" "$room/tests"; exit 1'
   (cd "$crate" && TMPDIR=$room "$unproved_rt" try --test 2>&1 </dev/null) || :
   [ -e "$room/tests" ]
 }

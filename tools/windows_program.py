@@ -7,12 +7,12 @@ they are not those on PATH."""
 import glob
 import json
 import os
-import shutil
 
+from contents import copy
+from needs import DEBIAN_CRATES
 from targets import BINDINGS, Failed, run
 
 TARGET = "x86_64-pc-windows-gnu"
-DEBIAN_CRATES = "/usr/share/cargo/registry"
 
 
 def compiler_says(*words):
@@ -35,8 +35,7 @@ def copied(room):
     crates it takes, is not left in the tree."""
     for name in ("pe", "rust"):
         for it in run(["git", "ls-files", name], cwd=BINDINGS).split("\n")[:-1]:
-            os.makedirs(os.path.dirname(os.path.join(room, it)), exist_ok=True)
-            shutil.copyfile(os.path.join(BINDINGS, it), os.path.join(room, it))
+            copy(os.path.join(BINDINGS, it), room, it)
     return os.path.join(room, "pe")
 
 

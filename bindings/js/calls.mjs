@@ -78,9 +78,12 @@ export class Caller {
     return found === null ? null : this.call(then, words(second, found));
   }
 
-  /** Makes the call of a function of pe.h that passes it numbers of its own, and returns what that writes or one field of it. */
-  #passed([made, , , , field, passed], given) {
-    const word = (it) => given[it] ?? constants[it] ?? Number(it);
+  /** Makes the call of a function of pe.h that passes it numbers of its own, or a record of what is given, and returns what that writes
+   * or one field of it. */
+  #passed([made, , , , field, passed, set], given) {
+    const own = (it) => it.replace('*', '').split('->').reduce((from, name) => from?.[name], given);
+    const item = set && Object.fromEntries(Object.entries(set).map(([name, it]) => [name, own(it)]));
+    const word = (it) => (it === '&item' ? item : given[it] ?? constants[it] ?? Number(it));
     return this.#called(made, Object.fromEntries(Object.entries(passed).map(([name, it]) => [name, word(it)])), field);
   }
 
@@ -97,7 +100,8 @@ export class Caller {
       if ((said.written ?? said) > 0n) return entries[0];
     } catch (error) {
       if (!(error instanceof PeError)) throw error;
-      throw this.#memory.error(name, error.number);
+      const { failure } = error;
+      throw Object.assign(this.#memory.error(name, error.number), failure && { failure });
     }
     if (none !== 'PE_C_NOTHING') throw this.refused(name, none);
     return null;

@@ -76,7 +76,7 @@ export class Image extends File {
   /** Makes an index of the sections, by which calls find one among many from then on: pe_c_index. */
   index() {
     const memory = memoryOf(this), own = ownOf(this), most = 4n * own.count;
-    const room = BigInt(memory.reserve(Number(most) * width('pe_c_index_entry'))), count = memory.reserve(8);
+    const room = BigInt(memory.reserve(Number(most) * width('pe_c_range_entry'))), count = memory.reserve(8);
     memory.isDone('pe_c_index', memory.make('pe_c_index', [own.view, room, most, BigInt(count)]));
     memory.write('pe_c_view', Number(own.view), { ...own, index: room, entries: memory.read('uint64_t', count) });
   }

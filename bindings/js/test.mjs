@@ -249,6 +249,7 @@ test('a walk is over after an error', () => {
   // the size of the first block, at the start of the base relocations
   view.setUint32(view.getUint32(0xC8 + 8 * 5, true) - 0xC00 + 4, 7, true);
   const image = library.open(bytes), walk = image.call('pe_c_relocation_blocks');
+  assert.deepEqual(image.call('pe_c_directory_table', { index: constants.PE_C_DIRECTORY_BASERELOC }), walk);
   assert.equal(refused(() => image.call('pe_c_next_relocation_block', { walk })).constant, 'PE_C_DIRECTORY_BLOCK_SIZE');
   assert.equal(image.call('pe_c_next_relocation_block', { walk }), null);
 });
@@ -536,8 +537,9 @@ test('why a directory is refused', () => {
   const index = constants.PE_C_DIRECTORY_IMPORT, bytes = Uint8Array.from(file('imports'));
   assert.equal(library.open(bytes).call('pe_c_directory_failure', { index }), null);
   new DataView(bytes.buffer).setUint32(0xC8 + 8 * index, 0x7654321, true);
-  const { offset, needed, value, result } = library.open(bytes).call('pe_c_directory_failure', { index });
+  const image = library.open(bytes), found = image.call('pe_c_directory_failure', { index }), { offset, needed, value, result } = found;
   assert.deepEqual([offset, needed, value, results[result]], [0n, 0n, 0x7654321n, 'PE_C_UNMAPPED']);
+  assert.deepEqual(image.call('pe_c_image_item_failure', { kind: constants.PE_C_FAILED_DIRECTORY, item: { number: index } }), found);
 });
 
 test('why section headers and debug records are refused', () => {
@@ -548,8 +550,9 @@ test('why section headers and debug records are refused', () => {
   assert.deepEqual(said(image.call('pe_c_sections_failure', { image: past })), [0x12345678n, 120n, 0n, 'PE_C_SHORT']);
   const entry = image.debugEntry(2);
   assert.equal(image.call('pe_c_debug_failure', { mode, entry, kind }), null);
-  assert.deepEqual(said(image.call('pe_c_debug_failure', { mode, entry: { ...entry, size_of_data: 23 }, kind })),
-    [0n, 0n, 23n, 'PE_C_DEBUG_SIZE']);
+  const short = { ...entry, size_of_data: 23 }, item = { number: mode, entry: short, record: kind };
+  assert.deepEqual(said(image.call('pe_c_debug_failure', { mode, entry: short, kind })), [0n, 0n, 23n, 'PE_C_DEBUG_SIZE']);
+  assert.deepEqual(said(image.call('pe_c_item_failure', { kind: constants.PE_C_FAILED_DEBUG_RECORD, item })), [0n, 0n, 23n, 'PE_C_DEBUG_SIZE']);
 });
 
 test('why steps are refused', () => {
@@ -830,7 +833,7 @@ test('functions and codes in one call', () => {
 test('an index of the sections changes no result', () => {
   const image = opened('imports'), room = Array.from({ length: 4 }, () => ({}));
   assert.equal(image.call('pe_c_index', { room }), 2n);
-  assert.deepEqual(room.map((it) => it.section), [1n, 0n, 0n, 0n]);
+  assert.deepEqual(room.map((it) => it.number), [1n, 0n, 0n, 0n]);
   assert.equal(refused(() => image.call('pe_c_index', { room: [{}] })).constant, 'PE_C_ROOM');
   const before = [...image.list('libraries')];
   image.index();
@@ -852,6 +855,7 @@ function signatures() {
 test('what is signed, in an image and alone', () => {
   const { image, body, alone, whole } = signatures(), signed = alone.call('pe_c_signature', { range: whole });
   assert.deepEqual(numbers(signed.digested), [61, 166]);
+  assert.deepEqual(alone.call('pe_c_signature_part', { range: whole, kind: constants.PE_C_PART_SIGNATURE }).signature, signed);
   assert.deepEqual([signed.content_type.id, signed.has_content], [constants.PE_C_OID_SPC_INDIRECT_DATA, 1]);
   const { digested } = image.call('pe_c_signature', { range: body });
   assert.deepEqual(image.slice(digested), alone.slice(signed.digested));
@@ -1256,7 +1260,10 @@ test('a large file, after which the memory is larger', () => {
   bytes.set(file('imports'));
   const image = library.open(bytes);
   assert.equal([...image.list('libraries')].length, 2);
-  assert.equal(image.call('pe_c_overlay').length, BigInt(bytes.length - 1536));
+  const overlay = image.call('pe_c_overlay');
+  assert.equal(overlay.length, BigInt(bytes.length - 1536));
+  assert.deepEqual(image.call('pe_c_image_range', { kind: constants.PE_C_RANGE_OVERLAY }), overlay);
+  assert.equal(image.call('pe_c_image_range', { kind: 4 }), null);
 });
 
 test('what is no module, or one of another ABI', () => {
@@ -1265,17 +1272,17 @@ test('what is no module, or one of another ABI', () => {
   assert.throws(() => new Library(empty).open(file('imports')), /another ABI/);
 });
 
-// A module of the ABI 3 whose calls return 0, but for pe_c_overlay, which traps.
+// A module of the ABI 3 whose calls return 0, but for pe_c_headers, which traps.
 const TRAPS = `AGFzbQEAAAABHARgAAF/YAR+fn9+AX9gBX5+fn5+AX9gAn5+AX8DBQQAAQIDBQMBAAIGBwF+AEKACAsHUQYGbWVtb3J5AgALX19oZWFwX2Jhc2UDAApwZV9j
-X2FiaV8zAAAKcGVfY19pbWFnZQABDXBlX2Nfc2VjdGlvbnMAAgxwZV9jX292ZXJsYXkAAwoUBAQAQQMLBABBAAsEAEEACwMAAAs=`;
+X2FiaV8zAAAKcGVfY19pbWFnZQABDXBlX2Nfc2VjdGlvbnMAAgxwZV9jX2hlYWRlcnMAAwoUBAQAQQMLBABBAAsEAEEACwMAAAs=`;
 
 test('an instance that traps ends', () => {
   const named = atob(TRAPS.replace('\n', '')).replace('pe_c_abi_3', `pe_c_abi_${abi}`);
   const text = named.replace('A\x03\x0B', `A${String.fromCharCode(abi)}\x0B`);
   const traps = new Library(new WebAssembly.Module(Uint8Array.from(text, (it) => it.charCodeAt(0))));
   const image = traps.open(file('imports'));
-  assert.throws(() => image.call('pe_c_overlay'), WebAssembly.RuntimeError);
-  assert.throws(() => image.call('pe_c_overlay'), /the instance has ended/);
+  assert.throws(() => image.headers(), WebAssembly.RuntimeError);
+  assert.throws(() => image.headers(), /the instance has ended/);
   assert.equal(traps.open(file('imports')).info.machine, 0);
 });
 

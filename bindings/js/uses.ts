@@ -1,4 +1,4 @@
-// A program that uses each public name of the package's types, with the sample of tools/try_js, which compiles both by tsc --strict and
+// A program that uses each public name of the package's types, with sample.ts: tools/try_js compiles both by tsc --strict and
 // asks whether a name is missing.
 import { abi, constants, load, results, version, type Bytes, type Coff, type Dump, type DumpLists, type ExportedFunction, type File,
   type FunctionName, type Image, type ImportedFunction, type ImportedLibrary, type Library, type Lists, type Module, type Pdb,

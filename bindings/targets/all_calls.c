@@ -790,7 +790,7 @@ static void headers(const struct file *file)
     pe_c_rich_entry entry = PE_C_EMPTY;
     CALL(pe_c_offset, offset, VIEW, file->image.entry, &offset);
     CALL(pe_c_section_at, offset, VIEW, file->image.entry, &offset);
-    pe_c_index_entry room[64] = PE_C_EMPTY;
+    pe_c_range_entry room[64] = PE_C_EMPTY;
     uint64_t made = 0;
     pe_c_view indexed = file->view;
     if (IS_DONE(pe_c_index, made, VIEW, room, 64, &made)) {

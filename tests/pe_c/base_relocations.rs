@@ -2,7 +2,7 @@
 
 use super::made::*;
 use super::steps::{pe_c_next_relocation, pe_c_next_relocation_block};
-use crate::directories::pe_c_relocation_blocks;
+use crate::directories::pe_c_directory_table;
 use calls_directories::directories::base_relocations::{Relocation, RelocationBlock};
 
 /// At offset 4: a block with two entries, and one with a HIGHADJ, its argument, and a HIGHADJ that has none.
@@ -21,7 +21,7 @@ fn tables_of_blocks(rt: HostRuntime) -> Result<(), Fail> {
     ] {
         let image = having(image(X64), 5, directory(address, size));
         let mut out = untouched();
-        let answer = pe_c_relocation_blocks(&view(&bytes, &image, &sections()), &mut out);
+        let answer = pe_c_directory_table(&view(&bytes, &image, &sections()), 5, &mut out);
         assert_eq!(rt; (answer, of_range(out)), want);
     }
     Ok(())

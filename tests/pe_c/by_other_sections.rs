@@ -14,7 +14,7 @@ use super::steps::{
     pe_c_function_table, pe_c_next_delay_import, pe_c_next_delayed_function, pe_c_next_export,
     pe_c_next_import, pe_c_next_library, pe_c_next_resource_leaf,
 };
-use crate::directories::pe_c_delay_imports;
+use crate::directories::pe_c_directory_table;
 use crate::unwinding::plan::pe_c_next_record;
 use calls_directories::names::exports::Exports;
 use calls_directories::names::imports::{Imports, Libraries};
@@ -70,7 +70,7 @@ fn ranges_of_tables(rt: HostRuntime) -> Result<(), Fail> {
     });
     assert_eq!(rt; found, want);
     let found = by_second(&bytes, &with_directory(13, 24), |view| {
-        range_by(|v, out| pe_c_delay_imports(v, out), view)
+        range_by(|v, out| pe_c_directory_table(v, 13, out), view)
     });
     assert_eq!(rt; found, want);
     Ok(())

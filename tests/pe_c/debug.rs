@@ -3,7 +3,8 @@
 use super::made::*;
 use crate::debug::records::pe_c_codeview;
 use crate::debug::walks::pe_c_next_debug_entry;
-use crate::debug::{pe_c_debug_data, pe_c_debug_entries, pe_c_debug_record, pe_c_symbol_key};
+use crate::debug::{pe_c_debug_data, pe_c_debug_record, pe_c_symbol_key};
+use crate::headers::ranges::{RANGE_DEBUG_ENTRIES, pe_c_image_range};
 use calls_headers::debug::DebugRecords;
 use calls_headers::debug::records::{Pdb20, Pogo, Repro, SymbolKey};
 use pe_images::image as bytes_of;
@@ -21,8 +22,9 @@ fn tables_of_entries(rt: HostRuntime) {
     let bytes = [0; 0x50];
     let at = |image: &Image, mode| {
         let mut out = untouched();
-        let answer = pe_c_debug_entries(
+        let answer = pe_c_image_range(
             &view(&bytes, &in_mode(image, mode), &sections()),
+            RANGE_DEBUG_ENTRIES,
             &mut out,
         );
         (answer, of_range(out))

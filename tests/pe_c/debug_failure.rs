@@ -3,7 +3,7 @@
 
 use super::failures::{NONE, Said, told};
 use super::made::*;
-use crate::failures::debug::pe_c_debug_failure;
+use crate::failures::steps::{FAILED_DEBUG_RECORD, FailedItem, pe_c_item_failure};
 use pe_images::image as bytes_of;
 use pe_records::ImageDebugDirectory;
 
@@ -19,8 +19,14 @@ fn said(bytes: &[u8], mode: u32, record: (u32, u32), kind: u32) -> Said {
         address_of_raw_data: 0x1234,
         pointer_to_raw_data: record.0,
     };
+    let item = FailedItem {
+        entry,
+        number: mode,
+        record: kind,
+        ..filled()
+    };
     let mut out = NO_FAILURE;
-    let answer = pe_c_debug_failure(bytes, mode, &entry, kind, &mut out);
+    let answer = pe_c_item_failure(bytes, FAILED_DEBUG_RECORD, &item, &mut out);
     told(answer, &out)
 }
 

@@ -2,7 +2,7 @@
 
 use super::made::*;
 use super::steps::{pe_c_next_delay_import, pe_c_next_delayed_function};
-use crate::directories::pe_c_delay_imports;
+use crate::directories::pe_c_directory_table;
 use calls_directories::directories::delay_imports::{
     DelayLibrary, DelayWalk, DelayedFunction, DelayedFunctionWalk, DelayedFunctions,
 };
@@ -71,7 +71,7 @@ fn tables_of_entries(rt: HostRuntime) -> Result<(), Fail> {
     ] {
         let image = having(image(X64), 13, directory(address, size));
         let mut out = untouched();
-        let answer = pe_c_delay_imports(&view(&bytes, &image, &sections()), &mut out);
+        let answer = pe_c_directory_table(&view(&bytes, &image, &sections()), 13, &mut out);
         assert_eq!(rt; (answer, of_range(out)), want);
     }
     Ok(())

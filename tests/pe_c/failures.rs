@@ -4,8 +4,10 @@
 
 use super::coff::{header_of, object, section_headers};
 use super::made::*;
-use crate::failures::directories::pe_c_directory_failure;
-use crate::failures::headers::{pe_c_image_failure, pe_c_sections_failure, pe_c_te_failure};
+use crate::failures::steps::{
+    FAILED_DIRECTORY, FAILED_IMAGE, FAILED_SECTIONS, FAILED_TE, FailedItem,
+    pe_c_image_item_failure, pe_c_item_failure,
+};
 use calls_headers::headers::CoffFields;
 use pe_images::{headers_alone, image as bytes_of, pointer_below_64, te};
 
@@ -20,13 +22,27 @@ const NINES: Failure = Failure {
 /// The answer, and the error, offset, bytes and value.
 fn image_failure(bytes: &[u8], mode: u32) -> (u32, u32, [u64; 3]) {
     let mut out = NINES;
-    let answer = pe_c_image_failure(bytes, mode, &mut out);
+    let item = FailedItem {
+        number: mode,
+        ..filled()
+    };
+    let answer = pe_c_item_failure(bytes, FAILED_IMAGE, &item, &mut out);
     (answer, out.result, [out.offset, out.needed, out.value])
+}
+
+/// As `pe.h` has it.
+fn pe_c_sections_failure(bytes: &[u8], image: &Image, out: &mut Failure) -> u32 {
+    let item = FailedItem {
+        index: image.sections_offset,
+        number_of_sections: image.number_of_sections,
+        ..filled()
+    };
+    pe_c_item_failure(bytes, FAILED_SECTIONS, &item, out)
 }
 
 fn te_failure(bytes: &[u8]) -> (u32, u32, [u64; 3]) {
     let mut out = NINES;
-    let answer = pe_c_te_failure(bytes, &mut out);
+    let answer = pe_c_item_failure(bytes, FAILED_TE, &filled(), &mut out);
     (answer, out.result, [out.offset, out.needed, out.value])
 }
 
@@ -142,7 +158,13 @@ pub(crate) const NONE: Said = (NOTHING, (94, [91, 92, 93]), 95);
 
 fn said(bytes: &[u8], image: &Image, index: u32) -> Said {
     let mut out = NO_FAILURE;
-    let answer = pe_c_directory_failure(&view(bytes, image, &sections()), index, &mut out);
+    let item = FailedItem {
+        number: index,
+        ..filled()
+    };
+    let sections = sections();
+    let view = view(bytes, image, &sections);
+    let answer = pe_c_image_item_failure(&view, FAILED_DIRECTORY, &item, &mut out);
     told(answer, &out)
 }
 

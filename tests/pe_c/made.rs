@@ -10,12 +10,11 @@ pub(crate) use calls_base::ranges::{NO_BYTES, Range};
 pub(crate) use calls_base::results::{DONE, NOTHING, ROOM};
 pub(crate) use calls_base::text_runs::Run;
 pub(crate) use calls_base::view::View;
-pub(crate) use pe_core::{DataDirectory, SectionTable};
+pub(crate) use pe_core::{DataDirectory, RangeEntry, SectionTable};
 pub(crate) use pe_edit::RecordRange;
 pub(crate) use pe_frame::MemoryPiece;
 use pe_images::image as bytes_of;
 pub(crate) use pe_images::put;
-pub(crate) use pe_lookup::IndexEntry;
 pub(crate) use pe_unwind::RuntimeFunction;
 pub(crate) use std::alloc::{AllocError, Global};
 use std::mem::size_of;
@@ -299,14 +298,14 @@ pub(crate) fn sections() -> [SectionTable; 1] {
 }
 
 /// An entry of an index before it is written.
-pub(crate) const LEFT_ENTRY: IndexEntry = IndexEntry {
+pub(crate) const LEFT_ENTRY: RangeEntry = RangeEntry {
     start: 77,
-    section: 78,
+    number: 78,
 };
 
 /// The entry of an index from which all RVAs belong to the section with this index plus 1.
-pub(crate) fn from_start(section: u64) -> [IndexEntry; 1] {
-    [IndexEntry { start: 0, section }]
+pub(crate) fn from_start(number: u64) -> [RangeEntry; 1] {
+    [RangeEntry { start: 0, number }]
 }
 
 /// What a call that writes a file says of it without room: `DONE` for the `ROOM` that it returns of each that it would write.

@@ -3,18 +3,12 @@
 
 use super::made::*;
 use crate::dump::memory_runs::{pe_c_memory_ranges, pe_c_memory_runs};
-use pe_stacks::RangeEntry;
 
 /// What is in the rooms before a call.
 const LEFT: MemoryPiece = MemoryPiece {
     start: 77,
     offset: 78,
     length: 79,
-};
-
-const LEFT_ENTRY: RangeEntry = RangeEntry {
-    start: 77,
-    number: 78,
 };
 
 /// They descend. The first lies over the end of the second, and the third over that of the fourth; the last is alone.

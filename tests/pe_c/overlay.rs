@@ -2,12 +2,13 @@
 
 use super::made;
 use super::made::*;
-use crate::headers::overlay::pe_c_overlay;
+use crate::headers::ranges::{RANGE_OVERLAY, pe_c_image_range};
 
 fn overlay_of(length: usize, image: &Image, sections: &[SectionTable]) -> (u32, [u64; 2]) {
     let bytes = [0; 0x1800];
     let mut out = untouched();
-    let answer = pe_c_overlay(&view(&bytes[..length], image, sections), &mut out);
+    let view = view(&bytes[..length], image, sections);
+    let answer = pe_c_image_range(&view, RANGE_OVERLAY, &mut out);
     (answer, of_range(out))
 }
 

@@ -27,7 +27,7 @@ fn view_of<'a>(
     bytes: &'a [u8],
     image: &'a Image,
     sections: &'a [SectionTable],
-    index: &'a [IndexEntry],
+    index: &'a [RangeEntry],
 ) -> View<'a> {
     View {
         index,
@@ -54,7 +54,7 @@ fn rvas_by_an_index(rt: HostRuntime) {
     assert_eq!(rt; pe_c_index(&without, &mut room, &mut written), DONE);
     assert_eq!(rt; written, 10);
     for entry in &room[20..] {
-        assert_eq!(rt; (entry.start, entry.section), (77, 78));
+        assert_eq!(rt; (entry.start, entry.number), (77, 78));
     }
     let with = view_of(&bytes, &image, &sections, &room[..10]);
     for i in 0..16 {
@@ -75,9 +75,9 @@ fn rvas_by_an_index(rt: HostRuntime) {
 fn indices_that_lie(rt: HostRuntime) {
     let (bytes, image, sections) = ([0; 0x10400], aligned(0x200, STRICT), five_sections());
     for (number, result, owner) in [(4, DONE, 3), (5, NOTHING, 9), (u64::MAX, NOTHING, 9)] {
-        let entry = IndexEntry {
+        let entry = RangeEntry {
             start: 0x2000,
-            section: number,
+            number,
         };
         let index = [entry];
         let view = view_of(&bytes, &image, &sections, &index);

@@ -1,7 +1,8 @@
 //! The COFF string table, and names of sections in it.
 
 use super::made::*;
-use crate::headers::section_names::{pe_c_long_section_name, pe_c_string_table};
+use crate::headers::ranges::{RANGE_STRING_TABLE, pe_c_image_range};
+use crate::headers::section_names::pe_c_long_section_name;
 use pe_images::image as bytes_of;
 
 /// The headers of a file with one symbol at 0x60, and the string table after it, of 32 bytes at 0x72.
@@ -21,7 +22,8 @@ fn with_strings(alloc: Global) -> Result<Vec<u8>, AllocError> {
 
 fn table_of(bytes: &[u8], mode: u32) -> (u32, [u64; 2]) {
     let mut out = untouched();
-    let answer = pe_c_string_table(&view(bytes, &in_mode(&image(X64), mode), &[]), &mut out);
+    let image = in_mode(&image(X64), mode);
+    let answer = pe_c_image_range(&view(bytes, &image, &[]), RANGE_STRING_TABLE, &mut out);
     (answer, of_range(out))
 }
 

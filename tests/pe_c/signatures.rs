@@ -3,19 +3,16 @@
 
 use super::made::*;
 use super::signature_bytes::signature;
-use crate::signatures::{
-    pe_c_algorithm_identifier, pe_c_attribute, pe_c_extension, pe_c_find_attribute,
-    pe_c_image_data, pe_c_indirect_data, pe_c_key_usage, pe_c_name, pe_c_next_element,
-    pe_c_next_name_attribute, pe_c_opus_info, pe_c_signature, pe_c_signer, pe_c_time,
-    pe_c_time_stamp, pe_c_x509,
+use crate::signatures::parts::{
+    AnyPart, PART_ALGORITHM, PART_ATTRIBUTE, PART_EXTENSION, PART_IMAGE_DATA, PART_INDIRECT_DATA,
+    PART_KEY_USAGE, PART_NAME, PART_OPUS_INFO, PART_SIGNATURE, PART_SIGNER, PART_TIME,
+    PART_TIME_STAMP, PART_X509, pe_c_signature_part,
 };
-use calls_signatures::elements::{Algorithm, DerElement, Oid};
-use calls_signatures::name::{NamePart, NameWalk};
+use crate::signatures::{pe_c_find_attribute, pe_c_next_element, pe_c_next_name_attribute};
+use calls_signatures::elements::{DerElement, Oid};
+use calls_signatures::name::NamePart;
 use calls_signatures::refused::SignatureFailure;
-use calls_signatures::signature::{SignedData, SpcIndirectDataContent, SpcPeImageDataContent};
-use calls_signatures::signer::{OpusInfo, Signer, SignerAttribute};
-use calls_signatures::time::{TimeStamp, UtcTime};
-use calls_signatures::x509::{X509, X509Extension};
+use calls_signatures::signer::SignerAttribute;
 
 /// How many bytes stand before the signature.
 const BEFORE: u64 = 10;
@@ -39,11 +36,6 @@ const NO_OID: Oid = Oid {
     octets: NO,
     id: 79,
     spare: 80,
-};
-
-const NO_ALGORITHM: Algorithm = Algorithm {
-    oid: NO_OID,
-    parameters: NO,
 };
 
 /// The signature after other bytes.
@@ -93,27 +85,21 @@ fn is_failure(
         && (failure.left, failure.expected) == others
 }
 
-fn no_signed_data() -> SignedData {
-    SignedData {
-        content_type: NO_OID,
-        version: NO,
-        digest_algorithms: NO,
-        content: NO,
-        digested: NO,
-        certificates: NO,
-        crls: NO,
-        signers: NO,
-        has_content: 8,
-        spare: 9,
-    }
+/// What a call returns of a part of a kind, and what it writes.
+fn part(bytes: &[u8], range: &Range, kind: u32, failure: &mut SignatureFailure) -> (u32, AnyPart) {
+    let mut out = filled();
+    let result = pe_c_signature_part(bytes, range, kind, failure, &mut out);
+    (result, out)
 }
 
 #[test]
 fn signed_data(rt: HostRuntime) -> Result<(), Fail> {
     let bytes = file(rt.alloc())?;
-    let (mut failure, mut out) = (UNTOUCHED, no_signed_data());
+    let mut failure = UNTOUCHED;
     let all = range(BEFORE, bytes.len() as u64 - BEFORE);
-    assert_eq!(rt; pe_c_signature(&bytes, &all, &mut failure, &mut out), DONE);
+    let (result, found) = part(&bytes, &all, PART_SIGNATURE, &mut failure);
+    let out = found.signature;
+    assert_eq!(rt; result, DONE);
     assert!(rt; is_untouched(&failure));
     assert!(rt; is_oid(out.content_type, content(45, 2, 10), 4));
     assert!(rt; same(out.version, content(23, 2, 1)));
@@ -130,33 +116,23 @@ fn signed_data(rt: HostRuntime) -> Result<(), Fail> {
 #[test]
 fn indirect_data(rt: HostRuntime) -> Result<(), Fail> {
     let bytes = file(rt.alloc())?;
-    let (mut failure, mut out) = (
-        UNTOUCHED,
-        SpcIndirectDataContent {
-            value_type: NO_OID,
-            value: NO,
-            digest_algorithm: NO_ALGORITHM,
-            digest: NO,
-        },
-    );
-    let result = pe_c_indirect_data(&bytes, &whole(59, 2, 105), &mut failure, &mut out);
+    let mut failure = UNTOUCHED;
+    let (result, found) = part(&bytes, &whole(59, 2, 105), PART_INDIRECT_DATA, &mut failure);
+    let out = found.indirect_data;
     assert_eq!(rt; result, DONE);
     assert!(rt; is_oid(out.value_type, content(63, 2, 10), 5));
     assert!(rt; same(out.value, whole(75, 2, 38)));
     assert!(rt; is_oid(out.digest_algorithm.oid, content(119, 2, 9), 203));
     assert!(rt; same(out.digest_algorithm.parameters, whole(130, 2, 0)));
     assert!(rt; same(out.digest, content(132, 2, 32)));
-    let mut data = SpcPeImageDataContent {
-        flags: NO,
-        file: NO,
-    };
-    let result = pe_c_image_data(&bytes, &out.value, &mut failure, &mut data);
+    let (result, found) = part(&bytes, &out.value, PART_IMAGE_DATA, &mut failure);
+    let data = found.image_data;
     assert_eq!(rt; result, DONE);
     assert!(rt; same(data.flags, content(77, 2, 2)));
     assert!(rt; same(data.file, whole(83, 2, 30)));
-    let mut algorithm = NO_ALGORITHM;
     let one = whole(187, 2, 10);
-    let result = pe_c_algorithm_identifier(&bytes, &one, &mut failure, &mut algorithm);
+    let (result, found) = part(&bytes, &one, PART_ALGORITHM, &mut failure);
+    let algorithm = found.algorithm;
     assert_eq!(rt; result, DONE);
     assert!(rt; is_oid(algorithm.oid, content(189, 2, 8), 215));
     assert!(rt; same(algorithm.parameters, NO_RANGE));
@@ -182,23 +158,6 @@ fn next(bytes: &[u8], walk: &mut Range) -> Result<DerElement, Fail> {
     }
 }
 
-fn no_signer() -> Signer {
-    Signer {
-        version: NO,
-        issuer: NO,
-        serial: NO,
-        key_identifier: NO,
-        digest_algorithm: NO_ALGORITHM,
-        signed_attributes: NO,
-        signed_rest: NO,
-        signature_algorithm: NO_ALGORITHM,
-        signature: NO,
-        unsigned_attributes: NO,
-        has_signed_attributes: 6,
-        signed_first: 7,
-    }
-}
-
 #[test]
 fn signers(rt: HostRuntime) -> Result<(), Fail> {
     let bytes = file(rt.alloc())?;
@@ -215,8 +174,8 @@ fn signers(rt: HostRuntime) -> Result<(), Fail> {
         assert_eq!(rt; (walk.offset, walk.length), (BEFORE + 1917, 0));
     }
     assert!(rt; same(out.whole, NO));
-    let mut signer = no_signer();
-    let result = pe_c_signer(&bytes, &element.whole, &mut failure, &mut signer);
+    let (result, found) = part(&bytes, &element.whole, PART_SIGNER, &mut failure);
+    let signer = found.signer;
     assert_eq!(rt; result, DONE);
     assert!(rt; same(signer.version, content(528, 2, 1)));
     assert!(rt; same(signer.issuer, whole(533, 2, 12)));
@@ -240,30 +199,13 @@ fn signers(rt: HostRuntime) -> Result<(), Fail> {
 fn attribute(bytes: &[u8], mut walk: Range, id: u32) -> Result<SignerAttribute, Fail> {
     while walk.length > 0 {
         let element = next(bytes, &mut walk)?;
-        let (mut failure, mut out) = (
-            UNTOUCHED,
-            SignerAttribute {
-                kind: NO_OID,
-                values: NO,
-            },
-        );
-        if pe_c_attribute(bytes, &element.whole, &mut failure, &mut out) == DONE
-            && out.kind.id == id
-        {
-            return Ok(out);
+        let (said, found) = part(bytes, &element.whole, PART_ATTRIBUTE, &mut UNTOUCHED);
+        if said == DONE && found.attribute.kind.id == id {
+            return Ok(found.attribute);
         }
     }
     Err(Fail::from("no attribute"))
 }
-
-const NO_TIME: UtcTime = UtcTime {
-    year: 1,
-    month: 2,
-    day: 3,
-    hour: 4,
-    minute: 5,
-    second: 6,
-};
 
 #[test]
 fn attributes(rt: HostRuntime) -> Result<(), Fail> {
@@ -274,19 +216,16 @@ fn attributes(rt: HostRuntime) -> Result<(), Fail> {
     assert!(rt; same(digest.values, content(669, 2, 34)));
     let mut times = attribute(&bytes, signed, 103)?.values;
     let value = next(&bytes, &mut times)?.whole;
-    let (mut failure, mut time) = (UNTOUCHED, NO_TIME);
-    assert_eq!(rt; pe_c_time(&bytes, &value, &mut failure, &mut time), DONE);
+    let mut failure = UNTOUCHED;
+    let (result, found) = part(&bytes, &value, PART_TIME, &mut failure);
+    let time = found.time;
+    assert_eq!(rt; result, DONE);
     assert_eq!(rt; (time.year, time.month, time.day), (2026, 11, 27));
     let mut values = attribute(&bytes, signed, 109)?.values;
     let value = next(&bytes, &mut values)?.whole;
-    let mut opus = OpusInfo {
-        program_name: NO,
-        more_info: NO,
-        program_name_tag: 1,
-        more_info_tag: 2,
-    };
-    let found = pe_c_opus_info(&bytes, &value, &mut failure, &mut opus);
-    assert_eq!(rt; found, DONE);
+    let (said, found) = part(&bytes, &value, PART_OPUS_INFO, &mut failure);
+    let opus = found.opus_info;
+    assert_eq!(rt; said, DONE);
     assert!(rt; same(opus.program_name, content(725, 2, 5)));
     assert!(rt; same(opus.more_info, content(734, 2, 20)));
     assert_eq!(rt; (opus.program_name_tag, opus.more_info_tag), (0x81, 0x80));
@@ -299,23 +238,14 @@ fn time_stamps(rt: HostRuntime) -> Result<(), Fail> {
     let bytes = file(rt.alloc())?;
     let mut values = attribute(&bytes, content(841, 4, 1072), 111)?.values;
     let token = next(&bytes, &mut values)?.whole;
-    let (mut failure, mut signed) = (UNTOUCHED, no_signed_data());
-    let found = pe_c_signature(&bytes, &token, &mut failure, &mut signed);
-    assert_eq!(rt; found, DONE);
+    let mut failure = UNTOUCHED;
+    let (said, found) = part(&bytes, &token, PART_SIGNATURE, &mut failure);
+    let signed = found.signature;
+    assert_eq!(rt; said, DONE);
     assert_eq!(rt; signed.content_type.id, 3);
     assert!(rt; same(signed.content, whole(926, 2, 113)));
-    let mut stamp = TimeStamp {
-        version: NO,
-        policy: NO,
-        digest_algorithm: NO_ALGORITHM,
-        digest: NO,
-        serial: NO,
-        time: NO,
-        accuracy: NO,
-        nonce: NO,
-        authority: NO,
-    };
-    let result = pe_c_time_stamp(&bytes, &signed.content, &mut failure, &mut stamp);
+    let (result, found) = part(&bytes, &signed.content, PART_TIME_STAMP, &mut failure);
+    let stamp = found.time_stamp;
     assert_eq!(rt; result, DONE);
     assert!(rt; same(stamp.version, content(930, 2, 1)));
     assert!(rt; same(stamp.policy, content(933, 2, 4)));
@@ -326,9 +256,9 @@ fn time_stamps(rt: HostRuntime) -> Result<(), Fail> {
     assert!(rt; same(stamp.accuracy, whole(1018, 2, 10)));
     assert!(rt; same(stamp.nonce, content(1030, 2, 9)));
     assert!(rt; same(stamp.authority, NO_RANGE));
-    let mut time = NO_TIME;
-    let found = pe_c_time(&bytes, &stamp.time, &mut failure, &mut time);
-    assert_eq!(rt; found, DONE);
+    let (said, found) = part(&bytes, &stamp.time, PART_TIME, &mut failure);
+    let time = found.time;
+    assert_eq!(rt; said, DONE);
     assert_eq!(rt; (time.year, time.month, time.day), (2023, 11, 14));
     assert_eq!(rt; (time.hour, time.minute, time.second), (22, 13, 20));
     assert!(rt; is_untouched(&failure));
@@ -340,22 +270,9 @@ fn certificates(rt: HostRuntime) -> Result<(), Fail> {
     let bytes = file(rt.alloc())?;
     let mut walk = content(166, 4, 350);
     let element = next(&bytes, &mut walk)?;
-    let (mut failure, mut out) = (
-        UNTOUCHED,
-        X509 {
-            to_be_signed: NO,
-            serial: NO,
-            issuer: NO,
-            subject: NO,
-            not_before: NO,
-            not_after: NO,
-            public_key: NO,
-            extensions: NO,
-            signature_algorithm: NO_ALGORITHM,
-            signature: NO,
-        },
-    );
-    let said = pe_c_x509(&bytes, &element.whole, &mut failure, &mut out);
+    let mut failure = UNTOUCHED;
+    let (said, found) = part(&bytes, &element.whole, PART_X509, &mut failure);
+    let out = found.x509;
     assert_eq!(rt; said, DONE);
     assert!(rt; same(out.to_be_signed, whole(174, 4, 256)));
     assert!(rt; same(out.serial, content(183, 2, 2)));
@@ -374,21 +291,16 @@ fn certificates(rt: HostRuntime) -> Result<(), Fail> {
         (content(415, 2, 3), 407, content(420, 2, 12), 0),
     ] {
         let element = next(&bytes, &mut extensions)?.whole;
-        let mut found = X509Extension {
-            kind: NO_OID,
-            value: NO,
-            critical: 4,
-            spare: 5,
-        };
-        let said = pe_c_extension(&bytes, &element, &mut failure, &mut found);
+        let (said, found) = part(&bytes, &element, PART_EXTENSION, &mut failure);
+        let found = found.extension;
         assert_eq!(rt; said, DONE);
         assert!(rt; is_oid(found.kind, kind, id));
         assert!(rt; same(found.value, value));
         assert_eq!(rt; (found.critical, found.spare), (critical, 0));
     }
-    let mut usage = 9;
     let extension = whole(397, 2, 14);
-    let said = pe_c_key_usage(&bytes, &extension, &mut failure, &mut usage);
+    let (said, found) = part(&bytes, &extension, PART_KEY_USAGE, &mut failure);
+    let usage = found.key_usage;
     assert_eq!(rt; said, DONE);
     assert_eq!(rt; usage, 0x80);
     assert!(rt; is_untouched(&failure));
@@ -405,13 +317,11 @@ const NO_PART: NamePart = NamePart {
 #[test]
 fn names(rt: HostRuntime) -> Result<(), Fail> {
     let bytes = file(rt.alloc())?;
-    let mut walk = NameWalk {
-        left: NO,
-        rdn_end: 9,
-    };
     let mut failure = UNTOUCHED;
     let subject = whole(247, 2, 53);
-    assert_eq!(rt; pe_c_name(&bytes, &subject, &mut failure, &mut walk), DONE);
+    let (result, found) = part(&bytes, &subject, PART_NAME, &mut failure);
+    let mut walk = found.name;
+    assert_eq!(rt; result, DONE);
     assert!(rt; same(walk.left, content(247, 2, 53)));
     assert_eq!(rt; walk.rdn_end, 0);
     // The second relative distinguished name has two attributes.
@@ -466,19 +376,16 @@ fn refused_elements(rt: HostRuntime) {
     assert!(rt; result == 2 && is_failure(&failure, 2, 2, 3, (0, 0)));
     assert_eq!(rt; (walk.offset, walk.length), (0, 0));
     // A tag that an attribute does not have, and the month 13.
-    let mut attribute = SignerAttribute {
-        kind: NO_OID,
-        values: NO,
-    };
     let tag = b"\x30\x08\x06\x03\x55\x04\x03\x02\x01\x05";
-    let result = pe_c_attribute(tag, &range(0, 10), &mut failure, &mut attribute);
+    let (result, found) = part(tag, &range(0, 10), PART_ATTRIBUTE, &mut failure);
+    let attribute = found.attribute;
     assert!(rt; result == 508 && is_failure(&failure, 508, 7, 2, (0, 0x31)));
-    assert!(rt; same(attribute.values, NO));
-    let mut time = NO_TIME;
+    assert!(rt; is_filled(&attribute));
     let month = b"\0\x17\x0D261327010004Z";
-    let result = pe_c_time(month, &range(1, 15), &mut failure, &mut time);
+    let (result, found) = part(month, &range(1, 15), PART_TIME, &mut failure);
+    let time = found.time;
     assert!(rt; result == 511 && is_failure(&failure, 511, 1, 0, (0, 0)));
-    assert_eq!(rt; time.year, 1);
+    assert!(rt; is_filled(&time));
 }
 
 /// `contentType` at 1, `messageDigest` at 18, an attribute without values at 35, `messageDigest` at 42.

@@ -12,17 +12,13 @@ use super::made::*;
 use super::resource_leaves::{NO_LEAF, of_size, start, with_tree};
 use super::steps::pe_c_next_resource_leaf;
 use super::unwinding::with_records;
-use crate::failures::steps::arm64::{pe_c_arm64_code_failure, pe_c_arm64_record_failure};
-use crate::failures::steps::bound_imports::pe_c_bound_import_failure;
-use crate::failures::steps::delay_imports::{
-    pe_c_delay_import_failure, pe_c_delayed_function_failure,
-};
-use crate::failures::steps::resources::pe_c_resource_leaf_failure;
-use crate::failures::steps::symbols::pe_c_symbol_name_failure;
+use crate::failures::steps::arm64::pe_c_arm64_code_failure;
 use crate::failures::steps::unwinding::{pe_c_code_failure, pe_c_unwind_record_failure};
 use crate::failures::steps::{
-    pe_c_certificate_failure, pe_c_import_failure, pe_c_library_failure,
-    pe_c_relocation_block_failure, pe_c_relocation_failure,
+    FAILED_ARM64_RECORD, FAILED_BOUND_IMPORT, FAILED_CERTIFICATE, FAILED_DELAY_IMPORT,
+    FAILED_DELAYED_FUNCTION, FAILED_IMPORT, FAILED_LIBRARY, FAILED_RELOCATION,
+    FAILED_RELOCATION_BLOCK, FAILED_RESOURCE_LEAF, FAILED_SYMBOL_NAME, FailedItem,
+    pe_c_image_item_failure, pe_c_item_failure,
 };
 use crate::unwinding::pe_c_unwind_record;
 use calls_directories::names::imports::{Imports, Libraries};
@@ -50,6 +46,25 @@ fn said(call: impl FnOnce(&mut Failure) -> u32) -> Said {
 fn said_of(bytes: &[u8], image: &Image, call: impl FnOnce(&View, &mut Failure) -> u32) -> Said {
     let mut out = NO_FAILURE;
     said_with(call(&view(bytes, image, &sections()), &mut out), &out)
+}
+
+/// What is said of an item that is a range, in the page at 0x5000.
+fn by_range(bytes: &[u8], kind: u32, range: Range) -> Said {
+    let item = FailedItem {
+        range,
+        number: 0x5000,
+        ..filled()
+    };
+    said(|out| pe_c_item_failure(bytes, kind, &item, out))
+}
+
+/// What is said of an item of an image.
+fn item_of(bytes: &[u8], image: &Image, kind: u32, item: FailedItem) -> Said {
+    said_of(
+        bytes,
+        image,
+        |view, out| pe_c_image_item_failure(view, kind, &item, out),
+    )
 }
 
 fn said_with(answer: u32, out: &Failure) -> Said {
@@ -88,19 +103,28 @@ fn libraries_at(next: u64, is_over: u32) -> Libraries {
 }
 
 fn library(bytes: &[u8], walk: &Libraries) -> Said {
-    said_of(
+    let libraries = *walk;
+    item_of(
         bytes,
         &image(X64),
-        |view, out| pe_c_library_failure(view, walk, out),
+        FAILED_LIBRARY,
+        FailedItem {
+            libraries,
+            ..filled()
+        },
     )
 }
 
 fn import(bytes: &[u8], image: &Image, left: Range) -> Said {
-    let walk = Imports { left, rva: 7 };
-    said_of(
+    let imports = Imports { left, rva: 7 };
+    item_of(
         bytes,
         image,
-        |view, out| pe_c_import_failure(view, &walk, out),
+        FAILED_IMPORT,
+        FailedItem {
+            imports,
+            ..filled()
+        },
     )
 }
 
@@ -169,9 +193,9 @@ fn links_that_never_end_are_told_early(rt: HostRuntime) -> Result<(), Fail> {
     many.push(section(0x1000, 0x4_0000, 0, 0x4_0000))?;
     let (mut out, image, table) = (NO_FAILURE, image(X64), range(0, 240_000));
     // By an index the last section has all RVAs.
-    let last = [IndexEntry {
+    let last = [RangeEntry {
         start: 0,
-        section: 20_001,
+        number: 20_001,
     }];
     for (unwind, index) in [(0x100D, &[][..]), (0x100D, &last)] {
         let view = View {
@@ -234,9 +258,11 @@ fn resource_leaves(rt: HostRuntime) -> Result<(), Fail> {
             let mut leaf = NO_LEAF;
             pe_c_next_resource_leaf(&view(&bytes, &image, &sections()), &mut walk, &mut leaf);
         }
-        let found = said_of(&bytes, &image, |view, out| {
-            pe_c_resource_leaf_failure(view, &walk.leaves, out)
-        });
+        let leaves_left = FailedItem {
+            leaves: walk.leaves,
+            ..filled()
+        };
+        let found = item_of(&bytes, &image, FAILED_RESOURCE_LEAF, leaves_left);
         assert_eq!(rt; found, wanted, "of {offset} after {leaves}");
     }
     Ok(())
@@ -254,7 +280,7 @@ fn certificates(rt: HostRuntime) -> Result<(), Fail> {
     for (offset, change, wanted) in changes {
         let mut bytes = three_certificates(rt.alloc())?;
         put(&mut bytes, &[(offset, change)]);
-        let found = said(|out| pe_c_certificate_failure(&bytes, &range(24, 24), out));
+        let found = by_range(&bytes, FAILED_CERTIFICATE, range(24, 24));
         assert_eq!(rt; found, wanted, "{change:?} at {offset}");
     }
     let bytes = three_certificates(rt.alloc())?;
@@ -262,7 +288,7 @@ fn certificates(rt: HostRuntime) -> Result<(), Fail> {
         (range(49, 7), error(SHORT, [49, 8, 0])),
         (range(24, 33), error(CERTIFICATE_TABLE, [57, 0, 0])),
     ] {
-        let found = said(|out| pe_c_certificate_failure(&bytes, &walk, out));
+        let found = by_range(&bytes, FAILED_CERTIFICATE, walk);
         assert_eq!(rt; found, wanted);
     }
     Ok(())
@@ -277,7 +303,7 @@ fn relocations(rt: HostRuntime) -> Result<(), Fail> {
         (range(16, 7), error(SHORT, [16, 8, 0])),
         (range(16, 13), error(DIRECTORY_BLOCK_TRUNCATED, [0, 14, 13])),
     ] {
-        let found = said(|out| pe_c_relocation_block_failure(&bytes, &walk, out));
+        let found = by_range(&bytes, FAILED_RELOCATION_BLOCK, walk);
         assert_eq!(rt; found, wanted);
     }
     for (walk, wanted) in [
@@ -285,11 +311,11 @@ fn relocations(rt: HostRuntime) -> Result<(), Fail> {
         (range(28, 2), error(DIRECTORY_NO_ARGUMENT, [0, 0, 0x5020])),
         (range(28, 1), error(SHORT, [28, 2, 0])),
     ] {
-        let found = said(|out| pe_c_relocation_failure(&bytes, 0x5000, &walk, out));
+        let found = by_range(&bytes, FAILED_RELOCATION, walk);
         assert_eq!(rt; found, wanted);
     }
     bytes[20] = 9;
-    let found = said(|out| pe_c_relocation_block_failure(&bytes, &range(16, 14), out));
+    let found = by_range(&bytes, FAILED_RELOCATION_BLOCK, range(16, 14));
     assert_eq!(rt; found, error(DIRECTORY_BLOCK_SIZE, [0, 0, 9]));
     Ok(())
 }
@@ -308,9 +334,12 @@ fn arm64_records(rt: HostRuntime) -> Result<(), Fail> {
             begin_address: 9,
             unwind_data,
         };
-        let found = said_of(&bytes, &with_table(0x1000, size), |view, out| {
-            pe_c_arm64_record_failure(view, &function, out)
-        });
+        let of_function = FailedItem {
+            function,
+            ..filled()
+        };
+        let image = with_table(0x1000, size);
+        let found = item_of(&bytes, &image, FAILED_ARM64_RECORD, of_function);
         assert_eq!(rt; found, wanted, "at {unwind_data:#x}");
     }
     Ok(())
@@ -341,9 +370,11 @@ fn with_second(alloc: Global, attributes: u32, name: u32, table: u32) -> Result<
 }
 
 fn delay_import(bytes: &[u8], walk: Range) -> Said {
-    said_of(bytes, &image(X64), |view, out| {
-        pe_c_delay_import_failure(view, &walk, out)
-    })
+    let item = FailedItem {
+        range: walk,
+        ..filled()
+    };
+    item_of(bytes, &image(X64), FAILED_DELAY_IMPORT, item)
 }
 
 #[test]
@@ -371,10 +402,11 @@ fn delay_imports(rt: HostRuntime) -> Result<(), Fail> {
 }
 
 fn delayed_function(bytes: &[u8], image: &Image, left: [u64; 2], attributes: u32) -> Said {
-    let walk = functions(left, attributes);
-    said_of(bytes, image, |view, out| {
-        pe_c_delayed_function_failure(view, &walk, out)
-    })
+    let item = FailedItem {
+        functions: functions(left, attributes),
+        ..filled()
+    };
+    item_of(bytes, image, FAILED_DELAYED_FUNCTION, item)
 }
 
 #[test]
@@ -412,7 +444,12 @@ fn bound_imports(rt: HostRuntime) {
         // An entry and its forwarder have 16 bytes.
         (table, range(4, 15), error(SHORT, [4, 16, 0])),
     ] {
-        let found = said(|out| pe_c_bound_import_failure(BOUND, &table, &walk, out));
+        let item = FailedItem {
+            range: walk,
+            table,
+            ..filled()
+        };
+        let found = said(|out| pe_c_item_failure(BOUND, FAILED_BOUND_IMPORT, &item, out));
         assert_eq!(rt; found, wanted);
     }
 }
@@ -426,7 +463,13 @@ fn symbol_name(
 ) -> Result<Said, Fail> {
     let mut bytes = object(alloc)?;
     bytes[0xCE] = string;
-    Ok(said(|out| { pe_c_symbol_name_failure(&bytes, &table, &strings, index, out) }))
+    let item = FailedItem {
+        table,
+        strings,
+        index,
+        ..filled()
+    };
+    Ok(said(|out| pe_c_item_failure(&bytes, FAILED_SYMBOL_NAME, &item, out)))
 }
 
 #[test]

@@ -11,13 +11,15 @@ use crate::lists::delay_imports::{pe_c_list_delay_imports, pe_c_list_delayed_fun
 use crate::lists::exports::pe_c_list_exports;
 use crate::lists::forwarders::pe_c_list_export_addresses;
 use crate::lists::guard_tables::pe_c_list_guard_entries;
-use crate::lists::imports::{pe_c_list_imports, pe_c_list_libraries};
+use crate::lists::imports::pe_c_list_libraries;
 use crate::lists::relocations::{pe_c_list_relocation_blocks, pe_c_list_relocations};
 use crate::lists::resources::{pe_c_list_resource_leaves, pe_c_list_version_blocks};
-use crate::lists::x64::{pe_c_list_codes, pe_c_list_functions};
+use crate::lists::x64::pe_c_list_codes;
+pub(crate) use crate::names::pe_c_next_import;
 use crate::resources::{pe_c_fixed_version_in, pe_c_version_blocks, pe_c_version_text_in};
 use crate::stack::walk::pe_c_next_frames;
 use crate::unwinding::pe_c_exception_table;
+pub(crate) use crate::unwinding::pe_c_function_at;
 use calls_directories::directories::base_relocations::{Relocation, RelocationBlock};
 use calls_directories::directories::bound_imports::{BoundForwarder, BoundImport};
 use calls_directories::directories::delay_imports::{
@@ -26,7 +28,7 @@ use calls_directories::directories::delay_imports::{
 use calls_directories::directories::guard_tables::{GuardEntries, GuardEntry};
 use calls_directories::names::export_addresses::{AddressTable, Exported};
 use calls_directories::names::exports::{Export, ExportWalk};
-use calls_directories::names::imports::{Import, ImportWalk, Library, LibraryWalk};
+use calls_directories::names::imports::{Library, LibraryWalk};
 use calls_directories::resources::leaves::{LeafWalk, ResourceLeaf};
 use calls_directories::resources::version_blocks::VersionBlock;
 use calls_headers::coff::{Symbol, SymbolWalk};
@@ -37,7 +39,7 @@ use calls_unwind::arm64::codes::{Arm64Code, Arm64CodeWalk};
 use calls_unwind::unwinding::{Code, CodeWalk};
 use pe_frame::MemoryPiece;
 use pe_resource::VsFixedFileInfo;
-use pe_unwind::{Arm64RuntimeFunction, RuntimeFunction};
+use pe_unwind::Arm64RuntimeFunction;
 
 /// What such a function returns of a list with room for one entry: `none` where the list writes none.
 fn one<T: Copy, F: FnOnce(&mut [T], &mut u64) -> u32>(out: &mut T, none: u32, list: F) -> u32 {
@@ -76,22 +78,6 @@ pub(crate) fn pe_c_next_export(view: &View, walk: &mut ExportWalk, out: &mut Exp
         out,
         NOTHING,
         |entries, written| pe_c_list_exports(view, walk, &mut [], entries, written),
-    )
-}
-
-pub(crate) fn pe_c_next_library(view: &View, walk: &mut LibraryWalk, out: &mut Library) -> u32 {
-    one(
-        out,
-        NOTHING,
-        |entries, written| pe_c_list_libraries(view, walk, &mut [], entries, written),
-    )
-}
-
-pub(crate) fn pe_c_next_import(view: &View, walk: &mut ImportWalk, out: &mut Import) -> u32 {
-    one(
-        out,
-        NOTHING,
-        |entries, written| pe_c_list_imports(view, walk, &mut [], entries, written),
     )
 }
 
@@ -229,20 +215,6 @@ pub(crate) fn pe_c_arm64_table(view: &View, out: &mut Range) -> u32 {
     pe_c_exception_table(view, 0xAA64, out)
 }
 
-pub(crate) fn pe_c_function_at(
-    bytes: &[u8],
-    table: &Range,
-    index: u64,
-    out: &mut RuntimeFunction,
-) -> u32 {
-    let mut next = index;
-    one(
-        out,
-        FUNCTION_INDEX,
-        |entries, written| pe_c_list_functions(bytes, table, &mut next, entries, written),
-    )
-}
-
 pub(crate) fn pe_c_arm64_function_at(
     bytes: &[u8],
     table: &Range,
@@ -275,15 +247,33 @@ pub(crate) fn pe_c_next_arm64_frame(
     pe_c_next_arm64_frames(modules, memory, pieces, walk, &mut [*walk], &mut 0)
 }
 
+/// The next library by its call, if a list with room for one has the same; else a number that no call returns.
+pub(crate) fn pe_c_next_library(view: &View, walk: &mut LibraryWalk, out: &mut Library) -> u32 {
+    let (mut before, mut listed) = (*walk, *out);
+    let number = one(
+        &mut listed,
+        NOTHING,
+        |entries, written| pe_c_list_libraries(view, &mut before, &mut [], entries, written),
+    );
+    let called = crate::names::pe_c_next_library(view, walk, out);
+    let is_same = raw(&listed) == raw(out) && raw(&before) == raw(walk);
+    if number == called && is_same {
+        called
+    } else {
+        9999
+    }
+}
+
+/// The export with an index by its call, if a list with room for one has the same; else a number that no call returns.
 pub(crate) fn pe_c_export_at(
     view: &View,
     table: &AddressTable,
     index: u64,
     out: &mut Exported,
 ) -> u32 {
-    let mut next = index;
-    one(
-        out,
+    let (mut next, mut listed) = (index, *out);
+    let number = one(
+        &mut listed,
         NOTHING,
         |entries, written| pe_c_list_export_addresses(
             view,
@@ -293,7 +283,13 @@ pub(crate) fn pe_c_export_at(
             entries,
             written,
         ),
-    )
+    );
+    let called = crate::names::pe_c_export_at(view, table, index, out);
+    if number == called && raw(&listed) == raw(out) {
+        called
+    } else {
+        9999
+    }
 }
 
 pub(crate) fn pe_c_symbol(bytes: &[u8], table: &Range, index: u64, out: &mut Symbol) -> u32 {

@@ -155,11 +155,11 @@ fn refuse_in_turn(
     Err(Fail::new("there is no end of requests"))
 }
 
-/// An image with every directory is read by so many requests: one for the sections, one for the certificates and one for the
-/// index of its one section, three for the exports (offsets, texts, list), and ten for the imports: six for the directory
-/// (offsets of names, texts, offsets of lists, these sorted, lists, records) and four for what they import (entries, offsets, texts,
-/// list). The names of the libraries, which it does not show, are not listed.
-const OF_AN_IMAGE: u32 = 16;
+/// An image with every directory is read by so many requests: one for the sections, one for the certificates and two for the
+/// index of its one section (its entries, and as many while they are merged), three for the exports (offsets, texts, list), and ten
+/// for the imports: six for the directory (offsets of names, texts, offsets of lists, these sorted, lists, records) and four for what
+/// they import (entries, offsets, texts, list). The names of the libraries, which it does not show, are not listed.
+const OF_AN_IMAGE: u32 = 17;
 
 /// A listing asks once more, for its text.
 #[test]

@@ -116,30 +116,50 @@ impl io::Write for Slow {
     }
 }
 
+/// What an engine leaves at a writer that stops at a write.
+fn written_to(
+    alloc: Global,
+    bytes: &[u8],
+    asked: Asked,
+    from: u64,
+    way: Way,
+) -> (Result<(), ReportError>, CountedOut<Slow>) {
+    let mut out = CountedOut::new(Slow {
+        written: Vec::new(alloc),
+        writes: 0,
+        from,
+        way,
+    });
+    let answer = match asked {
+        Asked::Listing => report(alloc, bytes, &ParseOptions::default(), &mut out),
+        Asked::FunctionAt(rva) => find(alloc, bytes, rva, &mut out),
+        Asked::Rewriting => rewrite(alloc, bytes, &mut out),
+    };
+    (answer, out)
+}
+
+/// Whether an engine returns what is due of a writer whose third write goes its way, and counts a failure, and the writer.
+fn slowed(alloc: Global, bytes: &[u8], asked: Asked, way: Way) -> (bool, CountedOut<Slow>) {
+    let (answer, out) = written_to(alloc, bytes, asked, 3, way);
+    let is_whole = way == Way::TakesOne;
+    let is_due = match answer {
+        Ok(()) => is_whole,
+        Err(refusal) => !is_whole && matches!(refusal, ReportError::Write),
+    };
+    (is_due && out.failures() == u64::from(!is_whole), out)
+}
+
 #[test]
 fn reports_to_slow_writers(rt: HostRuntime) -> Result<(), Fail> {
     let bytes = with_debug(rt.alloc())?;
-    let opts = ParseOptions::default();
     let begin = b"image 64 entry 00001".as_slice();
-    for (way, want, writes, failures) in [
-        (Way::Fails, begin, 3, 1),
-        (Way::TakesNothing, begin, 3, 1),
-        (Way::TakesOne, DEBUG_LINES, 57, 0),
+    for (way, want, writes) in [
+        (Way::Fails, begin, 3),
+        (Way::TakesNothing, begin, 3),
+        (Way::TakesOne, DEBUG_LINES, 57),
     ] {
-        let written = Vec::new(rt.alloc());
-        let mut out = CountedOut::new(Slow {
-            written,
-            writes: 0,
-            from: 3,
-            way,
-        });
-        match report(rt.alloc(), &bytes, &opts, &mut out) {
-            Ok(()) => assert!(rt; way == Way::TakesOne),
-            Err(refusal) => {
-                assert!(rt; way != Way::TakesOne && matches!(refusal, ReportError::Write));
-            }
-        }
-        assert_eq!(rt; out.failures(), failures);
+        let (is_due, out) = slowed(rt.alloc(), &bytes, Asked::Listing, way);
+        assert!(rt; is_due);
         let kind = out.cause().map(|error| error.kind());
         let wanted = (way == Way::Fails).then_some(io::ErrorKind::Interrupted);
         assert_eq!(rt; kind, wanted);
@@ -154,52 +174,18 @@ fn reports_to_slow_writers(rt: HostRuntime) -> Result<(), Fail> {
 #[test]
 fn rewrites_to_slow_writers(rt: HostRuntime) -> Result<(), Fail> {
     let bytes = with_debug(rt.alloc())?;
-    for (way, count, writes, failures) in [
-        (Way::Fails, 20, 3, 1),
-        (Way::TakesNothing, 20, 3, 1),
-        (Way::TakesOne, 0x410, 0x3FE, 0),
+    for (way, count, writes) in [
+        (Way::Fails, 20, 3),
+        (Way::TakesNothing, 20, 3),
+        (Way::TakesOne, 0x410, 0x3FE),
     ] {
-        let written = Vec::new(rt.alloc());
-        let mut out = CountedOut::new(Slow {
-            written,
-            writes: 0,
-            from: 3,
-            way,
-        });
-        match rewrite(rt.alloc(), &bytes, &mut out) {
-            Ok(()) => assert!(rt; way == Way::TakesOne),
-            Err(refusal) => {
-                assert!(rt; way != Way::TakesOne && matches!(refusal, ReportError::Write));
-            }
-        }
-        assert_eq!(rt; out.failures(), failures);
+        let (is_due, out) = slowed(rt.alloc(), &bytes, Asked::Rewriting, way);
+        assert!(rt; is_due);
         let slow = out.into_inner();
         assert!(rt; bytes.get(..count) == Some(slow.written.as_slice()));
         assert_eq!(rt; slow.writes, writes);
     }
     Ok(())
-}
-
-/// The text of an engine, to a writer that stops at a write.
-fn written_to(
-    alloc: Global,
-    bytes: &[u8],
-    asked: Asked,
-    from: u64,
-    way: Way,
-) -> (bool, CountedOut<Slow>) {
-    let mut out = CountedOut::new(Slow {
-        written: Vec::new(alloc),
-        writes: 0,
-        from,
-        way,
-    });
-    let answer = match asked {
-        Asked::Listing => report(alloc, bytes, &ParseOptions::default(), &mut out),
-        Asked::FunctionAt(rva) => find(alloc, bytes, rva, &mut out),
-        Asked::Rewriting => rewrite(alloc, bytes, &mut out),
-    };
-    (answer.is_ok(), out)
 }
 
 /// A writer that stops at its first write, at its second and so on, until the whole text is written before that: what
@@ -217,7 +203,8 @@ fn stops_at_each_write(rt: HostRuntime) -> Result<(), Fail> {
         for way in [Way::Fails, Way::TakesNothing] {
             let mut whole = 0u64;
             for before in 0..200u64 {
-                let (is_done, out) = written_to(alloc, &bytes, asked, before.wrapping_add(1), way);
+                let (answer, out) = written_to(alloc, &bytes, asked, before.wrapping_add(1), way);
+                let is_done = answer.is_ok();
                 let taken = text.len().min(before.wrapping_mul(10) as usize);
                 assert_eq!(rt; is_done, taken == text.len());
                 assert_eq!(rt; out.failures(), u64::from(!is_done));
@@ -231,8 +218,8 @@ fn stops_at_each_write(rt: HostRuntime) -> Result<(), Fail> {
             }
             assert!(rt; whole > 0);
         }
-        let (is_done, out) = written_to(alloc, &bytes, asked, 1, Way::TakesOne);
-        assert!(rt; is_done && out.failures() == 0);
+        let (answer, out) = written_to(alloc, &bytes, asked, 1, Way::TakesOne);
+        assert!(rt; answer.is_ok() && out.failures() == 0);
         assert!(rt; out.into_inner().written.as_slice() == text);
     }
     Ok(())

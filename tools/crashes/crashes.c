@@ -9,6 +9,22 @@ __declspec(dllimport) int call_last(callback called);
 
 #define COLD __attribute__((cold, noinline))
 
+/* A function that crashes at once. */
+#define CRASHES(head, name, after) \
+    static head \
+    { \
+        ENTER(name); \
+        sink = *nowhere; \
+        LEAVE(); \
+        after; \
+    }
+/* Room whose numbers follow from two arguments. */
+#define FILLED_ROOM(factor) \
+    int room[20]; \
+    for (int i = 0; i < 20; i++) \
+        room[i] = i * factor; \
+    pointer_sink = (char *)room
+
 /* ---- what most cases end in */
 
 NOT_INLINE static int reads_nowhere(int n)
@@ -111,10 +127,7 @@ COLD static int is_rare(int n)
 NOT_INLINE static int calls_rare(int n, int factor)
 {
     ENTER("calls_rare");
-    int room[20];
-    for (int i = 0; i < 20; i++)
-        room[i] = i * factor;
-    pointer_sink = (char *)room;
+    FILLED_ROOM(factor);
     if (__builtin_expect(n == 77, 0)) {
         sink = is_rare(factor) + room[3];
         sink += is_rare(factor + 1) * room[n & 15];
@@ -133,10 +146,7 @@ COLD static void notes(int n)
 NOT_INLINE static int faults_in_its_cold_part(int n, int factor)
 {
     ENTER("faults_in_its_cold_part");
-    int room[20];
-    for (int i = 0; i < 20; i++)
-        room[i] = i * factor;
-    pointer_sink = (char *)room;
+    FILLED_ROOM(factor);
     if (__builtin_expect(n == 77, 0)) {
         notes(factor);
         *nowhere = room[n & 15];
@@ -177,13 +187,7 @@ NOT_INLINE static int calls_what_never_returns(int n)
 
 static void call_without_return(void) { sink = calls_what_never_returns(7); }
 
-static void crash_called_by_assembler(void *argument)
-{
-    (void)argument;
-    ENTER("crash_called_by_assembler");
-    sink = *nowhere;
-    LEAVE();
-}
+CRASHES(void crash_called_by_assembler(void *argument), "crash_called_by_assembler", )
 
 static void call_at_a_function_end(void) { call_at_the_end(crash_called_by_assembler, 0); }
 
@@ -206,14 +210,7 @@ static void null_call(void) { sink = calls_no_function(7); }
 static void from_a_library(void) { sink = call_each(crashes_at_3, 10); }
 static void from_a_library_by_a_tail_call(void) { sink = call_last(reads_nowhere); }
 
-static BOOL CALLBACK on_locale(LPSTR name)
-{
-    (void)name;
-    ENTER("on_locale");
-    sink = *nowhere;
-    LEAVE();
-    return TRUE;
-}
+CRASHES(BOOL CALLBACK on_locale(LPSTR name), "on_locale", return TRUE)
 
 static void from_kernelbase(void) { EnumSystemLocalesA(on_locale, LCID_INSTALLED); }
 
@@ -259,7 +256,6 @@ static HANDLE event;
 
 static DWORD WINAPI waits(void *argument)
 {
-    (void)argument;
     ENTER("waits");
     WaitForSingleObject(event, INFINITE);
     LEAVE();
@@ -268,7 +264,6 @@ static DWORD WINAPI waits(void *argument)
 
 static DWORD WINAPI sleeps(void *argument)
 {
-    (void)argument;
     ENTER("sleeps");
     for (;;)
         Sleep(50);
@@ -276,7 +271,6 @@ static DWORD WINAPI sleeps(void *argument)
 
 static DWORD WINAPI crashes_later(void *argument)
 {
-    (void)argument;
     ENTER("crashes_later");
     Sleep(300);
     sink = *nowhere;
@@ -295,14 +289,7 @@ static void in_one_of_several_threads(void)
     WaitForMultipleObjects(3, threads, TRUE, INFINITE);
 }
 
-static void CALLBACK works(PTP_CALLBACK_INSTANCE instance, void *argument)
-{
-    (void)instance;
-    (void)argument;
-    ENTER("works");
-    sink = *nowhere;
-    LEAVE();
-}
+CRASHES(void CALLBACK works(PTP_CALLBACK_INSTANCE instance, void *argument), "works", )
 
 static void in_a_thread_pool(void)
 {
@@ -310,13 +297,7 @@ static void in_a_thread_pool(void)
     Sleep(INFINITE);
 }
 
-static void CALLBACK on_apc(ULONG_PTR number)
-{
-    (void)number;
-    ENTER("on_apc");
-    sink = *nowhere;
-    LEAVE();
-}
+CRASHES(void CALLBACK on_apc(ULONG_PTR number), "on_apc", )
 
 static void in_an_apc(void)
 {
@@ -324,13 +305,7 @@ static void in_an_apc(void)
     SleepEx(100, TRUE);
 }
 
-static void CALLBACK on_fiber(void *argument)
-{
-    (void)argument;
-    ENTER("on_fiber");
-    sink = *nowhere;
-    LEAVE();
-}
+CRASHES(void CALLBACK on_fiber(void *argument), "on_fiber", )
 
 static void in_a_fiber(void)
 {

@@ -127,7 +127,6 @@ static HANDLE is_crashed, is_written;
 /* A thread that waits for the crash: the one that crashed may have no stack left. */
 static DWORD WINAPI report(void *unused)
 {
-    (void)unused;
     WaitForSingleObject(is_crashed, INFINITE);
     print_calls();
     if (the_crash.exception)

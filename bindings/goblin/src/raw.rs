@@ -491,7 +491,7 @@ pub(crate) struct View<'a, 's> {
     pub bytes: &'a [u8],
     pub info: &'s ImageInfo,
     pub sections: &'s [Section],
-    index: &'s [sys::IndexEntry],
+    index: &'s [sys::RangeEntry],
 }
 
 /// From so many sections on an index of them costs less than what it spares.
@@ -510,13 +510,13 @@ impl<'a, 's> View<'a, 's> {
     }
 
     /// An index of the sections, empty where these are few: those are tested in turn as fast.
-    pub fn make_index(&self) -> error::Result<Vec<sys::IndexEntry>> {
+    pub fn make_index(&self) -> error::Result<Vec<sys::RangeEntry>> {
         if self.sections.len() < MANY {
             return Ok(Vec::new());
         }
         let count = 4 * self.sections.len();
         let (mut room, mut written) = (list(count)?, 0);
-        room.resize(count, sys::IndexEntry::default());
+        room.resize(count, sys::RangeEntry::default());
         // SAFETY: the view is of what is borrowed for the call; the pointer and the length are those of one array, and the library
         // requires nothing else.
         let number = unsafe { sys::pe_c_index(&self.lent(), room.as_mut_ptr(), count, &mut written) };
@@ -526,7 +526,7 @@ impl<'a, 's> View<'a, 's> {
     }
 
     /// The same with an index of the sections.
-    pub fn with_index(self, index: &'s [sys::IndexEntry]) -> Self {
+    pub fn with_index(self, index: &'s [sys::RangeEntry]) -> Self {
         View { index, ..self }
     }
 }

@@ -512,9 +512,9 @@ fn read_by_lies(bytes: &[u8], random: &mut Random, seen: &mut Seen) {
     let mut room = sections;
     let index = random.edge(64);
     let lies = [few % 96, few, few.rotate_left(9)]
-        .map(|rva| sys::IndexEntry { start: u64::from(rva), section: random.edge(sections.len() as u64 + 2) });
+        .map(|rva| sys::RangeEntry { start: u64::from(rva), number: random.edge(sections.len() as u64 + 2) });
     let mut view = sys::View::of(bytes, &image, &sections, &lies[..few as usize % 4]);
-    let (mut entries, mut made) = ([sys::IndexEntry::default(); 64], 0);
+    let (mut entries, mut made) = ([sys::RangeEntry::default(); 64], 0);
     // SAFETY: the pointers and lengths are those of slices, and each record is lent for its call; so are the view's.
     if unsafe { sys::pe_c_index(&view, entries.as_mut_ptr(), entries.len(), &mut made) } == 0 && few & 0x80 == 0 {
         (view.index, view.entries) = (entries.as_ptr(), made as usize);

@@ -1,5 +1,5 @@
 //! Shows the functions of an image of x64 or ARM64, their records and codes, one a line: `unwind FILE`. tools/compare_unwind
-//! compares the lines of ARM64 with another reader.
+//! compares the lines with another reader.
 //!
 //! What no call returns is read from the bytes: three fields of an ARM64 record. A first line `strict` says that the image is
 //! refused in strict mode; the lines after it are those of permissive mode.

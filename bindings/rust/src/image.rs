@@ -6,7 +6,7 @@
 //! library are made here and in `walk`.
 
 use crate::shown;
-use crate::sys::{self, Directory, Headers, ImageInfo, IndexEntry, Section};
+use crate::sys::{self, Directory, Headers, ImageInfo, RangeEntry, Section};
 use alloc::vec::Vec;
 use core::fmt;
 
@@ -399,7 +399,7 @@ pub(crate) fn returned<T>(number: u32, value: T) -> Result<Option<T>, Error> {
 impl sys::View {
     /// The view of an image by its parts, for calls that end before any of them changes or ends. Without an index, and for calls
     /// that need no sections, a part is empty.
-    pub fn of(bytes: &[u8], image: &ImageInfo, sections: &[Section], index: &[IndexEntry]) -> sys::View {
+    pub fn of(bytes: &[u8], image: &ImageInfo, sections: &[Section], index: &[RangeEntry]) -> sys::View {
         sys::View {
             bytes: bytes.as_ptr(),
             length: bytes.len(),
@@ -516,7 +516,7 @@ pub struct Image<'a> {
     info: ImageInfo,
     sections: Vec<Section>,
     /// The index of the sections, where these are many; else empty.
-    index: Vec<IndexEntry>,
+    index: Vec<RangeEntry>,
 }
 
 /// From so many sections on an image has an index of them: an index costs a search what some twenty sections cost it.
@@ -682,7 +682,7 @@ impl<'a> Image<'a> {
         let needed = 4 * self.sections.len();
         let mut room = Vec::new();
         room.try_reserve_exact(needed).map_err(|_| Error::MEMORY)?;
-        room.resize(needed, IndexEntry::default());
+        room.resize(needed, RangeEntry::default());
         let (view, mut written) = (self.view(), 0);
         // SAFETY: the view is of what `self` lends for the call, and the room has so many entries.
         let number = unsafe { sys::pe_c_index(&view, room.as_mut_ptr(), needed, &mut written) };

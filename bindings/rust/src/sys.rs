@@ -20,6 +20,70 @@ pub const ROOM: u32 = 101;
 pub const PERMISSIVE: u32 = 1;
 /// Added to a mode: the bytes are an image as loaded.
 pub const MAPPED: u32 = 2;
+/// By [`pe_c_overlay`].
+pub const RANGE_OVERLAY: u32 = 1;
+/// By [`pe_c_string_table`].
+pub const RANGE_STRING_TABLE: u32 = 2;
+/// By [`pe_c_debug_entries`].
+pub const RANGE_DEBUG_ENTRIES: u32 = 3;
+/// By [`pe_c_signature`].
+pub const PART_SIGNATURE: u32 = 1;
+/// By [`pe_c_algorithm_identifier`].
+pub const PART_ALGORITHM: u32 = 2;
+/// By [`pe_c_indirect_data`].
+pub const PART_INDIRECT_DATA: u32 = 3;
+/// By [`pe_c_image_data`].
+pub const PART_IMAGE_DATA: u32 = 4;
+/// By [`pe_c_signer`].
+pub const PART_SIGNER: u32 = 5;
+/// By [`pe_c_attribute`].
+pub const PART_ATTRIBUTE: u32 = 6;
+/// By [`pe_c_opus_info`].
+pub const PART_OPUS_INFO: u32 = 7;
+/// By [`pe_c_x509`].
+pub const PART_X509: u32 = 8;
+/// By [`pe_c_extension`].
+pub const PART_EXTENSION: u32 = 9;
+/// By [`pe_c_key_usage`].
+pub const PART_KEY_USAGE: u32 = 10;
+/// By [`pe_c_name`].
+pub const PART_NAME: u32 = 11;
+/// By [`pe_c_time`].
+pub const PART_TIME: u32 = 12;
+/// By [`pe_c_time_stamp`].
+pub const PART_TIME_STAMP: u32 = 13;
+/// By [`pe_c_certificate_failure`].
+pub const FAILED_CERTIFICATE: u32 = 1;
+/// By [`pe_c_relocation_block_failure`].
+pub const FAILED_RELOCATION_BLOCK: u32 = 2;
+/// By [`pe_c_relocation_failure`].
+pub const FAILED_RELOCATION: u32 = 3;
+/// By [`pe_c_bound_import_failure`].
+pub const FAILED_BOUND_IMPORT: u32 = 4;
+/// By [`pe_c_symbol_name_failure`].
+pub const FAILED_SYMBOL_NAME: u32 = 5;
+/// By [`pe_c_library_failure`].
+pub const FAILED_LIBRARY: u32 = 6;
+/// By [`pe_c_import_failure`].
+pub const FAILED_IMPORT: u32 = 7;
+/// By [`pe_c_resource_leaf_failure`].
+pub const FAILED_RESOURCE_LEAF: u32 = 8;
+/// By [`pe_c_arm64_record_failure`].
+pub const FAILED_ARM64_RECORD: u32 = 9;
+/// By [`pe_c_delay_import_failure`].
+pub const FAILED_DELAY_IMPORT: u32 = 10;
+/// By [`pe_c_delayed_function_failure`].
+pub const FAILED_DELAYED_FUNCTION: u32 = 11;
+/// By [`pe_c_directory_failure`].
+pub const FAILED_DIRECTORY: u32 = 12;
+/// By [`pe_c_image_failure`].
+pub const FAILED_IMAGE: u32 = 13;
+/// By [`pe_c_te_failure`].
+pub const FAILED_TE: u32 = 14;
+/// By [`pe_c_debug_failure`].
+pub const FAILED_DEBUG_RECORD: u32 = 15;
+/// By [`pe_c_sections_failure`].
+pub const FAILED_SECTIONS: u32 = 16;
 /// Threads.
 pub const THREAD_LIST_STREAM: u32 = 3;
 /// Modules.
@@ -155,17 +219,17 @@ pub struct Section {
 }
 const _: () = assert!(core::mem::size_of::<Section>() == 40);
 
-/// An entry of an index of the sections, which [`pe_c_index`] makes: the RVAs from `start` up to the start of the next
-/// entry.
+/// An entry of an index of the sections, which [`pe_c_index`] makes, or of pieces of memory, which [`pe_c_memory_runs`]
+/// makes on the way: the RVAs or addresses from `start` up to the start of the next entry.
 #[repr(C)]
 #[derive(Clone, Copy, Debug, Default, PartialEq, Eq)]
-pub struct IndexEntry {
-    /// The first RVA.
+pub struct RangeEntry {
+    /// The first one.
     pub start: u64,
-    /// Index of the section that maps them, plus 1; 0 where none does.
-    pub section: u64,
+    /// Index of the section or piece that has them, plus 1; 0 where none does.
+    pub number: u64,
 }
-const _: () = assert!(core::mem::size_of::<IndexEntry>() == 16);
+const _: () = assert!(core::mem::size_of::<RangeEntry>() == 16);
 
 /// An image as calls take it: its bytes, what [`pe_c_image`] and [`pe_c_sections`] returned of them, and an index of
 /// the sections or none.
@@ -186,7 +250,7 @@ pub struct View {
     /// Of the sections.
     pub count: usize,
     /// What [`pe_c_index`] made of these sections; NULL for no index.
-    pub index: *const IndexEntry,
+    pub index: *const RangeEntry,
     /// Of the index; 0 for no index, and then calls test the sections in turn.
     pub entries: usize,
 }
@@ -995,6 +1059,41 @@ pub struct TstInfo {
     pub authority: Range,
 }
 const _: () = assert!(core::mem::size_of::<TstInfo>() == 168);
+
+/// A part of any kind: [`pe_c_signature_part`] writes the field of one kind.
+#[repr(C)]
+#[derive(Clone, Copy, Debug, Default, PartialEq, Eq)]
+pub struct AnyPart {
+    /// [`PART_SIGNATURE`].
+    pub signature: SignedData,
+    /// [`PART_ALGORITHM`].
+    pub algorithm: Algorithm,
+    /// [`PART_INDIRECT_DATA`].
+    pub indirect_data: SpcIndirectData,
+    /// [`PART_IMAGE_DATA`].
+    pub image_data: SpcPeImageData,
+    /// [`PART_SIGNER`].
+    pub signer: SignerInfo,
+    /// [`PART_ATTRIBUTE`].
+    pub attribute: SignerAttribute,
+    /// [`PART_OPUS_INFO`].
+    pub opus_info: SpcOpusInfo,
+    /// [`PART_X509`].
+    pub x509: X509Certificate,
+    /// [`PART_EXTENSION`].
+    pub extension: X509Extension,
+    /// [`PART_NAME`].
+    pub name: NameWalk,
+    /// [`PART_TIME`].
+    pub time: UtcTime,
+    /// [`PART_TIME_STAMP`].
+    pub time_stamp: TstInfo,
+    /// [`PART_KEY_USAGE`].
+    pub key_usage: u32,
+    /// Is never written.
+    pub spare: u32,
+}
+const _: () = assert!(core::mem::size_of::<AnyPart>() == 1064);
 
 /// What an Authenticode digest covers: hash the ranges in their order, and then so many zeros.
 #[repr(C)]
@@ -2396,6 +2495,41 @@ pub struct NamedSymbolWalk {
 }
 const _: () = assert!(core::mem::size_of::<NamedSymbolWalk>() == 40);
 
+/// What is read of an item: the fields of its kind alone.
+#[repr(C)]
+#[derive(Clone, Copy, Debug, Default, PartialEq, Eq)]
+pub struct FailedItem {
+    /// A walk that is a range.
+    pub range: Range,
+    /// Of a walk over bound imports, or of symbols.
+    pub table: Range,
+    /// Of symbols.
+    pub strings: Range,
+    /// Of a symbol, or the offset of section headers.
+    pub index: u64,
+    /// A walk over libraries.
+    pub libraries: Libraries,
+    /// A walk over imports.
+    pub imports: Imports,
+    /// A walk over leaves.
+    pub leaves: ResourceWalk,
+    /// A walk over the functions of a DLL that is loaded later.
+    pub functions: DelayedFunctions,
+    /// A function on ARM64.
+    pub function: Arm64Function,
+    /// The RVA of the page of a block, the index of a directory, or a mode.
+    pub number: u32,
+    /// As which record that of an entry is read, as of [`pe_c_debug_failure`].
+    pub record: u32,
+    /// Of the debug directory.
+    pub entry: DebugEntry,
+    /// How many section headers there are.
+    pub number_of_sections: u16,
+    /// Is never read.
+    pub spare: u16,
+}
+const _: () = assert!(core::mem::size_of::<FailedItem>() == 248);
+
 /// The header, `MINIDUMP_HEADER`.
 #[repr(C)]
 #[derive(Clone, Copy, Debug, Default, PartialEq, Eq)]
@@ -2832,18 +2966,6 @@ pub struct DumpAnyRecord {
 }
 const _: () = assert!(core::mem::size_of::<DumpAnyRecord>() == 632);
 
-/// An entry of an index of pieces of memory, which [`pe_c_memory_runs`] makes on the way: the addresses from `start` up
-/// to the start of the next entry.
-#[repr(C)]
-#[derive(Clone, Copy, Debug, Default, PartialEq, Eq)]
-pub struct RangeEntry {
-    /// The first address.
-    pub start: u64,
-    /// Index of the piece that has them, plus 1; 0 where none does.
-    pub number: u64,
-}
-const _: () = assert!(core::mem::size_of::<RangeEntry>() == 16);
-
 /// The registers of a thread on x64, CONTEXT.
 #[repr(C)]
 #[derive(Clone, Copy, Debug, Default, PartialEq, Eq)]
@@ -3123,7 +3245,7 @@ extern "C" {
     /// earlier one, whose size is rounded up to a page, is not kept.
     ///
     /// Errors: [`ROOM`] where the array has too few entries; then `written` is how many it has to have.
-    pub fn pe_c_index(view: *const View, room: *mut IndexEntry, entries: usize, written: *mut u64) -> u32;
+    pub fn pe_c_index(view: *const View, room: *mut RangeEntry, entries: usize, written: *mut u64) -> u32;
     /// Returns the index of the section that maps an RVA: the first that covers it, by which [`pe_c_offset`] maps it.
     ///
     /// [`NOTHING`] where none does, and in an image as loaded, where no section maps RVAs. It never returns an error.
@@ -3172,19 +3294,14 @@ extern "C" {
     /// [`Error::DIRECTORY_NO_ARGUMENT`] of blocks and entries, and [`Error::DIRECTORY_RELOCATION_KIND`] of a type other
     /// than `IMAGE_REL_BASED_ABSOLUTE`, `_HIGH`, `_LOW`, `_HIGHLOW` and `_DIR64`.
     pub fn pe_c_relocate(view: *const View, difference: u64, room: *mut u8, room_length: usize) -> u32;
-    /// Returns the range of the bytes after the headers and the raw data of all sections, which no loader reads: where
-    /// installers keep their archives, and signed images their certificates.
+    /// Returns the range of a kind.
     ///
-    /// It may hold what headers lead to: the certificate table, COFF symbols. [`NOTHING`] where no byte follows, and in
-    /// an image as loaded. It never returns an error.
-    pub fn pe_c_overlay(view: *const View, out: *mut Range) -> u32;
-    /// Returns the COFF string table, from its size field on.
+    /// [`NOTHING`] without one, and of another kind. Errors: those of the function of the kind.
+    pub fn pe_c_image_range(view: *const View, kind: u32, out: *mut Range) -> u32;
+    /// Returns the bytes of a directory by its index, `PE_C_DIRECTORY_BASERELOC` and others, as RVAs lead to them.
     ///
-    /// [`NOTHING`] where the image has no COFF symbols, where the bytes end after them, and in an image as loaded.
-    ///
-    /// Errors: [`Error::SHORT`] of the headers and of the symbols; [`Error::STRING_TABLE`] where the table is
-    /// truncated.
-    pub fn pe_c_string_table(view: *const View, out: *mut Range) -> u32;
+    /// [`NOTHING`] where it is absent. Errors: [`Error::UNMAPPED`], [`Error::SHORT`].
+    pub fn pe_c_directory_table(view: *const View, index: u32, out: *mut Range) -> u32;
     /// Returns the name of a section in the string table: UTF-8, not NUL-terminated.
     ///
     /// [`NOTHING`] where its header has the name itself, and where no string is at the offset, NUL-terminated and
@@ -3255,12 +3372,6 @@ extern "C" {
         walk: *mut Range,
         out: *mut RichEntry,
     ) -> u32;
-    /// Returns the entries of the debug directory as a walk for [`pe_c_next_debug_entry`].
-    ///
-    /// [`NOTHING`] without a directory.
-    ///
-    /// Errors: [`Error::UNMAPPED`]; [`Error::DEBUG_BOUNDS`] in strict mode.
-    pub fn pe_c_debug_entries(view: *const View, out: *mut Range) -> u32;
     /// Returns the next entry of the debug directory.
     ///
     /// Errors: [`Error::SHORT`] where the walk is not inside the bytes, or its last entry is truncated.
@@ -3337,55 +3448,6 @@ extern "C" {
         walk: *mut Range,
         out: *mut DebugEntry,
     ) -> u32;
-    /// Returns why [`pe_c_image`] refuses the bytes in this mode.
-    ///
-    /// [`NOTHING`] where it does not. It never returns an error.
-    ///
-    /// A number that is refused has its offset, and `needed` is how many bytes it has. [`Error::SHORT`] has `offset`
-    /// and `needed`.
-    pub fn pe_c_image_failure(bytes: *const u8, length: usize, mode: u32, out: *mut Failure) -> u32;
-    /// Returns why [`pe_c_sections`] refuses the section headers of an image, whatever room it is given.
-    ///
-    /// [`NOTHING`] where it does not. It never returns an error. The failure is [`Error::SHORT`], with the offset of
-    /// the headers and the bytes that they need. Of [`pe_c_te_sections`] it is what this call returns with the
-    /// `sections_offset` 40.
-    pub fn pe_c_sections_failure(bytes: *const u8, length: usize, image: *const ImageInfo, out: *mut Failure) -> u32;
-    /// Returns why [`pe_c_te`] refuses the bytes.
-    ///
-    /// [`NOTHING`] where it does not. It never returns an error.
-    pub fn pe_c_te_failure(bytes: *const u8, length: usize, out: *mut Failure) -> u32;
-    /// Returns what is wrong with a directory, `PE_C_DIRECTORY_EXPORT` and so on: the result of the call that reads it,
-    /// and the numbers of that error.
-    ///
-    /// [`NOTHING`] where that call returns no error, and of a directory that no call reads. It never returns an error.
-    ///
-    /// The calls: [`pe_c_export_tables`], [`pe_c_import_libraries`], [`pe_c_resource_leaves`]; [`pe_c_function_table`],
-    /// of ARM64 [`pe_c_arm64_table`]; [`pe_c_next_certificate`] of the first certificate, in an image as loaded of what
-    /// is at that offset; [`pe_c_relocation_blocks`], [`pe_c_debug_entries`], [`pe_c_tls`], [`pe_c_load_config`],
-    /// [`pe_c_bound_imports`], [`pe_c_delay_imports`], [`pe_c_clr_header`].
-    ///
-    /// The numbers: of [`Error::SHORT`] `offset` and `needed`; of [`Error::CERTIFICATE_SIZE`] `needed`; of
-    /// [`Error::UNMAPPED`] `value`, the RVA; of [`Error::EXCEPTION_SIZE`], [`Error::CERTIFICATE_REVISION`],
-    /// [`Error::CERTIFICATE_TYPE`] and [`Error::DIRECTORY_CLR_HEADER_SIZE`] `value`; of [`Error::EXCEPTION_OFFSET`]
-    /// `offset`; of [`Error::EXCEPTION_BOUNDS`], [`Error::DEBUG_BOUNDS`], [`Error::RESOURCE_BOUNDS`] and
-    /// [`Error::CERTIFICATE_TABLE`] `offset`, where the table ends.
-    pub fn pe_c_directory_failure(view: *const View, index: u32, out: *mut Failure) -> u32;
-    /// Returns what is wrong with the record of an entry of the debug directory that is read as one of these, whatever
-    /// the entry's type is: its result by [`pe_c_debug_record`], and the numbers of that error.
-    ///
-    /// [`NOTHING`] where that is no error, and of a kind that is none of these. It never returns an error.
-    ///
-    /// The numbers: of [`Error::SHORT`] `offset` and `needed`; of [`Error::DEBUG_DATA`] `needed`; of
-    /// [`Error::DEBUG_SIZE`] and [`Error::POGO_SIZE`] `value`, the size that the entry says; of [`Error::BAD_MAGIC`]
-    /// `value`.
-    pub fn pe_c_debug_failure(
-        bytes: *const u8,
-        length: usize,
-        mode: u32,
-        entry: *const DebugEntry,
-        kind: u32,
-        out: *mut Failure,
-    ) -> u32;
     /// Returns the next attribute certificate.
     ///
     /// The walk starts as the range of the directory: `virtual_address` and size of
@@ -3395,16 +3457,18 @@ extern "C" {
     /// Errors: [`Error::CERTIFICATE_TABLE`] where the walk is not inside the bytes; [`Error::SHORT`] of the header;
     /// [`Error::CERTIFICATE_SIZE`], [`Error::CERTIFICATE_REVISION`], [`Error::CERTIFICATE_TYPE`].
     pub fn pe_c_next_certificate(bytes: *const u8, length: usize, walk: *mut Range, out: *mut Certificate) -> u32;
-    /// Reads a signature: the body of a certificate, or the value of an attribute that is a nested signature or a time
-    /// stamp.
+    /// Reads the part that a range starts with, as one of a kind, [`PART_SIGNATURE`] and others, into the field of the
+    /// kind alone.
     ///
-    /// Errors, then: [`Error::SIGNATURE_CONTENT_TYPE`] where the content is no signed data.
-    pub fn pe_c_signature(
+    /// The other fields are unchanged, and none need be initialised. [`NOTHING`] of another kind. Errors: those of the
+    /// function of the kind, below.
+    pub fn pe_c_signature_part(
         bytes: *const u8,
         length: usize,
         range: *const Range,
+        kind: u32,
         failure: *mut SignatureFailure,
-        out: *mut SignedData,
+        out: *mut AnyPart,
     ) -> u32;
     /// Returns the next element of a list: certificates, signers, attributes, their values, extensions, algorithms.
     ///
@@ -3415,46 +3479,6 @@ extern "C" {
         walk: *mut Range,
         failure: *mut SignatureFailure,
         out: *mut DerElement,
-    ) -> u32;
-    /// Reads an algorithm.
-    pub fn pe_c_algorithm_identifier(
-        bytes: *const u8,
-        length: usize,
-        range: *const Range,
-        failure: *mut SignatureFailure,
-        out: *mut Algorithm,
-    ) -> u32;
-    /// Reads what Authenticode signs: the content of a signature with the type `PE_C_OID_SPC_INDIRECT_DATA`.
-    pub fn pe_c_indirect_data(
-        bytes: *const u8,
-        length: usize,
-        range: *const Range,
-        failure: *mut SignatureFailure,
-        out: *mut SpcIndirectData,
-    ) -> u32;
-    /// Reads what a signature says of an image as a file.
-    pub fn pe_c_image_data(
-        bytes: *const u8,
-        length: usize,
-        range: *const Range,
-        failure: *mut SignatureFailure,
-        out: *mut SpcPeImageData,
-    ) -> u32;
-    /// Reads a signer of a signature, or a counter-signature.
-    pub fn pe_c_signer(
-        bytes: *const u8,
-        length: usize,
-        range: *const Range,
-        failure: *mut SignatureFailure,
-        out: *mut SignerInfo,
-    ) -> u32;
-    /// Reads an attribute of a signer.
-    pub fn pe_c_attribute(
-        bytes: *const u8,
-        length: usize,
-        range: *const Range,
-        failure: *mut SignatureFailure,
-        out: *mut SignerAttribute,
     ) -> u32;
     /// Finds an attribute of a signer by the id of its type, such as `PE_C_OID_MESSAGE_DIGEST`: the first in a walk
     /// over `signed_attributes` or `unsigned_attributes`.
@@ -3470,51 +3494,6 @@ extern "C" {
         failure: *mut SignatureFailure,
         out: *mut SignerAttribute,
     ) -> u32;
-    /// Reads what a signer says of the program.
-    pub fn pe_c_opus_info(
-        bytes: *const u8,
-        length: usize,
-        range: *const Range,
-        failure: *mut SignatureFailure,
-        out: *mut SpcOpusInfo,
-    ) -> u32;
-    /// Reads a certificate.
-    pub fn pe_c_x509(
-        bytes: *const u8,
-        length: usize,
-        range: *const Range,
-        failure: *mut SignatureFailure,
-        out: *mut X509Certificate,
-    ) -> u32;
-    /// Reads an extension of a certificate.
-    pub fn pe_c_extension(
-        bytes: *const u8,
-        length: usize,
-        range: *const Range,
-        failure: *mut SignatureFailure,
-        out: *mut X509Extension,
-    ) -> u32;
-    /// Returns what a key is for, of an extension with the type `PE_C_OID_KEY_USAGE`: 0x80 digitalSignature, 0x40
-    /// contentCommitment, 0x20 keyEncipherment, 0x10 dataEncipherment, 8 keyAgreement, 4 keyCertSign, 2 cRLSign, 1
-    /// encipherOnly, 0x8000 decipherOnly.
-    ///
-    /// [`NOTHING`] where the value has no bits, more than 16, or unused bits that are more than 7 or not 0. `range` is
-    /// that of the extension.
-    pub fn pe_c_key_usage(
-        bytes: *const u8,
-        length: usize,
-        range: *const Range,
-        failure: *mut SignatureFailure,
-        out: *mut u32,
-    ) -> u32;
-    /// Returns a walk over the attributes of a name: of an issuer or a subject.
-    pub fn pe_c_name(
-        bytes: *const u8,
-        length: usize,
-        range: *const Range,
-        failure: *mut SignatureFailure,
-        out: *mut NameWalk,
-    ) -> u32;
     /// Returns the next attribute of a name, in the order of the name: the country mostly first.
     pub fn pe_c_next_name_attribute(
         bytes: *const u8,
@@ -3522,25 +3501,6 @@ extern "C" {
         walk: *mut NameWalk,
         failure: *mut SignatureFailure,
         out: *mut NameAttribute,
-    ) -> u32;
-    /// Reads a time: the end of a validity, the value of signingTime, the time of a time stamp.
-    ///
-    /// Errors, then: [`Error::SIGNATURE_BAD_TIME`] where it is no UTCTime or GeneralizedTime, not in the form of RFC
-    /// 5280 (seconds, and Z), or has a number that no time has.
-    pub fn pe_c_time(
-        bytes: *const u8,
-        length: usize,
-        range: *const Range,
-        failure: *mut SignatureFailure,
-        out: *mut UtcTime,
-    ) -> u32;
-    /// Reads what a time stamp says: the content of a signature with the type `PE_C_OID_TST_INFO`.
-    pub fn pe_c_time_stamp(
-        bytes: *const u8,
-        length: usize,
-        range: *const Range,
-        failure: *mut SignatureFailure,
-        out: *mut TstInfo,
     ) -> u32;
     /// Returns what the Authenticode digest of an image covers.
     ///
@@ -3910,12 +3870,6 @@ extern "C" {
     ///
     /// Errors: [`Error::UNMAPPED`].
     pub fn pe_c_import_libraries(view: *const View, out: *mut Libraries) -> u32;
-    /// Returns the entries of the delay import directory, where a walk starts.
-    ///
-    /// [`NOTHING`] where the directory is absent.
-    ///
-    /// Errors: [`Error::UNMAPPED`], [`Error::SHORT`].
-    pub fn pe_c_delay_imports(view: *const View, out: *mut Range) -> u32;
     /// Returns the bytes of the directory: the table that the next two calls take.
     ///
     /// [`NOTHING`] where it is absent.
@@ -4121,12 +4075,6 @@ extern "C" {
     ///
     /// Errors: those of [`pe_c_load_config`]; [`Error::DIRECTORY_VA_BELOW_BASE`], [`Error::UNMAPPED`].
     pub fn pe_c_guard_table(view: *const View, table: u32, out: *mut GuardEntries) -> u32;
-    /// Returns the blocks of the base relocations as a walk.
-    ///
-    /// [`NOTHING`] where the directory is absent.
-    ///
-    /// Errors: [`Error::UNMAPPED`], [`Error::SHORT`].
-    pub fn pe_c_relocation_blocks(view: *const View, out: *mut Range) -> u32;
     /// Returns the CLR header.
     ///
     /// [`NOTHING`] where the directory is absent. The size in the data directory is not used.
@@ -4494,14 +4442,52 @@ extern "C" {
         number_of_entries: usize,
         written: *mut u64,
     ) -> u32;
-    /// Of [`pe_c_next_library`].
+    /// Returns the next library.
     ///
-    /// [`Error::UNMAPPED`], [`Error::IMPORT_NAME`]: `value`, the RVA of the library's name.
-    pub fn pe_c_library_failure(view: *const View, walk: *const Libraries, out: *mut Failure) -> u32;
-    /// Of [`pe_c_next_import`].
+    /// The directory ends at a record whose name or address table has the RVA 0. A list whose RVA is unmapped is empty.
+    /// Names and lists that overlap are read once each.
     ///
-    /// [`Error::UNMAPPED`], [`Error::IMPORT_NAME`]: `value`, the RVA of the hint before the name.
-    pub fn pe_c_import_failure(view: *const View, walk: *const Imports, out: *mut Failure) -> u32;
+    /// Errors: [`Error::SHORT`] where the record is truncated; [`Error::UNMAPPED`], [`Error::IMPORT_NAME`] of the name;
+    /// [`Error::SHORT`] where no zero entry ends the list.
+    pub fn pe_c_next_library(view: *const View, walk: *mut LibraryWalk, out: *mut Library) -> u32;
+    /// Returns the next import of a library.
+    ///
+    /// Errors: [`Error::SHORT`] where the walk is not inside the bytes, or its last entry is truncated;
+    /// [`Error::UNMAPPED`] of the RVA in the entry; [`Error::SHORT`] of the hint there; [`Error::IMPORT_NAME`] of the
+    /// name.
+    pub fn pe_c_next_import(view: *const View, walk: *mut ImportWalk, out: *mut Import) -> u32;
+    /// Returns the function with an index, from 0.
+    ///
+    /// Errors: [`Error::SHORT`] where the table is not inside the bytes; [`Error::FUNCTION_INDEX`] where it has no such
+    /// entry.
+    pub fn pe_c_function_at(
+        bytes: *const u8,
+        length: usize,
+        table: *const Range,
+        index: u64,
+        out: *mut Function,
+    ) -> u32;
+    /// Returns the export with an index, from 0.
+    ///
+    /// [`NOTHING`] where the table has no such entry.
+    ///
+    /// Errors: [`Error::SHORT`] where the table is not inside the bytes.
+    pub fn pe_c_export_at(view: *const View, table: *const AddressTable, index: u64, out: *mut Exported) -> u32;
+    /// Returns why an item of a kind is refused that bytes alone have: [`FAILED_CERTIFICATE`], `_RELOCATION_BLOCK`,
+    /// `_RELOCATION`, `_BOUND_IMPORT`, `_SYMBOL_NAME`, `_IMAGE`, `_TE`, `_DEBUG_RECORD`, `_SECTIONS`.
+    ///
+    /// [`NOTHING`] of another kind.
+    pub fn pe_c_item_failure(
+        bytes: *const u8,
+        length: usize,
+        kind: u32,
+        item: *const FailedItem,
+        out: *mut Failure,
+    ) -> u32;
+    /// Returns why an item of another of these kinds is refused.
+    ///
+    /// [`NOTHING`] of any else.
+    pub fn pe_c_image_item_failure(view: *const View, kind: u32, item: *const FailedItem, out: *mut Failure) -> u32;
     /// Of [`pe_c_unwind_record`], which takes the same.
     ///
     /// [`Error::FUNCTION_LINK`]: `value`, the link, which is odd: the RVA of no entry, plus 1;
@@ -4512,69 +4498,11 @@ extern "C" {
     ///
     /// [`Error::UNWIND_CODE`]: `value`, the second byte of the code: its operation, and what that takes above.
     pub fn pe_c_code_failure(bytes: *const u8, length: usize, walk: *const Walk, out: *mut Failure) -> u32;
-    /// Of [`pe_c_next_resource_leaf`].
-    ///
-    /// [`Error::TREE_NOT_DIRECTORY`], [`Error::TREE_NOT_DATA`], [`Error::TREE_NO_ENTRIES`]: `offset`, of what the entry
-    /// leads to, from the first directory.
-    pub fn pe_c_resource_leaf_failure(view: *const View, walk: *const ResourceWalk, out: *mut Failure) -> u32;
-    /// Of [`pe_c_next_certificate`].
-    ///
-    /// [`Error::CERTIFICATE_TABLE`]: `offset`, where the walk ends; [`Error::CERTIFICATE_SIZE`]: `needed`, the length
-    /// that the certificate states; [`Error::CERTIFICATE_REVISION`], [`Error::CERTIFICATE_TYPE`]: `value`.
-    pub fn pe_c_certificate_failure(bytes: *const u8, length: usize, walk: *const Range, out: *mut Failure) -> u32;
-    /// Of [`pe_c_next_relocation_block`].
-    ///
-    /// [`Error::DIRECTORY_BLOCK_SIZE`]: `value`, the size; [`Error::DIRECTORY_BLOCK_TRUNCATED`]: `needed`, the size,
-    /// and `value`, how many bytes are left.
-    pub fn pe_c_relocation_block_failure(bytes: *const u8, length: usize, walk: *const Range, out: *mut Failure) -> u32;
-    /// Of [`pe_c_next_relocation`], which takes the same `page_rva`.
-    ///
-    /// [`Error::DIRECTORY_NO_ARGUMENT`]: `value`, the RVA of the relocation.
-    pub fn pe_c_relocation_failure(
-        bytes: *const u8,
-        length: usize,
-        page_rva: u32,
-        walk: *const Range,
-        out: *mut Failure,
-    ) -> u32;
-    /// Of [`pe_c_arm64_unwind_record`].
-    ///
-    /// [`Error::ARM64_VERSION`]: `value`; those of the table as in [`pe_c_directory_failure`].
-    pub fn pe_c_arm64_record_failure(view: *const View, function: *const Arm64Function, out: *mut Failure) -> u32;
     /// Of [`pe_c_next_arm64_code`].
     ///
     /// [`Error::ARM64_CUT`]: `offset`, of the code, from the start of the stream; [`Error::ARM64_STREAM`]: `value`, how
     /// many bytes are left.
     pub fn pe_c_arm64_code_failure(bytes: *const u8, length: usize, walk: *const Arm64Walk, out: *mut Failure) -> u32;
-    /// Of [`pe_c_next_delay_import`].
-    ///
-    /// [`Error::DIRECTORY_VA_BELOW_BASE`]: `value`, the address; [`Error::DIRECTORY_DELAY_IMPORT_NAME`]: `offset`.
-    pub fn pe_c_delay_import_failure(view: *const View, walk: *const Range, out: *mut Failure) -> u32;
-    /// Of [`pe_c_next_delayed_function`].
-    ///
-    /// The same numbers.
-    pub fn pe_c_delayed_function_failure(view: *const View, walk: *const DelayedFunctions, out: *mut Failure) -> u32;
-    /// Of [`pe_c_next_bound_import`], which takes the same `table`.
-    ///
-    /// [`Error::DIRECTORY_BOUND_IMPORT_NAME`]: `offset`, from the start of `table`.
-    pub fn pe_c_bound_import_failure(
-        bytes: *const u8,
-        length: usize,
-        table: *const Range,
-        walk: *const Range,
-        out: *mut Failure,
-    ) -> u32;
-    /// Of [`pe_c_symbol_name`], which takes the same.
-    ///
-    /// [`Error::STRING_TABLE`]: `offset`, from the start of `strings`, unless the name is in the entry itself.
-    pub fn pe_c_symbol_name_failure(
-        bytes: *const u8,
-        length: usize,
-        table: *const Range,
-        strings: *const Range,
-        index: u64,
-        out: *mut Failure,
-    ) -> u32;
     /// Reads the header of a minidump, and tests that its directory is inside the bytes.
     ///
     /// Errors: [`Error::SHORT`] where there are fewer than 32 bytes; [`Error::DUMP_SIGNATURE`];
@@ -4958,6 +4886,48 @@ extern "C" {
     ) -> u32;
 }
 
+/// Returns the range of the bytes after the headers and the raw data of all sections, which no loader reads: where
+/// installers keep their archives, and signed images their certificates.
+///
+/// It may hold what headers lead to: the certificate table, COFF symbols. [`NOTHING`] where no byte follows, and in an
+/// image as loaded. It never returns an error.
+///
+/// # Safety
+///
+/// As of [`pe_c_image_range`], which it calls.
+#[rustfmt::skip]
+pub unsafe extern "C" fn pe_c_overlay(view: *const View, out: *mut Range) -> u32 {
+    unsafe { pe_c_image_range(view, RANGE_OVERLAY, out) }
+}
+
+/// Returns the COFF string table, from its size field on.
+///
+/// [`NOTHING`] where the image has no COFF symbols, where the bytes end after them, and in an image as loaded.
+///
+/// Errors: [`Error::SHORT`] of the headers and of the symbols; [`Error::STRING_TABLE`] where the table is truncated.
+///
+/// # Safety
+///
+/// As of [`pe_c_image_range`], which it calls.
+#[rustfmt::skip]
+pub unsafe extern "C" fn pe_c_string_table(view: *const View, out: *mut Range) -> u32 {
+    unsafe { pe_c_image_range(view, RANGE_STRING_TABLE, out) }
+}
+
+/// Returns the entries of the debug directory as a walk for [`pe_c_next_debug_entry`].
+///
+/// [`NOTHING`] without a directory.
+///
+/// Errors: [`Error::UNMAPPED`]; [`Error::DEBUG_BOUNDS`] in strict mode.
+///
+/// # Safety
+///
+/// As of [`pe_c_image_range`], which it calls.
+#[rustfmt::skip]
+pub unsafe extern "C" fn pe_c_debug_entries(view: *const View, out: *mut Range) -> u32 {
+    unsafe { pe_c_image_range(view, RANGE_DEBUG_ENTRIES, out) }
+}
+
 /// Returns the range of the function table, entries of 12 bytes.
 ///
 /// [`NOTHING`] without one, or for a machine other than x64.
@@ -4968,10 +4938,7 @@ extern "C" {
 ///
 /// As of [`pe_c_exception_table`], which it calls.
 #[rustfmt::skip]
-pub unsafe extern "C" fn pe_c_function_table(
-    view: *const View,
-    out: *mut Range,
-) -> u32 {
+pub unsafe extern "C" fn pe_c_function_table(view: *const View, out: *mut Range) -> u32 {
     unsafe { pe_c_exception_table(view, 0x8664, out) }
 }
 
@@ -4985,11 +4952,36 @@ pub unsafe extern "C" fn pe_c_function_table(
 ///
 /// As of [`pe_c_exception_table`], which it calls.
 #[rustfmt::skip]
-pub unsafe extern "C" fn pe_c_arm64_table(
-    view: *const View,
-    out: *mut Range,
-) -> u32 {
+pub unsafe extern "C" fn pe_c_arm64_table(view: *const View, out: *mut Range) -> u32 {
     unsafe { pe_c_exception_table(view, 0xAA64, out) }
+}
+
+/// Returns the entries of the delay import directory, where a walk starts.
+///
+/// [`NOTHING`] where the directory is absent.
+///
+/// Errors: [`Error::UNMAPPED`], [`Error::SHORT`].
+///
+/// # Safety
+///
+/// As of [`pe_c_directory_table`], which it calls.
+#[rustfmt::skip]
+pub unsafe extern "C" fn pe_c_delay_imports(view: *const View, out: *mut Range) -> u32 {
+    unsafe { pe_c_directory_table(view, 13, out) }
+}
+
+/// Returns the blocks of the base relocations as a walk.
+///
+/// [`NOTHING`] where the directory is absent.
+///
+/// Errors: [`Error::UNMAPPED`], [`Error::SHORT`].
+///
+/// # Safety
+///
+/// As of [`pe_c_directory_table`], which it calls.
+#[rustfmt::skip]
+pub unsafe extern "C" fn pe_c_relocation_blocks(view: *const View, out: *mut Range) -> u32 {
+    unsafe { pe_c_directory_table(view, 5, out) }
 }
 
 /// Returns the next code of a record, in the order in which they are undone: the last instruction of the prolog first.
@@ -5001,12 +4993,7 @@ pub unsafe extern "C" fn pe_c_arm64_table(
 ///
 /// As of [`pe_c_list_codes`], which it calls.
 #[rustfmt::skip]
-pub unsafe extern "C" fn pe_c_next_code(
-    bytes: *const u8,
-    length: usize,
-    walk: *mut Walk,
-    out: *mut Code,
-) -> u32 {
+pub unsafe extern "C" fn pe_c_next_code(bytes: *const u8, length: usize, walk: *mut Walk, out: *mut Code) -> u32 {
     let mut written = 0;
     let result = unsafe { pe_c_list_codes(bytes, length, walk, out, 1, &mut written) };
     if result == DONE && written == 0 { NOTHING } else { result }
@@ -5047,54 +5034,9 @@ pub unsafe extern "C" fn pe_c_next_arm64_code(
 ///
 /// As of [`pe_c_list_exports`], which it calls.
 #[rustfmt::skip]
-pub unsafe extern "C" fn pe_c_next_export(
-    view: *const View,
-    walk: *mut ExportWalk,
-    out: *mut Export,
-) -> u32 {
+pub unsafe extern "C" fn pe_c_next_export(view: *const View, walk: *mut ExportWalk, out: *mut Export) -> u32 {
     let mut written = 0;
     let result = unsafe { pe_c_list_exports(view, walk, core::ptr::null_mut(), 0, out, 1, &mut written) };
-    if result == DONE && written == 0 { NOTHING } else { result }
-}
-
-/// Returns the next library.
-///
-/// The directory ends at a record whose name or address table has the RVA 0. A list whose RVA is unmapped is empty.
-/// Names and lists that overlap are read once each.
-///
-/// Errors: [`Error::SHORT`] where the record is truncated; [`Error::UNMAPPED`], [`Error::IMPORT_NAME`] of the name;
-/// [`Error::SHORT`] where no zero entry ends the list.
-///
-/// # Safety
-///
-/// As of [`pe_c_list_libraries`], which it calls.
-#[rustfmt::skip]
-pub unsafe extern "C" fn pe_c_next_library(
-    view: *const View,
-    walk: *mut LibraryWalk,
-    out: *mut Library,
-) -> u32 {
-    let mut written = 0;
-    let result = unsafe { pe_c_list_libraries(view, walk, core::ptr::null_mut(), 0, out, 1, &mut written) };
-    if result == DONE && written == 0 { NOTHING } else { result }
-}
-
-/// Returns the next import of a library.
-///
-/// Errors: [`Error::SHORT`] where the walk is not inside the bytes, or its last entry is truncated; [`Error::UNMAPPED`]
-/// of the RVA in the entry; [`Error::SHORT`] of the hint there; [`Error::IMPORT_NAME`] of the name.
-///
-/// # Safety
-///
-/// As of [`pe_c_list_imports`], which it calls.
-#[rustfmt::skip]
-pub unsafe extern "C" fn pe_c_next_import(
-    view: *const View,
-    walk: *mut ImportWalk,
-    out: *mut Import,
-) -> u32 {
-    let mut written = 0;
-    let result = unsafe { pe_c_list_imports(view, walk, core::ptr::null_mut(), 0, out, 1, &mut written) };
     if result == DONE && written == 0 { NOTHING } else { result }
 }
 
@@ -5365,27 +5307,6 @@ pub unsafe extern "C" fn pe_c_next_arm64_frame(
 ///
 /// # Safety
 ///
-/// As of [`pe_c_list_functions`], which it calls.
-#[rustfmt::skip]
-pub unsafe extern "C" fn pe_c_function_at(
-    bytes: *const u8,
-    length: usize,
-    table: *const Range,
-    mut index: u64,
-    out: *mut Function,
-) -> u32 {
-    let mut written = 0;
-    let result = unsafe { pe_c_list_functions(bytes, length, table, &mut index, out, 1, &mut written) };
-    if result == DONE && written == 0 { crate::Error::FUNCTION_INDEX.number() } else { result }
-}
-
-/// Returns the function with an index, from 0.
-///
-/// Errors: [`Error::SHORT`] where the table is not inside the bytes; [`Error::FUNCTION_INDEX`] where it has no such
-/// entry.
-///
-/// # Safety
-///
 /// As of [`pe_c_list_arm64_functions`], which it calls.
 #[rustfmt::skip]
 pub unsafe extern "C" fn pe_c_arm64_function_at(
@@ -5398,27 +5319,6 @@ pub unsafe extern "C" fn pe_c_arm64_function_at(
     let mut written = 0;
     let result = unsafe { pe_c_list_arm64_functions(bytes, length, table, &mut index, out, 1, &mut written) };
     if result == DONE && written == 0 { crate::Error::FUNCTION_INDEX.number() } else { result }
-}
-
-/// Returns the export with an index, from 0.
-///
-/// [`NOTHING`] where the table has no such entry.
-///
-/// Errors: [`Error::SHORT`] where the table is not inside the bytes.
-///
-/// # Safety
-///
-/// As of [`pe_c_list_export_addresses`], which it calls.
-#[rustfmt::skip]
-pub unsafe extern "C" fn pe_c_export_at(
-    view: *const View,
-    table: *const AddressTable,
-    mut index: u64,
-    out: *mut Exported,
-) -> u32 {
-    let mut written = 0;
-    let result = unsafe { pe_c_list_export_addresses(view, table, &mut index, core::ptr::null_mut(), 0, out, 1, &mut written) };
-    if result == DONE && written == 0 { NOTHING } else { result }
 }
 
 /// Reads the symbol in an entry of a symbol table.
@@ -5454,10 +5354,7 @@ pub unsafe extern "C" fn pe_c_symbol(
 ///
 /// As of [`pe_c_version_blocks`] and [`pe_c_fixed_version_in`], which it calls.
 #[rustfmt::skip]
-pub unsafe extern "C" fn pe_c_fixed_version(
-    view: *const View,
-    out: *mut Version,
-) -> u32 {
+pub unsafe extern "C" fn pe_c_fixed_version(view: *const View, out: *mut Version) -> u32 {
     let mut found = Range::default();
     let result = unsafe { pe_c_version_blocks(view, &mut found) };
     if result == DONE { unsafe { pe_c_fixed_version_in((*view).bytes, (*view).length, &found, out) } } else { result }
@@ -5474,17 +5371,297 @@ pub unsafe extern "C" fn pe_c_fixed_version(
 ///
 /// As of [`pe_c_version_blocks`] and [`pe_c_version_text_in`], which it calls.
 #[rustfmt::skip]
-pub unsafe extern "C" fn pe_c_version_text(
-    view: *const View,
-    name: u32,
-    out: *mut Range,
-) -> u32 {
+pub unsafe extern "C" fn pe_c_version_text(view: *const View, name: u32, out: *mut Range) -> u32 {
     if name > 11 {
         return NOTHING;
     }
     let mut found = Range::default();
     let result = unsafe { pe_c_version_blocks(view, &mut found) };
     if result == DONE { unsafe { pe_c_version_text_in((*view).bytes, (*view).length, &found, name, out) } } else { result }
+}
+
+/// Reads a signature: the body of a certificate, or the value of an attribute that is a nested signature or a time
+/// stamp.
+///
+/// Errors, then: [`Error::SIGNATURE_CONTENT_TYPE`] where the content is no signed data.
+///
+/// # Safety
+///
+/// As of [`pe_c_signature_part`], which it calls.
+#[rustfmt::skip]
+pub unsafe extern "C" fn pe_c_signature(
+    bytes: *const u8,
+    length: usize,
+    range: *const Range,
+    failure: *mut SignatureFailure,
+    out: *mut SignedData,
+) -> u32 {
+    let mut found = core::mem::MaybeUninit::<AnyPart>::uninit();
+    let result = unsafe { pe_c_signature_part(bytes, length, range, PART_SIGNATURE, failure, found.as_mut_ptr()) };
+    if result == DONE {
+        unsafe { *out = (*found.as_ptr()).signature };
+    }
+    result
+}
+
+/// Reads an algorithm.
+///
+/// # Safety
+///
+/// As of [`pe_c_signature_part`], which it calls.
+#[rustfmt::skip]
+pub unsafe extern "C" fn pe_c_algorithm_identifier(
+    bytes: *const u8,
+    length: usize,
+    range: *const Range,
+    failure: *mut SignatureFailure,
+    out: *mut Algorithm,
+) -> u32 {
+    let mut found = core::mem::MaybeUninit::<AnyPart>::uninit();
+    let result = unsafe { pe_c_signature_part(bytes, length, range, PART_ALGORITHM, failure, found.as_mut_ptr()) };
+    if result == DONE {
+        unsafe { *out = (*found.as_ptr()).algorithm };
+    }
+    result
+}
+
+/// Reads what Authenticode signs: the content of a signature with the type `PE_C_OID_SPC_INDIRECT_DATA`.
+///
+/// # Safety
+///
+/// As of [`pe_c_signature_part`], which it calls.
+#[rustfmt::skip]
+pub unsafe extern "C" fn pe_c_indirect_data(
+    bytes: *const u8,
+    length: usize,
+    range: *const Range,
+    failure: *mut SignatureFailure,
+    out: *mut SpcIndirectData,
+) -> u32 {
+    let mut found = core::mem::MaybeUninit::<AnyPart>::uninit();
+    let result = unsafe { pe_c_signature_part(bytes, length, range, PART_INDIRECT_DATA, failure, found.as_mut_ptr()) };
+    if result == DONE {
+        unsafe { *out = (*found.as_ptr()).indirect_data };
+    }
+    result
+}
+
+/// Reads what a signature says of an image as a file.
+///
+/// # Safety
+///
+/// As of [`pe_c_signature_part`], which it calls.
+#[rustfmt::skip]
+pub unsafe extern "C" fn pe_c_image_data(
+    bytes: *const u8,
+    length: usize,
+    range: *const Range,
+    failure: *mut SignatureFailure,
+    out: *mut SpcPeImageData,
+) -> u32 {
+    let mut found = core::mem::MaybeUninit::<AnyPart>::uninit();
+    let result = unsafe { pe_c_signature_part(bytes, length, range, PART_IMAGE_DATA, failure, found.as_mut_ptr()) };
+    if result == DONE {
+        unsafe { *out = (*found.as_ptr()).image_data };
+    }
+    result
+}
+
+/// Reads a signer of a signature, or a counter-signature.
+///
+/// # Safety
+///
+/// As of [`pe_c_signature_part`], which it calls.
+#[rustfmt::skip]
+pub unsafe extern "C" fn pe_c_signer(
+    bytes: *const u8,
+    length: usize,
+    range: *const Range,
+    failure: *mut SignatureFailure,
+    out: *mut SignerInfo,
+) -> u32 {
+    let mut found = core::mem::MaybeUninit::<AnyPart>::uninit();
+    let result = unsafe { pe_c_signature_part(bytes, length, range, PART_SIGNER, failure, found.as_mut_ptr()) };
+    if result == DONE {
+        unsafe { *out = (*found.as_ptr()).signer };
+    }
+    result
+}
+
+/// Reads an attribute of a signer.
+///
+/// # Safety
+///
+/// As of [`pe_c_signature_part`], which it calls.
+#[rustfmt::skip]
+pub unsafe extern "C" fn pe_c_attribute(
+    bytes: *const u8,
+    length: usize,
+    range: *const Range,
+    failure: *mut SignatureFailure,
+    out: *mut SignerAttribute,
+) -> u32 {
+    let mut found = core::mem::MaybeUninit::<AnyPart>::uninit();
+    let result = unsafe { pe_c_signature_part(bytes, length, range, PART_ATTRIBUTE, failure, found.as_mut_ptr()) };
+    if result == DONE {
+        unsafe { *out = (*found.as_ptr()).attribute };
+    }
+    result
+}
+
+/// Reads what a signer says of the program.
+///
+/// # Safety
+///
+/// As of [`pe_c_signature_part`], which it calls.
+#[rustfmt::skip]
+pub unsafe extern "C" fn pe_c_opus_info(
+    bytes: *const u8,
+    length: usize,
+    range: *const Range,
+    failure: *mut SignatureFailure,
+    out: *mut SpcOpusInfo,
+) -> u32 {
+    let mut found = core::mem::MaybeUninit::<AnyPart>::uninit();
+    let result = unsafe { pe_c_signature_part(bytes, length, range, PART_OPUS_INFO, failure, found.as_mut_ptr()) };
+    if result == DONE {
+        unsafe { *out = (*found.as_ptr()).opus_info };
+    }
+    result
+}
+
+/// Reads a certificate.
+///
+/// # Safety
+///
+/// As of [`pe_c_signature_part`], which it calls.
+#[rustfmt::skip]
+pub unsafe extern "C" fn pe_c_x509(
+    bytes: *const u8,
+    length: usize,
+    range: *const Range,
+    failure: *mut SignatureFailure,
+    out: *mut X509Certificate,
+) -> u32 {
+    let mut found = core::mem::MaybeUninit::<AnyPart>::uninit();
+    let result = unsafe { pe_c_signature_part(bytes, length, range, PART_X509, failure, found.as_mut_ptr()) };
+    if result == DONE {
+        unsafe { *out = (*found.as_ptr()).x509 };
+    }
+    result
+}
+
+/// Reads an extension of a certificate.
+///
+/// # Safety
+///
+/// As of [`pe_c_signature_part`], which it calls.
+#[rustfmt::skip]
+pub unsafe extern "C" fn pe_c_extension(
+    bytes: *const u8,
+    length: usize,
+    range: *const Range,
+    failure: *mut SignatureFailure,
+    out: *mut X509Extension,
+) -> u32 {
+    let mut found = core::mem::MaybeUninit::<AnyPart>::uninit();
+    let result = unsafe { pe_c_signature_part(bytes, length, range, PART_EXTENSION, failure, found.as_mut_ptr()) };
+    if result == DONE {
+        unsafe { *out = (*found.as_ptr()).extension };
+    }
+    result
+}
+
+/// Returns what a key is for, of an extension with the type `PE_C_OID_KEY_USAGE`: 0x80 digitalSignature, 0x40
+/// contentCommitment, 0x20 keyEncipherment, 0x10 dataEncipherment, 8 keyAgreement, 4 keyCertSign, 2 cRLSign, 1
+/// encipherOnly, 0x8000 decipherOnly.
+///
+/// [`NOTHING`] where the value has no bits, more than 16, or unused bits that are more than 7 or not 0. `range` is that
+/// of the extension.
+///
+/// # Safety
+///
+/// As of [`pe_c_signature_part`], which it calls.
+#[rustfmt::skip]
+pub unsafe extern "C" fn pe_c_key_usage(
+    bytes: *const u8,
+    length: usize,
+    range: *const Range,
+    failure: *mut SignatureFailure,
+    out: *mut u32,
+) -> u32 {
+    let mut found = core::mem::MaybeUninit::<AnyPart>::uninit();
+    let result = unsafe { pe_c_signature_part(bytes, length, range, PART_KEY_USAGE, failure, found.as_mut_ptr()) };
+    if result == DONE {
+        unsafe { *out = (*found.as_ptr()).key_usage };
+    }
+    result
+}
+
+/// Returns a walk over the attributes of a name: of an issuer or a subject.
+///
+/// # Safety
+///
+/// As of [`pe_c_signature_part`], which it calls.
+#[rustfmt::skip]
+pub unsafe extern "C" fn pe_c_name(
+    bytes: *const u8,
+    length: usize,
+    range: *const Range,
+    failure: *mut SignatureFailure,
+    out: *mut NameWalk,
+) -> u32 {
+    let mut found = core::mem::MaybeUninit::<AnyPart>::uninit();
+    let result = unsafe { pe_c_signature_part(bytes, length, range, PART_NAME, failure, found.as_mut_ptr()) };
+    if result == DONE {
+        unsafe { *out = (*found.as_ptr()).name };
+    }
+    result
+}
+
+/// Reads a time: the end of a validity, the value of signingTime, the time of a time stamp.
+///
+/// Errors, then: [`Error::SIGNATURE_BAD_TIME`] where it is no UTCTime or GeneralizedTime, not in the form of RFC 5280
+/// (seconds, and Z), or has a number that no time has.
+///
+/// # Safety
+///
+/// As of [`pe_c_signature_part`], which it calls.
+#[rustfmt::skip]
+pub unsafe extern "C" fn pe_c_time(
+    bytes: *const u8,
+    length: usize,
+    range: *const Range,
+    failure: *mut SignatureFailure,
+    out: *mut UtcTime,
+) -> u32 {
+    let mut found = core::mem::MaybeUninit::<AnyPart>::uninit();
+    let result = unsafe { pe_c_signature_part(bytes, length, range, PART_TIME, failure, found.as_mut_ptr()) };
+    if result == DONE {
+        unsafe { *out = (*found.as_ptr()).time };
+    }
+    result
+}
+
+/// Reads what a time stamp says: the content of a signature with the type `PE_C_OID_TST_INFO`.
+///
+/// # Safety
+///
+/// As of [`pe_c_signature_part`], which it calls.
+#[rustfmt::skip]
+pub unsafe extern "C" fn pe_c_time_stamp(
+    bytes: *const u8,
+    length: usize,
+    range: *const Range,
+    failure: *mut SignatureFailure,
+    out: *mut TstInfo,
+) -> u32 {
+    let mut found = core::mem::MaybeUninit::<AnyPart>::uninit();
+    let result = unsafe { pe_c_signature_part(bytes, length, range, PART_TIME_STAMP, failure, found.as_mut_ptr()) };
+    if result == DONE {
+        unsafe { *out = (*found.as_ptr()).time_stamp };
+    }
+    result
 }
 
 /// Returns the entry of the directory with an index, or [`NOTHING`].
@@ -5836,4 +6013,289 @@ pub unsafe extern "C" fn pe_c_dump_context_arm64(
         unsafe { *out = (*found.as_ptr()).arm64 };
     }
     result
+}
+
+/// Returns why [`pe_c_image`] refuses the bytes in this mode.
+///
+/// [`NOTHING`] where it does not. It never returns an error.
+///
+/// A number that is refused has its offset, and `needed` is how many bytes it has. [`Error::SHORT`] has `offset` and
+/// `needed`.
+///
+/// # Safety
+///
+/// As of [`pe_c_item_failure`], which it calls.
+#[rustfmt::skip]
+pub unsafe extern "C" fn pe_c_image_failure(bytes: *const u8, length: usize, mode: u32, out: *mut Failure) -> u32 {
+    let item = FailedItem { number: mode, ..Default::default() };
+    unsafe { pe_c_item_failure(bytes, length, FAILED_IMAGE, &item, out) }
+}
+
+/// Returns what is wrong with a directory, `PE_C_DIRECTORY_EXPORT` and so on: the result of the call that reads it, and
+/// the numbers of that error.
+///
+/// [`NOTHING`] where that call returns no error, and of a directory that no call reads. It never returns an error.
+///
+/// The calls: [`pe_c_export_tables`], [`pe_c_import_libraries`], [`pe_c_resource_leaves`]; [`pe_c_function_table`], of
+/// ARM64 [`pe_c_arm64_table`]; [`pe_c_next_certificate`] of the first certificate, in an image as loaded of what is at
+/// that offset; [`pe_c_relocation_blocks`], [`pe_c_debug_entries`], [`pe_c_tls`], [`pe_c_load_config`],
+/// [`pe_c_bound_imports`], [`pe_c_delay_imports`], [`pe_c_clr_header`].
+///
+/// The numbers: of [`Error::SHORT`] `offset` and `needed`; of [`Error::CERTIFICATE_SIZE`] `needed`; of
+/// [`Error::UNMAPPED`] `value`, the RVA; of [`Error::EXCEPTION_SIZE`], [`Error::CERTIFICATE_REVISION`],
+/// [`Error::CERTIFICATE_TYPE`] and [`Error::DIRECTORY_CLR_HEADER_SIZE`] `value`; of [`Error::EXCEPTION_OFFSET`]
+/// `offset`; of [`Error::EXCEPTION_BOUNDS`], [`Error::DEBUG_BOUNDS`], [`Error::RESOURCE_BOUNDS`] and
+/// [`Error::CERTIFICATE_TABLE`] `offset`, where the table ends.
+///
+/// # Safety
+///
+/// As of [`pe_c_image_item_failure`], which it calls.
+#[rustfmt::skip]
+pub unsafe extern "C" fn pe_c_directory_failure(view: *const View, index: u32, out: *mut Failure) -> u32 {
+    let item = FailedItem { number: index, ..Default::default() };
+    unsafe { pe_c_image_item_failure(view, FAILED_DIRECTORY, &item, out) }
+}
+
+/// Returns why [`pe_c_sections`] refuses the section headers of an image, whatever room it is given.
+///
+/// [`NOTHING`] where it does not. It never returns an error. The failure is [`Error::SHORT`], with the offset of the
+/// headers and the bytes that they need. Of [`pe_c_te_sections`] it is what this call returns with the
+/// `sections_offset` 40.
+///
+/// # Safety
+///
+/// As of [`pe_c_item_failure`], which it calls.
+#[rustfmt::skip]
+pub unsafe extern "C" fn pe_c_sections_failure(
+    bytes: *const u8,
+    length: usize,
+    image: *const ImageInfo,
+    out: *mut Failure,
+) -> u32 {
+    let item = FailedItem { index: unsafe { (*image).sections_offset }, number_of_sections: unsafe { (*image).number_of_sections }, ..Default::default() };
+    unsafe { pe_c_item_failure(bytes, length, FAILED_SECTIONS, &item, out) }
+}
+
+/// Returns why [`pe_c_te`] refuses the bytes.
+///
+/// [`NOTHING`] where it does not. It never returns an error.
+///
+/// # Safety
+///
+/// As of [`pe_c_item_failure`], which it calls.
+#[rustfmt::skip]
+pub unsafe extern "C" fn pe_c_te_failure(bytes: *const u8, length: usize, out: *mut Failure) -> u32 {
+    let item = FailedItem { number: 0, ..Default::default() };
+    unsafe { pe_c_item_failure(bytes, length, FAILED_TE, &item, out) }
+}
+
+/// Returns what is wrong with the record of an entry of the debug directory that is read as one of these, whatever the
+/// entry's type is: its result by [`pe_c_debug_record`], and the numbers of that error.
+///
+/// [`NOTHING`] where that is no error, and of a kind that is none of these. It never returns an error.
+///
+/// The numbers: of [`Error::SHORT`] `offset` and `needed`; of [`Error::DEBUG_DATA`] `needed`; of [`Error::DEBUG_SIZE`]
+/// and [`Error::POGO_SIZE`] `value`, the size that the entry says; of [`Error::BAD_MAGIC`] `value`.
+///
+/// # Safety
+///
+/// As of [`pe_c_item_failure`], which it calls.
+#[rustfmt::skip]
+pub unsafe extern "C" fn pe_c_debug_failure(
+    bytes: *const u8,
+    length: usize,
+    mode: u32,
+    entry: *const DebugEntry,
+    kind: u32,
+    out: *mut Failure,
+) -> u32 {
+    let item = FailedItem { entry: unsafe { *entry }, number: mode, record: kind, ..Default::default() };
+    unsafe { pe_c_item_failure(bytes, length, FAILED_DEBUG_RECORD, &item, out) }
+}
+
+/// Of [`pe_c_next_library`].
+///
+/// [`Error::UNMAPPED`], [`Error::IMPORT_NAME`]: `value`, the RVA of the library's name.
+///
+/// # Safety
+///
+/// As of [`pe_c_image_item_failure`], which it calls.
+#[rustfmt::skip]
+pub unsafe extern "C" fn pe_c_library_failure(view: *const View, walk: *const Libraries, out: *mut Failure) -> u32 {
+    let item = FailedItem { libraries: unsafe { *walk }, ..Default::default() };
+    unsafe { pe_c_image_item_failure(view, FAILED_LIBRARY, &item, out) }
+}
+
+/// Of [`pe_c_next_import`].
+///
+/// [`Error::UNMAPPED`], [`Error::IMPORT_NAME`]: `value`, the RVA of the hint before the name.
+///
+/// # Safety
+///
+/// As of [`pe_c_image_item_failure`], which it calls.
+#[rustfmt::skip]
+pub unsafe extern "C" fn pe_c_import_failure(view: *const View, walk: *const Imports, out: *mut Failure) -> u32 {
+    let item = FailedItem { imports: unsafe { *walk }, ..Default::default() };
+    unsafe { pe_c_image_item_failure(view, FAILED_IMPORT, &item, out) }
+}
+
+/// Of [`pe_c_next_resource_leaf`].
+///
+/// [`Error::TREE_NOT_DIRECTORY`], [`Error::TREE_NOT_DATA`], [`Error::TREE_NO_ENTRIES`]: `offset`, of what the entry
+/// leads to, from the first directory.
+///
+/// # Safety
+///
+/// As of [`pe_c_image_item_failure`], which it calls.
+#[rustfmt::skip]
+pub unsafe extern "C" fn pe_c_resource_leaf_failure(
+    view: *const View,
+    walk: *const ResourceWalk,
+    out: *mut Failure,
+) -> u32 {
+    let item = FailedItem { leaves: unsafe { *walk }, ..Default::default() };
+    unsafe { pe_c_image_item_failure(view, FAILED_RESOURCE_LEAF, &item, out) }
+}
+
+/// Of [`pe_c_next_certificate`].
+///
+/// [`Error::CERTIFICATE_TABLE`]: `offset`, where the walk ends; [`Error::CERTIFICATE_SIZE`]: `needed`, the length that
+/// the certificate states; [`Error::CERTIFICATE_REVISION`], [`Error::CERTIFICATE_TYPE`]: `value`.
+///
+/// # Safety
+///
+/// As of [`pe_c_item_failure`], which it calls.
+#[rustfmt::skip]
+pub unsafe extern "C" fn pe_c_certificate_failure(
+    bytes: *const u8,
+    length: usize,
+    walk: *const Range,
+    out: *mut Failure,
+) -> u32 {
+    let item = FailedItem { range: unsafe { *walk }, ..Default::default() };
+    unsafe { pe_c_item_failure(bytes, length, FAILED_CERTIFICATE, &item, out) }
+}
+
+/// Of [`pe_c_next_relocation_block`].
+///
+/// [`Error::DIRECTORY_BLOCK_SIZE`]: `value`, the size; [`Error::DIRECTORY_BLOCK_TRUNCATED`]: `needed`, the size, and
+/// `value`, how many bytes are left.
+///
+/// # Safety
+///
+/// As of [`pe_c_item_failure`], which it calls.
+#[rustfmt::skip]
+pub unsafe extern "C" fn pe_c_relocation_block_failure(
+    bytes: *const u8,
+    length: usize,
+    walk: *const Range,
+    out: *mut Failure,
+) -> u32 {
+    let item = FailedItem { range: unsafe { *walk }, ..Default::default() };
+    unsafe { pe_c_item_failure(bytes, length, FAILED_RELOCATION_BLOCK, &item, out) }
+}
+
+/// Of [`pe_c_next_relocation`], which takes the same `page_rva`.
+///
+/// [`Error::DIRECTORY_NO_ARGUMENT`]: `value`, the RVA of the relocation.
+///
+/// # Safety
+///
+/// As of [`pe_c_item_failure`], which it calls.
+#[rustfmt::skip]
+pub unsafe extern "C" fn pe_c_relocation_failure(
+    bytes: *const u8,
+    length: usize,
+    page_rva: u32,
+    walk: *const Range,
+    out: *mut Failure,
+) -> u32 {
+    let item = FailedItem { range: unsafe { *walk }, number: page_rva, ..Default::default() };
+    unsafe { pe_c_item_failure(bytes, length, FAILED_RELOCATION, &item, out) }
+}
+
+/// Of [`pe_c_arm64_unwind_record`].
+///
+/// [`Error::ARM64_VERSION`]: `value`; those of the table as in [`pe_c_directory_failure`].
+///
+/// # Safety
+///
+/// As of [`pe_c_image_item_failure`], which it calls.
+#[rustfmt::skip]
+pub unsafe extern "C" fn pe_c_arm64_record_failure(
+    view: *const View,
+    function: *const Arm64Function,
+    out: *mut Failure,
+) -> u32 {
+    let item = FailedItem { function: unsafe { *function }, ..Default::default() };
+    unsafe { pe_c_image_item_failure(view, FAILED_ARM64_RECORD, &item, out) }
+}
+
+/// Of [`pe_c_next_delay_import`].
+///
+/// [`Error::DIRECTORY_VA_BELOW_BASE`]: `value`, the address; [`Error::DIRECTORY_DELAY_IMPORT_NAME`]: `offset`.
+///
+/// # Safety
+///
+/// As of [`pe_c_image_item_failure`], which it calls.
+#[rustfmt::skip]
+pub unsafe extern "C" fn pe_c_delay_import_failure(view: *const View, walk: *const Range, out: *mut Failure) -> u32 {
+    let item = FailedItem { range: unsafe { *walk }, ..Default::default() };
+    unsafe { pe_c_image_item_failure(view, FAILED_DELAY_IMPORT, &item, out) }
+}
+
+/// Of [`pe_c_next_delayed_function`].
+///
+/// The same numbers.
+///
+/// # Safety
+///
+/// As of [`pe_c_image_item_failure`], which it calls.
+#[rustfmt::skip]
+pub unsafe extern "C" fn pe_c_delayed_function_failure(
+    view: *const View,
+    walk: *const DelayedFunctions,
+    out: *mut Failure,
+) -> u32 {
+    let item = FailedItem { functions: unsafe { *walk }, ..Default::default() };
+    unsafe { pe_c_image_item_failure(view, FAILED_DELAYED_FUNCTION, &item, out) }
+}
+
+/// Of [`pe_c_next_bound_import`], which takes the same `table`.
+///
+/// [`Error::DIRECTORY_BOUND_IMPORT_NAME`]: `offset`, from the start of `table`.
+///
+/// # Safety
+///
+/// As of [`pe_c_item_failure`], which it calls.
+#[rustfmt::skip]
+pub unsafe extern "C" fn pe_c_bound_import_failure(
+    bytes: *const u8,
+    length: usize,
+    table: *const Range,
+    walk: *const Range,
+    out: *mut Failure,
+) -> u32 {
+    let item = FailedItem { range: unsafe { *walk }, table: unsafe { *table }, ..Default::default() };
+    unsafe { pe_c_item_failure(bytes, length, FAILED_BOUND_IMPORT, &item, out) }
+}
+
+/// Of [`pe_c_symbol_name`], which takes the same.
+///
+/// [`Error::STRING_TABLE`]: `offset`, from the start of `strings`, unless the name is in the entry itself.
+///
+/// # Safety
+///
+/// As of [`pe_c_item_failure`], which it calls.
+#[rustfmt::skip]
+pub unsafe extern "C" fn pe_c_symbol_name_failure(
+    bytes: *const u8,
+    length: usize,
+    table: *const Range,
+    strings: *const Range,
+    index: u64,
+    out: *mut Failure,
+) -> u32 {
+    let item = FailedItem { table: unsafe { *table }, strings: unsafe { *strings }, index, ..Default::default() };
+    unsafe { pe_c_item_failure(bytes, length, FAILED_SYMBOL_NAME, &item, out) }
 }

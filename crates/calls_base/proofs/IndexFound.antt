@@ -4,25 +4,30 @@ use Rattle.std.specs.Prelude.{nat_le, nat_lt, nat_eq}
 use Rattle.std.specs.List.{position_or_len}
 use Rattle.std.proofs.lemmas.Bool.Decides.{nat_tests}
 use Rattle.pe_core.specs.declared.section_table.SectionTable.{SectionTable}
-use Rattle.pe_core.specs.SectionMap.{covers, first}
+use Rattle.pe_core.specs.RangeIndexes.{first_number, number_at, Rises}
+use Rattle.pe_core.specs.SectionMap.{covers, first, reach}
 use Rattle.pe_lookup.specs.AddressRanges.{IsCountUpTo}
 use Rattle.pe_lookup.proofs.Halving.{count_of, searched}
-use Rattle.pe_lookup.specs.declared.section_index.IndexEntry.{IndexEntry}
+use Rattle.pe_core.specs.declared.range_index.RangeEntry.{RangeEntry}
 use Rattle.pe_lookup.specs.SectionIndexes.{number_found, numbered, no_entry, started}
-use Rattle.calls_base.specs.SectionIndexes.{first_number, number_at, Rises}
-use Rattle.calls_base.proofs.IndexCuts.{last_starts, none_starts}
+use Rattle.pe_core.proofs.RangeCuts.{last_starts, none_starts}
 use Rattle.pe_lookup.proofs.IndexSearches.{start_of}
 
-at_cut : (es : List IndexEntry) (x c : ℕ) → IsCountUpTo start_of x es c → cond (nat_eq c 0) 0 (get_or es (c - 1) no_entry).section ≡ number_at es x
+at_cut : (es : List RangeEntry) (x c : ℕ) → IsCountUpTo start_of x es c → cond (nat_eq c 0) 0 (get_or es (c - 1) no_entry).number ≡ number_at es x
 at_cut es x zero cut = none_starts es 0 x refl cut.after
-at_cut es x (suc c) cut = let some : nat_eq (suc c) 0 ≡ false = grind (arith, nat_tests) in ap (λ b. cond b 0 (get_or es (suc c - 1) no_entry).section) some ∙ last_starts es (suc c) x no_entry (omega arith) cut.within (λ k d l b. cut.before k d l) cut.after
+at_cut es x (suc c) cut = let some : nat_eq (suc c) 0 ≡ false = grind (arith, nat_tests) in ap (λ b. cond b 0 (get_or es (suc c - 1) no_entry).number) some ∙ last_starts es (suc c) x no_entry (omega arith) cut.within (λ k d l b. cut.before k d l) cut.after
 
 -- the search finds the number of the last entry that starts at or before an RVA
-pub found_at : (es : List IndexEntry) (x : ℕ) → Rises es → length es < 2 ^ 64 → number_found es x ≡ number_at es x
+pub found_at : (es : List RangeEntry) (x : ℕ) → Rises es → length es < 2 ^ 64 → number_found es x ≡ number_at es x
 found_at es x rises small =
     let cut : (c : ℕ) × IsCountUpTo start_of x es c = count_of start_of x es rises in
     let ends : started es x 64 0 ≡ cut.0 = searched start_of no_entry es x cut.0 64 0 cut.1 (omega arith) (omega (arith, small, cut.1.within)) in
     rw ends (at_cut es x cut.0 cut.1)
+
+-- the index, plus 1, of the first section that covers an RVA, where the first of the sections has the index `base`; 0 where none
+-- covers it
+abbrev pub first_owner : ℕ → ℕ → ℕ → List SectionTable → ℕ
+first_owner alignment x base ss = first_number (λ (s : SectionTable). s.virtual_address) (reach alignment) x base ss
 
 -- what a number of the first section says of the sections
 pub record NoneCovers (alignment x n : ℕ) (ss : List SectionTable) : Type 0 where
@@ -41,7 +46,7 @@ pub record OneCovers (alignment x base n : ℕ) (ss : List SectionTable) (i : �
 abbrev pub Covers : ℕ → ℕ → ℕ → ℕ → List SectionTable → Type 0
 Covers alignment x base n ss = NoneCovers alignment x n ss ⊎ ((i : ℕ) × (s : SectionTable) × OneCovers alignment x base n ss i s)
 
-by_first : (alignment x base : ℕ) (t : SectionTable) (ss : List SectionTable) (b : Bool) → covers alignment x t ≡ b → Covers alignment x (base + 1) (first_number alignment x (base + 1) ss) ss → Covers alignment x base (cond b (base + 1) (first_number alignment x (base + 1) ss)) (t ∷ ss)
+by_first : (alignment x base : ℕ) (t : SectionTable) (ss : List SectionTable) (b : Bool) → covers alignment x t ≡ b → Covers alignment x (base + 1) (first_owner alignment x (base + 1) ss) ss → Covers alignment x base (cond b (base + 1) (first_owner alignment x (base + 1) ss)) (t ∷ ss)
 by_first alignment x base t ss true e rest = inr (
   0,
   t,
@@ -68,7 +73,7 @@ by_first alignment x base t ss false e (inr (i, s, one)) = inr (
   },
 )
 
-pub covers_of : (alignment x base : ℕ) (ss : List SectionTable) → Covers alignment x base (first_number alignment x base ss) ss
+pub covers_of : (alignment x base : ℕ) (ss : List SectionTable) → Covers alignment x base (first_owner alignment x base ss) ss
 covers_of alignment x base [] = inl (record { number = refl; none = refl; past = refl })
 covers_of alignment x base (t ∷ ss) = by_first alignment x base t ss (covers alignment x t) refl (covers_of alignment x (base + 1) ss)
 
@@ -82,7 +87,7 @@ numbered_some ss i n e h =
     rw inside (ap (λ k. take 1 (drop k ss)) at)
 
 -- the section that the number names is the first that covers the RVA
-pub numbered_first : (alignment x n : ℕ) (ss : List SectionTable) → n ≡ first_number alignment x 0 ss → first (filter (covers alignment x) (numbered ss n)) ≡ first (filter (covers alignment x) ss)
+pub numbered_first : (alignment x n : ℕ) (ss : List SectionTable) → n ≡ first_owner alignment x 0 ss → first (filter (covers alignment x) (numbered ss n)) ≡ first (filter (covers alignment x) ss)
 numbered_first alignment x n ss e = elim (covers_of alignment x 0 ss) [
   | inl none ↦ ap (λ l. first (filter (covers alignment x) l)) (numbered_none ss n (e ∙ none.number)) ∙ sym none.none
   | inr (i, s, one) ↦ ap (λ l. first (filter (covers alignment x) l)) (numbered_some ss i n (e ∙ one.number) one.inside ∙ one.named) ∙ ap (λ b. first (cond b (s ∷ []) [])) one.covered ∙ sym one.found

@@ -1,21 +1,23 @@
 -- An index of the sections of an image maps RVAs as the sections do.
-use Rattle.std.proofs.Common.{◌≡◌, ℕ, zero, suc, ◌+◌, ◌-◌, ◌*◌, ◌^◌, ◌<◌, ◌≤◌, inl, inr, Bool, true, false, not, cond, List, [], ◌∷◌, length, take, drop, filter, Option, Some, None, refl, ap, sym, ◌∙◌, arith}
-use Rattle.std.specs.Prelude.{nat_lt}
+use Rattle.std.proofs.Common.{◌≡◌, ℕ, zero, suc, ◌+◌, ◌-◌, ◌*◌, ◌^◌, ◌<◌, ◌≤◌, inl, inr, Bool, true, false, not, cond, List, [], ◌∷◌, length, take, drop, filter, Option, Some, None, refl, ap, sym, ◌∙◌, ⊎_elim, ◌&&◌, arith}
+use Rattle.std.specs.Prelude.{nat_le, nat_lt}
 use Rattle.std.specs.Int.{is_power_of_two}
 use Rattle.std.specs.List.{position, position_or_len, slice_get}
 use Rattle.std.specs.Option.{option_and_then, option_map}
+use Rattle.std.proofs.lemmas.Bool.{cases_lt}
 use Rattle.std.proofs.lemmas.Bool.Decides.{nat_tests}
 use Rattle.pe_core.specs.declared.section_table.SectionTable.{SectionTable}
-use Rattle.pe_core.specs.SectionMap.{covers, first, offset_of, raw_start}
+use Rattle.pe_core.specs.RangeIndexes.{EndBelow, Indexes, number_at}
+use Rattle.pe_core.specs.SectionMap.{covers, first, offset_of, raw_start, reach}
 use Rattle.calls_base.specs.declared.image.Image.{Image}
 use Rattle.calls_base.specs.declared.view.View.{View}
-use Rattle.pe_lookup.specs.declared.section_index.IndexEntry.{IndexEntry}
+use Rattle.pe_core.specs.declared.range_index.RangeEntry.{RangeEntry}
 use Rattle.calls_base.specs.MapRanges.{range_at, range_in}
 use Rattle.calls_base.specs.Maps.{section_at}
 use Rattle.calls_base.specs.Modes.{resolves}
 use Rattle.pe_lookup.specs.SectionIndexes.{number_found, numbered, sections_by}
-use Rattle.calls_base.specs.SectionIndexes.{entries_needed, first_number, is_searched, HasIndex, IsIndexOf, MakesIndex, Maps, WritesIndex}
-use Rattle.calls_base.proofs.IndexFound.{Covers, covers_of, found_at, numbered_first, numbered_none, numbered_some}
+use Rattle.calls_base.specs.SectionIndexes.{entries_needed, is_searched, HasIndex, IsIndexOf, MakesIndex, WritesIndex}
+use Rattle.calls_base.proofs.IndexFound.{Covers, covers_of, first_owner, found_at, numbered_first, numbered_none, numbered_some}
 use Rattle.pe_core.proofs.Equality.{both}
 
 offset_same : (resolve : Bool) (alignment x : ℕ) (s t : List SectionTable) → first (filter (covers alignment x) s) ≡ first (filter (covers alignment x) t) → offset_of resolve alignment s x ≡ offset_of resolve alignment t x
@@ -37,7 +39,7 @@ one_section : (alignment x : ℕ) (s : SectionTable) → covers alignment x s �
 unfolding index_in
 one_section alignment x s e = rw e refl
 
-named_index : (alignment x n : ℕ) (ss : List SectionTable) → n ≡ first_number alignment x 0 ss → Covers alignment x 0 (first_number alignment x 0 ss) ss → option_map (λ i. n - 1) (index_in alignment x (numbered ss n)) ≡ index_in alignment x ss
+named_index : (alignment x n : ℕ) (ss : List SectionTable) → n ≡ first_owner alignment x 0 ss → Covers alignment x 0 (first_owner alignment x 0 ss) ss → option_map (λ i. n - 1) (index_in alignment x (numbered ss n)) ≡ index_in alignment x ss
 unfolding index_in
 named_index alignment x n ss e (inl none) =
     ap (λ l. option_map (λ i. n - 1) (index_in alignment x l)) (numbered_none ss n (e ∙ none.number)) ∙ sym (past (position_or_len (covers alignment x) ss) (length ss) none.past)
@@ -59,7 +61,7 @@ got (t ∷ ss) (suc i) s e = got ss i s e
 picked : {Y : Type 0} → (SectionTable → Option Y) → ℕ → ℕ → List SectionTable → Option Y
 picked f alignment x ss = option_and_then (λ i. option_and_then f (slice_get ss i)) (index_in alignment x ss)
 
-named_picked : {Y : Type 0} (f : SectionTable → Option Y) (alignment x n : ℕ) (ss : List SectionTable) → n ≡ first_number alignment x 0 ss → Covers alignment x 0 (first_number alignment x 0 ss) ss → picked f alignment x (numbered ss n) ≡ picked f alignment x ss
+named_picked : {Y : Type 0} (f : SectionTable → Option Y) (alignment x n : ℕ) (ss : List SectionTable) → n ≡ first_owner alignment x 0 ss → Covers alignment x 0 (first_owner alignment x 0 ss) ss → picked f alignment x (numbered ss n) ≡ picked f alignment x ss
 unfolding picked index_in
 named_picked f alignment x n ss e (inl none) =
     ap (λ l. picked f alignment x l) (numbered_none ss n (e ∙ none.number))
@@ -83,11 +85,11 @@ section_in image s x e =
     rw (tests.0, tests.1) refl
 
 -- no entries are an index of any sections: all of them are tested
-pub none_made : (image : Image) (sections : List SectionTable) (es : List IndexEntry) → es ≡ [] → IsIndexOf image sections es
+pub none_made : (image : Image) (sections : List SectionTable) (es : List RangeEntry) → es ≡ [] → IsIndexOf image sections es
 unfolding sections_by
 none_made image sections es e = rw e (record { maps = λ x. refl; owners = λ x. refl; ranges = λ b x. refl })
 
-some_made : (image : Image) (sections : List SectionTable) (e : IndexEntry) (es : List IndexEntry) → is_searched image ≡ true → ((x : ℕ) → number_found (e ∷ es) x ≡ first_number image.file_alignment x 0 sections) → IsIndexOf image sections (e ∷ es)
+some_made : (image : Image) (sections : List SectionTable) (e : RangeEntry) (es : List RangeEntry) → is_searched image ≡ true → ((x : ℕ) → number_found (e ∷ es) x ≡ first_owner image.file_alignment x 0 sections) → IsIndexOf image sections (e ∷ es)
 unfolding sections_by
 some_made image sections e es searched numbers = record {
   maps = λ x. offset_same (resolves image.mode) image.file_alignment x (numbered sections (number_found (e ∷ es) x)) sections (numbered_first image.file_alignment x (number_found (e ∷ es) x) sections (numbers x));
@@ -103,16 +105,37 @@ some_made image sections e es searched numbers = record {
       ∙ sym (range_of_picked b image sections x searched);
 }
 
--- the entries that are made are an index
-pub made : (image : Image) (sections : List SectionTable) (es : List IndexEntry) → is_searched image ≡ true → Maps image.file_alignment 0 sections es → length es < 2 ^ 64 → IsIndexOf image sections es
-made image sections [] searched maps small = none_made image sections [] refl
-made image sections (e ∷ es) searched maps small = some_made image sections e es searched (λ x. found_at (e ∷ es) x maps.rises small ∙ maps.numbers x)
+-- the entries are those of the sections as ranges of RVAs, each of which ends before the last address
+abbrev Made : ℕ → List SectionTable → List RangeEntry → Type 0
+Made alignment ss es = Indexes (λ (s : SectionTable). s.virtual_address) (reach alignment) 0 ss es × EndBelow (λ (s : SectionTable). s.virtual_address) (reach alignment) (2 ^ 34) ss
 
-finished : (image : Image) (sections : List SectionTable) (old new : List IndexEntry) (written : ℕ) → nat_lt (length old) (entries_needed image sections) ≡ false → WritesIndex image sections 0 old new written → MakesIndex image sections 0 old new written
+after : (a x b : ℕ) → b ≤ x → (nat_le a x && nat_lt x b) ≡ false
+after a x b h = grind (arith, nat_tests)
+
+none_past : (alignment x base : ℕ) (ss : List SectionTable) → EndBelow (λ (s : SectionTable). s.virtual_address) (reach alignment) (2 ^ 34) ss → 2 ^ 34 ≤ x → first_owner alignment x base ss ≡ 0
+none_past alignment x base [] ends h = refl
+none_past alignment x base (s ∷ ss) ends h =
+    let end : s.virtual_address + reach alignment s < 2 ^ 34 = ends 0 s (omega arith) in
+    ap (λ b. cond b (base + 1) (first_owner alignment x (base + 1) ss)) (after s.virtual_address x (s.virtual_address + reach alignment s) (omega (arith, end, h)))
+    ∙ none_past alignment x (base + 1) ss (λ k d l. ends (suc k) d (omega (arith, l))) h
+
+-- by the entries each RVA has the number of the first section that covers it
+numbers_all : (alignment x : ℕ) (ss : List SectionTable) (es : List RangeEntry) → Made alignment ss es → number_at es x ≡ first_owner alignment x 0 ss
+numbers_all alignment x ss es m = ⊎_elim
+    (λ (near : x < 2 ^ 64). m.0.numbers x near)
+    (λ (far : 2 ^ 64 ≤ x). m.0.past x far ∙ m.0.numbers (2 ^ 64 - 1) (omega arith) ∙ none_past alignment (2 ^ 64 - 1) 0 ss m.1 (omega arith) ∙ sym (none_past alignment x 0 ss m.1 (omega (arith, far))))
+    (cases_lt x (2 ^ 64))
+
+-- the entries that are made are an index
+made : (image : Image) (sections : List SectionTable) (es : List RangeEntry) → is_searched image ≡ true → Made image.file_alignment sections es → length es < 2 ^ 64 → IsIndexOf image sections es
+made image sections [] searched m small = none_made image sections [] refl
+made image sections (e ∷ es) searched m small = some_made image sections e es searched (λ x. found_at (e ∷ es) x m.0.rises small ∙ numbers_all image.file_alignment x sections (e ∷ es) m)
+
+finished : (image : Image) (sections : List SectionTable) (old new : List RangeEntry) (written : ℕ) → nat_lt (length old) (entries_needed image sections) ≡ false → WritesIndex image sections 0 old new written → MakesIndex image sections 0 old new written
 finished image sections old new written e w = rw e w
 
 -- no section is searched
-pub unsearched : (image : Image) (sections : List SectionTable) (room : List IndexEntry) → is_searched image ≡ false → MakesIndex image sections 0 room room 0
+pub unsearched : (image : Image) (sections : List SectionTable) (room : List RangeEntry) → is_searched image ≡ false → MakesIndex image sections 0 room room 0
 unsearched image sections room e =
     let needed : entries_needed image sections ≡ 0 = ap (λ b. cond b (4 * length sections) 0) e in
     let fits : nat_lt (length room) (entries_needed image sections) ≡ false = grind (arith, nat_tests) in
@@ -124,14 +147,14 @@ unsearched image sections room e =
     })
 
 -- the index is made
-pub searched_all : (image : Image) (sections : List SectionTable) (old new : List IndexEntry) (n : ℕ) → is_searched image ≡ true → n < 2 ^ 64 → 4 * length sections ≤ length old → n ≡ 2 * length sections → Maps image.file_alignment 0 sections (take n new) → drop (2 * n) new ≡ drop (2 * n) old → MakesIndex image sections 0 old new n
-searched_all image sections old new n e small room is maps rest =
+pub searched_all : (image : Image) (sections : List SectionTable) (old new : List RangeEntry) (n : ℕ) → is_searched image ≡ true → n < 2 ^ 64 → 4 * length sections ≤ length old → n ≡ 2 * length sections → Made image.file_alignment sections (take n new) → drop (2 * n) new ≡ drop (2 * n) old → MakesIndex image sections 0 old new n
+searched_all image sections old new n e small room is m rest =
     let needed : entries_needed image sections ≡ 4 * length sections = ap (λ b. cond b (4 * length sections) 0) e in
     let fits : nat_lt (length old) (entries_needed image sections) ≡ false = grind (arith, nat_tests) in
     finished image sections old new n fits (record {
       done = refl;
       count = omega (arith, needed, is);
-      index = made image sections (take n new) e maps (omega (arith, maps.count, is, small));
+      index = made image sections (take n new) e m (omega (arith, m.0.count, is, small));
       rest = rest;
     })
 

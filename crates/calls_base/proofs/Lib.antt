@@ -13,12 +13,9 @@ pub mod FilledLists
 pub mod ListRuns
 pub mod WrittenFiles
 pub mod ResourceRoots
-pub mod IndexCuts
 pub mod ViewRuns
-pub mod IndexHalves
 pub mod IndexFound
 pub mod IndexMaps
-pub mod TextRuns
 pub mod NearMaps
 pub mod NamesPut
 pub mod TextRanges

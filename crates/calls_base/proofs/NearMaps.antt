@@ -13,7 +13,7 @@ use Rattle.calls_base.specs.NearMaps.{FindsWindow, IsWindow, IsWindowOf}
 use Rattle.pe_lookup.specs.SectionIndexes.{sections_by}
 use Rattle.calls_base.specs.Views.{map_of}
 use Rattle.calls_base.specs.declared.near_map.Window.{Window}
-use Rattle.pe_lookup.specs.declared.section_index.IndexEntry.{IndexEntry}
+use Rattle.pe_core.specs.declared.range_index.RangeEntry.{RangeEntry}
 use Rattle.calls_base.specs.declared.view.View.{View}
 
 -- ---- sections in turn
@@ -98,7 +98,7 @@ as_loaded true alignment sections rva off small = absurd cc
 
 -- ---- by a view
 
-pub all_sections : (sections : List SectionTable) (es : List IndexEntry) (x : ℕ) → true ≡ (length es == 0) → sections_by sections es x ≡ sections
+pub all_sections : (sections : List SectionTable) (es : List RangeEntry) (x : ℕ) → true ≡ (length es == 0) → sections_by sections es x ≡ sections
 unfolding sections_by
 all_sections sections [] x none = refl
 all_sections sections (e ∷ es) x none = absurd (grind (arith, nat_tests))

@@ -16,7 +16,7 @@ use Rattle.pe_lookup.specs.SectionIndexes.{no_entry, started}
 use Rattle.calls_base.specs.Views.{map_of}
 use Rattle.calls_base.specs.declared.image.Image.{Image}
 use Rattle.calls_base.specs.declared.results.TheConstants.{DONE, NOTHING, ROOM}
-use Rattle.pe_lookup.specs.declared.section_index.IndexEntry.{IndexEntry}
+use Rattle.pe_core.specs.declared.range_index.RangeEntry.{RangeEntry}
 use Rattle.calls_base.specs.declared.view.View.{View}
 
 -- the image of a view as a loader lays it out
@@ -62,15 +62,15 @@ RelocatesRoom (Err e) defined old new = (defined ≡ Err (directory_kind_of e)) 
 -- ---- runs by an index
 
 -- the start of the last of so many entries, the greatest number where there are fewer
-abbrev pub start_of_last : List IndexEntry → ℕ → ℕ
+abbrev pub start_of_last : List RangeEntry → ℕ → ℕ
 start_of_last es count = if nat_le count (length es) then (slice_index_or es (count - 1) no_entry).start else 2 ^ 64 - 1
 
 -- the number in the last of so many entries, 0 without one
-abbrev pub number_of_last : List IndexEntry → ℕ → ℕ
-number_of_last es count = if count == 0 then 0 else (slice_index_or es (count - 1) no_entry).section
+abbrev pub number_of_last : List RangeEntry → ℕ → ℕ
+number_of_last es count = if count == 0 then 0 else (slice_index_or es (count - 1) no_entry).number
 
 -- as many entries start at or before each RVA from this one up to an end
-pub record StartedUntil (es : List IndexEntry) (rva count end : ℕ) : Type 0 where
+pub record StartedUntil (es : List RangeEntry) (rva count end : ℕ) : Type 0 where
   pub ahead : rva < end
   pub inside : count ≤ length es
   pub same : (x : ℕ) → rva ≤ x → x < end → started es x 64 0 ≡ count

@@ -1,8 +1,6 @@
 -- An index of the sections of an image, and how RVAs are mapped by it. Every list of entries is legal: what it names is tested as
 -- a section is without an index.
-use Rattle.std.specs.Prelude.{◌≡◌, ℕ, ◌+◌, ◌-◌, ◌*◌, ◌<◌, ◌≤◌, ◌==◌, ◌&&◌, Bool, true, false, List, [], ◌∷◌, length, Option, Result, Ok, Err, nat_le, nat_lt, take, drop, if◌then◌else◌, slice_index_or}
-use Rattle.std.specs.List.Sorted.{IsNonDecreasingBy}
-use Rattle.pe_core.specs.SectionMap.{covers}
+use Rattle.std.specs.Prelude.{◌≡◌, ℕ, ◌-◌, ◌*◌, ◌&&◌, Bool, true, false, List, [], ◌∷◌, length, Option, nat_lt, take, drop, if◌then◌else◌}
 use Rattle.pe_core.specs.declared.section_table.SectionTable.{SectionTable}
 use Rattle.std.specs.Int.{is_power_of_two}
 use Rattle.std.specs.Option.{option_map}
@@ -13,14 +11,14 @@ use Rattle.calls_base.specs.Maps.{section_at}
 use Rattle.calls_base.specs.Modes.{resolves}
 use Rattle.calls_base.specs.Views.{directory_sections, may_map}
 use Rattle.calls_base.specs.declared.image.Image.{Image}
-use Rattle.pe_lookup.specs.declared.section_index.IndexEntry.{IndexEntry}
+use Rattle.pe_core.specs.declared.range_index.RangeEntry.{RangeEntry}
 use Rattle.calls_base.specs.declared.results.TheConstants.{DONE, ROOM}
 use Rattle.calls_base.specs.declared.view.View.{View}
 
 -- ---- lookup
 
 -- the index of the section that maps an RVA
-abbrev pub section_by : Image → List SectionTable → List IndexEntry → ℕ → Option ℕ
+abbrev pub section_by : Image → List SectionTable → List RangeEntry → ℕ → Option ℕ
 section_by image sections [] x = section_at image sections x
 section_by image sections (e ∷ es) x =
     option_map (λ i. number_found (e ∷ es) x - 1) (section_at image (numbered sections (number_found (e ∷ es) x)) x)
@@ -29,7 +27,7 @@ section_by image sections (e ∷ es) x =
 
 -- By the entries all RVAs are mapped as they are by all sections in turn, and by the same section, and as many bytes follow. The law
 -- `indexes_change_nothing` states these three of a view that has such entries.
-pub record IsIndexOf (image : Image) (sections : List SectionTable) (es : List IndexEntry) : Type 0 where
+pub record IsIndexOf (image : Image) (sections : List SectionTable) (es : List RangeEntry) : Type 0 where
   pub maps : (x : ℕ) → map_of_image image (sections_by sections es x) x ≡ map_of_image image sections x
   pub owners : (x : ℕ) → section_by image sections es x ≡ section_at image sections x
   pub ranges : (b : List ℕ) (x : ℕ) → range_at b image (sections_by sections es x) x ≡ range_at b image sections x
@@ -58,67 +56,17 @@ abbrev pub entries_needed : Image → List SectionTable → ℕ
 entries_needed image sections = if is_searched image then 4 * length sections else 0
 
 -- the index is at the start of the room, and what follows what was needed is unchanged
-pub record WritesIndex (image : Image) (sections : List SectionTable) (number : ℕ) (old new : List IndexEntry) (written : ℕ) : Type 0 where
+pub record WritesIndex (image : Image) (sections : List SectionTable) (number : ℕ) (old new : List RangeEntry) (written : ℕ) : Type 0 where
   pub done : number ≡ DONE
   pub count : 2 * written ≡ entries_needed image sections
   pub index : IsIndexOf image sections (take written new)
   pub rest : drop (2 * written) new ≡ drop (2 * written) old
 
 -- by whether the room is too small: then the number is ROOM, the room is unchanged, and what was needed is written
-abbrev pub MakesIndexIf : Bool → Image → List SectionTable → ℕ → List IndexEntry → List IndexEntry → ℕ → Type 0
+abbrev pub MakesIndexIf : Bool → Image → List SectionTable → ℕ → List RangeEntry → List RangeEntry → ℕ → Type 0
 MakesIndexIf true image sections number old new written = (number ≡ ROOM) × (new ≡ old) × (written ≡ entries_needed image sections)
 MakesIndexIf false image sections number old new written = WritesIndex image sections number old new written
 
-abbrev pub MakesIndex : Image → List SectionTable → ℕ → List IndexEntry → List IndexEntry → ℕ → Type 0
+abbrev pub MakesIndex : Image → List SectionTable → ℕ → List RangeEntry → List RangeEntry → ℕ → Type 0
 MakesIndex image sections number old new written =
     MakesIndexIf (nat_lt (length old) (entries_needed image sections)) image sections number old new written
-
--- ---- making it
-
--- a number, or another one where it is 0
-abbrev pub or_number : ℕ → ℕ → ℕ
-or_number n other = if n == 0 then other else n
-
--- the number of the last entry that starts at or before the RVA, n without one
-abbrev pub number_from : ℕ → List IndexEntry → ℕ → ℕ
-number_from n [] x = n
-number_from n (e ∷ es) x = number_from (if nat_le e.start x then e.section else n) es x
-
-unfoldable pub number_at : List IndexEntry → ℕ → ℕ
-number_at es x = number_from 0 es x
-
--- the entries are sorted by start
-abbrev pub Rises : List IndexEntry → Type 0
-Rises = IsNonDecreasingBy (λ e. e.start)
-
--- of two lists, read up to i and j, the first has the next entry: it starts lower, or at the same RVA
-pub record FirstIsNext (first second : List IndexEntry) (i j : ℕ) : Type 0 where
-  pub unread : i < length first
-  pub lower : (d : IndexEntry) → j < length second → (slice_index_or first i d).start ≤ (slice_index_or second j d).start
-
--- the second list has the next entry: it starts lower
-pub record SecondIsNext (first second : List IndexEntry) (i j : ℕ) : Type 0 where
-  pub unread : j < length second
-  pub lower : (d : IndexEntry) → i < length first → (slice_index_or second j d).start < (slice_index_or first i d).start
-
--- the test says which of the two lists has the next entry: true for the first
-abbrev pub TakesFirst : List IndexEntry → List IndexEntry → ℕ → ℕ → Bool → Type 0
-TakesFirst first second i j true = FirstIsNext first second i j
-TakesFirst first second i j false = SecondIsNext first second i j
-
--- the index, plus 1, of the first section that covers the RVA, where the first of the sections has the index `base`; 0 where none
--- covers it
-abbrev pub first_number : ℕ → ℕ → ℕ → List SectionTable → ℕ
-first_number alignment x base [] = 0
-first_number alignment x base (s ∷ ss) = if covers alignment x s then base + 1 else first_number alignment x (base + 1) ss
-
--- by the entries each RVA has the number of the first section that covers it; the first of the sections has this index
-pub record Maps (alignment base : ℕ) (sections : List SectionTable) (es : List IndexEntry) : Type 0 where
-  pub rises : Rises es
-  pub numbers : (x : ℕ) → number_at es x ≡ first_number alignment x base sections
-  pub count : length es ≡ 2 * length sections
-
--- what making it in a room returns: how many entries the index has, or how many the room has to have
-abbrev pub PutsIndex : ℕ → List SectionTable → List IndexEntry → List IndexEntry → Result ℕ ℕ → Type 0
-PutsIndex alignment sections old new (Ok n) = (4 * length sections ≤ length old) × (n ≡ 2 * length sections) × Maps alignment 0 sections (take n new) × (drop (2 * n) new ≡ drop (2 * n) old)
-PutsIndex alignment sections old new (Err n) = (length old < 4 * length sections) × (n ≡ 4 * length sections) × (new ≡ old)

@@ -12,11 +12,12 @@ use crate::directories::{Result, image_at};
 use crate::image::{BASE_RELOCATION_TABLE, Image, directory, is_absent};
 use crate::results::options;
 use crate::view::View;
+use pe_core::RangeEntry;
 use pe_directories::{
     BaseRelocation, IMAGE_REL_BASED_DIR64, IMAGE_REL_BASED_HIGHLOW, RelocationBlocks, Run, Runs,
     relocate, run_in,
 };
-use pe_lookup::{IndexEntry, bits_of, numbered, power_of_two, start_by};
+use pe_lookup::{bits_of, numbered, power_of_two, start_by};
 
 /// How many entries of an index start at or before an RVA, and before which RVA no other does.
 #[derive(Clone, Copy)]
@@ -26,7 +27,7 @@ pub struct Started {
 }
 
 /// The start of the last of so many entries. The greatest number where there are fewer.
-fn start_of_last(entries: &[IndexEntry], count: usize) -> u64
+fn start_of_last(entries: &[RangeEntry], count: usize) -> u64
     requires { 0 < count }
     ensures { result ≡ start_of_last entries.now count }
 {
@@ -39,7 +40,7 @@ fn start_of_last(entries: &[IndexEntry], count: usize) -> u64
 
 /// Counts the entries that start at or before an RVA, bit by bit. Each entry that is found to start after it starts after all RVAs
 /// of the run, so that the search finds the same for all of them, also where the entries are not sorted.
-fn started_until(entries: &[IndexEntry], rva: u32) -> Started
+fn started_until(entries: &[RangeEntry], rva: u32) -> Started
     ensures { StartedUntil entries.now rva result.count result.end }
 {
     let mut count = 0;
@@ -58,14 +59,14 @@ fn started_until(entries: &[IndexEntry], rva: u32) -> Started
 }
 
 /// The number in the last of so many entries, 0 without one.
-fn number_of_last(entries: &[IndexEntry], count: usize) -> u64
+fn number_of_last(entries: &[RangeEntry], count: usize) -> u64
     requires { count ≤ length entries.now }
     ensures { result ≡ number_of_last entries.now count }
 {
     if count == 0 {
         return 0;
     }
-    entries[count - 1].section
+    entries[count - 1].number
 }
 
 /// The run of an RVA by the sections of a view, or by its index.

@@ -7,8 +7,8 @@ ghost use Rattle.calls_base.specs.Views.{map_of};
 
 use crate::image::{Image, offset_of};
 use crate::results::options;
-use pe_core::{Result, RvaMap, SectionTable, find_offset, mapped_offset};
-use pe_lookup::{IndexEntry, sections_by};
+use pe_core::{RangeEntry, Result, RvaMap, SectionTable, find_offset, mapped_offset};
+use pe_lookup::sections_by;
 
 /// What `pe_c_image` and `pe_c_sections` returned of the bytes, or what a caller made in their place.
 #[repr(C)]
@@ -19,7 +19,7 @@ pub struct View<'a> {
     pub image: &'a Image,
     pub sections: &'a [SectionTable],
     /// What `pe_c_index` wrote for these sections; no entries without an index.
-    pub index: &'a [IndexEntry],
+    pub index: &'a [RangeEntry],
 }
 
 /// The sections that may map an RVA: one at most, where the view has an index.

@@ -1,2 +1,1 @@
 pub mod SignatureRuns
-pub mod SoughtAttributes

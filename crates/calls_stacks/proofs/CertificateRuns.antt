@@ -1,5 +1,10 @@
 -- A walk over certificates returns all that its table lists, and then what refuses the table.
 use Rattle.std.proofs.Common.{◌≡◌, ◌≢◌, ℕ, zero, suc, ◌+◌, ◌-◌, ◌<◌, ◌≤◌, ◌==◌, Bool, true, false, List, [], ◌∷◌, ◌++◌, length, map, Option, Some, None, Result, Ok, Err, refl, sym, ap, subst, ◌∙◌, arith}
+use Rattle.pe_records.proofs.PartsInOffset.{body_stands}
+use Rattle.pe_records.specs.Certificates.{CertificateView, certificate_at, certificates_at}
+use Rattle.calls_directories.specs.Certificates.{StepsCertificates, ReportsCertificate, certificate_reported, listed, certificate_step, step_by, walk_from}
+use Rattle.calls_unwind.proofs.RecordRanges.{of_offset}
+use Rattle.calls_base.specs.Ranges.{no_bytes, IsRange}
 use Rattle.std.specs.Prelude.{nat_lt, if◌then◌else◌}
 use Rattle.std.specs.List.{AllZip}
 use Rattle.std.proofs.lemmas.Bool.Decides.{nat_tests}
@@ -7,15 +12,15 @@ use Rattle.pe_core.specs.Bytes.{holds}
 use Rattle.pe_core.specs.Gathered.{with_rest}
 use Rattle.pe_core.specs.Refusals.{Refusal, CertificateTable, ◌>>=◌}
 use Rattle.pe_records.proofs.CertificateListings.{next_above}
-use Rattle.pe_records.specs.Certificates.{CertificateView, certificate_at, certificates_at}
 use Rattle.calls_directories.proofs.Listings.{at_range, none_from, steps_list}
-use Rattle.calls_stacks.proofs.Parts.{body_is_reported}
 use Rattle.calls_base.proofs.Runs.{Makes, reports_more, reports_none, reports_refused}
-use Rattle.calls_directories.specs.Certificates.{StepsCertificates, ReportsCertificate, certificate_reported, listed, certificate_step, step_by, walk_from}
-use Rattle.calls_base.specs.Ranges.{no_bytes}
 use Rattle.calls_base.specs.Runs.{ReturnsItems, IsOver, ReturnsReported}
 use Rattle.calls_directories.specs.declared.directories.certificates.Certificate.{Certificate}
 use Rattle.calls_base.specs.declared.ranges.Range.{Range}
+
+-- The ranges that are reported of certificates are their parts.
+pub body_is_reported : (b : List ℕ) (p : ℕ) (c : CertificateView) (next : ℕ) → certificate_at b p ≡ Ok (c, next) → IsRange b (certificate_reported p c).body c.body
+body_is_reported b p c next e = of_offset b (p + 8) c.body (body_stands b p c next e)
 
 -- ---- one step
 

@@ -1,5 +1,4 @@
 pub mod CertificateRuns
-pub mod Parts
 pub mod MarkedWalks
 pub mod CallWalks
 pub mod OneFrames

@@ -1,9 +1,18 @@
 -- A call that steps a walk: what it leaves in the walk is what the walk of pe_frame does.
-use Rattle.std.proofs.Common.{◌≡◌, inl, inr, ℕ, zero, suc, ◌+◌, ◌<◌, List, [], ◌∷◌, ◌++◌, length, set, take, drop, Some, None, Result, Ok, Err, refl, ap, sym, ◌∙◌, subst, arith}
+use Rattle.std.proofs.Common.{◌≡◌, inl, inr, add-one, ℕ, zero, suc, ◌+◌, ◌-◌, ◌<◌, List, get_or, [], ◌∷◌, ◌++◌, length, set, take, drop, Some, None, Result, Ok, Err, refl, ap, sym, ◌∙◌, subst, arith}
 use Rattle.std.proofs.lemmas.List.{drop-drop, drop-set-lt, take_more_set}
 use Rattle.pe_frame.specs.FrameWalks.{Advances, AdvancesBy, Follows, FrameWalk, Process, returned_frame, walk_after}
 use Rattle.pe_frame.specs.declared.walk.WalkEnd.{WalkEnd}
-use Rattle.calls_stacks.specs.FrameCalls.{ComesTo, FillsFrames, HandsOutBy, HandsOutFound, HandsOutNext, WalkRecords, state_in}
+use Rattle.std.proofs.lemmas.Grind.{get_or-set_at}
+use Rattle.calls_stacks.specs.FrameCalls.{ComesTo, FillsFrames, HandsOutBy, HandsOutFound, HandsOutNext, WalkRecords, reached, state_in}
+
+-- ---- the walk after so many frames
+
+pub reached_by : {W : Type 0} (x w v : W) (slots : List W) (n : ℕ) → w ≡ v → x ≡ reached w slots n → x ≡ reached v slots n
+reached_by x w v slots n same is = subst (λ (u : _). x ≡ reached u slots n) same is
+
+pub reached_here : {W : Type 0} (w x : W) (slots : List W) (n : ℕ) → n < length slots → x ≡ reached w (set slots n x) (n + 1)
+reached_here w x slots n within = rw add-one (sym (get_or-set_at slots n n x w refl within))
 
 module _ {W F : Type 0} (Calls : Process → F → Result F WalkEnd → Type 0) (m : WalkRecords W F) (p : Process) where
   abbrev at : W → FrameWalk Process F
@@ -95,6 +104,13 @@ module _ {W F : Type 0} (Calls : Process → F → Result F WalkEnd → Type 0) 
   pub one_more : (old w x : W) (filled : List W) (i number : ℕ) → ComesTo Calls m p old (take i filled) w → HandsOutNext Calls m p number w x → (number ≡ 100 → ⊥) → i < length filled → ComesTo Calls m p old (take (i + 1) (set filled i x)) x
   one_more old w x filled i number frames next goes_on within =
       subst (λ (xs : List W). ComesTo Calls m p old xs x) (sym (take_more_set filled i x within)) (more w x (take i filled) old frames (frame_by (m.remaining w) number w x next goes_on))
+
+  -- one frame more: the walk after it stands in its slot
+  pub frames_more : (old last x : W) (slots : List W) (i : ℕ) → ComesTo Calls m p old (take i slots) (reached old slots i) → last ≡ reached old slots i → HandsOutNext Calls m p 0 last x → i < length slots → ComesTo Calls m p old (take (i + 1) (set slots i x)) (reached old (set slots i x) (i + 1))
+  frames_more old last x slots i frames is next within =
+      let so_far = subst (λ (w : W). ComesTo Calls m p old (take i slots) w) (sym is) frames in
+      let all = one_more old last x slots i 0 so_far next (λ e. absurd (omega (arith, e))) within in
+      subst (λ (w : W). ComesTo Calls m p old (take (i + 1) (set slots i x)) w) (reached_here old x slots i within) all
 
   pub others_stay : (slots filled : List W) (i : ℕ) (x : W) → drop i filled ≡ drop i slots → drop (i + 1) (set filled i x) ≡ drop (i + 1) slots
   others_stay slots filled i x same =

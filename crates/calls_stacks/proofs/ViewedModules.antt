@@ -1,5 +1,6 @@
 -- The modules that a caller passes.
-use Rattle.std.proofs.Common.{◌≡◌, ℕ, Bool, true, false, cond, List, [], ◌∷◌, map, Option, Some, None, Result, Ok, Err, option_copied, refl, ap, sym, ◌∙◌, subst}
+use Rattle.std.proofs.Common.{◌≡◌, ℕ, ◌+◌, ◌<◌, Bool, true, false, cond, List, [], ◌∷◌, map, Option, Some, None, Result, Ok, Err, option_copied, refl, ap, sym, ◌∙◌, subst}
+use Rattle.std.specs.Prelude.{IfSome, IsTrue}
 use Rattle.std.specs.List.{find, list_all}
 use Rattle.std.specs.Option.{option_map}
 use Rattle.std.specs.Borrow.{Bor}
@@ -19,6 +20,7 @@ use Rattle.pe_frame.specs.declared.arm64.walk.Arm64StackFrame.{Arm64StackFrame}
 use Rattle.pe_frame.specs.declared.modules.Module.{Module}
 use Rattle.pe_frame.specs.declared.walk.StackFrame.{StackFrame}
 use Rattle.pe_frame.specs.declared.walk.WalkEnd.{WalkEnd}
+use Rattle.pe_frame.proofs.InModules.{found_ends, found_has}
 use Rattle.pe_lookup.proofs.Lookups.{found_of_all}
 use Rattle.calls_stacks.specs.WalkModules.{exceptions_of, has_table, module_of, module_with, modules_of, view_base, view_size}
 use Rattle.calls_stacks.specs.declared.stack.walk.ModuleView.{ModuleView}
@@ -36,6 +38,17 @@ found_in_map f p (x ∷ xs) = by f (p (f x)) x (find (λ y. p (f y)) xs) (find p
 pub found : (views : List ModuleView) (a : ℕ) (o : Option (Bor ModuleView)) → option_map (λ v. v.now) o ≡ find (has_address view_base view_size a) views → option_map (λ v. module_of v.now) o ≡ module_at (modules_of views) a
 found views a None e = ap (option_map module_of) e ∙ sym (found_in_map module_of (has_address module_base module_size a) views)
 found views a (Some v) e = ap (option_map module_of) e ∙ sym (found_in_map module_of (has_address module_base module_size a) views)
+
+-- it has the address
+pub has_it : (views : List ModuleView) (a : ℕ) (o : Option (Bor ModuleView)) → option_map (λ v. v.now) o ≡ find (has_address view_base view_size a) views →
+    IfSome o (λ v. IsTrue (has_address module_base module_size a (module_of v.now)))
+has_it views a None e = tt
+has_it views a (Some v) e = found_has (modules_of views) a (module_of v.now) (sym (found views a (Some v) e))
+
+pub ends_after : (views : List ModuleView) (a : ℕ) (o : Option (Bor ModuleView)) → option_map (λ v. v.now) o ≡ find (has_address view_base view_size a) views →
+    IfSome o (λ v. a < v.now.base + v.now.image.image.now.size_of_image)
+ends_after views a None e = tt
+ends_after views a (Some v) e = found_ends (modules_of views) a (module_of v.now) (sym (found views a (Some v) e))
 
 -- its function table lies in its bytes
 pub tabled : (views : List ModuleView) (a : ℕ) (v : ModuleView) → list_all has_table views ≡ true → find (has_address view_base view_size a) views ≡ Some v → has_table v ≡ true

@@ -1,5 +1,5 @@
 -- Walks of a stack, a frame a call, on any machine: the walk of pe_frame, with its state in a record of the caller.
-use Rattle.std.specs.Prelude.{◌≡◌, ◌<◌, ◌≤◌, ◌⊎◌, ℕ, zero, suc, ◌==◌, nat_lt, length, take, drop, Bool, true, false, if◌then◌else◌, List, [], ◌∷◌, Option, None, Result, Ok, Err}
+use Rattle.std.specs.Prelude.{◌≡◌, ◌<◌, ◌≤◌, ◌⊎◌, ℕ, zero, suc, ◌==◌, nat_lt, length, slice_index_or, take, drop, Bool, true, false, if◌then◌else◌, List, [], ◌∷◌, Option, None, Result, Ok, Err}
 use Rattle.std.specs.Option.{unwrap_or}
 use Rattle.pe_core.specs.Refusals.{Refusal, kind_of}
 use Rattle.pe_frame.specs.FrameWalks.{FrameWalk, Follows, Process}
@@ -133,6 +133,11 @@ module _ {W F : Type 0} (Calls : Process → F → Result F WalkEnd → Type 0) 
   ReturnsFrames p w [] last = HandsOutNext p NOTHING w last
   ReturnsFrames p w (s ∷ frames) last =
       (next : W) × HandsOutNext p DONE w next × (s ≡ m.frame next) × ReturnsFrames p next frames last
+
+-- the walk that stands in the last of the first n slots, or before all of them
+abbrev pub reached : {W : Type 0} → W → List W → ℕ → W
+reached w slots zero = w
+reached w slots (suc n) = slice_index_or slots n w
 
 -- The first n slots have these states, the others what they had. Where some are left, the walk is over.
 pub record FillsFrames {W F : Type 0} (Calls : Process → F → Result F WalkEnd → Type 0) (m : WalkRecords W F) (p : Process) (n : ℕ) (slots filled : List W) (old new : W) : Type 0 where

@@ -1,4 +1,3 @@
-pub mod Addresses
 pub mod Arm64CodeRuns
 pub mod Arm64Maps
 pub mod CodeRuns

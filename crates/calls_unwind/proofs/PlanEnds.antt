@@ -1,22 +1,45 @@
 -- A plan that began at an address ends.
-use Rattle.std.proofs.Common.{◌≡◌, ◌≢◌, ℕ, suc, ◌+◌, ◌-◌, ◌*◌, ◌^◌, ◌<◌, ◌≤◌, Bool, true, false, List, [], ◌∷◌, length, Some, Result, Ok, Err, ◌⊎◌, inl, inr, ⊎_elim, refl, ap, sym, subst, ◌∙◌, arith}
+use Rattle.std.proofs.Common.{◌≡◌, ◌≢◌, ℕ, suc, ◌+◌, ◌-◌, ◌*◌, ◌^◌, ◌<◌, ◌≤◌, Bool, true, false, List, [], ◌∷◌, length, Some, Result, Ok, Err, ◌⊎◌, inl, inr, ⊎_elim, refl, ap, sym, subst, ◌∙◌, arith, Option, None}
+use Rattle.pe_core.proofs.Steps.{same_inside}
+use Rattle.pe_core.specs.Bytes.{AreBytes}
+use Rattle.pe_core.specs.Refusals.{Refusal, ◌>>=◌, outcome}
+use Rattle.pe_unwind.proofs.ChainedAddresses.{IsSmall, small_record}
+use Rattle.pe_unwind.proofs.Offsets.{given}
+use Rattle.pe_unwind.specs.Links.{Table}
+use Rattle.pe_unwind.specs.UnwindRecord.{UnwindInfoView, unwind_tests, unwind_record}
+use Rattle.pe_unwind.specs.declared.function_table.RuntimeFunction.{RuntimeFunction}
+use Rattle.calls_unwind.proofs.Ways.{GoesTo, LeadsIn, as_many, joined, one_more}
+use Rattle.calls_unwind.specs.Unwinding.{FindsOffset, FollowsToRecord, flat_record_at, or_no_function, flat_record}
+use Rattle.calls_unwind.specs.declared.unwinding.UnwindRecord.{UnwindRecord}
+use Rattle.calls_unwind.proofs.Rings.{HasOneEnd, EndsBelow, same_end, split, Ring, ring_within, comes_again}
 use Rattle.std.specs.Prelude.{◌==◌, if◌then◌else◌, nat_le, min}
 use Rattle.std.proofs.lemmas.Bool.{cases_Bool}
 use Rattle.std.proofs.lemmas.Bool.Decides.{nat_tests}
-use Rattle.pe_core.proofs.Steps.{same_inside}
-use Rattle.pe_core.specs.Bytes.{AreBytes}
-use Rattle.pe_core.specs.Refusals.{Refusal, ◌>>=◌}
 use Rattle.pe_core.specs.SectionMap.{mapped}
 use Rattle.pe_unwind.proofs.OneChain.{one_answer}
-use Rattle.pe_unwind.specs.Links.{Table}
 use Rattle.calls_unwind.specs.Plans.{plan_from, ended, goes_on, leaves, StepsIf, ReturnsInTurn}
-use Rattle.calls_unwind.specs.Unwinding.{FindsOffset, FollowsToRecord, flat_record_at}
 use Rattle.calls_unwind.specs.declared.unwinding.plan.Plan.{Plan}
-use Rattle.calls_unwind.specs.declared.unwinding.UnwindRecord.{UnwindRecord}
-use Rattle.calls_unwind.proofs.Addresses.{goes_below}
 use Rattle.calls_unwind.proofs.PlanSteps.{over_gives}
-use Rattle.calls_unwind.proofs.Ways.{GoesTo, LeadsIn, as_many, joined, one_more}
-use Rattle.calls_unwind.proofs.Rings.{HasOneEnd, EndsBelow, same_end, split, Ring, ring_within, comes_again}
+
+-- The address that a record goes on at is one of 32 bits.
+small_or_none : (o : Option RuntimeFunction) → IsSmall o → (or_no_function o).unwind_info_address < 4294967296
+small_or_none None h = omega arith
+small_or_none (Some f) h = h
+
+by_record : (b : List ℕ) (p : ℕ) (r : UnwindRecord) (o : Result UnwindInfoView Refusal) → AreBytes b → outcome (unwind_tests b p) (unwind_record b p) ≡ o → Ok r ≡ (o >>= λ i. Ok (flat_record b p i)) →
+    r.chained.unwind_info_address < 4294967296
+by_record b p r (Err refusal) small e f = absurd cc
+by_record b p r (Ok i) small e f =
+    let same : r ≡ flat_record b p i = same_inside r (flat_record b p i) f in
+    let info : IsSmall i.chained_info = subst (λ (j : UnwindInfoView). IsSmall j.chained_info) (given b p i e).1 (small_record b p small) in
+    subst (λ (x : UnwindRecord). x.chained.unwind_info_address < 4294967296) (sym same) (small_or_none i.chained_info info)
+
+by_offset : (b : List ℕ) (r : UnwindRecord) (offset : Result ℕ Refusal) → AreBytes b → Ok r ≡ (offset >>= flat_record_at b) → r.chained.unwind_info_address < 4294967296
+by_offset b r (Err refusal) small f = absurd cc
+by_offset b r (Ok p) small f = by_record b p r (outcome (unwind_tests b p) (unwind_record b p)) small refl f
+
+pub goes_below : (b : List ℕ) (links : Result Table Refusal) → AreBytes b → EndsBelow 4294967296 (GoesTo b links)
+goes_below b links small u v g = subst (λ (x : ℕ). x < 4294967296) g.3 (by_offset b g.0 g.1.0 small g.1.2)
 
 -- ---- an address has one record
 

@@ -18,3 +18,4 @@ pub mod LibrariesOfCalls
 pub mod ImageWriters
 pub mod TwoCalls
 pub mod DumpFields
+pub mod PartFields

@@ -7,3 +7,8 @@ pub mod LibrariesOfCalls
 pub mod HeadersRead
 pub mod TwoCalls
 pub mod PdbFrames
+pub mod PartLaws
+pub mod AnyParts
+pub mod ItemFailures
+pub mod ImageRanges
+pub mod Steps

@@ -12,11 +12,10 @@ use calls_base::ended_texts::{
 };
 use calls_base::ranges::{Range, slice_of};
 use calls_base::results::{DONE, ROOM, hand_out, number_of};
-use calls_base::section_index::{is_searched, put_index};
+use calls_base::section_index::is_searched;
 use calls_base::texts::text_of;
 use calls_base::view::View;
-use pe_core::Error;
-use pe_lookup::IndexEntry;
+use pe_core::{Error, RangeEntry, put_section_index};
 
 // ---- ended texts
 
@@ -98,14 +97,14 @@ pub extern "C" fn pe_c_abi_5() -> u32
 ///
 /// Errors: `ROOM`; then `written` is how many entries the room has to have.
 #[unsafe(no_mangle)]
-pub extern "C" fn pe_c_index(view: &View, room: &mut [IndexEntry], written: &mut u64) -> u32
+pub extern "C" fn pe_c_index(view: &View, room: &mut [RangeEntry], written: &mut u64) -> u32
     ensures { MakesIndex view.now.image.now view.now.sections.now result room.old room.new written.new }
 {
     if !is_searched(view.image) {
         *written = 0;
         return DONE;
     }
-    match put_index(view.sections, view.image.file_alignment, room) {
+    match put_section_index(view.sections, view.image.file_alignment, room) {
         Ok(count) => {
             *written = count as u64;
             DONE

@@ -2,35 +2,20 @@
 
 ghost use Rattle.std.specs.Prelude.{◌≡◌};
 ghost use Rattle.pe_records.specs.declared.debug.constants.TheConstants.{IMAGE_DEBUG_TYPE_CODEVIEW, IMAGE_DEBUG_TYPE_EMBEDDEDPORTABLEPDB, IMAGE_DEBUG_TYPE_EX_DLLCHARACTERISTICS, IMAGE_DEBUG_TYPE_PDBCHECKSUM, IMAGE_DEBUG_TYPE_POGO, IMAGE_DEBUG_TYPE_REPRO, IMAGE_DEBUG_TYPE_VC_FEATURE};
-ghost use Rattle.calls_headers.specs.Debug.{characteristics_of, checksum_of, debug_entries_range, embedded_of, features_of, key_of, pdb20_of, pogo_of, read_by_type, read_first, repro_of};
+ghost use Rattle.calls_headers.specs.Debug.{characteristics_of, checksum_of, embedded_of, features_of, key_of, pdb20_of, pogo_of, read_by_type, read_first, repro_of};
 ghost use Rattle.calls_base.specs.HandsOut.{HandsOutIf};
 ghost use Rattle.calls_base.specs.Views.{directory_sections};
 
 pub mod records;
 pub mod walks;
 
-use calls_base::ranges::Range;
 use calls_base::results::{DONE, hand_out_some, number_of};
 use calls_base::view::View;
 use calls_headers::debug::records::SymbolKey;
 use calls_headers::debug::{
-    DebugRecords, by_type, first_entries, first_key, read_records, refuse_records, table_of,
+    DebugRecords, by_type, first_entries, first_key, read_records, refuse_records,
 };
 use pe_records::ImageDebugDirectory;
-
-/// Returns the entries of the debug directory as a walk for `pe_c_next_debug_entry`: `NOTHING` where the directory is
-/// absent. The records that the entries lead to are not read.
-///
-/// Errors: `UNMAPPED`; `DEBUG_BOUNDS` where the entries end past the end of the bytes. Permissive mode truncates them
-/// there.
-#[unsafe(no_mangle)]
-pub extern "C" fn pe_c_debug_entries(view: &View, out: &mut Range) -> u32
-    ensures { HandsOutIf result out.old out.new
-        (debug_entries_range view.now.bytes.now view.now.image.now (directory_sections view.now 6)
-        view.now.image.now.mode) }
-{
-    hand_out_some(table_of(view), out)
-}
 
 /// Returns the symbol key, by which symbol servers file the symbols of an image: that of the first CodeView entry, alone, which is
 /// the field `key` of what `pe_c_debug_data` reads.

@@ -14,7 +14,7 @@ ghost use Rattle.calls_directories.specs.LoadConfigs.{load_config_at, numbered_f
 ghost use Rattle.std.specs.Prelude.{◌≡◌};
 
 use calls_base::directories::table_at;
-use calls_base::image::{BASE_RELOCATION_TABLE, DELAY_IMPORT_DESCRIPTOR, directory};
+use calls_base::image::directory;
 use calls_base::ranges::Range;
 use calls_base::results::{hand_out, hand_out_found, hand_out_some};
 use calls_base::view::View;
@@ -34,18 +34,19 @@ use calls_directories::directories::tls::{callbacks_at, next_callback, tls_at};
 use pe_core::{RvaMap, TableEntry};
 use pe_directories::{ClrHeader, TlsDirectory};
 
-// ---- base relocations
+// ---- tables
 
-/// Returns a walk through the blocks of the base relocations, the bytes of the directory: `NOTHING` where it is absent. Strict
-/// and permissive mode make no difference.
+/// Returns the bytes of a directory by its index, `IMAGE_DIRECTORY_ENTRY_*` of winnt.h, as RVAs lead to it: of base relocations and of
+/// delay imports a walk through the blocks and the entries. `NOTHING` where it is absent. Strict and permissive mode make no
+/// difference.
 ///
 /// Errors: `UNMAPPED`, `SHORT`.
 #[unsafe(no_mangle)]
-pub extern "C" fn pe_c_relocation_blocks(view: &View, out: &mut Range) -> u32
+pub extern "C" fn pe_c_directory_table(view: &View, index: u32, out: &mut Range) -> u32
     ensures { DirectoryHandsOut result out.old out.new
-        (table_at 5 view.now.bytes.now view.now.image.now (directory_sections view.now 5)) }
+        (table_at index view.now.bytes.now view.now.image.now (directory_sections view.now index)) }
 {
-    hand_out_found(table_at(view, BASE_RELOCATION_TABLE), out)
+    hand_out_found(table_at(view, index as usize), out)
 }
 
 // ---- bound imports
@@ -126,20 +127,6 @@ pub extern "C" fn pe_c_next_metadata_stream(
     ensures walk { walk.new ≡ streams_after walk.old (first_stream_in bytes.now walk.old) }
 {
     hand_out_found(next_stream(bytes, walk), out)
-}
-
-// ---- delay imports
-
-/// Returns a walk through the entries of the delay import directory, its bytes: `NOTHING` where it is absent. Strict and
-/// permissive mode make no difference.
-///
-/// Errors: `UNMAPPED`, `SHORT`.
-#[unsafe(no_mangle)]
-pub extern "C" fn pe_c_delay_imports(view: &View, out: &mut Range) -> u32
-    ensures { DirectoryHandsOut result out.old out.new
-        (table_at 13 view.now.bytes.now view.now.image.now (directory_sections view.now 13)) }
-{
-    hand_out_found(table_at(view, DELAY_IMPORT_DESCRIPTOR), out)
 }
 
 // ---- guard tables

@@ -1,6 +1,3 @@
 //! Calls that say why another call refuses, with the numbers of the refusal, over calls_failures.
 
-pub mod debug;
-pub mod directories;
-pub mod headers;
 pub mod steps;

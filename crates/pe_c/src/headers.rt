@@ -8,7 +8,7 @@ pub mod image;
 pub mod loaded;
 pub mod map_ranges;
 pub mod maps;
-pub mod overlay;
+pub mod ranges;
 pub mod rich_header;
 pub mod section_names;
 pub mod te;

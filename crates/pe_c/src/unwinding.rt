@@ -2,19 +2,19 @@
 
 ghost use Rattle.std.specs.Prelude.{◌≡◌, Some, Ok};
 ghost use Rattle.pe_unwind.specs.ScopeTable.{scope_at};
-ghost use Rattle.calls_base.specs.HandsOut.{HandsOutIf};
-ghost use Rattle.calls_unwind.specs.Unwinding.{machine_table_at, HandsOutFound, HandsOutRecord, links_at, scopes_at};
+ghost use Rattle.calls_base.specs.HandsOut.{HandsOut, HandsOutIf};
+ghost use Rattle.calls_unwind.specs.Unwinding.{function_in, machine_table_at, HandsOutFound, HandsOutRecord, links_at, scopes_at};
 ghost use Rattle.calls_base.specs.Views.{directory_sections, map_of};
 ghost use Rattle.calls_base.specs.Walks.{next_of, walk_of};
 
 pub mod plan;
 
 use calls_base::ranges::{Range, slice_of};
-use calls_base::results::{DONE, NOTHING, hand_out_some, number_of};
+use calls_base::results::{DONE, NOTHING, hand_out, hand_out_some, number_of};
 use calls_base::view::View;
 use calls_unwind::unwinding::{
-    UnwindRecord, find, hand_out_far, hand_out_handled, machine_table, near_offset, next_scope,
-    put_plain, scopes_in,
+    UnwindRecord, find, function_in, hand_out_far, hand_out_handled, machine_table, near_offset,
+    next_scope, put_plain, scopes_in,
 };
 use pe_core::{RvaMap, TableEntry};
 use pe_unwind::{RuntimeFunction, ScopeTableEntry, search};
@@ -30,6 +30,22 @@ pub extern "C" fn pe_c_exception_table(view: &View, machine: u32, out: &mut Rang
         (directory_sections view.now 3) view.now.image.now.mode) }
 {
     hand_out_some(machine_table(view, machine), out)
+}
+
+/// Reads the entry with an index, from 0, of the function table at this range. A list with room for one takes half as many instructions
+/// more.
+///
+/// Errors: `SHORT` where the range is not inside the bytes; `FUNCTION_INDEX` where the table has no such entry.
+#[unsafe(no_mangle)]
+pub extern "C" fn pe_c_function_at(
+    bytes: &[u8],
+    table: &Range,
+    index: u64,
+    out: &mut RuntimeFunction,
+) -> u32
+    ensures { HandsOut result out.old out.new (function_in bytes.now table.now index) }
+{
+    hand_out(function_in(bytes, table, index), out)
 }
 
 /// Returns the function that covers an RVA, by one `search` of pe_unwind in the function table at this range: `NOTHING`

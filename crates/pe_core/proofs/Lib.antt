@@ -7,8 +7,6 @@ pub mod RangeCuts
 pub mod RangeHalves
 pub mod RangeFounds
 pub mod SplitRooms
-pub mod SectionCuts
-pub mod SectionHalves
 pub mod SectionWindows
 pub mod Texts
 pub mod TextEnds

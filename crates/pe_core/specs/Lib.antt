@@ -26,7 +26,6 @@ pub mod ExportAddresses
 pub mod Imports
 pub mod ImportSteps
 pub mod RangeIndexes
-pub mod SectionPieces
 pub mod SectionIndex
 pub mod SectionWindow
 pub mod Relocations

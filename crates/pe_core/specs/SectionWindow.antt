@@ -1,17 +1,18 @@
--- The piece of the last RVA that was mapped. Only private contracts cite this.
-use Rattle.std.specs.Prelude.{◌≡◌, ℕ, ◌+◌, ◌-◌, ◌<◌, ◌≤◌, List, Some}
+-- The RVAs around the last one that was mapped. Only private contracts cite this.
+use Rattle.std.specs.Prelude.{◌≡◌, ℕ, ◌+◌, ◌-◌, ◌^◌, ◌<◌, ◌≤◌, List, Some}
+use Rattle.pe_core.specs.RangeIndexes.{number_at}
 use Rattle.pe_core.specs.SectionMap.{SectionMapView, offset_in}
-use Rattle.pe_core.specs.SectionPieces.{owner_at}
-use Rattle.pe_core.specs.declared.section_pieces.Piece.{Piece}
+use Rattle.pe_core.specs.declared.range_index.RangeEntry.{RangeEntry}
 use Rattle.pe_core.specs.declared.section_window.Window.{Window}
 
--- RVA x lies in the window, and by the pieces each RVA of the window has its owner
-pub record IsPieceOf (pieces : List Piece) (x : ℕ) (w : Window) : Type 0 where
-  pub starts : w.start ≤ x
-  pub ends : x < w.end
-  pub owned : (y : ℕ) → w.start ≤ y → y < w.end → owner_at pieces y ≡ Some w.owner
+-- RVA x lies between an entry and `end`, and each RVA there has the number of the entry, which is that of a section
+pub record IsPieceOf (entries : List RangeEntry) (x : ℕ) (entry : RangeEntry) (end : ℕ) : Type 0 where
+  pub some : 0 < entry.number
+  pub starts : entry.start ≤ x
+  pub ends : x < end
+  pub numbered : (y : ℕ) → entry.start ≤ y → y < end → number_at entries y ≡ entry.number
 
--- by the map each RVA of the window has the file offset that its owner says
+-- by the map each RVA of the window has the file offset that its section says
 pub record IsWindow (m : SectionMapView) (w : Window) : Type 0 where
-  pub above : (x : ℕ) → w.start ≤ x → x < w.end → w.owner.address ≤ x
-  pub maps : (x : ℕ) → w.start ≤ x → x < w.end → Some (x - w.owner.address + w.owner.offset) ≡ offset_in m x
+  pub above : (x : ℕ) → x < 2 ^ 32 → w.start ≤ x → x < w.end → w.address ≤ x
+  pub maps : (x : ℕ) → x < 2 ^ 32 → w.start ≤ x → x < w.end → Some (x - w.address + w.offset) ≡ offset_in m x

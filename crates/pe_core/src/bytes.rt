@@ -2,7 +2,7 @@
 //! from the start of the slice that is passed.
 
 ghost use Rattle.std.specs.Prelude.{◌≡◌, ◌+◌, ◌<◌, ◌≤◌, length, replicate};
-ghost use Rattle.pe_core.specs.Bytes.{le, range, bytes_of, splice, put, record_at, data_at, fit_at};
+ghost use Rattle.pe_core.specs.Bytes.{le, range, bytes_of, splice, record_at, data_at, fit_at};
 ghost use Rattle.pe_core.specs.Refusals.{Returns, ReturnsAs};
 ghost use Rattle.pe_core.specs.Rows.{SplitsEntry};
 
@@ -215,58 +215,4 @@ pub fn set_u64(buffer: &mut [u8], offset: usize, n: u64)
     ensures { buffer.new ≡ splice buffer.old offset (bytes_of 8 n) }
 {
     set_slice(buffer, offset, &u64::to_le_bytes(n));
-}
-
-/// Writes `piece` at `offset`. Error: `WriteFit`; `buffer` is then unchanged.
-pub fn put_slice(buffer: &mut [u8], offset: usize, piece: &[u8]) -> Result<()>
-    ensures fit { Returns result (fit_at buffer.old offset (length piece.now)) }
-    ensures after { buffer.new ≡ put buffer.old offset piece.now }
-{
-    require_room(buffer, offset, piece.len())?;
-    set_slice(buffer, offset, piece);
-    Ok(())
-}
-
-/// Writes a byte at `offset`. Error: `WriteFit`; `buffer` is then unchanged.
-#[tactic(auto, unfolding(crate::specs::Bytes::bytes_of))]
-pub fn put_u8(buffer: &mut [u8], offset: usize, n: u8) -> Result<()>
-    ensures fit { Returns result (fit_at buffer.old offset 1) }
-    ensures after { buffer.new ≡ put buffer.old offset (bytes_of 1 n) }
-{
-    require_room(buffer, offset, 1)?;
-    set_u8(buffer, offset, n);
-    Ok(())
-}
-
-/// Writes a `u16` at `offset`. Error: `WriteFit`; `buffer` is then unchanged.
-#[tactic(auto, unfolding(crate::specs::Bytes::bytes_of))]
-pub fn put_u16(buffer: &mut [u8], offset: usize, n: u16) -> Result<()>
-    ensures fit { Returns result (fit_at buffer.old offset 2) }
-    ensures after { buffer.new ≡ put buffer.old offset (bytes_of 2 n) }
-{
-    require_room(buffer, offset, 2)?;
-    set_u16(buffer, offset, n);
-    Ok(())
-}
-
-/// Writes a `u32` at `offset`. Error: `WriteFit`; `buffer` is then unchanged.
-#[tactic(auto, unfolding(crate::specs::Bytes::bytes_of))]
-pub fn put_u32(buffer: &mut [u8], offset: usize, n: u32) -> Result<()>
-    ensures fit { Returns result (fit_at buffer.old offset 4) }
-    ensures after { buffer.new ≡ put buffer.old offset (bytes_of 4 n) }
-{
-    require_room(buffer, offset, 4)?;
-    set_u32(buffer, offset, n);
-    Ok(())
-}
-
-/// Writes a `u64` at `offset`. Error: `WriteFit`; `buffer` is then unchanged.
-#[tactic(auto, unfolding(crate::specs::Bytes::bytes_of))]
-pub fn put_u64(buffer: &mut [u8], offset: usize, n: u64) -> Result<()>
-    ensures fit { Returns result (fit_at buffer.old offset 8) }
-    ensures after { buffer.new ≡ put buffer.old offset (bytes_of 8 n) }
-{
-    require_room(buffer, offset, 8)?;
-    set_u64(buffer, offset, n);
-    Ok(())
 }

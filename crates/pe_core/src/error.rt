@@ -11,7 +11,7 @@ use std::fmt;
 /// What is wrong with a value in the bytes, or with an argument.
 ///
 /// Offsets, RVAs and magic numbers are as the file has them; sizes and counts are in bytes or entries.
-#[derive(Clone, Copy, Debug, PartialEq)]
+#[derive(Clone, Copy, PartialEq)]
 pub enum Reason {
     /// The DOS header's pointer to the PE header, which is below 64.
     HeaderPointer(u32),
@@ -140,185 +140,187 @@ impl Reason {
     }
 }
 
-/// A number in an error text, with its base.
-#[derive(Clone, Copy)]
-enum Number {
-    Hex(u64),
-    Decimal(u64),
+impl Reason {
+    /// The number of the reason. `None` if it has none, or two.
+    fn number(&self) -> Option<u64> {
+        Some(match *self {
+            Reason::HeaderPointer(n)
+            | Reason::ImportName(n)
+            | Reason::StringTable(n)
+            | Reason::CertificateSize(n)
+            | Reason::DebugSize(n)
+            | Reason::DebugData(n)
+            | Reason::PogoSize(n)
+            | Reason::ExceptionSize(n)
+            | Reason::FunctionLink(n)
+            | Reason::Arm64Version(n)
+            | Reason::ResourceCycle(n)
+            | Reason::ResourceString(n)
+            | Reason::WriteSymbols(n) => u64::from(n),
+            Reason::CertificateRevision(n) | Reason::CertificateType(n) | Reason::TeSize(n) =>
+                u64::from(n),
+            Reason::CertificateTable(n)
+            | Reason::Unmapped(n)
+            | Reason::DebugBounds(n)
+            | Reason::ExceptionOffset(n)
+            | Reason::ExceptionBounds(n)
+            | Reason::ResourceBounds(n) => n,
+            Reason::FunctionIndex(n)
+            | Reason::FunctionCycle(n)
+            | Reason::Arm64Cut(n)
+            | Reason::WriteAlignment(n)
+            | Reason::WriteSection(n) => n as u64,
+            Reason::UnwindVersion(n) | Reason::UnwindCode(n) => u64::from(n),
+            _ => return None,
+        })
+    }
+
+    /// The texts before and after a number in hexadecimal digits. `None` if the reason has no such number, or two.
+    fn texts_around_hex(&self) -> Option<(&'static str, &'static str)> {
+        Some(match self {
+            Reason::HeaderPointer(..) => (
+                "PE header offset ",
+                " lies inside the DOS header's 64 bytes",
+            ),
+            Reason::ImportName(..) => (
+                "import name at RVA ",
+                " is not NUL-terminated or not UTF-8",
+            ),
+            Reason::StringTable(..) => (
+                "string not NUL-terminated, not UTF-8 or truncated (at offset ",
+                " of the string table, unless it is an inline name)",
+            ),
+            Reason::CertificateRevision(..) => ("invalid certificate revision ", ""),
+            Reason::CertificateType(..) => ("invalid certificate type ", ""),
+            Reason::CertificateTable(..) => (
+                "certificate table ends at file offset ",
+                ", past the end of the file",
+            ),
+            Reason::Unmapped(..) => (
+                "RVA ",
+                " maps to no file offset: no section covers it, or the file alignment is not a power of two",
+            ),
+            Reason::DebugBounds(..) => (
+                "debug directory ends at file offset ",
+                ", past the end of the file",
+            ),
+            Reason::ExceptionOffset(..) => (
+                "exception directory at file offset ",
+                " is not aligned to 4 bytes",
+            ),
+            Reason::ExceptionBounds(..) => (
+                "exception directory ends at file offset ",
+                ", past the end of the file",
+            ),
+            Reason::FunctionLink(..) => ("link to RVA ", " leads to no function entry"),
+            Reason::UnwindCode(..) => ("invalid unwind code ", ""),
+            Reason::Arm64Cut(..) => ("ARM64 unwind code truncated at offset ", " of its stream"),
+            Reason::ResourceBounds(..) => (
+                "resource data ends at file offset ",
+                ", past the bytes that hold it",
+            ),
+            Reason::ResourceCycle(..) => (
+                "loop in the resource tree through the directory at offset ",
+                "",
+            ),
+            Reason::ResourceString(..) => (
+                "version string at offset ",
+                ": value missing, or its length above 32,767",
+            ),
+            Reason::WriteAlignment(..) => ("images with alignment ", " cannot be written"),
+            Reason::WriteSymbols(..) => (
+                "images with COFF symbols cannot be written (symbol table at file offset ",
+                ")",
+            ),
+            _ => return None,
+        })
+    }
+
+    /// The texts before and after a number in decimal digits. Empty if the reason has no such number, or two.
+    fn texts_around_decimal(&self) -> (&'static str, &'static str) {
+        match self {
+            Reason::CertificateSize(..) => ("certificate truncated: ", " bytes needed"),
+            Reason::DebugSize(..) => ("debug record of ", " bytes is too small for its type"),
+            Reason::DebugData(..) => ("debug record truncated: ", " bytes needed"),
+            Reason::PogoSize(..) => ("POGO record of ", " bytes has no entries"),
+            Reason::ExceptionSize(..) => (
+                "exception directory size of ",
+                " bytes is not a multiple of the entry size",
+            ),
+            Reason::FunctionIndex(..) => ("function index ", " is out of range"),
+            Reason::FunctionCycle(..) => (
+                "loop in unwind links or chained records, found after ",
+                " steps",
+            ),
+            Reason::UnwindVersion(..) => ("unknown unwind record version ", ""),
+            Reason::Arm64Version(..) => ("unknown ARM64 unwind record version ", ""),
+            Reason::TeSize(..) => (
+                "stripped size of ",
+                " bytes is smaller than the 40 bytes of a TE header",
+            ),
+            Reason::WriteSection(..) => ("data of section ", " is not in the source bytes"),
+            _ => ("", ""),
+        }
+    }
 }
 
-impl fmt::Display for Number {
+// It shows what a derived one does, whose proof takes nearly three times as long.
+impl fmt::Debug for Reason {
     fn fmt<W: fmt::Write>(&self, f: &mut fmt::Formatter<W>) -> fmt::Result {
+        let name = self.name();
+        if let Some(number) = self.number() {
+            return f.debug_tuple(name).field(&number).finish();
+        }
         match self {
-            Number::Hex(n) => write!(f, "{n:#x}"),
-            Number::Decimal(n) => write!(f, "{n}"),
+            Reason::PogoName { needed, length } => f
+                .debug_struct(name)
+                .field("needed", needed)
+                .field("length", length)
+                .finish(),
+            Reason::Arm64Stream { length, start } => f
+                .debug_struct(name)
+                .field("length", length)
+                .field("start", start)
+                .finish(),
+            Reason::WriteOverlap(first, second) => f
+                .debug_tuple(name)
+                .field(first)
+                .field(second)
+                .finish(),
+            Reason::WriteFit { end, length } => f
+                .debug_struct(name)
+                .field("end", end)
+                .field("length", length)
+                .finish(),
+            Reason::ImportsLimit { count, limit } => f
+                .debug_struct(name)
+                .field("count", count)
+                .field("limit", limit)
+                .finish(),
+            _ => f.write_str(name),
+        }
+    }
+}
+
+// One `write!` for many reasons: with a `write!` in each arm the proof takes three times as long.
+impl fmt::Display for Reason {
+    fn fmt<W: fmt::Write>(&self, f: &mut fmt::Formatter<W>) -> fmt::Result {
+        let Some(number) = self.number() else {
+            return self.fmt_others(f);
+        };
+        match self.texts_around_hex() {
+            Some((before, after)) => write!(f, "{before}{number:#x}{after}"),
+            None => {
+                let (before, after) = self.texts_around_decimal();
+                write!(f, "{before}{number}{after}")
+            }
         }
     }
 }
 
 impl Reason {
-    /// The text before the number of the reason, the number, and the text after it. `None` if the reason has no number,
-    /// or two. One `write!` writes them all: with a `write!` in each arm the proof takes three times as long.
-    fn text_around_number(&self) -> Option<(&'static str, Number, &'static str)> {
-        Some(match self {
-            Reason::HeaderPointer(pointer) => (
-                "PE header offset ",
-                Number::Hex(u64::from(*pointer)),
-                " lies inside the DOS header's 64 bytes",
-            ),
-            Reason::ImportName(rva) => (
-                "import name at RVA ",
-                Number::Hex(u64::from(*rva)),
-                " is not NUL-terminated or not UTF-8",
-            ),
-            Reason::StringTable(offset) => (
-                "string not NUL-terminated, not UTF-8 or truncated (at offset ",
-                Number::Hex(u64::from(*offset)),
-                " of the string table, unless it is an inline name)",
-            ),
-            Reason::CertificateRevision(revision) => (
-                "invalid certificate revision ",
-                Number::Hex(u64::from(*revision)),
-                "",
-            ),
-            Reason::CertificateType(kind) => (
-                "invalid certificate type ",
-                Number::Hex(u64::from(*kind)),
-                "",
-            ),
-            Reason::CertificateSize(length) => (
-                "certificate truncated: ",
-                Number::Decimal(u64::from(*length)),
-                " bytes needed",
-            ),
-            Reason::CertificateTable(end) => (
-                "certificate table ends at file offset ",
-                Number::Hex(*end),
-                ", past the end of the file",
-            ),
-            Reason::Unmapped(rva) => (
-                "RVA ",
-                Number::Hex(*rva),
-                " maps to no file offset: no section covers it, or the file alignment is not a power of two",
-            ),
-            Reason::DebugBounds(end) => (
-                "debug directory ends at file offset ",
-                Number::Hex(*end),
-                ", past the end of the file",
-            ),
-            Reason::DebugSize(size) => (
-                "debug record of ",
-                Number::Decimal(u64::from(*size)),
-                " bytes is too small for its type",
-            ),
-            Reason::DebugData(size) => (
-                "debug record truncated: ",
-                Number::Decimal(u64::from(*size)),
-                " bytes needed",
-            ),
-            Reason::PogoSize(size) => (
-                "POGO record of ",
-                Number::Decimal(u64::from(*size)),
-                " bytes has no entries",
-            ),
-            Reason::ExceptionSize(size) => (
-                "exception directory size of ",
-                Number::Decimal(u64::from(*size)),
-                " bytes is not a multiple of the entry size",
-            ),
-            Reason::ExceptionOffset(offset) => (
-                "exception directory at file offset ",
-                Number::Hex(*offset),
-                " is not aligned to 4 bytes",
-            ),
-            Reason::ExceptionBounds(end) => (
-                "exception directory ends at file offset ",
-                Number::Hex(*end),
-                ", past the end of the file",
-            ),
-            Reason::FunctionIndex(index) => (
-                "function index ",
-                Number::Decimal(*index as u64),
-                " is out of range",
-            ),
-            Reason::FunctionLink(rva) => (
-                "link to RVA ",
-                Number::Hex(u64::from(*rva)),
-                " leads to no function entry",
-            ),
-            Reason::FunctionCycle(steps) => (
-                "loop in unwind links or chained records, found after ",
-                Number::Decimal(*steps as u64),
-                " steps",
-            ),
-            Reason::UnwindVersion(version) => (
-                "unknown unwind record version ",
-                Number::Decimal(u64::from(*version)),
-                "",
-            ),
-            Reason::UnwindCode(code) => ("invalid unwind code ", Number::Hex(u64::from(*code)), ""),
-            Reason::Arm64Version(version) => (
-                "unknown ARM64 unwind record version ",
-                Number::Decimal(u64::from(*version)),
-                "",
-            ),
-            Reason::Arm64Cut(offset) => (
-                "ARM64 unwind code truncated at offset ",
-                Number::Hex(*offset as u64),
-                " of its stream",
-            ),
-            Reason::ResourceBounds(end) => (
-                "resource data ends at file offset ",
-                Number::Hex(*end),
-                ", past the bytes that hold it",
-            ),
-            Reason::ResourceCycle(offset) => (
-                "loop in the resource tree through the directory at offset ",
-                Number::Hex(u64::from(*offset)),
-                "",
-            ),
-            Reason::ResourceString(offset) => (
-                "version string at offset ",
-                Number::Hex(u64::from(*offset)),
-                ": value missing, or its length above 32,767",
-            ),
-            Reason::TeSize(size) => (
-                "stripped size of ",
-                Number::Decimal(u64::from(*size)),
-                " bytes is smaller than the 40 bytes of a TE header",
-            ),
-            Reason::WriteAlignment(alignment) => (
-                "images with alignment ",
-                Number::Hex(*alignment as u64),
-                " cannot be written",
-            ),
-            Reason::WriteSymbols(offset) => (
-                "images with COFF symbols cannot be written (symbol table at file offset ",
-                Number::Hex(u64::from(*offset)),
-                ")",
-            ),
-            Reason::WriteSection(index) => (
-                "data of section ",
-                Number::Decimal(*index as u64),
-                " is not in the source bytes",
-            ),
-            Reason::PogoName { .. }
-            | Reason::Arm64Stream { .. }
-            | Reason::WriteOverlap(..)
-            | Reason::WriteFit { .. }
-            | Reason::ImportsLimit { .. }
-            | Reason::NoOptionalHeader => {
-                return None;
-            }
-        })
-    }
-}
-
-impl fmt::Display for Reason {
-    fn fmt<W: fmt::Write>(&self, f: &mut fmt::Formatter<W>) -> fmt::Result {
-        if let Some((before, number, after)) = self.text_around_number() {
-            return write!(f, "{before}{number}{after}");
-        }
+    /// The text of a reason that has no number, or two.
+    fn fmt_others<W: fmt::Write>(&self, f: &mut fmt::Formatter<W>) -> fmt::Result {
         match self {
             Reason::PogoName { needed, length } => write!(
                 f,

@@ -20,7 +20,7 @@ use crate::mapped_bytes::MappedBytes;
 use crate::text::text_at;
 
 /// The address table of an export directory, and the two tables of names that lead into it.
-#[derive(Clone, Copy, Debug)]
+#[derive(Clone, Copy)]
 pub struct ExportAddresses<'a> {
     /// The address table: 4 bytes an entry, the RVA of an export.
     pub addresses: &'a [u8],
@@ -47,7 +47,7 @@ pub struct ExportAddress {
 }
 
 /// An entry of the name table.
-#[derive(Clone, Copy, Debug)]
+#[derive(Clone, Copy)]
 pub struct ExportName<'a> {
     /// The name, without its NUL.
     pub name: &'a str,
@@ -159,7 +159,7 @@ impl<'a> ExportAddresses<'a> {
 }
 
 /// The exports that are left of an address table.
-#[derive(Clone, Debug, Drop)]
+#[derive(Clone, Drop)]
 pub struct ExportAddressIterator<'a> {
     table: ExportAddresses<'a>,
     next: usize,

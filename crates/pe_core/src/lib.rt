@@ -30,7 +30,6 @@ mod relocation;
 mod rva_map;
 mod section_index;
 mod section_map;
-mod section_pieces;
 mod section_table;
 mod section_window;
 mod strtab;
@@ -41,9 +40,8 @@ mod text;
 
 pub use byte_range::ByteRange;
 pub use bytes::{
-    data_at, put_slice, put_u8, put_u16, put_u32, put_u64, read_u8, read_u16, read_u32, read_u64,
-    require_bytes, require_room, set_slice, set_u8, set_u16, set_u32, set_u64, set_zeros, slice_at,
-    split_entry, u8_at, u16_at, u32_at, u64_at,
+    data_at, read_u8, read_u16, read_u32, read_u64, require_bytes, require_room, set_slice, set_u8,
+    set_u16, set_u32, set_u64, set_zeros, slice_at, split_entry, u8_at, u16_at, u32_at, u64_at,
 };
 pub use counted_table::CountedTable;
 pub use data_directories::{DataDirectories, DataDirectory, MOST_DIRECTORIES};
@@ -70,7 +68,7 @@ pub use range_index::{AddressesOf, RangeEntry, index_of, number_at, put_index};
 pub use relocation::RelocationData;
 pub use rva_map::RvaMap;
 pub use section_index::{SectionIndex, SectionMap, mapped_offset};
-pub use section_map::{find_offset, rounded_up};
+pub use section_map::{find_offset, put_section_index, rounded_up};
 pub use section_table::SectionTable;
 pub use strtab::Strtab;
 pub use symbol::{SIZE_OF_SYMBOL, Symbol, SymbolIterator, SymbolTable};

@@ -16,7 +16,7 @@ const LONG: usize = 64;
 
 /// The offsets from `start` to `end`: the first zero at or after each of them is at `end`. Without a zero `end` is
 /// `usize::MAX`.
-#[derive(Clone, Copy, Debug)]
+#[derive(Clone, Copy)]
 struct Run<'a> {
     start: usize,
     end: usize,

@@ -11,7 +11,7 @@ use crate::section_table::SectionTable;
 
 /// The bytes of an image and its section map, which has the section headers, the file alignment, the options, and perhaps
 /// an index. A caller makes one and passes it to each reader.
-#[derive(Debug, Drop)]
+#[derive(Drop)]
 pub struct MappedBytes<'a, 's> {
     /// The bytes of the whole file, or of the image as loaded, whose map has `resolve_rva` off.
     pub bytes: &'a [u8],

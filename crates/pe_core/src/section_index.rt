@@ -10,21 +10,21 @@ ghost use Rattle.pe_core.specs.declared.error.Error.TheVariants.{Memory};
 
 use crate::error::{Error, Reason, Result};
 use crate::options::ParseOptions;
-use crate::section_map::find_offset;
-use crate::section_pieces::{Owner, Piece, owner_of, pieces_of};
+use crate::range_index::{RangeEntry, number_at};
+use crate::section_map::{entries_of, find_offset, offset_by, raw_start};
 use crate::section_table::SectionTable;
-use crate::section_window::{Window, window_of};
+use crate::section_window::{Window, piece_of};
 use std::alloc::Allocator;
 use std::marker::Model;
 
 /// The section map of an image: it maps RVAs as `find_offset` does. `SectionMap::new` makes one that tests the sections
 /// in turn; `SectionIndex::map` makes one that maps each RVA in a few steps, however many sections there are.
-#[derive(Debug, Drop)]
+#[derive(Drop)]
 pub struct SectionMap<'a> {
     sections: &'a [SectionTable],
     file_alignment: u32,
     opts: ParseOptions,
-    pieces: Option<&'a [Piece]>,
+    entries: Option<&'a [RangeEntry]>,
 }
 
 impl<'a> Model for SectionMap<'a> {
@@ -37,7 +37,7 @@ impl<'a> Model for SectionMap<'a> {
     ghost view = { λ s. map_view s.opts s.sections.now s.file_alignment };
 
     ghost invariant = { λ s.
-        IfSome s.pieces (λ v. Agrees s.opts.resolve_rva s.file_alignment s.sections.now v.now) };
+        IfSome s.entries (λ v. Agrees (map_view s.opts s.sections.now s.file_alignment) v.now) };
 }
 
 impl<'a> SectionMap<'a> {
@@ -53,7 +53,7 @@ impl<'a> SectionMap<'a> {
             sections,
             file_alignment,
             opts: *opts,
-            pieces: None,
+            entries: None,
         }
     }
 
@@ -82,11 +82,15 @@ impl<'a> SectionMap<'a> {
     pub fn find(&self, rva: usize) -> Option<usize>
         ensures { result ≡ offset_in self.now rva }
     {
-        match self.pieces {
+        match self.entries {
             None => self.find_by_sections(rva),
-            Some(pieces) => {
-                let owner = owner_of(pieces, rva)?;
-                Some(rva - owner.address as usize + owner.offset as usize)
+            Some(entries) => {
+                let number = number_at(entries, rva as u64);
+                if number == 0 {
+                    return None;
+                }
+                let section = &self.sections[number as usize - 1];
+                offset_by(section, self.file_alignment, rva)
             }
         }
     }
@@ -124,10 +128,8 @@ impl<'a> SectionMap<'a> {
         Window {
             start: 0,
             end: 0,
-            owner: Owner {
-                address: 0,
-                offset: 0,
-            },
+            address: 0,
+            offset: 0,
         }
     }
 
@@ -139,10 +141,9 @@ impl<'a> SectionMap<'a> {
         ensures found { result ≡ offset_in self.now rva }
         ensures window { IsWindow self.now window.new }
     {
-        let Window { start, end, owner } = *window;
-        let address = rva as usize;
-        if start <= address && address < end {
-            return Some(address - owner.address as usize + owner.offset as usize);
+        let last = *window;
+        if last.start <= u64::from(rva) && u64::from(rva) < last.end {
+            return Some(rva as usize - last.address as usize + last.offset as usize);
         }
         self.find_and_keep(rva, window)
     }
@@ -155,12 +156,18 @@ impl<'a> SectionMap<'a> {
         ensures found { result ≡ offset_in self.now rva }
         ensures window { IsWindow self.now window.new }
     {
-        match self.pieces {
+        match self.entries {
             None => self.find_by_sections(rva as usize),
-            Some(pieces) => {
-                let piece = window_of(pieces, rva)?;
-                *window = piece;
-                Some(rva as usize - piece.owner.address as usize + piece.owner.offset as usize)
+            Some(entries) => {
+                let (entry, end) = piece_of(entries, rva)?;
+                let section = &self.sections[entry.number as usize - 1];
+                *window = Window {
+                    start: entry.start,
+                    end,
+                    address: section.virtual_address,
+                    offset: raw_start(section) as u32,
+                };
+                offset_by(section, self.file_alignment, rva as usize)
             }
         }
     }
@@ -189,7 +196,7 @@ pub struct SectionIndex<'a, A: Allocator> {
     sections: &'a [SectionTable],
     file_alignment: u32,
     opts: ParseOptions,
-    pieces: Option<Vec<Piece, A>>,
+    entries: Option<Vec<RangeEntry, A>>,
 }
 
 impl<'a, A: Allocator> Model for SectionIndex<'a, A> {
@@ -202,7 +209,7 @@ impl<'a, A: Allocator> Model for SectionIndex<'a, A> {
     ghost view = { λ s. map_view s.opts s.sections.now s.file_alignment };
 
     ghost invariant = { λ s.
-        IfSome s.pieces (λ v. Agrees s.opts.resolve_rva s.file_alignment s.sections.now v.items) };
+        IfSome s.entries (λ v. Agrees (map_view s.opts s.sections.now s.file_alignment) v.items) };
 }
 
 impl<'a, A: Allocator> SectionIndex<'a, A> {
@@ -220,8 +227,8 @@ impl<'a, A: Allocator> SectionIndex<'a, A> {
         ensures refused { IfErr result (λ error. error ≡ Memory record {}) }
     {
         // Otherwise no section is searched: an RVA is its own offset, or every RVA is unmapped.
-        let pieces = if opts.resolve_rva && file_alignment.is_power_of_two() {
-            Some(pieces_of(alloc, sections, file_alignment)?)
+        let entries = if opts.resolve_rva && file_alignment.is_power_of_two() {
+            Some(entries_of(alloc, sections, file_alignment)?)
         } else {
             None
         };
@@ -229,7 +236,7 @@ impl<'a, A: Allocator> SectionIndex<'a, A> {
             sections,
             file_alignment,
             opts: *opts,
-            pieces,
+            entries,
         })
     }
 
@@ -241,8 +248,8 @@ impl<'a, A: Allocator> SectionIndex<'a, A> {
             sections: self.sections,
             file_alignment: self.file_alignment,
             opts: self.opts,
-            pieces: match &self.pieces {
-                Some(pieces) => Some(pieces.as_slice()),
+            entries: match &self.entries {
+                Some(entries) => Some(entries.as_slice()),
                 None => None,
             },
         }

@@ -3,13 +3,16 @@
 //! pointers are rounded down to 512 bytes and sizes up to 4096, whatever alignments the image states. A caller maps one
 //! RVA by `find_offset`, and many by a `SectionMap`.
 
-ghost use Rattle.std.specs.Prelude.{◌≡◌, ◌+◌, ◌-◌, ◌<◌, ◌≤◌, ◌^◌};
+ghost use Rattle.std.specs.Prelude.{◌≡◌, ◌+◌, ◌-◌, ◌<◌, ◌≤◌, ◌^◌, IfErr, IfOk, length};
 ghost use Rattle.std.specs.Option.{option_map};
 ghost use Rattle.std.specs.List.{find, position};
+ghost use Rattle.pe_core.specs.RangeIndexes.{EndBelow, Indexes, PutsIndex};
 ghost use Rattle.pe_core.specs.SectionMap.{rounded_up, raw_start, reach, covers, may_cover, offset_by, section_map};
 
 use crate::options::ParseOptions;
+use crate::range_index::{AddressesOf, RangeEntry, index_of, put_index};
 use crate::section_table::SectionTable;
+use std::alloc::{AllocError, Allocator};
 
 /// Raw pointers are rounded down to a multiple of this, whatever file alignment an image states.
 const SECTOR: usize = 512;
@@ -38,7 +41,7 @@ pub(crate) fn raw_start(section: &SectionTable) -> usize
 
 /// The number of RVAs that the section covers.
 #[tactic(auto, unfolding(crate::specs::SectionMap::reach))]
-pub(crate) fn reach(section: &SectionTable, alignment: u32) -> usize
+fn reach(section: &SectionTable, alignment: u32) -> usize
     requires { 0 < alignment }
     ensures count { result ≡ reach alignment section.now }
     ensures small { result < 2 ^ 33 }
@@ -53,6 +56,60 @@ pub(crate) fn reach(section: &SectionTable, alignment: u32) -> usize
     }
 }
 
+/// The sections as ranges of RVAs.
+#[derive(Drop)]
+struct Covered {
+    alignment: u32,
+    ghost some: { 0 < alignment },
+}
+
+impl AddressesOf<SectionTable> for Covered {
+    ghost start_of = { λ f s. s.virtual_address };
+
+    ghost size_of = { λ f s. reach f.alignment s };
+
+    ghost limit = { λ f. 2 ^ 34 };
+
+    fn start(&self, section: &SectionTable) -> u64 {
+        u64::from(section.virtual_address)
+    }
+
+    fn size(&self, section: &SectionTable) -> u64 {
+        // It is read so that the proof knows its bound.
+        let _start = section.virtual_address;
+        reach(section, self.alignment) as u64
+    }
+}
+
+/// An index of the sections as ranges of RVAs: an RVA belongs to the first section that covers it.
+pub(crate) fn entries_of<A: Allocator + Copy>(
+    alloc: A,
+    sections: &[SectionTable],
+    alignment: u32,
+) -> Result<Vec<RangeEntry, A>, AllocError>
+    requires { 0 < alignment }
+    ensures { IfOk result (λ v.
+        Indexes (λ s. s.virtual_address) (reach alignment) 0 sections.now v.items) }
+{
+    index_of(alloc, &Covered { alignment }, sections)
+}
+
+/// Makes an index of the sections as ranges of RVAs at the start of a room: an RVA belongs to the first section that covers it. Returns
+/// how many entries it has, two for each section. The room has to have four for each, and what follows these is unchanged. `Err` of how
+/// many it has to have where it has fewer; then nothing changes.
+pub fn put_section_index(
+    sections: &[SectionTable],
+    alignment: u32,
+    room: &mut [RangeEntry],
+) -> Result<usize, usize>
+    requires { 0 < alignment }
+    ensures puts { PutsIndex (λ s. s.virtual_address) (reach alignment) sections.now room.old room.new result }
+    ensures ends { IfOk result (λ n. EndBelow (λ s. s.virtual_address) (reach alignment) (2 ^ 34) sections.now) }
+    ensures fits { IfOk result (λ n. n < 2 ^ 64) }
+{
+    put_index(&Covered { alignment }, sections, room)
+}
+
 /// A cheap test that every section passes that covers an RVA with these low 32 bits: the page of the RVA starts,
 /// counted from the section's start, before its raw size ends.
 fn may_cover(section: &SectionTable, low: u32) -> bool
@@ -65,7 +122,7 @@ fn may_cover(section: &SectionTable, low: u32) -> bool
 /// The file offset of this RVA by the section: `None` if the section does not cover it. Each test is that of `reach`,
 /// with the RVA rounded down in place of the size rounded up.
 #[tactic(auto, using(crate::proofs::Reaches::starts_after, crate::proofs::Reaches::past_raw_size, crate::proofs::Reaches::past_virtual_size, crate::proofs::Reaches::past_raw_end, crate::proofs::Reaches::inside))]
-fn offset_by(section: &SectionTable, alignment: u32, address: usize) -> Option<usize>
+pub(crate) fn offset_by(section: &SectionTable, alignment: u32, address: usize) -> Option<usize>
     requires { 0 < alignment }
     ensures { result ≡ offset_by alignment address section.now }
 {

@@ -1,39 +1,42 @@
-//! The piece of the last RVA that was mapped. The RVAs of one table mostly lie in one section, side by side, so most of
+//! The RVAs around the last one that was mapped. The RVAs of one table mostly lie in one section, side by side, so most of
 //! them need no search.
 
-ghost use Rattle.std.specs.Prelude.{◌≡◌, IsNone, None, IfSome};
-ghost use Rattle.pe_core.specs.SectionPieces.{owner_at, Rises};
+ghost use Rattle.std.specs.Prelude.{◌≡◌, IsNone, IfSome};
+ghost use Rattle.pe_core.specs.RangeIndexes.{Rises, number_at};
 ghost use Rattle.pe_core.specs.SectionWindow.{IsPieceOf};
 
-use crate::section_pieces::{Owner, Piece};
+use crate::range_index::RangeEntry;
 
 /// The RVAs from `start` up to `end`, all of which one section covers.
 #[derive(Clone, Copy)]
 pub(crate) struct Window {
     /// The first RVA.
-    pub(crate) start: usize,
+    pub(crate) start: u64,
     /// The RVA after the last.
-    pub(crate) end: usize,
-    /// The section that covers them.
-    pub(crate) owner: Owner,
+    pub(crate) end: u64,
+    /// The RVA of the section that covers them.
+    pub(crate) address: u32,
+    /// The file offset of the section's data as mapped.
+    pub(crate) offset: u32,
 }
 
-/// The piece of an RVA. `None` if no section covers it.
-pub(crate) fn window_of(pieces: &[Piece], rva: u32) -> Option<Window>
-    requires { Rises pieces.now }
-    ensures found { IfSome result (IsPieceOf pieces.now rva) }
-    ensures none { IsNone result → owner_at pieces.now rva ≡ None }
+/// The entry of an index that has an RVA, and the RVA of the entry after it. `None` if no section covers the RVA.
+pub(crate) fn piece_of(entries: &[RangeEntry], rva: u32) -> Option<(RangeEntry, u64)>
+    requires { Rises entries.now }
+    ensures found { IfSome result (λ x. IsPieceOf entries.now rva x.0 x.1) }
+    ensures none { IsNone result → number_at entries.now rva ≡ 0 }
 {
-    let after = pieces.partition_point(|piece| piece.start <= u64::from(rva));
+    let after = entries.partition_point(|entry| entry.start <= u64::from(rva));
     if after == 0 {
         return None;
     }
-    let owner = pieces[after - 1].owner?;
-    let start = pieces[after - 1].start as usize;
-    let end = if after < pieces.len() {
-        pieces[after].start as usize
+    let entry = entries[after - 1];
+    if entry.number == 0 {
+        return None;
+    }
+    if after < entries.len() {
+        Some((entry, entries[after].start))
     } else {
-        usize::MAX
-    };
-    Some(Window { start, end, owner })
+        Some((entry, u64::MAX))
+    }
 }

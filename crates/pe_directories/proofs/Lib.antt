@@ -7,9 +7,7 @@ pub mod WordsLeft
 pub mod MovedWords
 pub mod OtherBytes
 pub mod DelayLists
-pub mod BoundTexts
 pub mod RelocationWalks
-pub mod Names
 pub mod OtherWalks
 pub mod RichHeaders
 pub mod SectionTexts

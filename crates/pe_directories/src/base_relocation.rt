@@ -46,7 +46,7 @@ const SIZE_OF_BLOCK_HEADER: usize = 8;
 const SIZE_OF_ENTRY: usize = 2;
 
 /// A block of base relocations (`IMAGE_BASE_RELOCATION`).
-#[derive(Clone, Copy, Debug, PartialEq)]
+#[derive(Clone, Copy)]
 pub struct RelocationBlock<'a> {
     /// The RVA of the page.
     pub page_rva: u32,
@@ -103,7 +103,7 @@ fn first_block(bytes: &[u8]) -> Option<Result<(RelocationBlock<'_>, &[u8])>>
 }
 
 /// The blocks of base relocations that are left, up to one of zeros. It is over after an error.
-#[derive(Clone, Copy, Debug)]
+#[derive(Clone, Copy)]
 pub struct RelocationBlocks<'a> {
     left: Option<&'a [u8]>,
 }
@@ -153,7 +153,7 @@ impl<'a> Iterator for RelocationBlocks<'a> {
 }
 
 /// One base relocation.
-#[derive(Clone, Copy, Debug, PartialEq)]
+#[derive(Clone, Copy)]
 pub struct BaseRelocation {
     /// The type, `IMAGE_REL_BASED_*`, below 16. What types 5, 7, 8 and 9 mean depends on the machine.
     pub kind: u8,
@@ -195,7 +195,7 @@ fn first_relocation(page_rva: u32, bytes: &[u8]) -> Option<Result<(BaseRelocatio
 
 /// The relocations of a block that are left. Those of type `IMAGE_REL_BASED_ABSOLUTE` are items too. It is over after
 /// an error.
-#[derive(Clone, Copy, Debug)]
+#[derive(Clone, Copy)]
 pub struct BaseRelocations<'a> {
     page_rva: u32,
     left: Option<&'a [u8]>,

@@ -25,14 +25,14 @@ use pe_core::{
 const SIZE_OF_ENTRY: usize = 8;
 
 /// The directory of bound imports.
-#[derive(Clone, Copy, Debug)]
+#[derive(Clone, Copy)]
 pub struct BoundImportDirectory<'a> {
     /// The bytes of the directory, as many as its size says.
     pub bytes: &'a [u8],
 }
 
 /// A DLL that the image is bound to.
-#[derive(Clone, Copy, Debug, PartialEq)]
+#[derive(Clone, Copy)]
 pub struct BoundImport<'a> {
     /// The time stamp of the DLL.
     pub time_date_stamp: u32,
@@ -43,7 +43,7 @@ pub struct BoundImport<'a> {
 }
 
 /// A DLL that another one forwards to (`IMAGE_BOUND_FORWARDER_REF`), 8 bytes of which the last two are reserved.
-#[derive(Clone, Copy, Debug, PartialEq)]
+#[derive(Clone, Copy)]
 pub struct BoundForwarder {
     /// The time stamp of the DLL.
     pub time_date_stamp: u32,
@@ -133,7 +133,7 @@ fn bound_import_at<'a>(bytes: &'a [u8]) -> Result<(BoundImport<'a>, &'a [u8])>
         name: read_u16(bytes, 4),
         forwarder_bytes: &bytes[SIZE_OF_ENTRY..size],
     };
-    Ok((import, &bytes[size..]))
+    Ok((import, bytes.split_at(size).1))
 }
 
 /// The DLL at the start of the bytes, and the bytes after its forwarders. `None` if there are no bytes, or if the entry has
@@ -153,7 +153,7 @@ fn first_bound_import<'a>(bytes: &'a [u8]) -> Option<Result<(BoundImport<'a>, &'
 }
 
 /// The DLLs that are left of a directory. It is over after an error.
-#[derive(Clone, Copy, Debug)]
+#[derive(Clone, Copy)]
 pub struct BoundImports<'a> {
     left: Option<&'a [u8]>,
 }

@@ -181,7 +181,7 @@ impl ReadyToRunHeader {
 }
 
 /// The root of CLR metadata.
-#[derive(Clone, Copy, Debug, PartialEq)]
+#[derive(Clone, Copy)]
 pub struct ClrMetadata<'a> {
     /// The version of the metadata's format, major part.
     pub major_version: u16,
@@ -220,7 +220,7 @@ impl<'a> ClrMetadata<'a> {
             version: &bytes[VERSION_OFFSET..end],
             flags: read_u16(bytes, end),
             number_of_streams: read_u16(bytes, end + 2),
-            stream_headers: &bytes[end + 4..],
+            stream_headers: bytes.split_at(end + 4).1,
             bytes,
         })
     }
@@ -253,7 +253,7 @@ impl<'a> ClrMetadata<'a> {
 }
 
 /// A stream of CLR metadata, by its header.
-#[derive(Clone, Copy, Debug, PartialEq)]
+#[derive(Clone, Copy)]
 pub struct ClrStream<'a> {
     /// The offset of the stream in bytes, from the start of the metadata.
     pub offset: u32,
@@ -300,11 +300,11 @@ fn stream_at<'a>(bytes: &'a [u8]) -> Result<(ClrStream<'a>, &'a [u8])>
         size: read_u32(bytes, 4),
         name: &field[..length],
     };
-    Ok((stream, &bytes[size..]))
+    Ok((stream, bytes.split_at(size).1))
 }
 
 /// The streams of CLR metadata that are left. It is over after an error.
-#[derive(Clone, Copy, Debug)]
+#[derive(Clone, Copy)]
 pub struct ClrStreams<'a> {
     count: u16,
     left: Option<&'a [u8]>,

@@ -250,7 +250,7 @@ fn first_delay_import(bytes: &[u8]) -> Option<Result<(DelayImport, &[u8])>>
 }
 
 /// The entries of the delay import directory that are left: those before one without a name. It is over after an error.
-#[derive(Clone, Copy, Debug)]
+#[derive(Clone, Copy)]
 pub struct DelayImports<'a> {
     left: Option<&'a [u8]>,
 }

@@ -22,7 +22,7 @@ use std::alloc::{AllocError, Allocator};
 const SIZE_OF_HINT: usize = 2;
 
 /// A delay-loaded DLL.
-#[derive(Clone, Copy, Debug, PartialEq)]
+#[derive(Clone, Copy)]
 pub struct DelayedDll<'a> {
     /// Its entry of the directory.
     pub entry: DelayImport,

@@ -21,7 +21,7 @@ use crate::tls::TlsDirectory;
 use pe_core::DataDirectories;
 
 /// Which directories are read.
-#[derive(Clone, Copy, Debug, PartialEq)]
+#[derive(Clone, Copy)]
 pub struct ChosenDirectories {
     /// Base relocations, directory 5.
     pub base_relocations: bool,
@@ -58,7 +58,7 @@ impl ChosenDirectories {
 
 /// Directories of an image. A field is `None` where its directory is not chosen or absent, and has the error of one that is
 /// damaged.
-#[derive(Debug, Drop)]
+#[derive(Drop)]
 pub struct Directories<'a> {
     /// Base relocations: the error of the directory alone, not those of its blocks.
     pub base_relocations: Option<Result<RelocationBlocks<'a>>>,

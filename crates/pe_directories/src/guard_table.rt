@@ -30,7 +30,7 @@ pub const IMAGE_GUARD_FLAG_EXPORT_SUPPRESSED: u8 = 2;
 const SIZE_OF_RVA: usize = 4;
 
 /// An entry of a table.
-#[derive(Clone, Copy, Debug, PartialEq)]
+#[derive(Clone, Copy)]
 pub struct GuardEntry<'a> {
     /// The RVA of the function, handler, target or entry.
     pub rva: u32,
@@ -40,7 +40,7 @@ pub struct GuardEntry<'a> {
 
 /// The entries of a table that are left. A table that ends after the bytes has one more item, the error `Image` with `Short`. It
 /// is over after an error.
-#[derive(Clone, Copy, Debug)]
+#[derive(Clone, Copy)]
 pub struct GuardTable<'a> {
     count: u64,
     flag_size: u32,

@@ -13,7 +13,7 @@ use pe_core::{
 };
 
 /// An image: its bytes, and what its headers say of them.
-#[derive(Clone, Copy, Debug)]
+#[derive(Clone, Copy)]
 pub struct ImageBytes<'a> {
     /// The bytes of the whole file, or of the image as loaded, for which `opts` has `resolve_rva` off.
     pub bytes: &'a [u8],

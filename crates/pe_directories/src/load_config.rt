@@ -19,7 +19,7 @@ use pe_core::{DataDirectory, read_u32, u16_at, u32_at, u64_at};
 
 /// What the loader sets for a process whose program the image is. A field is `None` where the structure does not have it, and so
 /// in all that follow.
-#[derive(Clone, Copy, Debug, PartialEq)]
+#[derive(Clone, Copy)]
 pub struct ProcessSettings {
     /// Global flags that are cleared (`GlobalFlagsClear`).
     pub global_flags_clear: Option<u32>,
@@ -48,7 +48,7 @@ pub struct ProcessSettings {
 }
 
 /// Code integrity (`IMAGE_LOAD_CONFIG_CODE_INTEGRITY`).
-#[derive(Clone, Copy, Debug, PartialEq)]
+#[derive(Clone, Copy)]
 pub struct CodeIntegrity {
     /// Flags (`Flags`).
     pub flags: Option<u16>,
@@ -61,7 +61,7 @@ pub struct CodeIntegrity {
 }
 
 /// The tables of code that came after that of functions, by the virtual address of each and its number of entries.
-#[derive(Clone, Copy, Debug, PartialEq)]
+#[derive(Clone, Copy)]
 pub struct GuardTables {
     /// Entries of the import address table whose address is taken (`GuardAddressTakenIatEntryTable`).
     pub address_taken_iat_entry_table: Option<u64>,
@@ -78,7 +78,7 @@ pub struct GuardTables {
 }
 
 /// Return flow guard (`GuardRF`), which Windows does not use any more: virtual addresses.
-#[derive(Clone, Copy, Debug, PartialEq)]
+#[derive(Clone, Copy)]
 pub struct ReturnFlowGuard {
     /// The function that runs after a failure (`GuardRFFailureRoutine`).
     pub failure_routine: Option<u64>,
@@ -89,7 +89,7 @@ pub struct ReturnFlowGuard {
 }
 
 /// What else the loader reads: where the image is changed as it is loaded, and what it is besides.
-#[derive(Clone, Copy, Debug, PartialEq)]
+#[derive(Clone, Copy)]
 pub struct LoadMetadata {
     /// The virtual address of the dynamic value relocations (`DynamicValueRelocTable`).
     pub dynamic_value_reloc_table: Option<u64>,
@@ -108,7 +108,7 @@ pub struct LoadMetadata {
 }
 
 /// The pointers to functions that later guards call, by their virtual addresses.
-#[derive(Clone, Copy, Debug, PartialEq)]
+#[derive(Clone, Copy)]
 pub struct GuardFunctions {
     /// What checks the target of an indirect call, and its type (`GuardXFGCheckFunctionPointer`).
     pub xfg_check_function_pointer: Option<u64>,
@@ -124,7 +124,7 @@ pub struct GuardFunctions {
 
 /// The load configuration (`IMAGE_LOAD_CONFIG_DIRECTORY32`, `IMAGE_LOAD_CONFIG_DIRECTORY64`). A field is `None` where the
 /// structure is too short to have it, or the file ends before it does.
-#[derive(Clone, Copy, Debug, PartialEq)]
+#[derive(Clone, Copy)]
 pub struct LoadConfig {
     /// The size of the structure in bytes, as it says itself.
     pub size: u32,

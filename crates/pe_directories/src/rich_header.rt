@@ -32,7 +32,7 @@ const SIZE_OF_ENTRY: usize = 8;
 const PE_POINTER: usize = 60;
 
 /// The Rich header of an image.
-#[derive(Clone, Copy, Debug, PartialEq)]
+#[derive(Clone, Copy)]
 pub struct RichHeader<'a> {
     /// What the header is XORed with: its `checksum()`, if nobody changed it.
     pub key: u32,

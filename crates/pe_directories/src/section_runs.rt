@@ -16,7 +16,7 @@ const SECTOR: u64 = 512;
 const PAGE: usize = 4096;
 
 /// RVAs that follow one another, up to an end. They are mapped to file offsets that follow one another, or none is mapped.
-#[derive(Clone, Copy, Debug, PartialEq)]
+#[derive(Clone, Copy)]
 pub struct Run {
     /// The RVA after the last.
     pub end: u64,

@@ -33,7 +33,7 @@ fn first_va(is_64: bool, bytes: &[u8]) -> Option<Result<(u64, &[u8])>>
 
 /// The numbers that are left of a table: those before the first zero. A table that ends with the bytes instead has one more
 /// item, the error `Image` with `Short`. It is over after an error.
-#[derive(Clone, Copy, Debug)]
+#[derive(Clone, Copy)]
 pub struct VaTable<'a> {
     is_64: bool,
     left: Option<&'a [u8]>,

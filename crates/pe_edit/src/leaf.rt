@@ -10,7 +10,7 @@ ghost use Rattle.pe_resource.specs.VersionStrings.{units};
 use pe_core::read_u16;
 
 /// The type or the name of a resource.
-#[derive(Clone, Copy, Debug)]
+#[derive(Clone, Copy)]
 pub enum ResourceKey<'a> {
     /// An id, as `RT_VERSION`.
     Id(u16),
@@ -20,7 +20,7 @@ pub enum ResourceKey<'a> {
 }
 
 /// A resource in one language.
-#[derive(Clone, Copy, Debug)]
+#[derive(Clone, Copy)]
 pub struct Resource<'a> {
     /// Its type.
     pub resource_type: ResourceKey<'a>,

@@ -7,7 +7,7 @@ use crate::leaf::Resource;
 use crate::record::ResourceRecord;
 
 /// Resources, in the order in which they are written.
-#[derive(Clone, Copy, Debug)]
+#[derive(Clone, Copy)]
 pub enum Leaves<'a> {
     /// As values.
     Values(&'a [Resource<'a>]),

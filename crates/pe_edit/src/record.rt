@@ -28,7 +28,7 @@ const FOUR_GIB: usize = 0x1_0000_0000;
 
 /// A range of the array.
 #[repr(C)]
-#[derive(Clone, Copy, Debug)]
+#[derive(Clone, Copy)]
 pub struct RecordRange {
     /// Its first byte.
     pub offset: u64,
@@ -38,7 +38,7 @@ pub struct RecordRange {
 
 /// The type or the name of a resource.
 #[repr(C)]
-#[derive(Clone, Copy, Debug)]
+#[derive(Clone, Copy)]
 pub struct RecordKey {
     /// The name in UTF-16 code units, little-endian, without a final zero; of no meaning with an id.
     pub name: RecordRange,
@@ -50,7 +50,7 @@ pub struct RecordKey {
 
 /// A resource in one language.
 #[repr(C)]
-#[derive(Clone, Copy, Debug)]
+#[derive(Clone, Copy)]
 pub struct ResourceRecord {
     /// Its type.
     pub resource_type: RecordKey,

@@ -15,15 +15,13 @@ pub mod OnePiece
 pub mod Searches
 pub mod SectionsAsked
 pub mod NoCode
-pub mod FrameSteps
 pub mod OneShortPlan
 pub mod Jumps
-pub mod OneWalk
 pub mod SomeError
 pub mod SomeFunction
 pub mod SomeShortPlan
+pub mod FunctionSearch
 pub mod FunctionSteps
-pub mod SomeWalk
 pub mod FrameWalks
 pub mod Scans
 pub mod FrameRecords
@@ -44,7 +42,6 @@ pub mod Arm64CodeLists
 pub mod Arm64Places
 pub mod Arm64Packed
 pub mod Arm64Frames
-pub mod Arm64Epilogs
 pub mod Arm64Found
 pub mod Arm64Walks
 pub mod SomeArm64Walk

@@ -2,9 +2,10 @@
 use Rattle.std.proofs.Common.{◌≡◌, ℕ, suc, ◌+◌, ◌-◌, ◌^◌, ◌<◌, ◌≤◌, Bool, true, false, cond, List, [], ◌∷◌, length, Option, Some, get_or, refl, ap, sym, ◌∙◌, subst, arith}
 use Rattle.std.specs.List.{find}
 use Rattle.pe_core.specs.Bytes.{le}
+use Rattle.std.proofs.lemmas.Bool.Decides.{nat_tests}
 use Rattle.pe_lookup.specs.AddressRanges.{AreAscending, has_address}
 use Rattle.pe_frame.specs.Machine.{loaded}
-use Rattle.pe_frame.specs.MemoryLists.{listed_byte, listed_word, lists_byte}
+use Rattle.pe_frame.specs.MemoryLists.{has_word, listed_byte, listed_word, lists_byte}
 use Rattle.pe_frame.specs.declared.memory_list.MemoryPiece.{MemoryPiece}
 use Rattle.pe_frame.proofs.Begun.{number_shown}
 use Rattle.pe_lookup.proofs.Lookups.{ends_before, has_it, is_within}
@@ -66,3 +67,14 @@ word_asked bytes pieces p a first from to fits =
 pub word_in_piece : (bytes : List ℕ) (pieces : List MemoryPiece) (p : MemoryPiece) (a : ℕ) → AreAscending (λ q. q.start) (λ q. q.length) pieces → find (lists_byte a) pieces ≡ Some p → p.start ≤ a → a + 8 ≤ p.start + p.length → a + 8 ≤ 2 ^ 64 → listed_word bytes pieces a ≡ Some (le bytes (p.offset + (a - p.start)) 8)
 word_in_piece bytes pieces p a up found from to fits =
     word_asked bytes pieces p a (λ b has. first_near pieces p a b up found has) from to fits
+
+-- an address at which a word starts of those that are whole in a piece
+module _ (p : MemoryPiece) (words a : ℕ) (whole : (k : ℕ) → k < words → has_word (p.start + k) p ≡ true) (from : p.start ≤ a) (lt : a - p.start < words) where
+  pub word_there : has_word a p ≡ true
+  word_there = subst (λ (b : ℕ). has_word b p ≡ true) (omega (arith, from)) (whole (a - p.start) lt)
+
+  pub word_fits : (a + 8 ≤ p.start + p.length) × (a + 8 ≤ 2 ^ 64)
+  word_fits = let there = word_there in (grind (arith, nat_tests), grind (arith, nat_tests))
+
+  pub word_has : lists_byte a p ≡ true
+  word_has = has_it p.start p.length a from (omega (arith, word_fits.0))

@@ -113,6 +113,7 @@ fn is_rex(byte: u8) -> bool
 
 /// Whether the bytes are a call.
 #[tactic(auto, using(std::proofs::lemmas::List::take_rest), unfolding(crate::specs::CallForms::is_call))]
+#[inline(always)]
 pub(crate) fn is_call(code: &[u8]) -> bool
     ensures { result ≡ is_call code.now }
 {

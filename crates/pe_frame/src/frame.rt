@@ -44,6 +44,7 @@ fn limit_of(plan: &[UnwindInfo<'_>], offset: u32) -> Option<u32>
 
 /// Makes the registers those where a function was entered: its records are undone, the first up to a limit and the others
 /// whole. Returns whether an interrupt entered it.
+#[inline(always)]
 fn undo_records<M: Memory>(
     plan: &[UnwindInfo<'_>],
     limit: Option<u32>,
@@ -84,7 +85,9 @@ pub(crate) fn require_rising(stack_pointer: u64, caller: &Registers) -> Result<(
     Ok(())
 }
 
-/// Makes the registers those of the caller, from those at an offset in a function. Returns whether an interrupt left them.
+/// Makes the registers those of the caller, from those at an offset in a function. Returns whether an interrupt left them. Inlined
+/// down to the codes, so that no result on the way is moved, and the loop over one record is none.
+#[inline(always)]
 pub(crate) fn undo_function_in_place<M: Memory>(
     plan: &[UnwindInfo<'_>],
     offset: u32,

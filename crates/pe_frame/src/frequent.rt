@@ -58,6 +58,7 @@ pub(crate) struct FirstUndone<'a> {
 }
 
 /// Makes the registers those before the frequent codes with which a record starts, all of which have run, up to one that is refused.
+#[inline(always)]
 pub(crate) fn undo_frequent<'a, M: Memory>(
     codes: &'a [u8],
     base: u64,

@@ -167,41 +167,6 @@ fn step_in_chained<'a, R: RvaMap, M: Memory>(
     }
 }
 
-/// The registers of a function's caller, as [`step_in_image`] returns them by the function's records, which are read here: those
-/// of its short plan. `None` where 32 records are each chained to another, as `ShortPlan::of_function` of pe_plan returns it.
-///
-/// Errors: the first error of one of the records, before any is undone.
-#[tactic(auto, using(crate::proofs::FunctionSteps::of_one_record, pe_plan::proofs::ShortPlans::refused_at_once))]
-pub fn step_in_function<R: RvaMap, M: Memory>(
-    functions: &ImageFunctions<'_, R>,
-    function: RuntimeFunction,
-    stopped: Stopped<'_>,
-    registers: Registers,
-    memory: &M,
-) -> Result<Option<std::result::Result<(Registers, bool), FrameError>>>
-    ensures { StepsInFunction functions.now.exceptions.now (R.offset functions.now.map.now)
-        (M.word memory.now) function stopped.entry.rva stopped.entry.code.now
-        registers (answer_of result) }
-{
-    let info = match record_of(functions, function) {
-        Ok(info) => info,
-        Err(error) => return Err(error),
-    };
-    if info.chained_info.is_some() {
-        let found = FunctionInImage {
-            functions,
-            function,
-        };
-        return step_in_chained(&found, info, stopped, registers, memory);
-    }
-    let plan = FunctionPlan {
-        start: function.begin_address,
-        records: slice::from_ref(&info),
-    };
-    let left = step_in_image(functions, plan, stopped, registers, memory);
-    Ok(Some(left))
-}
-
 /// Puts registers in place of others, if there are any.
 fn put(
     left: std::result::Result<(Registers, bool), FrameError>,
@@ -240,10 +205,11 @@ fn chained_in_place<'a, R: RvaMap, M: Memory>(
     }
 }
 
-/// Makes the registers those of a function's caller, as [`step_in_function`] returns them, and returns whether an interrupt left
-/// them. No registers are moved. Where the step is refused they mean nothing.
+/// Makes the registers those of a function's caller, as [`step_in_image`] returns them by the function's records, which are read
+/// here: those of its short plan. Returns whether an interrupt left them; `None` where 32 records are each chained to another, as
+/// `ShortPlan::of_function` of pe_plan returns it. No registers are moved. Where the step is refused they mean nothing.
 ///
-/// Errors: those of `step_in_function`.
+/// Errors: the first error of one of the records, before any is undone.
 #[tactic(auto, using(crate::proofs::FunctionSteps::of_one_record, pe_plan::proofs::ShortPlans::refused_at_once))]
 pub fn step_in_function_in_place<R: RvaMap, M: Memory>(
     functions: &ImageFunctions<'_, R>,

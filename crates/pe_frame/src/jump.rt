@@ -50,6 +50,7 @@ impl<'a, R> Clone for ImageFunctions<'a, R> {
 }
 
 /// The record of a function.
+#[inline(always)]
 pub(crate) fn record_of<'a, R: RvaMap>(
     functions: &ImageFunctions<'a, R>,
     function: RuntimeFunction,

@@ -44,7 +44,7 @@ pub use arm64::{
 };
 pub use error::FrameError;
 pub use frame::{leaf, step, step_out, step_with_code};
-pub use function_step::{step_in_function, step_in_function_in_place};
+pub use function_step::step_in_function_in_place;
 pub use jump::{ImageFunctions, step_in_image};
 pub use memory::{Memory, Stack};
 pub use memory_list::{MemoryList, MemoryPiece};

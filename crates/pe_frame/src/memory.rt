@@ -47,7 +47,7 @@ pub(crate) fn known_word<B: KnownBytes>(memory: &B, address: u64) -> Option<u64>
 }
 
 /// A part of memory as minidumps hold it: bytes, and the address of the first.
-#[derive(Clone, Copy, Debug)]
+#[derive(Clone, Copy)]
 pub struct Stack<'a> {
     /// The address of the first byte.
     pub start: u64,

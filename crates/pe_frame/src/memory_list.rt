@@ -12,7 +12,7 @@ ghost use Rattle.pe_frame.specs.declared.memory_list.MemoryPiece.{MemoryPiece};
 
 use crate::memory::{KnownBytes, Memory, SIZE_OF_WORD, known_word};
 use pe_core::{Result, read_u64, slice_at};
-use pe_lookup::{AddressRange, first_overlap, first_with, has_address, range_with};
+use pe_lookup::{AddressRange, first_overlap, first_with, range_with};
 
 /// A piece of memory: its address, and where its bytes are.
 #[repr(C)]
@@ -43,7 +43,7 @@ impl AddressRange for MemoryPiece {
 /// Memory by a list of its pieces in some bytes, as those of a minidump file. The byte at an address is that of the first
 /// piece that has one there, and a word is known if each of its eight bytes is, as in [`StackPieces`](crate::StackPieces).
 /// Nothing is copied.
-#[derive(Clone, Copy, Debug)]
+#[derive(Clone, Copy)]
 pub struct MemoryList<'a> {
     bytes: &'a [u8],
     pieces: &'a [MemoryPiece],
@@ -51,10 +51,13 @@ pub struct MemoryList<'a> {
     is_ascending: bool,
     /// The piece that is asked first: nearly all words of a walk stand in that of its stack pointer.
     near: MemoryPiece,
+    /// How many of its addresses one test takes as those of a word of it.
+    words: u64,
     ghost ascending: { IsTrue is_ascending → AreAscending (λ p. p.start) (λ p. p.length) pieces.now },
     ghost tested: { is_ascending ≡ ascend pieces.now },
     ghost inside: { IsTrue (are_inside bytes.now pieces.now) },
     ghost asked: { (a : ℕ) → IsTrue (lists_byte a near) → find (lists_byte a) pieces.now ≡ Some near },
+    ghost whole: { (k : ℕ) → k < words → IsTrue (has_word (near.start + k) near) },
 }
 
 /// Error: `Short` if one of the pieces does not lie in the bytes.
@@ -109,6 +112,14 @@ fn first_piece(pieces: &[MemoryPiece]) -> MemoryPiece
     }
 }
 
+/// How many words start at the first addresses of a piece, one at each, and are whole in it, but for one that ends at the last address.
+fn words_of(piece: &MemoryPiece) -> u64
+    ensures { (k : ℕ) → k < result → IsTrue (has_word (piece.now.start + k) piece.now) }
+{
+    let addresses = u64::MAX.saturating_sub(piece.start);
+    u64::min(piece.length, addresses).saturating_sub(SIZE_OF_WORD - 1)
+}
+
 impl<'a> MemoryList<'a> {
     /// Memory by a list of its pieces in these bytes. Error: `Short` if a piece does not lie in the bytes.
     #[inline(always)]
@@ -117,20 +128,24 @@ impl<'a> MemoryList<'a> {
             ≡ memory_of bytes.entry.now pieces.entry.now }
     {
         if are_in_order(bytes, pieces) {
+            let near = first_piece(pieces);
             return Ok(MemoryList {
                 bytes,
                 pieces,
                 is_ascending: true,
-                near: first_piece(pieces),
+                near,
+                words: words_of(&near),
             });
         }
         require_inside(bytes, pieces)?;
         let is_ascending = first_overlap(pieces).is_none();
+        let near = first_piece(pieces);
         Ok(MemoryList {
             bytes,
             pieces,
             is_ascending,
-            near: first_piece(pieces),
+            near,
+            words: words_of(&near),
         })
     }
 
@@ -151,11 +166,13 @@ impl<'a> MemoryList<'a> {
         ensures bytes { result.bytes.now ≡ self.entry.bytes.now }
         ensures pieces { result.pieces.now ≡ self.entry.pieces.now }
     {
+        let near = self.piece_near(address);
         MemoryList {
             bytes: self.bytes,
             pieces: self.pieces,
             is_ascending: self.is_ascending,
-            near: self.piece_near(address),
+            near,
+            words: words_of(&near),
         }
     }
 
@@ -245,7 +262,8 @@ impl<'a> Memory for MemoryList<'a> {
     /// A word of the piece that is asked first takes no lookup.
     #[inline(always)]
     fn u64_at(&self, address: u64) -> Option<u64> {
-        if has_address(&self.near, address) && has_word(&self.near, address) {
+        let start = self.near.start;
+        if start <= address && address - start < self.words {
             return word_of(self.bytes, &self.near, address);
         }
         self.word_elsewhere(address)

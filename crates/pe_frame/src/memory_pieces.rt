@@ -13,7 +13,7 @@ use pe_lookup::{first_overlap, first_with};
 /// eight bytes is: pieces that touch hold a word together.
 ///
 /// In pieces in ascending order that do not overlap a byte is found by binary search; in any others they are tested in turn.
-#[derive(Clone, Copy, Debug)]
+#[derive(Clone, Copy)]
 pub struct StackPieces<'a> {
     pieces: &'a [Stack<'a>],
     /// Whether they are in ascending order and do not overlap.

@@ -1,18 +1,21 @@
 //! The modules of a process: images, each with the address where it is loaded.
 
-ghost use Rattle.std.specs.Prelude.{◌≡◌, ◌+◌, ◌-◌, ◌≤◌, MatchResult, Some};
+ghost use Rattle.std.specs.Prelude.{◌≡◌, ◌+◌, ◌-◌, ◌<◌, ◌≤◌, IfSome, IsTrue, MatchResult, Some};
 ghost use Rattle.std.specs.List.{list_any};
 ghost use Rattle.std.specs.Option.{option_map};
 ghost use Rattle.pe_core.specs.SectionMap.{offset_in};
-ghost use Rattle.pe_lookup.specs.AddressRanges.{AreAscending, IsOverlap};
+ghost use Rattle.pe_lookup.specs.AddressRanges.{AreAscending, IsOverlap, has_address};
 ghost use Rattle.pe_lookup.specs.SectionIndexes.{sections_by};
 ghost use Rattle.pe_frame.specs.Modules.{bytes_or_none, module_base, module_size, module_at, map_of_module, code_alignment, code_at, code_in, follows_call, is_after_call_in, is_after_call, is_after_call_arm64_in, is_after_call_arm64, executes, is_executable, is_code_of, is_code_return, is_code_return_of, is_code_return_arm64, is_code_return_arm64_of, is_code, is_in_unknown, is_unknown, call_target, call_target_of};
 
 use crate::arm64::is_call_arm64;
 use crate::call::{SIZE_OF_CALL_REL32, is_call, near_target};
-use pe_core::{ParseOptions, RvaMap, SectionMap, SectionTable, slice_at};
+use pe_core::{
+    ParseOptions, RangeEntry, RvaMap, SectionMap, SectionTable, find_offset, mapped_offset,
+    slice_at,
+};
 use pe_lookup::{
-    AddressRange, IndexEntry, first_overlap, has_address, range_with, section_started, sections_by,
+    AddressRange, first_overlap, has_address, range_with, section_started, sections_by,
 };
 use pe_unwind::ExceptionData;
 use std::ops::Range;
@@ -39,7 +42,7 @@ pub struct Module<'a> {
     pub sections: &'a [SectionTable],
     /// An index of the sections, by which its RVAs are mapped; no entries without one. A scan asks `sections` itself whether an RVA
     /// is executable.
-    pub index: &'a [IndexEntry],
+    pub index: &'a [RangeEntry],
     /// Its exception data, parsed from `bytes`; without any no records describe its functions.
     pub exceptions: Option<&'a ExceptionData<'a>>,
     /// The options with which it was parsed.
@@ -56,12 +59,13 @@ pub(crate) struct ModuleMap<'a> {
 impl<'a> RvaMap for ModuleMap<'a> {
     ghost offset = { λ m. map_of_module m.module.now m.exceptions.now };
 
+    #[inline(always)]
     fn file_offset(&self, rva: u32) -> pe_core::Result<usize> {
         let module = self.module;
         let map = self
             .exceptions
             .section_map(module.sections_of(rva), &module.opts);
-        map.offset_of(rva)
+        mapped_offset(rva, map.sections(), map.file_alignment(), &map.opts())
     }
 }
 
@@ -89,6 +93,7 @@ impl<'a> AddressRange for Module<'a> {
 
 impl<'a> Module<'a> {
     /// The sections that may map an RVA: one at most, where the module has an index.
+    #[inline(always)]
     fn sections_of(&self, rva: u32) -> &'a [SectionTable]
         ensures { result.now ≡ sections_by self.now.sections.now self.now.index.now rva }
     {
@@ -97,12 +102,14 @@ impl<'a> Module<'a> {
 
     /// The code at these RVAs, by a section map of the module: one of the sections that may map the first of them. Empty where it is
     /// not all in the image.
+    #[inline(always)]
     fn code_by(&self, map: &SectionMap<'_>, rvas: Range<u32>) -> &'a [u8]
         ensures { result.now ≡ bytes_or_none self.now.bytes.now
             (offset_in map.now rvas.start) (rvas.end - rvas.start) }
     {
         let Range { start: rva, end } = rvas;
-        match map.find(rva as usize) {
+        let alignment = map.file_alignment();
+        match find_offset(rva as usize, map.sections(), alignment, &map.opts()) {
             Some(offset) => match slice_at(self.bytes, offset, end.saturating_sub(rva) as usize) {
                 Ok(code) => code,
                 Err(_) => &[],
@@ -112,6 +119,7 @@ impl<'a> Module<'a> {
     }
 
     /// The code at these RVAs, by the section map of the module's exception data. Empty where it is not all in the image.
+    #[inline(always)]
     pub(crate) fn code(&self, exceptions: &ExceptionData<'a>, rvas: Range<u32>) -> &'a [u8]
         ensures { result.now ≡ code_in self.now exceptions.now rvas.start rvas.end }
     {
@@ -121,6 +129,7 @@ impl<'a> Module<'a> {
 
     /// The code at these RVAs, by the section map of the module's exception data, or without any by its sections alone. Empty where
     /// it is not all in the image.
+    #[inline(always)]
     fn called_code(&self, rvas: Range<u32>) -> &'a [u8]
         ensures { result.now ≡ code_at self.now
             (code_alignment (option_map (λ e. e.now) self.now.exceptions)) rvas.start rvas.end }
@@ -144,6 +153,7 @@ impl<'a> Module<'a> {
     }
 
     /// Whether the bytes before an RVA are a call of so many bytes.
+    #[inline(always)]
     fn follows_call(&self, rva: u32, size: u8) -> bool
         ensures { result ≡ follows_call self.now
             (code_alignment (option_map (λ e. e.now) self.now.exceptions)) rva size }
@@ -152,21 +162,25 @@ impl<'a> Module<'a> {
         size <= rva && is_call(self.called_code(rva - size..rva))
     }
 
-    /// Whether the bytes before an RVA are a call of one of these sizes.
-    fn follows_any(&self, rva: u32, sizes: &[u8]) -> bool
-        ensures { result ≡ list_any (follows_call self.now
-            (code_alignment (option_map (λ e. e.now) self.now.exceptions)) rva) sizes.now }
+    /// Whether the bytes before an RVA are a call of one of these sizes. Out of line, and of a module that is passed whole: where the
+    /// usual size is enough, nothing is made of it but what is read.
+    #[inline(never)]
+    fn follows_any(self, rva: u32, sizes: &[u8]) -> bool
+        ensures { result ≡ list_any (follows_call self.entry
+            (code_alignment (option_map (λ e. e.now) self.entry.exceptions)) rva) sizes.now }
     {
         sizes.iter().any(|size| self.follows_call(rva, *size))
     }
 
     /// Whether an address, which may be the end of the module, is one after a call. Functions that no exception data describe call
     /// too: code is read by the sections.
+    #[inline(always)]
     pub fn is_after_call(&self, address: u64) -> bool
         requires { address ≤ self.now.base + self.now.size }
         ensures { result ≡ is_after_call_in self.now address }
     {
-        self.follows_any(self.rva_of(address), &CALL_SIZES)
+        let rva = self.rva_of(address);
+        self.follows_call(rva, CALL_SIZES[0]) || self.follows_any(rva, &CALL_SIZES)
     }
 
     /// Whether an address, which may be the end of the module, is one after a call on ARM64.
@@ -266,7 +280,9 @@ impl<'a> Modules<'a> {
 
     /// The module that has an address, by binary search.
     pub fn find(&self, address: u64) -> Option<&'a Module<'a>>
-        ensures { option_map (λ m. m.now) result ≡ module_at self.now.modules.now address }
+        ensures found { option_map (λ m. m.now) result ≡ module_at self.now.modules.now address }
+        ensures has { IfSome result (λ m. IsTrue (has_address module_base module_size address m.now)) }
+        ensures inside { IfSome result (λ m. address < m.now.base + m.now.size) }
     {
         range_with(self.modules, address)
     }

@@ -3,7 +3,7 @@
 use pe_unwind::UnwindInfo;
 
 /// The plan of a function: where it starts, and the unwind records that are undone there.
-#[derive(Clone, Copy, Debug)]
+#[derive(Clone, Copy)]
 pub struct FunctionPlan<'p, 'a> {
     /// The RVA where it starts: the `begin_address` of the function that lookup found.
     pub start: u32,
@@ -12,7 +12,7 @@ pub struct FunctionPlan<'p, 'a> {
 }
 
 /// Where a function stopped.
-#[derive(Clone, Copy, Debug)]
+#[derive(Clone, Copy)]
 pub struct Stopped<'c> {
     /// The instruction pointer less the image base.
     pub rva: u32,

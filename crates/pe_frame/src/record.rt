@@ -249,6 +249,7 @@ fn undo_rest<M: Memory>(
 }
 
 /// Makes the registers those before the codes with which a record starts, where all have run.
+#[inline(always)]
 fn undo_first<'a, M: Memory>(
     info: &UnwindInfo<'a>,
     frame: RecordFrame,
@@ -270,6 +271,7 @@ fn undo_first<'a, M: Memory>(
 
 /// Makes the registers those before the codes of a record that have run, and surveys them: nearly all records have frequent codes
 /// alone, of which nothing is to be known.
+#[inline(always)]
 fn undo_surveyed<M: Memory>(
     info: &UnwindInfo<'_>,
     frame: RecordFrame,
@@ -293,6 +295,7 @@ fn undo_surveyed<M: Memory>(
 
 /// Makes the registers those where the code of a record was entered, by one pass over its codes.
 #[tactic(auto, using(crate::proofs::Records::enters_at_once))]
+#[inline(always)]
 fn enter_at_once<M: Memory>(
     info: &UnwindInfo<'_>,
     frame: RecordFrame,
@@ -318,6 +321,7 @@ fn enter_at_once<M: Memory>(
 }
 
 /// Makes the registers those where the code of a record was entered. Returns whether an interrupt entered it.
+#[inline(always)]
 pub(crate) fn enter<M: Memory>(
     info: &UnwindInfo<'_>,
     limit: Option<u32>,

@@ -6,7 +6,7 @@ pub(crate) const RSP: usize = 4;
 pub(crate) const RBP: usize = 5;
 
 /// The registers of a thread that a step restores. Flags and segment registers are not among them.
-#[derive(Clone, Copy, Debug, PartialEq, Eq)]
+#[derive(Clone, Copy, Debug, PartialEq)]
 pub struct Registers {
     /// The integer registers by their numbers in unwind data: rax, rcx, rdx, rbx, rsp, rbp, rsi, rdi, r8 to r15. So
     /// `general[4]` is the stack pointer.

@@ -16,7 +16,7 @@ use pe_lookup::{has_address, started};
 
 /// Memory by a list of its pieces in some bytes, of which none was tested. The piece for an address is the last that starts at or
 /// before it, as a search by halving finds it; it counts if it has the address and lies in the bytes. Nothing is copied.
-#[derive(Clone, Copy, Debug)]
+#[derive(Clone, Copy)]
 pub struct SearchedMemory<'a> {
     bytes: &'a [u8],
     pieces: &'a [MemoryPiece],

@@ -157,6 +157,7 @@ pub(crate) fn undo<M: Memory>(
 
 /// Makes the registers those of the caller, where the stack pointer points at the return address and so many bytes after it
 /// are dropped.
+#[inline(always)]
 pub(crate) fn pop_and_drop<M: Memory>(
     bytes: u16,
     registers: &mut Registers,
@@ -171,6 +172,7 @@ pub(crate) fn pop_and_drop<M: Memory>(
 }
 
 /// Makes the registers those of the caller, where the stack pointer points at the return address.
+#[inline(always)]
 pub(crate) fn pop<M: Memory>(registers: &mut Registers, memory: &M) -> Result<(), FrameError>
     ensures { changed result registers.new ≡ popped (M.word memory.now) registers.old }
 {

@@ -24,6 +24,9 @@ ghost use Rattle.pe_frame.specs.FrameWalks.{frame_left};
 ghost use Rattle.pe_frame.specs.Modules.{may_end_call, module_base, module_size};
 ghost use Rattle.pe_frame.specs.Walks.{has_called, frame_of, lookup_address, code_of_frame, code_return, scanned, scanned_by, leaf_frame, without_records, is_bottom, end_at_0, after_leaf, caller_of_leaf, found_outside, found_by_ranges, caller_outside, caller_without_table, leaf_is_guess, frame_after, CallsFound, CallsIn, scanned_frame, IsGap, is_in_gap, gap_target, scanned_in_gap, called_in_gap, caller_in_gap, leaf_without_image, record_return, is_leaf_return, chained, caller_in_code, lower_frame};
 ghost use Rattle.pe_frame.specs.declared.modules.Module.{Module};
+ghost use Rattle.pe_unwind.specs.ExceptionTable.{table_of};
+ghost use Rattle.pe_unwind.specs.FunctionTable.{Finds, functions};
+ghost use Rattle.pe_unwind.specs.Lookup.{FindsStart};
 
 use crate::chain::frame_record;
 use crate::error::FrameError;
@@ -37,13 +40,13 @@ use crate::position::{WalkFrame, WalkPosition};
 use crate::process::{CallSites, LoadedModules};
 use crate::registers::{RBP, RSP, Registers};
 use crate::scan::{CallTargets, ReturnWords, first_return_above, highest_call_above};
-use pe_unwind::{ExceptionData, RuntimeFunction, search, search_start};
+use pe_unwind::{ExceptionData, RuntimeFunction, search_start};
 
 /// The addresses below this one, 64 KB, are free in each process of Windows.
 const LOWEST_ADDRESS: u64 = 0x1_0000;
 
 /// How a frame was found.
-#[derive(Clone, Copy, Debug, PartialEq, Eq)]
+#[derive(Clone, Copy, Debug, PartialEq)]
 pub enum Way {
     /// It is the top frame.
     Top,
@@ -64,7 +67,7 @@ pub enum Way {
 }
 
 /// A frame of a stack walk.
-#[derive(Clone, Copy, Debug, PartialEq, Eq)]
+#[derive(Clone, Copy, PartialEq)]
 pub struct StackFrame {
     /// The registers in its function. Where it has called, `rip` is the return address.
     pub registers: Registers,
@@ -648,6 +651,41 @@ fn leaf_is_guess(module: &Module<'_>, frame: &StackFrame) -> bool
     frame.is_guess || !module.is_code(frame.lookup_address())
 }
 
+/// The bytes of an entry of a function table.
+const SIZE_OF_FUNCTION: usize = 12;
+
+/// The last function that starts at or before an RVA, as `search_start` of pe_unwind finds it. Of those on the way to it only the
+/// starts are read.
+fn function_from(exceptions: &ExceptionData<'_>, rva: u32) -> Option<RuntimeFunction>
+    ensures { FindsStart (λ f. f.begin_address) (functions (table_of exceptions.now)) rva result }
+{
+    let mut table = exceptions.table();
+    let mut low = 0;
+    let mut high = table.len() / SIZE_OF_FUNCTION;
+    while low < high {
+        let middle = low + (high - low) / 2;
+        if table.u32_at(SIZE_OF_FUNCTION * middle).unwrap() <= rva {
+            low = middle + 1;
+        } else {
+            high = middle;
+        }
+    }
+    if low == 0 {
+        return None;
+    }
+    table.entry_at(SIZE_OF_FUNCTION * (low - 1))
+}
+
+/// The function that has an RVA, as `search` of pe_unwind finds it.
+fn function_at(exceptions: &ExceptionData<'_>, rva: u32) -> Option<RuntimeFunction>
+    ensures { Finds (functions (table_of exceptions.now)) rva result }
+{
+    match function_from(exceptions, rva) {
+        Some(function) if rva < function.end_address => Some(function),
+        _ => None,
+    }
+}
+
 /// The function of a frame, as lookup found it.
 #[derive(Clone, Copy)]
 struct FrameFunction<'a> {
@@ -770,8 +808,7 @@ pub fn caller_in_module<L: CallSites, M: Memory>(
     let Some(exceptions) = module.exceptions else {
         return become_caller_without_table(modules, module, frame, memory);
     };
-    let mut table = exceptions.table();
-    match search(&mut table, module.rva_of(frame.lookup_address())) {
+    match function_at(exceptions, module.rva_of(frame.lookup_address())) {
         Some(function) => {
             let found = FrameFunction {
                 module,

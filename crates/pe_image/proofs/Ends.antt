@@ -145,22 +145,11 @@ pub record RowLeft (start : ℕ) (cs : List CertificateView) (offset : ℕ) (res
   pub ends : row_end written_length offset rest ≡ row_end written_length start cs
   pub small : offset ≤ longest
 
-pub row_next : (start : ℕ) (cs : List CertificateView) (offset next : ℕ) (c : CertificateView) (left rest : List CertificateView) → left ≡ c ∷ rest → RowLeft start cs offset left → possible (offset + written_length c) (offset + written_length c) ≡ Ok next → RowLeft start cs next rest
-row_next start cs offset next c left rest is r e =
-    let k : ℕ = offset + written_length c in
-    let same : next ≡ k = value_if (nat_le k longest) k next e in
-    rw same (record { ends = rw is at r.ends; small = within k k next e })
-
 pub row_refused : {Z : Type 0} (start : ℕ) (cs : List CertificateView) (offset : ℕ) (c : CertificateView) (left rest : List CertificateView) (z : Z) (k : Refusal) → left ≡ c ∷ rest → RowLeft start cs offset left → possible (offset + written_length c) (offset + written_length c) ≡ Err k → possible (row_end written_length start cs) z ≡ Err k
 row_refused start cs offset c left rest z k is r e =
     let n : ℕ = offset + written_length c in
     let ends : row_end written_length n rest ≡ row_end written_length start cs = rw is at r.ends in
     impossible n (row_end written_length start cs) n z k (omega (arith, row_end_after rest n, ends)) e
-
-pub row_last : (start : ℕ) (cs : List CertificateView) (offset : ℕ) (left : List CertificateView) → left ≡ [] → RowLeft start cs offset left → possible (row_end written_length start cs) (row_end written_length start cs) ≡ Ok offset
-row_last start cs offset left is r =
-    let ends : offset ≡ row_end written_length start cs = rw is at r.ends in
-    accepted_if (nat_le (row_end written_length start cs) longest) (row_end written_length start cs) offset (sym (le_is (row_end written_length start cs) longest (omega (arith, ends, r.small)))) ends
 
 -- ---- the whole
 

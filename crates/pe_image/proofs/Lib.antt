@@ -2,7 +2,6 @@ pub mod NoMemory
 pub mod Steps
 pub mod ByMode
 pub mod Images
-pub mod Modes
 pub mod Permissive
 pub mod LibraryLists
 pub mod Requests
@@ -12,7 +11,6 @@ pub mod SectionsFirst
 pub mod Limited
 pub mod SharedLists
 pub mod StandingLists
-pub mod Unlisted
 pub mod ExceptionFields
 pub mod Overlays
 pub mod Rows
@@ -21,10 +19,7 @@ pub mod TableLists
 pub mod WrittenCertificates
 pub mod Laid
 pub mod Clashes
-pub mod Covered
 pub mod WrittenSections
 pub mod WrittenHeaders
-pub mod WrittenImages
-pub mod ListedAgain
 pub mod RewrittenBytes
 pub mod HeadlineCalls

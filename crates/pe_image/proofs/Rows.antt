@@ -1,7 +1,7 @@
 -- Pieces of records that stand one after the other: what is left of them while they are gone over.
-use Rattle.std.proofs.Common.{◌≡◌, ℕ, ◌+◌, ◌<◌, ◌≤◌, ◌&&◌, Bool, true, false, Ok, Err, List, [], ◌∷◌, ◌++◌, length, get_or, drop, map, refl, ap, sym, ◌∙◌, arith}
+use Rattle.std.proofs.Common.{◌≡◌, ℕ, ◌+◌, ◌<◌, ◌&&◌, Bool, true, false, Ok, Err, List, [], ◌∷◌, ◌++◌, length, get_or, drop, refl, ap, sym, ◌∙◌}
 use Rattle.std.specs.List.{list_all}
-use Rattle.std.proofs.lemmas.List.{drop_more, drop_all, get_or-map, length-map}
+use Rattle.std.proofs.lemmas.List.{drop_more}
 use Rattle.pe_core.specs.Refusals.{Refusal, WriteFit, outcome}
 use Rattle.pe_image.specs.Overlay.{Piece, fits, all_fit, overlay}
 use Rattle.pe_image.specs.Pieces.{in_a_row, row_end}
@@ -50,14 +50,6 @@ goes_last f w b start xs now offset g = g.same
 -- the rest of a list from element i on
 pub rest_at : {X : Type 0} (xs : List X) (i : ℕ) (d : X) → i < length xs → drop i xs ≡ get_or xs i d ∷ drop (i + 1) xs
 rest_at xs i d h = drop_more xs i d h
-
-pub rest_of_seen : {X Y : Type 0} (view : X → Y) (xs : List X) (i : ℕ) (d : X) → i < length xs → drop i (map view xs) ≡ view (get_or xs i d) ∷ drop (i + 1) (map view xs)
-rest_of_seen view xs i d h =
-    drop_more (map view xs) i (view d) (omega (arith, length-map xs view))
-    ∙ ap (λ x. x ∷ drop (i + 1) (map view xs)) (get_or-map view xs i d (view d) h)
-
-pub no_rest_of_seen : {X Y : Type 0} (view : X → Y) (xs : List X) (i : ℕ) → length xs ≤ i → drop i (map view xs) ≡ []
-no_rest_of_seen view xs i h = drop_all i (map view xs) (omega (arith, length-map xs view))
 
 -- ---- a test of all elements, from the first on, which may look at those after each
 

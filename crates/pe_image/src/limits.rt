@@ -2,7 +2,7 @@
 //! entries, so an image may have more imports than bytes.
 
 /// What an image may have. One that has more is refused, in both modes.
-#[derive(Clone, Copy, Debug)]
+#[derive(Clone, Copy)]
 pub struct Limits {
     /// How many imports at most, of all DLLs together.
     pub imports: u32,

@@ -14,7 +14,8 @@ use std::alloc::{AllocError, Global};
 /// Puts each part at its offset. What does not fit is left out.
 pub fn put(bytes: &mut [u8], parts: &[(usize, &[u8])]) {
     for (offset, part) in parts {
-        for (byte, slot) in part.iter().zip(bytes.iter_mut().skip(*offset)) {
+        let start = bytes.len().min(*offset);
+        for (byte, slot) in part.iter().zip(bytes[start..].iter_mut()) {
             *slot = *byte;
         }
     }

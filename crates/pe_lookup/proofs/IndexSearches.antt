@@ -1,13 +1,13 @@
 -- A search of the entries of an index of sections.
 use Rattle.std.proofs.Common.{◌≡◌, ℕ, ◌+◌, ◌-◌, ◌^◌, ◌<◌, ◌≤◌, true, false, List, length, arith}
 use Rattle.pe_lookup.proofs.Halving as halving
-use Rattle.pe_lookup.specs.declared.section_index.IndexEntry.{IndexEntry}
+use Rattle.pe_core.specs.declared.range_index.RangeEntry.{RangeEntry}
 use Rattle.pe_lookup.specs.SectionIndexes.{no_entry, start_by, started}
 
-abbrev pub start_of : IndexEntry → ℕ
+abbrev pub start_of : RangeEntry → ℕ
 start_of e = e.start
 
-module _ (es : List IndexEntry) (x : ℕ) where
+module _ (es : List RangeEntry) (x : ℕ) where
   pub skipped : (m : ℕ) → length es < 2 ^ m → m ≤ 64 → started es x m 0 ≡ started es x 64 0
   skipped m h le = halving.skipped start_of no_entry es x m 64 h (omega (arith, h, halving.grows (64 - m) m 64 (omega (arith, le))))
 

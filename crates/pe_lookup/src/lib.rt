@@ -11,5 +11,5 @@ pub use address_ranges::{
     AddressRange, first_overlap, first_with, has_address, range_with, started,
 };
 pub use bits::{bits_of, power_of_two};
-pub use section_index::{IndexEntry, number_found, numbered, sections_by, start_by};
+pub use section_index::{number_found, numbered, sections_by, start_by};
 pub use section_search::section_started;

@@ -8,20 +8,10 @@ ghost use Rattle.std.specs.Prelude.{◌≡◌, ◌+◌, ◌<◌, ◌≤◌, ◌^
 ghost use Rattle.pe_lookup.specs.SectionIndexes.{start_by, started, number_found, numbered, sections_by};
 
 use crate::bits::{bits_of, power_of_two};
-use pe_core::SectionTable;
-
-/// The RVAs from `start` up to the start of the next entry.
-#[repr(C)]
-#[derive(Clone, Copy)]
-pub struct IndexEntry {
-    /// The first RVA.
-    pub start: u64,
-    /// The index of the section that maps them, plus 1; 0 where none does.
-    pub section: u64,
-}
+use pe_core::{RangeEntry, SectionTable};
 
 /// Whether there are so many entries, and the last of them starts at or before an RVA.
-pub fn start_by(entries: &[IndexEntry], rva: u64, count: usize) -> bool
+pub fn start_by(entries: &[RangeEntry], rva: u64, count: usize) -> bool
     requires { 0 < count }
     ensures { result ≡ start_by entries.now rva count }
 {
@@ -29,7 +19,7 @@ pub fn start_by(entries: &[IndexEntry], rva: u64, count: usize) -> bool
 }
 
 /// How many entries start at or before an RVA, where they are sorted.
-fn started(entries: &[IndexEntry], rva: u64) -> usize
+fn started(entries: &[RangeEntry], rva: u64) -> usize
     ensures count { result ≡ started entries.now rva 64 0 }
     ensures most { result ≤ length entries.now }
 {
@@ -46,14 +36,14 @@ fn started(entries: &[IndexEntry], rva: u64) -> usize
 }
 
 /// The number in the last of the entries that start at or before an RVA.
-pub fn number_found(entries: &[IndexEntry], rva: u64) -> u64
+pub fn number_found(entries: &[RangeEntry], rva: u64) -> u64
     ensures { result ≡ number_found entries.now rva }
 {
     let count = started(entries, rva);
     if count == 0 {
         return 0;
     }
-    entries[count - 1].section
+    entries[count - 1].number
 }
 
 /// The section with an index plus 1, if there is one.
@@ -73,7 +63,7 @@ pub fn numbered(sections: &[SectionTable], number: u64) -> &[SectionTable]
 #[tactic(auto, unfolding(crate::specs::SectionIndexes::sections_by))]
 pub fn sections_by<'a>(
     sections: &'a [SectionTable],
-    index: &[IndexEntry],
+    index: &[RangeEntry],
     rva: u64,
 ) -> &'a [SectionTable]
     ensures { result.now ≡ sections_by sections.entry.now index.now rva }

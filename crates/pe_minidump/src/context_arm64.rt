@@ -27,7 +27,7 @@ const CONTROL_AND_INTEGER: u32 = 3;
 const FLOATING_POINT: u32 = 4;
 
 /// The registers of a thread on ARM64.
-#[derive(Clone, Copy, Debug, PartialEq)]
+#[derive(Clone, Copy)]
 pub struct ContextArm64 {
     /// Which parts were saved, `CONTEXT_ARM64_*`.
     pub context_flags: u32,
@@ -44,86 +44,29 @@ pub struct ContextArm64 {
 }
 
 /// The integer registers of a context that is known to have them.
-#[tactic(auto, unfolding(pe_core::specs::Rows::each))]
+#[tactic(auto, using(std::proofs::lemmas::List::take_more_set), unfolding(pe_core::specs::Rows::each))]
 fn integers_of(bytes: &[u8]) -> [u64; 31]
     requires { 912 ≤ length bytes.now }
     ensures { result ≡ each (λ k. le bytes.now (8 + 8 * k) 8) 31 }
 {
-    [
-        read_u64(bytes, 8),
-        read_u64(bytes, 16),
-        read_u64(bytes, 24),
-        read_u64(bytes, 32),
-        read_u64(bytes, 40),
-        read_u64(bytes, 48),
-        read_u64(bytes, 56),
-        read_u64(bytes, 64),
-        read_u64(bytes, 72),
-        read_u64(bytes, 80),
-        read_u64(bytes, 88),
-        read_u64(bytes, 96),
-        read_u64(bytes, 104),
-        read_u64(bytes, 112),
-        read_u64(bytes, 120),
-        read_u64(bytes, 128),
-        read_u64(bytes, 136),
-        read_u64(bytes, 144),
-        read_u64(bytes, 152),
-        read_u64(bytes, 160),
-        read_u64(bytes, 168),
-        read_u64(bytes, 176),
-        read_u64(bytes, 184),
-        read_u64(bytes, 192),
-        read_u64(bytes, 200),
-        read_u64(bytes, 208),
-        read_u64(bytes, 216),
-        read_u64(bytes, 224),
-        read_u64(bytes, 232),
-        read_u64(bytes, 240),
-        read_u64(bytes, 248),
-    ]
+    let mut registers = [0; 31];
+    for k in 0..31 {
+        registers[k] = read_u64(bytes, 8 + 8 * k);
+    }
+    registers
 }
 
 /// The vector registers of a context that is known to have them.
-#[tactic(auto, unfolding(pe_core::specs::Rows::each))]
+#[tactic(auto, using(std::proofs::lemmas::List::take_more_set), unfolding(pe_core::specs::Rows::each))]
 fn vectors_of(bytes: &[u8]) -> [u128; 32]
     requires { 912 ≤ length bytes.now }
     ensures { result ≡ each (λ k. le bytes.now (272 + 16 * k) 16) 32 }
 {
-    [
-        read_u128(bytes, 272),
-        read_u128(bytes, 288),
-        read_u128(bytes, 304),
-        read_u128(bytes, 320),
-        read_u128(bytes, 336),
-        read_u128(bytes, 352),
-        read_u128(bytes, 368),
-        read_u128(bytes, 384),
-        read_u128(bytes, 400),
-        read_u128(bytes, 416),
-        read_u128(bytes, 432),
-        read_u128(bytes, 448),
-        read_u128(bytes, 464),
-        read_u128(bytes, 480),
-        read_u128(bytes, 496),
-        read_u128(bytes, 512),
-        read_u128(bytes, 528),
-        read_u128(bytes, 544),
-        read_u128(bytes, 560),
-        read_u128(bytes, 576),
-        read_u128(bytes, 592),
-        read_u128(bytes, 608),
-        read_u128(bytes, 624),
-        read_u128(bytes, 640),
-        read_u128(bytes, 656),
-        read_u128(bytes, 672),
-        read_u128(bytes, 688),
-        read_u128(bytes, 704),
-        read_u128(bytes, 720),
-        read_u128(bytes, 736),
-        read_u128(bytes, 752),
-        read_u128(bytes, 768),
-    ]
+    let mut registers = [0; 32];
+    for k in 0..32 {
+        registers[k] = read_u128(bytes, 272 + 16 * k);
+    }
+    registers
 }
 
 impl ContextArm64 {

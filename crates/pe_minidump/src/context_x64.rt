@@ -27,7 +27,7 @@ const CONTROL_AND_INTEGER: u32 = 3;
 const FLOATING_POINT: u32 = 8;
 
 /// The registers of a thread on x64.
-#[derive(Clone, Copy, Debug, PartialEq)]
+#[derive(Clone, Copy)]
 pub struct ContextX64 {
     /// Which parts were saved, `CONTEXT_*`.
     pub context_flags: u32,
@@ -42,55 +42,29 @@ pub struct ContextX64 {
 }
 
 /// The integer registers of a context that is known to have them.
-#[tactic(auto, unfolding(pe_core::specs::Rows::each))]
+#[tactic(auto, using(std::proofs::lemmas::List::take_more_set), unfolding(pe_core::specs::Rows::each))]
 fn general_of(bytes: &[u8]) -> [u64; 16]
     requires { 1232 ≤ length bytes.now }
     ensures { result ≡ each (λ k. le bytes.now (120 + 8 * k) 8) 16 }
 {
-    [
-        read_u64(bytes, 120),
-        read_u64(bytes, 128),
-        read_u64(bytes, 136),
-        read_u64(bytes, 144),
-        read_u64(bytes, 152),
-        read_u64(bytes, 160),
-        read_u64(bytes, 168),
-        read_u64(bytes, 176),
-        read_u64(bytes, 184),
-        read_u64(bytes, 192),
-        read_u64(bytes, 200),
-        read_u64(bytes, 208),
-        read_u64(bytes, 216),
-        read_u64(bytes, 224),
-        read_u64(bytes, 232),
-        read_u64(bytes, 240),
-    ]
+    let mut registers = [0; 16];
+    for k in 0..16 {
+        registers[k] = read_u64(bytes, 120 + 8 * k);
+    }
+    registers
 }
 
 /// The XMM registers of a context that is known to have them.
-#[tactic(auto, unfolding(pe_core::specs::Rows::each))]
+#[tactic(auto, using(std::proofs::lemmas::List::take_more_set), unfolding(pe_core::specs::Rows::each))]
 fn xmm_of(bytes: &[u8]) -> [u128; 16]
     requires { 1232 ≤ length bytes.now }
     ensures { result ≡ each (λ k. le bytes.now (416 + 16 * k) 16) 16 }
 {
-    [
-        read_u128(bytes, 416),
-        read_u128(bytes, 432),
-        read_u128(bytes, 448),
-        read_u128(bytes, 464),
-        read_u128(bytes, 480),
-        read_u128(bytes, 496),
-        read_u128(bytes, 512),
-        read_u128(bytes, 528),
-        read_u128(bytes, 544),
-        read_u128(bytes, 560),
-        read_u128(bytes, 576),
-        read_u128(bytes, 592),
-        read_u128(bytes, 608),
-        read_u128(bytes, 624),
-        read_u128(bytes, 640),
-        read_u128(bytes, 656),
-    ]
+    let mut registers = [0; 16];
+    for k in 0..16 {
+        registers[k] = read_u128(bytes, 416 + 16 * k);
+    }
+    registers
 }
 
 impl ContextX64 {

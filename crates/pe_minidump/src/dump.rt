@@ -35,7 +35,7 @@ const SIZE_OF_ENTRY: usize = 12;
 
 /// The header of a minidump (`MINIDUMP_HEADER`), 32 bytes.
 #[repr(C)]
-#[derive(Clone, Copy, Debug, PartialEq)]
+#[derive(Clone, Copy, Debug)]
 pub struct DumpHeader {
     /// `MINIDUMP_SIGNATURE`.
     pub signature: u32,

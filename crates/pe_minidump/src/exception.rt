@@ -23,7 +23,7 @@ const SIZE_OF_EXCEPTION_STREAM: usize = 168;
 
 /// The exception of a dump (`MINIDUMP_EXCEPTION_STREAM`), 168 bytes, with the fields of its `MINIDUMP_EXCEPTION` among its own.
 #[repr(C)]
-#[derive(Clone, Copy, Debug, PartialEq)]
+#[derive(Clone, Copy)]
 pub struct Exception {
     /// The ID of the thread that raised it.
     pub thread_id: u32,

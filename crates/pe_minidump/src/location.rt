@@ -16,7 +16,7 @@ use pe_core::read_u32;
 /// Where bytes stand in the file. A location of no bytes says that there are none; one that leads past the end of the file is
 /// refused as any other.
 #[repr(C)]
-#[derive(Clone, Copy, Debug, Default, PartialEq)]
+#[derive(Clone, Copy, Debug, PartialEq)]
 pub struct Location {
     /// How many bytes they are (`DataSize`).
     pub size: u32,

@@ -62,7 +62,7 @@ impl DumpRecord for MemoryDescriptor {
 
 /// A piece of memory of a full dump (`MINIDUMP_MEMORY_DESCRIPTOR64`), 16 bytes. Its bytes follow those of the piece before it.
 #[repr(C)]
-#[derive(Clone, Copy, Debug, PartialEq)]
+#[derive(Clone, Copy)]
 pub struct MemoryRange {
     /// The address of the first byte.
     pub start_of_memory_range: u64,
@@ -91,7 +91,7 @@ impl DumpRecord for MemoryRange {
 }
 
 /// A piece of memory, with the bytes that the file has of it.
-#[derive(Clone, Copy, Debug, PartialEq)]
+#[derive(Clone, Copy)]
 pub struct MemoryPiece<'a> {
     /// The address of the first byte. Bytes past address 2^64 - 1 have no address.
     pub start: u64,

@@ -27,7 +27,7 @@ const SIZE_OF_HEAD: usize = 16;
 const SIZE_OF_RANGE: usize = 16;
 
 /// The pieces of memory of a full dump.
-#[derive(Clone, Copy, Debug)]
+#[derive(Clone, Copy)]
 pub struct Memory64List<'a> {
     file: &'a [u8],
     ranges: &'a [u8],
@@ -130,7 +130,7 @@ impl<'a> Memory64List<'a> {
 }
 
 /// The pieces that are left of a list.
-#[derive(Debug, Drop)]
+#[derive(Drop)]
 pub struct Memory64Pieces<'a> {
     list: Memory64List<'a>,
     next: usize,

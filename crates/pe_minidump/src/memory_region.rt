@@ -22,7 +22,7 @@ use pe_core::{read_u32, read_u64};
 
 /// A region of memory (`MINIDUMP_MEMORY_INFO`), 48 bytes.
 #[repr(C)]
-#[derive(Clone, Copy, Debug, PartialEq)]
+#[derive(Clone, Copy)]
 pub struct MemoryRegion {
     /// The address of the first byte of the region.
     pub base_address: u64,

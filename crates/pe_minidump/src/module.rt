@@ -83,7 +83,7 @@ fn fixed_file_info_at(bytes: &[u8], offset: usize) -> FixedFileInfo
 
 /// A module (`MINIDUMP_MODULE`), 108 bytes.
 #[repr(C)]
-#[derive(Clone, Copy, Debug, PartialEq)]
+#[derive(Clone, Copy)]
 pub struct Module {
     /// The address where it is loaded.
     pub base_of_image: u64,

@@ -28,7 +28,7 @@ const SIZE_OF_MISC_INFO_2: usize = 44;
 
 /// The system (`MINIDUMP_SYSTEM_INFO`), 56 bytes.
 #[repr(C)]
-#[derive(Clone, Copy, Debug, PartialEq)]
+#[derive(Clone, Copy)]
 pub struct SystemInfo {
     /// `PROCESSOR_ARCHITECTURE_*`: 9 is x64, 12 ARM64, 0 x86.
     pub processor_architecture: u16,
@@ -83,7 +83,7 @@ pub struct ProcessorPower {
 }
 
 /// What is known of the process (`MINIDUMP_MISC_INFO`, `MINIDUMP_MISC_INFO_2`).
-#[derive(Clone, Copy, Debug, PartialEq)]
+#[derive(Clone, Copy)]
 pub struct MiscInfo {
     /// The size in bytes that the writer says it has. Later versions have fields after those that are read here.
     pub size_of_info: u32,

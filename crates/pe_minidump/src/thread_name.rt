@@ -21,7 +21,7 @@ use pe_core::{read_u32, read_u64};
 
 /// The name of a thread (`MINIDUMP_THREAD_NAME`), 12 bytes.
 #[repr(C)]
-#[derive(Clone, Copy, Debug, PartialEq)]
+#[derive(Clone, Copy)]
 pub struct ThreadName {
     /// The ID of the thread.
     pub thread_id: u32,

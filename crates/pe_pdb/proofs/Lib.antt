@@ -7,17 +7,12 @@ pub mod Walked
 pub mod RecordWalks
 pub mod SymbolEntries
 pub mod NearestEntries
-pub mod EntriesOfRecords
 pub mod LineWalks
-pub mod SkippedRecords
-pub mod SortedEntries
 pub mod NamedStreams
 pub mod ModuleRanges
 pub mod LineEntries
-pub mod LineOrder
 pub mod LastLines
 pub mod InlineWalks
-pub mod InlineStacks
 pub mod InlineNests
 pub mod Inlinees
 pub mod RecordStarts

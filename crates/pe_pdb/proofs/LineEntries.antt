@@ -163,9 +163,5 @@ gathers_all {X} f whole left P so is =
     so.more ∙ ap (λ (l : List (Result X PdbRefusal)). with_rest so.sofar (gathered f l)) is ∙ ap (λ (e : Result (List CodeLine) PdbRefusal). with_rest so.sofar e) (gathered_none f)
     ∙ ap (λ (l : List CodeLine). Ok l) (append-nil so.sofar)
 
-pub line_few : (o : Option CodeLine) → length (option_to_list o) ≤ 1
-line_few None = omega arith
-line_few (Some x) = omega arith
-
 pub lines_small : (sections b : List ℕ) → length b < 2 ^ 32 → module_lines sections b ≡ gathered (lines_of_subsection sections) (subsections b 0)
 lines_small sections b small = let t : ltb (length b) (2 ^ 32) ≡ true = grind (arith, nat_tests) in rw t

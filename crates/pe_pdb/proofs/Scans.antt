@@ -82,18 +82,9 @@ left key y x less = let t : leb (key y) (key x) ≡ false = grind (arith, nat_te
 address_rva : (s offset : ℕ) → offset < 2 ^ 32 → rva_in (address s offset) ≡ s
 address_rva s offset small = omega (arith, small)
 
-pub address_none : (rva offset : ℕ) (start found : Option ℕ) → start ≡ None → Finds (address_before rva) (option_to_list (option_map (λ x. address x offset) start)) found found
-address_none rva offset start found is = subst (λ (o : Option ℕ). Finds (address_before rva) (option_to_list (option_map (λ x. address x offset) o)) found found) (sym is) (finds_none (address_before rva) found)
-
 one_address : (rva offset s : ℕ) (start old new : Option ℕ) → start ≡ Some s → Finds (address_before rva) (address s offset ∷ []) old new →
     Finds (address_before rva) (option_to_list (option_map (λ x. address x offset) start)) old new
 one_address rva offset s start old new is finds = subst (λ (o : Option ℕ). Finds (address_before rva) (option_to_list (option_map (λ x. address x offset) o)) old new) (sym is) finds
-
-pub address_after : (rva offset s : ℕ) (start found : Option ℕ) → start ≡ Some s → offset < 2 ^ 32 → rva < s → Finds (address_before rva) (option_to_list (option_map (λ x. address x offset) start)) found found
-address_after rva offset s start found is small past =
-    let at = address_rva s offset small in
-    let t : leb (rva_in (address s offset)) rva ≡ false = grind (arith, nat_tests) in
-    one_address rva offset s start found found is (finds_kept (λ a. a) (λ a. leb (rva_in a) rva) (address s offset) found t)
 
 address_passes : (rva offset s : ℕ) → offset < 2 ^ 32 → s ≤ rva → leb (rva_in (address s offset)) rva ≡ true
 address_passes rva offset s small low = let at = address_rva s offset small in grind (arith, nat_tests)

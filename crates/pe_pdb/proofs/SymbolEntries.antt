@@ -31,14 +31,8 @@ with_joined : (xs ys : List ℕ) (r : Result (List ℕ) PdbRefusal) → with_res
 with_joined xs ys (Ok zs) = ap (λ (l : List ℕ). Ok l) (sym (append_assoc xs ys zs))
 with_joined xs ys (Err r) = refl
 
-take_none : (n : ℕ) → take {A = ℕ} n [] ≡ []
-take_none n = take_all n [] (omega arith)
-
 pub gathers_none : (rva : Symbol → Option ℕ) (b : List ℕ) (start : ℕ) (P : List ℕ → Type 0) → P [] → Gathers rva b start start P
 gathers_none rva b start P none = record { sofar = []; holds = none; left = sym (with_none (addresses_of rva (symbols b start))) }
-
-pub written_none : (room : List ℕ) → Written 0 room []
-written_none room = record { counted = refl; written = sym (take_none (length room)) }
 
 -- one more entry
 put_more : (room xs : List ℕ) (o : Option ℕ) → take (length xs) room ≡ take (length room) xs →

@@ -17,7 +17,7 @@ const LAST_OPERATION: u32 = 13;
 const LENGTH_AND_OFFSET: u32 = 12;
 
 /// An operation and its operands. Operation 0 ends the annotations.
-#[derive(Clone, Copy, Debug, PartialEq)]
+#[derive(Clone, Copy)]
 pub(crate) struct Annotation {
     pub(crate) operation: u32,
     pub(crate) first: u32,

@@ -13,7 +13,7 @@ use pe_core::{read_u8, read_u32};
 const SIZE_OF_PREFIX: usize = 6;
 
 /// A source file of a module.
-#[derive(Clone, Copy, Debug, PartialEq)]
+#[derive(Clone, Copy)]
 pub struct FileChecksum<'a> {
     /// Where its name starts, for `Names::name_at`.
     pub name_offset: u32,

@@ -39,7 +39,7 @@ pub struct Contribution {
 
 /// A range of RVAs that is of one module.
 #[repr(C)]
-#[derive(Clone, Copy, Debug, Default, PartialEq)]
+#[derive(Clone, Copy, Default)]
 pub struct ModuleRange {
     /// The first RVA.
     pub start: u32,
@@ -50,7 +50,7 @@ pub struct ModuleRange {
 }
 
 /// The section contributions of a PDB.
-#[derive(Clone, Copy, Debug)]
+#[derive(Clone, Copy)]
 pub struct SectionContributions<'a> {
     wide: bool,
     rows: &'a [u8],

@@ -44,7 +44,7 @@ impl StartsAt for RangeEntry {
 }
 
 /// Entries that are read by `get` alone, which counts. They can't be cloned, so the count includes every read.
-#[derive(Debug, Drop)]
+#[derive(Drop)]
 pub struct CountedEntries<'r, T> {
     entries: &'r [T],
     reads: u64,

@@ -44,7 +44,7 @@ pub const DEBUG_ORIGINAL_SECTION_HEADERS: usize = 10;
 
 /// The header of the DBI stream. Sizes are in bytes.
 #[repr(C)]
-#[derive(Clone, Copy, Debug, PartialEq)]
+#[derive(Clone, Copy)]
 pub struct DbiHeader {
     /// The version of the stream's layout, 19990903 in what linkers write.
     pub version: u32,
@@ -85,7 +85,7 @@ pub struct DbiHeader {
 }
 
 /// The DBI stream: its header, and the bytes of the parts that follow it, in their order.
-#[derive(Clone, Copy, Debug)]
+#[derive(Clone, Copy)]
 pub struct Dbi<'a> {
     pub header: DbiHeader,
     /// The modules that were linked, of objects and of libraries.

@@ -5,7 +5,7 @@ ghost use Rattle.std.specs.Int.{div_ceil};
 ghost use Rattle.pe_pdb.specs.Places.{directory_block, directory_word, map_block};
 
 /// The blocks of a file, and which of them the directory has.
-#[derive(Clone, Copy, Debug)]
+#[derive(Clone, Copy)]
 pub(crate) struct BlockMap<'a> {
     /// The bytes of the file.
     pub(crate) file: &'a [u8],
@@ -24,7 +24,7 @@ pub(crate) struct BlockMap<'a> {
 }
 
 /// The file of a PDB: blocks of one size, over which its streams are scattered.
-#[derive(Clone, Copy, Debug)]
+#[derive(Clone, Copy)]
 pub struct Msf<'a> {
     pub(crate) map: BlockMap<'a>,
     pub(crate) directory_words: usize,

@@ -40,7 +40,7 @@ const FUNCTION_NAME: usize = 8;
 const STRING: usize = 4;
 
 /// The records of a stream of types or ids.
-#[derive(Clone, Copy, Debug)]
+#[derive(Clone, Copy)]
 pub struct TypeRecords<'a> {
     /// The index of the first record.
     pub first: u32,
@@ -53,7 +53,7 @@ pub struct TypeRecords<'a> {
 }
 
 /// A function, by its record in the stream of ids.
-#[derive(Clone, Copy, Debug, PartialEq)]
+#[derive(Clone, Copy)]
 pub struct FunctionId<'a> {
     /// What it is in: of `LF_FUNC_ID` an id, of `LF_MFUNC_ID` a type.
     pub scope: u32,

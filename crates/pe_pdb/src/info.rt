@@ -17,7 +17,7 @@ const SIZE_OF_INFO: usize = 28;
 
 /// The head of the info stream, 28 bytes.
 #[repr(C)]
-#[derive(Clone, Copy, Debug, PartialEq)]
+#[derive(Clone, Copy)]
 pub struct PdbInfo {
     /// The version of the stream's layout, 20000404 in what linkers write.
     pub version: u32,

@@ -15,7 +15,7 @@ use crate::annotation::Annotation;
 use crate::error::Result;
 
 /// Where annotations have come to.
-#[derive(Clone, Copy, Debug, PartialEq)]
+#[derive(Clone, Copy)]
 pub(crate) struct Cursor {
     pub(crate) offset: u32,
     pub(crate) line: u32,
@@ -30,14 +30,14 @@ const START: Cursor = Cursor {
 };
 
 /// A row that was started, with its length if an annotation gave it one.
-#[derive(Clone, Copy, Debug, PartialEq)]
+#[derive(Clone, Copy)]
 pub(crate) struct OpenRow {
     pub(crate) start: Cursor,
     pub(crate) own_length: Option<u32>,
 }
 
 /// A row of an inlined function.
-#[derive(Clone, Copy, Debug, PartialEq)]
+#[derive(Clone, Copy)]
 pub struct InlineRow {
     /// Where its code starts, from the start of the procedure.
     pub offset: u32,
@@ -159,7 +159,7 @@ impl InlineRow {
 }
 
 /// The rows that are left of an inlined function. It is over after an error.
-#[derive(Clone, Copy, Debug)]
+#[derive(Clone, Copy)]
 pub struct InlineRows<'a> {
     bytes: &'a [u8],
     next: usize,

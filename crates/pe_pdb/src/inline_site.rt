@@ -16,7 +16,7 @@ pub const S_INLINESITE: u16 = 0x114D;
 pub const S_INLINESITE2: u16 = 0x115D;
 
 /// The record of an inlined function. Offsets of records count from the start of the module's stream.
-#[derive(Clone, Copy, Debug, PartialEq)]
+#[derive(Clone, Copy)]
 pub struct InlineSite<'a> {
     /// The offset of the record that it is in: that of the procedure, or of another inlined function.
     pub parent: u32,

@@ -5,7 +5,7 @@ ghost use Rattle.std.specs.Prelude.{◌+◌, ◌≤◌};
 use crate::inline_rows::InlineRow;
 
 /// An inlined function that has an offset of its procedure.
-#[derive(Clone, Copy, Debug, PartialEq)]
+#[derive(Clone, Copy)]
 pub struct InlineFrame {
     /// The offset of its record in the symbols of the module.
     pub record_offset: usize,
@@ -16,7 +16,7 @@ pub struct InlineFrame {
 }
 
 /// Scopes that were started and not ended, within the function that was found last.
-#[derive(Clone, Copy, Debug, PartialEq)]
+#[derive(Clone, Copy)]
 pub(crate) struct Scopes {
     /// Those that are left out: a function that does not have the offset, and what is in it.
     pub(crate) skipped: usize,
@@ -25,7 +25,7 @@ pub(crate) struct Scopes {
 }
 
 /// What a record is for a walk.
-#[derive(Clone, Copy, Debug, PartialEq)]
+#[derive(Clone, Copy)]
 pub(crate) enum Step {
     /// The end of the function that was found last.
     Over,
@@ -36,7 +36,7 @@ pub(crate) enum Step {
 }
 
 /// The inlined functions that are left, the outermost first. It is over after an error.
-#[derive(Clone, Copy, Debug)]
+#[derive(Clone, Copy)]
 pub struct InlineFrames<'a> {
     pub(crate) bytes: &'a [u8],
     pub(crate) next: usize,

@@ -23,7 +23,7 @@ const FIRST: usize = 4;
 
 /// Where an inlined function is in the source.
 #[repr(C)]
-#[derive(Clone, Copy, Debug, PartialEq)]
+#[derive(Clone, Copy)]
 pub struct InlineeLine {
     /// Which function it is, an index of the stream of ids.
     pub inlinee: u32,
@@ -34,7 +34,7 @@ pub struct InlineeLine {
 }
 
 /// A line of a source file.
-#[derive(Clone, Copy, Debug, PartialEq)]
+#[derive(Clone, Copy)]
 pub struct SourceLine {
     /// Its file, an offset in the content of `DEBUG_S_FILECHKSMS`.
     pub file: u32,

@@ -9,7 +9,7 @@ use crate::info::PdbInfo;
 
 /// What an image and its PDB have in common.
 #[repr(C)]
-#[derive(Clone, Copy, Debug, PartialEq)]
+#[derive(Clone, Copy)]
 pub struct PdbKey {
     /// The GUID, as it stands in memory.
     pub guid: [u8; 16],

@@ -45,18 +45,21 @@ use crate::symbol_lookup::search_symbols;
 use pe_core::RangeEntry;
 
 /// The bytes of a stream are those of its blocks, one block after the other, up to its size.
+#[tactic(auto, using(crate::proofs::Joined::of_blocks))]
 pub fn stream_is_its_blocks()
     ensures { (s : StreamView) → 0 < s.msf.words → HasBlocks s →
         stream_bytes s ≡ take s.size (joined (block_bytes s) (div_ceil s.size (4 * s.msf.words))) }
 {}
 
 /// Where a stream is contiguous, the range of the file that says so has its bytes.
+#[tactic(auto, using(crate::proofs::Contiguous::of_range))]
 pub fn contiguous_bytes_are_the_stream()
     ensures { (s : StreamView) (r : ByteRange) → 0 < s.msf.words → HasBlocks s → contiguous_of s ≡ Some r →
         bytes_in s.msf.bytes r ≡ stream_bytes s }
 {}
 
 /// Streams of the same bytes are read the same, wherever their blocks are: so is all that is read of these bytes.
+#[tactic(auto, using(crate::proofs::Joined::copied_alike))]
 pub fn scattering_is_unseen()
     ensures { (s t : StreamView) → stream_bytes s ≡ stream_bytes t →
         (o : ℕ) (old new : List ℕ) (answer : Result (Unit {0}) PdbError) → CopiesStream s o old new answer → CopiesStream t o old new answer }
@@ -96,6 +99,7 @@ pub fn entries_are_symbols()
 {}
 
 /// Entries have one nearest symbol.
+#[tactic(auto, using(crate::proofs::NearestEntries::nearest_once))]
 pub fn nearest_is_one()
     ensures { (xs : List ℕ) (rva : ℕ) (one other : Option SymbolAddress) → Nearest xs rva one → Nearest xs rva other → one ≡ other }
 {}
@@ -113,6 +117,7 @@ pub fn rows_are_last_before()
 
 /// Annotations of an inlined function are read as they are written: numbers of one, two and four bytes, whatever stands before
 /// and after. So are many, one after the other, up to the end of their bytes or to the operation that ends them.
+#[tactic(auto, using(crate::proofs::WrittenAnnotations::annotation_read, crate::proofs::WrittenAnnotations::list_read, crate::proofs::WrittenAnnotations::padded_read))]
 pub fn annotations_are_written()
     ensures one { (a : Annotation) → IsWritable a → (before after : List ℕ) →
         annotation_at (before ++ (written a ++ after)) (length before) ≡ Ok (a, length before + length (written a)) }
@@ -124,6 +129,7 @@ pub fn annotations_are_written()
 
 /// The inlined functions that have an offset nest: each is a record within that of the one before, whose scope no record on the way
 /// ends, and its row has the offset. So it is of every byte string; only a refusal may follow the last.
+#[tactic(auto, using(crate::proofs::InlineNests::frames_have, crate::proofs::InlineNests::frames_nest))]
 pub fn sites_nest()
     ensures nest { (x : ℕ) (records : List (Result Symbol PdbRefusal)) → SitesNest x 0 records (frames_in x no_scopes records) }
     ensures covered { (x : ℕ) (records : List (Result Symbol PdbRefusal)) → RowsHave x (frames_in x no_scopes records) }
@@ -143,6 +149,7 @@ pub fn index_is_list()
 /// procedures of the module finds the procedure, and `line_at` in one of its lines the line; `inlined_at` the functions that are
 /// inlined there, and `TypeRecords::get` their records. Where no procedure has the RVA, `nearest` in an index of the public functions
 /// finds the one before it. Nothing is found in lists that are refused.
+#[tactic(auto, using(crate::proofs::Frames::procedures_found, crate::proofs::Frames::publics_found))]
 pub fn indexes_find_the_frames()
     ensures procedures { (p : PdbParts) (m : ModuleParts) (rva : ℕ) (starts : List ℕ) (a : SymbolAddress) (line : Option CodeLine) →
         module_with p rva ≡ Some m →
@@ -156,6 +163,7 @@ pub fn indexes_find_the_frames()
 
 /// The frames of an RVA are of its module alone: other modules change nothing. The stream of ids changes how inlined functions are named,
 /// and nothing else; the names of source files change these alone; and the lines of the module where in the source its functions are.
+#[tactic(auto, using(crate::proofs::Frames::ids_alone, crate::proofs::Frames::lines_alone, crate::proofs::Frames::modules_alone, crate::proofs::Frames::names_alone))]
 pub fn frames_of_module_alone()
     ensures modules { (p : PdbParts) (rva : ℕ) (modules : List ModuleParts) →
         module_with (with_modules p modules) rva ≡ module_with p rva → frames_at (with_modules p modules) rva ≡ frames_at p rva }

@@ -53,7 +53,7 @@ impl ModuleRecord {
 }
 
 /// A subsection.
-#[derive(Clone, Copy, Debug, PartialEq)]
+#[derive(Clone, Copy)]
 pub struct Subsection<'a> {
     /// Where it starts in the lines of the module.
     pub offset: usize,
@@ -118,7 +118,7 @@ impl<'a> Subsection<'a> {
 }
 
 /// The subsections that are left. It is over after an error.
-#[derive(Clone, Copy, Debug)]
+#[derive(Clone, Copy)]
 pub struct Subsections<'a> {
     bytes: &'a [u8],
     next: usize,
@@ -159,7 +159,7 @@ impl<'a> Iterator for Subsections<'a> {
 
 /// What a subsection of lines starts with, 12 bytes: which code its lines are of.
 #[repr(C)]
-#[derive(Clone, Copy, Debug, PartialEq)]
+#[derive(Clone, Copy)]
 pub struct LineHeader {
     /// Where the code starts in its section.
     pub offset: u32,
@@ -194,7 +194,7 @@ impl LineHeader {
 
 /// A row: from this offset on the code is of this line.
 #[repr(C)]
-#[derive(Clone, Copy, Debug, PartialEq)]
+#[derive(Clone, Copy)]
 pub struct LineRow {
     /// The offset from the start of the subsection's code.
     pub offset: u32,
@@ -230,7 +230,7 @@ fn later_row(found: Option<LineRow>, row: LineRow, offset: u32) -> Option<LineRo
 }
 
 /// The rows of one source file.
-#[derive(Clone, Copy, Debug, PartialEq)]
+#[derive(Clone, Copy)]
 pub struct LineBlock<'a> {
     /// Where it starts in the content of its subsection.
     pub offset: usize,
@@ -314,7 +314,7 @@ impl<'a> LineBlock<'a> {
 }
 
 /// The blocks that are left. It is over after an error.
-#[derive(Clone, Copy, Debug)]
+#[derive(Clone, Copy)]
 pub struct LineBlocks<'a> {
     bytes: &'a [u8],
     next: usize,

@@ -32,7 +32,7 @@ pub struct CodeLine {
 
 /// An entry of an index of lines.
 #[repr(C)]
-#[derive(Clone, Copy, Debug, Default, PartialEq)]
+#[derive(Clone, Copy, Default)]
 pub struct LineEntry {
     pub line: CodeLine,
     /// The index among those of the module, in the order of its rows.

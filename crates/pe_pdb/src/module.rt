@@ -22,7 +22,7 @@ pub const FIRST_SYMBOL: usize = 4;
 
 /// The record of a module, without its names. Sizes are in bytes.
 #[repr(C)]
-#[derive(Clone, Copy, Debug, PartialEq)]
+#[derive(Clone, Copy)]
 pub struct ModuleRecord {
     /// The number of the section of its first code, from 1 on.
     pub section: u16,
@@ -45,7 +45,7 @@ pub struct ModuleRecord {
 }
 
 /// A module.
-#[derive(Clone, Copy, Debug, PartialEq)]
+#[derive(Clone, Copy)]
 pub struct Module<'a> {
     /// Where its record starts in the modules.
     pub offset: usize,
@@ -163,7 +163,7 @@ impl<'a> Module<'a> {
 }
 
 /// The modules that are left, in the order of the DBI stream. It is over after an error.
-#[derive(Clone, Copy, Debug)]
+#[derive(Clone, Copy)]
 pub struct Modules<'a> {
     bytes: &'a [u8],
     next: usize,

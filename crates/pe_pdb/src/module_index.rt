@@ -6,7 +6,7 @@ use crate::contribution::ModuleRange;
 use pe_core::RangeEntry;
 
 /// Ranges of RVAs, and their index.
-#[derive(Clone, Copy, Debug)]
+#[derive(Clone, Copy)]
 pub struct ModuleIndex<'r> {
     pub(crate) ranges: &'r [ModuleRange],
     pub(crate) entries: &'r [RangeEntry],

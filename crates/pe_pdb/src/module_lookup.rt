@@ -20,11 +20,15 @@ impl AddressesOf<ModuleRange> for Stated {
 
     ghost size_of = { λ f r. r.size };
 
+    ghost limit = { λ f. 2 ^ 65 };
+
     fn start(&self, range: &ModuleRange) -> u64 {
         u64::from(range.start)
     }
 
     fn size(&self, range: &ModuleRange) -> u64 {
+        // It is read so that the proof knows its bound.
+        let _start = range.start;
         u64::from(range.size)
     }
 }

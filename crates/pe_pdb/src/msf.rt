@@ -43,7 +43,7 @@ const MAP_OFFSET: usize = 52;
 
 /// The superblock, without its text and without the blocks that it lists.
 #[repr(C)]
-#[derive(Clone, Copy, Debug, PartialEq)]
+#[derive(Clone, Copy)]
 pub struct SuperBlock {
     /// The size of a block in bytes.
     pub block_size: u32,

@@ -30,7 +30,7 @@ const SIZE_OF_PAIR: usize = 8;
 pub const NAMES_STREAM: &[u8] = b"/names";
 
 /// The names of source files.
-#[derive(Clone, Copy, Debug)]
+#[derive(Clone, Copy)]
 pub struct Names<'a> {
     /// Which hash function the stream's table is by, 1 or 2. The table, after the texts, is not read.
     pub version: u32,

@@ -15,7 +15,7 @@ const SIZE_OF_ROW: usize = 8;
 
 /// A row of an OMAP table (`OMAP`).
 #[repr(C)]
-#[derive(Clone, Copy, Debug, PartialEq)]
+#[derive(Clone, Copy)]
 pub struct OmapRow {
     /// The RVA from which on it counts.
     pub rva: u32,

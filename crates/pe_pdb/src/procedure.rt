@@ -28,7 +28,7 @@ pub const S_GPROC32_ID: u16 = 0x1147;
 const NAME: usize = 35;
 
 /// A procedure. Offsets of records count from the start of the module's stream.
-#[derive(Clone, Copy, Debug, PartialEq)]
+#[derive(Clone, Copy)]
 pub struct ProcedureSymbol<'a> {
     /// The offset of the record of the scope that it is in, or 0.
     pub parent: u32,

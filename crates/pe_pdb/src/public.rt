@@ -20,7 +20,7 @@ pub const S_PUB32: u16 = 0x110E;
 const NAME: usize = 10;
 
 /// A public symbol.
-#[derive(Clone, Copy, Debug, PartialEq)]
+#[derive(Clone, Copy)]
 pub struct PublicSymbol<'a> {
     /// Bit 0: code; bit 1: a function; bit 2: managed code; bit 3: MSIL.
     pub flags: u32,

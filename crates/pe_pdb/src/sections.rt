@@ -12,7 +12,7 @@ use pe_core::SectionTable;
 const SIZE_OF_SECTION_HEADER: usize = 40;
 
 /// The section headers of the image, 40 bytes each.
-#[derive(Clone, Copy, Debug)]
+#[derive(Clone, Copy)]
 pub struct SectionHeaders<'a> {
     bytes: &'a [u8],
 }

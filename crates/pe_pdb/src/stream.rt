@@ -7,7 +7,7 @@ ghost use Rattle.pe_pdb.specs.Places.{directory_word};
 use crate::file::Msf;
 
 /// A stream: bytes that are scattered over blocks of the file.
-#[derive(Clone, Copy, Debug)]
+#[derive(Clone, Copy)]
 pub struct Stream<'a> {
     pub(crate) msf: Msf<'a>,
     pub(crate) first: usize,

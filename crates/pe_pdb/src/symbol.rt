@@ -15,7 +15,7 @@ use pe_core::read_u16;
 pub(crate) const SIZE_OF_PREFIX: usize = 4;
 
 /// A record of a symbol.
-#[derive(Clone, Copy, Debug, PartialEq)]
+#[derive(Clone, Copy)]
 pub struct SymbolRecord<'a> {
     /// Where it starts, from the start of the bytes that are read.
     pub offset: usize,
@@ -67,7 +67,7 @@ impl<'a> SymbolRecord<'a> {
 }
 
 /// The records from an offset on up to the end of their bytes. It is over after an error.
-#[derive(Clone, Copy, Debug)]
+#[derive(Clone, Copy)]
 pub struct SymbolRecords<'a> {
     bytes: &'a [u8],
     next: usize,

@@ -15,7 +15,7 @@ use crate::symbol::SymbolRecord;
 pub(crate) const UNIT: u64 = 1 << 32;
 
 /// Which symbols an index has.
-#[derive(Clone, Copy, Debug, PartialEq, Eq)]
+#[derive(Clone, Copy)]
 pub enum SymbolClass {
     /// Public functions, of the stream of symbols.
     PublicFunctions,

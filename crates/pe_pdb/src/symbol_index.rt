@@ -3,7 +3,7 @@
 ghost use Rattle.std.specs.List.Sorted.{IsNonDecreasing};
 
 /// Symbols by their RVAs, in ascending order.
-#[derive(Clone, Copy, Debug)]
+#[derive(Clone, Copy)]
 pub struct SymbolIndex<'r> {
     pub(crate) addresses: &'r [u64],
     ghost ascending: { IsNonDecreasing addresses.now },

@@ -21,7 +21,7 @@ use crate::symbol_index::SymbolIndex;
 
 /// An entry of an index.
 #[repr(C)]
-#[derive(Clone, Copy, Debug, PartialEq)]
+#[derive(Clone, Copy)]
 pub struct SymbolAddress {
     /// The RVA of the symbol.
     pub rva: u32,

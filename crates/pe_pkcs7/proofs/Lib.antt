@@ -9,6 +9,5 @@ pub mod LaterBytes
 pub mod LaterParts
 pub mod AttributeSearch
 pub mod NameLists
-pub mod LaterNames
 pub mod LaterWalks
 pub mod LaterSignatures

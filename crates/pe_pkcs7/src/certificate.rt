@@ -17,7 +17,7 @@ use crate::tags::{
 };
 
 /// A certificate.
-#[derive(Clone, Copy, Debug, Default, PartialEq)]
+#[derive(Clone, Copy)]
 pub struct Certificate {
     /// What is signed, a `ToBeSigned`: the signature is over all of its bytes, from its `offset` to its `end`.
     pub to_be_signed: Element,
@@ -88,7 +88,7 @@ impl SubjectFields {
 }
 
 /// What is signed of a certificate.
-#[derive(Clone, Copy, Debug, Default, PartialEq)]
+#[derive(Clone, Copy)]
 pub struct ToBeSigned {
     /// The version, an element `[0]` with an `INTEGER` in it that is 2 for version 3. Version 1 has none.
     pub version: Option<Element>,
@@ -154,7 +154,7 @@ fn time_field(part: &[u8], offset: usize) -> Result<Element>
 }
 
 /// When a certificate is valid.
-#[derive(Clone, Copy, Debug, Default, PartialEq)]
+#[derive(Clone, Copy)]
 pub struct Validity {
     /// The first time when it is valid; see `Time`. That it has no fraction of a second (RFC 5280, 4.1.2.5.2) is not tested.
     pub not_before: Element,
@@ -200,7 +200,7 @@ fn usage_bits(content: &[u8]) -> Option<u16>
 }
 
 /// An extension of a certificate.
-#[derive(Clone, Copy, Debug, Default, PartialEq)]
+#[derive(Clone, Copy)]
 pub struct Extension {
     /// The object identifier of its kind.
     pub kind: Element,

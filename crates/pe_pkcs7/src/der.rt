@@ -17,7 +17,7 @@ const LONG_FORM: u8 = 0x80;
 const MOST_LENGTH_OCTETS: u8 = 4;
 
 /// An element, by where it is. Every offset counts from the start of the signature's bytes.
-#[derive(Clone, Copy, Debug, Default, PartialEq)]
+#[derive(Clone, Copy, Debug, PartialEq)]
 pub struct Element {
     /// The identifier octet: the class in bits 6 and 7, bit 5 if the content is elements again, the tag number below it.
     pub tag: u8,

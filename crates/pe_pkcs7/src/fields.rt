@@ -159,7 +159,7 @@ pub(crate) fn only_with_tag(
 }
 
 /// The elements that are left of a content, one after the other. It is over after an error.
-#[derive(Clone, Copy, Debug)]
+#[derive(Clone, Copy)]
 pub struct Elements<'a> {
     part: &'a [u8],
     next_offset: Option<usize>,

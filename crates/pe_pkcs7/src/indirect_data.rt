@@ -10,7 +10,7 @@ use crate::fields::{after, any_optional, field, only_if_there, optional, part_of
 use crate::tags::{BIT_STRING, OBJECT_IDENTIFIER, OCTET_STRING, SEQUENCE, TAGGED_0, TAGGED_1};
 
 /// An algorithm: of a digest, a signature or a key.
-#[derive(Clone, Copy, Debug, Default, PartialEq)]
+#[derive(Clone, Copy)]
 pub struct AlgorithmIdentifier {
     /// The object identifier.
     pub algorithm: Element,
@@ -37,7 +37,7 @@ impl AlgorithmIdentifier {
 }
 
 /// What is signed: its type, for an image 1.3.6.1.4.1.311.2.1.15, and what that type has.
-#[derive(Clone, Copy, Debug, Default, PartialEq)]
+#[derive(Clone, Copy)]
 pub struct TypeAndValue {
     /// The object identifier of the type.
     pub value_type: Element,
@@ -60,7 +60,7 @@ impl TypeAndValue {
 }
 
 /// A digest with its algorithm.
-#[derive(Clone, Copy, Debug, Default, PartialEq)]
+#[derive(Clone, Copy)]
 pub struct DigestInfo {
     /// The algorithm, an `AlgorithmIdentifier`.
     pub algorithm: Element,
@@ -83,7 +83,7 @@ impl DigestInfo {
 }
 
 /// What Authenticode signs: the content of an `EncapsulatedContent` of the type 1.3.6.1.4.1.311.2.1.4.
-#[derive(Clone, Copy, Debug, Default, PartialEq)]
+#[derive(Clone, Copy)]
 pub struct SpcIndirectData {
     /// What is signed, a `TypeAndValue`.
     pub signed: Element,
@@ -109,7 +109,7 @@ impl SpcIndirectData {
 }
 
 /// What a signature says of the image as a file: nothing that a reader needs today.
-#[derive(Clone, Copy, Debug, Default, PartialEq)]
+#[derive(Clone, Copy)]
 pub struct SpcPeImageData {
     /// Which parts of the file are signed, a `BIT STRING`; not used.
     pub flags: Option<Element>,
@@ -135,7 +135,7 @@ impl SpcPeImageData {
 }
 
 /// What a signer says of the program: the value of the signed attribute 1.3.6.1.4.1.311.2.1.12.
-#[derive(Clone, Copy, Debug, Default, PartialEq)]
+#[derive(Clone, Copy)]
 pub struct SpcSpOpusInfo {
     /// The name of the program: UTF-16, the high byte first, by `[0]`, or ASCII by `[1]`.
     pub program_name: Option<Element>,

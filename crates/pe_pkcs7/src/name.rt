@@ -14,7 +14,7 @@ use crate::fields::{any_field, field, part_of, require_end, up_to};
 use crate::tags::{OBJECT_IDENTIFIER, SEQUENCE, SET};
 
 /// An attribute of a name.
-#[derive(Clone, Copy, Debug, Default, PartialEq)]
+#[derive(Clone, Copy)]
 pub struct NameAttribute {
     /// The object identifier of its kind.
     pub kind: Element,
@@ -82,7 +82,7 @@ pub fn name_attribute_at(
 }
 
 /// The attributes of a name that are left. It is over after an error.
-#[derive(Clone, Copy, Debug)]
+#[derive(Clone, Copy)]
 pub struct NameAttributes<'a> {
     name: &'a [u8],
     end: usize,

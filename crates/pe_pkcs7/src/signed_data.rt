@@ -15,7 +15,7 @@ use crate::object_ids::SIGNED_DATA;
 use crate::tags::{INTEGER, OBJECT_IDENTIFIER, SEQUENCE, SET, TAGGED_0, TAGGED_1};
 
 /// A content with its type.
-#[derive(Clone, Copy, Debug, Default, PartialEq)]
+#[derive(Clone, Copy)]
 pub struct ContentInfo {
     /// The object identifier of the type.
     pub content_type: Element,
@@ -69,7 +69,7 @@ pub(crate) fn content_of_type(
 }
 
 /// Signed data.
-#[derive(Clone, Copy, Debug, Default, PartialEq)]
+#[derive(Clone, Copy)]
 pub struct SignedData {
     /// The version, an `INTEGER`: 1 in Authenticode.
     pub version: Element,
@@ -121,7 +121,7 @@ impl SignedData {
 }
 
 /// What is signed, with its type.
-#[derive(Clone, Copy, Debug, Default, PartialEq)]
+#[derive(Clone, Copy)]
 pub struct EncapsulatedContent {
     /// The object identifier of the type.
     pub content_type: Element,

@@ -16,7 +16,7 @@ use crate::tags::{
 };
 
 /// A signer of signed data, or a counter-signature: the value of the unsigned attribute 1.2.840.113549.1.9.6.
-#[derive(Clone, Copy, Debug, Default, PartialEq)]
+#[derive(Clone, Copy)]
 pub struct SignerInfo {
     /// The version, an `INTEGER`: 1 where `signer` is an issuer and a serial number.
     pub version: Element,
@@ -95,7 +95,7 @@ impl SignerInfo {
 }
 
 /// The certificate of a signer: its issuer and its serial number.
-#[derive(Clone, Copy, Debug, Default, PartialEq)]
+#[derive(Clone, Copy)]
 pub struct IssuerAndSerial {
     /// The issuer, a name.
     pub issuer: Element,
@@ -118,7 +118,7 @@ impl IssuerAndSerial {
 }
 
 /// An attribute of a signer.
-#[derive(Clone, Copy, Debug, Default, PartialEq)]
+#[derive(Clone, Copy)]
 pub struct Attribute {
     /// The object identifier of its kind.
     pub kind: Element,

@@ -16,7 +16,7 @@ const SIZE_OF_UTC_TIME: usize = 13;
 const SIZE_OF_GENERALIZED_TIME: usize = 15;
 
 /// A time in UTC.
-#[derive(Clone, Copy, Debug, Default, PartialEq)]
+#[derive(Clone, Copy)]
 pub struct Time {
     /// 0 to 9999; of a `UTCTime` 1950 to 2049.
     pub year: u32,

@@ -46,7 +46,7 @@ impl LastFields {
 }
 
 /// What a time-stamp token says. Its `ordering` and its extensions are read past, and are not kept.
-#[derive(Clone, Copy, Debug, Default, PartialEq)]
+#[derive(Clone, Copy)]
 pub struct TstInfo {
     /// The version, an `INTEGER`: 1.
     pub version: Element,

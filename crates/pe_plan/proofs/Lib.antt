@@ -6,6 +6,5 @@ pub mod Endings
 pub mod Roots
 pub mod OnePlan
 pub mod Walks
-pub mod SomePlan
 pub mod ShortPlans
 pub mod PlanRooms

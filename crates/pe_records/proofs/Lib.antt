@@ -1,15 +1,10 @@
 pub mod EntriesInOrder
-pub mod EntryRuns
 pub mod DebugModes
 pub mod SpelledDebug
 pub mod PogoNames
-pub mod PogoReadings
-pub mod PogoWhole
 pub mod CertificateListings
 pub mod CertificatePieces
 pub mod CertificatesReadAgain
-pub mod FirstEntries
 pub mod PartsInOffset
 pub mod DebugEquality
 pub mod JoinedListings
-pub mod Zeros

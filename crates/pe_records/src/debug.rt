@@ -209,7 +209,7 @@ fn table<'a>(
 
 /// The debug data of an image: the entries of the debug directory, and the record of the first whole entry of each
 /// type that is read here. A field is `None` without such an entry.
-#[derive(Clone, Debug, Drop, PartialEq)]
+#[derive(Clone, Copy, Debug, PartialEq)]
 pub struct DebugData<'a> {
     table: &'a [u8],
     rva_offset: u32,

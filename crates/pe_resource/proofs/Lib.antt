@@ -5,7 +5,6 @@ pub mod Units
 pub mod Names
 pub mod StringLists
 pub mod ValueRanges
-pub mod Readings
 pub mod Contents
 pub mod NoMemory
 pub mod Halves

@@ -37,7 +37,7 @@ use pe_core::{
 };
 
 /// A leaf of a resource tree: a resource in one language.
-#[derive(Clone, Copy, Debug, PartialEq)]
+#[derive(Clone, Copy, PartialEq)]
 pub struct ResourceLeaf {
     /// The entry of its type: the id is one of `RT_*`, or the type has a name.
     pub resource_type: ResourceEntry,
@@ -279,7 +279,7 @@ pub(crate) fn first_of_type(data: &[u8], resource_type: ResourceEntry) -> FirstO
 
 /// The leaves of a resource tree that are left. An entry that has no leaf is an item of its own, an error, and the walk goes
 /// on after it.
-#[derive(Clone, Copy, Debug)]
+#[derive(Clone, Copy)]
 pub struct ResourceLeaves<'a> {
     data_bytes: &'a [u8],
     types: &'a [u8],

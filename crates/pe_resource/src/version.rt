@@ -205,7 +205,7 @@ impl VsFixedFileInfo {
 
 /// The name of a string that describes the file, as in
 /// <https://learn.microsoft.com/windows/win32/menurc/versioninfo-resource>.
-#[derive(Clone, Copy, Debug, PartialEq)]
+#[derive(Clone, Copy, PartialEq)]
 pub enum VersionName {
     /// Additional information about the file.
     Comments,

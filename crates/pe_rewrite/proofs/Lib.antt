@@ -11,14 +11,12 @@ pub mod Mapped
 pub mod WrittenHeaders
 pub mod RoomHeaders
 pub mod WrittenSections
-pub mod WrittenLeaves
 pub mod RoomPlaced
 pub mod Pointers
 pub mod RoomMapped
 pub mod WrittenImages
 pub mod RoomImages
 pub mod DebugMoved
-pub mod DebugPlaced
 pub mod Removed
 pub mod Calls
 pub mod RemovedImages

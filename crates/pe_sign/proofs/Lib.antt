@@ -14,7 +14,6 @@ pub mod Detaching
 pub mod Entries
 pub mod HeadersStay
 pub mod WrittenHeaders
-pub mod WrittenTables
 pub mod DetachedAgain
 pub mod UnsignedImages
 pub mod WrittenAgain

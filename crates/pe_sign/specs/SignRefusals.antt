@@ -33,8 +33,3 @@ SignReturns (Err e) defined = defined ≡ Err (sign_kind_of e)
 abbrev pub of_image : {X : Type 0} → Result X Refusal → Result X SignRefusal
 of_image (Ok x) = Ok x
 of_image (Err r) = Err (Image r)
-
--- the result of a call: its value, or the kind of its error
-abbrev pub sign_answer_of : {X : Type 0} → Result X SignError → Result X SignRefusal
-sign_answer_of (Ok x) = Ok x
-sign_answer_of (Err e) = Err (sign_kind_of e)

@@ -35,7 +35,7 @@ const ABSENT: DataDirectory = DataDirectory {
 };
 
 /// Where a certificate is attached.
-#[derive(Clone, Copy, Debug, PartialEq)]
+#[derive(Clone, Copy)]
 pub enum Placement {
     /// After the certificates that are there.
     After,

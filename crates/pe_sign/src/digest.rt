@@ -26,7 +26,7 @@ pub const SIZE_OF_ENTRY: usize = 8;
 
 /// The parts of a file that its digest leaves out, as file ranges. A part that is missing has the length 0. Ranges may
 /// end after the file, and may overlap in a hostile image.
-#[derive(Clone, Copy, Debug)]
+#[derive(Clone, Copy)]
 pub struct LeftOut {
     /// The field of the checksum.
     pub checksum: ByteRange,

@@ -5,4 +5,3 @@ pub mod NearestNames
 pub mod NoMemory
 pub mod RunBytes
 pub mod RunSteps
-pub mod Walked

@@ -1,9 +1,10 @@
 //! The modules of a minidump as walks take them: in the order of the dump, which is no order of addresses, and in which modules may
 //! overlap. The first that has an address is that of the address.
 
-ghost use Rattle.std.specs.Prelude.{◌≡◌, ◌<◌, IfErr, IfOk, length};
+ghost use Rattle.std.specs.Prelude.{◌≡◌, ◌+◌, ◌<◌, IfErr, IfOk, IfSome, IsTrue, length};
 ghost use Rattle.std.specs.Option.{option_map};
-ghost use Rattle.pe_frame.specs.Modules.{module_at};
+ghost use Rattle.pe_lookup.specs.AddressRanges.{has_address};
+ghost use Rattle.pe_frame.specs.Modules.{module_at, module_base, module_size};
 
 use crate::ranges::IndexedRanges;
 use pe_frame::{
@@ -31,7 +32,9 @@ impl<'a, A: Allocator + Copy + Drop> IndexedModules<'a, A> {
 
     /// The first module that has an address.
     pub fn find(&self, address: u64) -> Option<&'a Module<'a>>
-        ensures { option_map (λ m. m.now) result ≡ module_at self.now.modules.ranges.now address }
+        ensures found { option_map (λ m. m.now) result ≡ module_at self.now.modules.ranges.now address }
+        ensures has { IfSome result (λ m. IsTrue (has_address module_base module_size address m.now)) }
+        ensures inside { IfSome result (λ m. address < m.now.base + m.now.size) }
     {
         self.modules.find(address)
     }

@@ -29,7 +29,7 @@ const STATIC: u8 = 3;
 const UNIT: u64 = 1 << 32;
 
 /// What the function table of an image says of the function that an RVA is in.
-#[derive(Clone, Copy, Debug, PartialEq, Eq)]
+#[derive(Clone, Copy)]
 pub enum FunctionStart {
     /// The image has no function table, as on x86.
     NoTable,
@@ -40,7 +40,7 @@ pub enum FunctionStart {
 }
 
 /// What names the function at an RVA.
-#[derive(Clone, Copy, Debug, PartialEq, Eq)]
+#[derive(Clone, Copy)]
 pub struct NamedFunction {
     /// The RVA that has the name, at or before the one that was looked up.
     pub start: u32,
@@ -174,7 +174,7 @@ fn put_exports(exports: &ExportAddresses<'_>, room: &mut [u64]) -> usize
 }
 
 /// The addresses that have names, in ascending order.
-#[derive(Clone, Copy, Debug)]
+#[derive(Clone, Copy)]
 pub struct NamedAddresses<'r> {
     addresses: &'r [u64],
     ghost ascending: { IsNonDecreasing addresses.now },

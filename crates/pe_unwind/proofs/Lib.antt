@@ -1,9 +1,7 @@
-pub mod Names
 pub mod Arm64Equality
 pub mod Offsets
 pub mod ChainedAddresses
 pub mod Arm64Records
-pub mod Arm64Concatenations
 pub mod Searches
 pub mod SpellingLengths
 pub mod LinkChains
@@ -13,7 +11,6 @@ pub mod OneChain
 pub mod SomeAnswer
 pub mod Arm64Entries
 pub mod Arm64Searches
-pub mod Arm64Lengths
 pub mod Arm64OneCode
 pub mod Arm64Whole
 pub mod Arm64Streams

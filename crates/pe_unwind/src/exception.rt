@@ -64,7 +64,7 @@ impl<'a> ExceptionData<'a> {
     ghost use Rattle.pe_unwind.specs.Arm64Lookup.{FindsArm64, length_by, length_of_arm64};
     ghost use Rattle.pe_unwind.specs.Arm64Functions.{arm64_functions, arm64_function_items, items_of_arm64_functions, arm64_function_of};
     ghost use Rattle.pe_unwind.specs.Arm64Record.{info_view};
-    ghost use Rattle.pe_unwind.specs.Arm64Unwinding.{info_by, offset_of_function, info_of_function};
+    ghost use Rattle.pe_unwind.specs.Arm64Unwinding.{info_by, info_of_function};
     ghost use Rattle.pe_unwind.specs.FunctionTable.{functions, function_items, items_of_functions, Finds};
     ghost use Rattle.pe_core.specs.SectionMap.{map_view};
     ghost use Rattle.pe_unwind.specs.Links.{IsEndless, links_of, links_with};
@@ -365,6 +365,7 @@ impl<'a> ExceptionData<'a> {
 
     /// The unwind record of an x64 function, as `get_unwind_info_with_opts` reads it, by a map that many calls share:
     /// the section map, or another.
+    #[inline(always)]
     pub fn get_unwind_info_with_map<R: RvaMap>(
         &self,
         function: RuntimeFunction,
@@ -379,6 +380,7 @@ impl<'a> ExceptionData<'a> {
     }
 
     /// The unwind record at the end of the links from an unwind RVA.
+    #[inline(always)]
     fn linked_record<R: RvaMap>(&self, map: &R, address: u32) -> Result<UnwindInfo<'a>>
         ensures { Unwinds (links_with self.now (R.offset map.now))
             self.now.content address (answer_by unwind_view result) }
@@ -428,21 +430,6 @@ impl<'a> ExceptionData<'a> {
             Ok(offset) => Some(Arm64UnwindInfo::parse(self.bytes, offset)),
             Err(error) => Some(Err(error)),
         }
-    }
-
-    /// The file offset of the unwind record of an ARM64 function. `None` if its unwind data are packed into the entry.
-    ///
-    /// Errors: `Unmapped` if the RVA of the record is not mapped.
-    pub fn record_offset_arm64(
-        &self,
-        function: Arm64RuntimeFunction,
-        sections: &[SectionTable],
-        opts: &ParseOptions,
-    ) -> Option<Result<usize>>
-        ensures { option_map answer_of result
-            ≡ offset_of_function self.now sections.now opts.now function }
-    {
-        function.record_offset(&self.section_map(sections, opts))
     }
 
     /// The unwind record of the x64 function that covers the RVA: lookup, links and record in one call. `Ok(None)` if

@@ -31,6 +31,7 @@ fn follow<M: RvaMap>(table: &[u8], start: usize, map: &M, address: u32) -> Resul
 /// The even RVA at the end of the links from `address`. This is Brent's algorithm: one RVA is saved after 1, 2, 4, 8 and so on
 /// links, so a loop is found after about as many links as it has, plus those before it. Errors: those of `follow`, and
 /// `FunctionCycle` with the number of links that were followed.
+#[inline(always)]
 fn end_of<M: RvaMap>(table: &[u8], start: usize, map: &M, address: u32) -> Result<u32>
     ensures { Follows (linked_table table.now start (M.offset map.now)) address (answer_of result) }
 {
@@ -56,6 +57,7 @@ fn end_of<M: RvaMap>(table: &[u8], start: usize, map: &M, address: u32) -> Resul
 
 /// The file offset of the record of an unwind RVA, as `ExceptionData::record_offset` finds it, by any map. `table` has the bytes of
 /// the function table, and `start` is its file offset. Errors: those of that call.
+#[inline(always)]
 pub fn linked_record_offset<M: RvaMap>(
     table: &[u8],
     start: usize,

@@ -9,5 +9,4 @@ pub mod Named
 pub mod Measures
 pub mod Heads
 pub mod Records
-pub mod Least
 pub mod LeastBlocks

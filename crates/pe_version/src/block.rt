@@ -17,7 +17,7 @@ pub const MOST: usize = 65_535;
 pub const UNIT: usize = 4;
 
 /// A block that is written.
-#[derive(Clone, Copy, Debug)]
+#[derive(Clone, Copy)]
 pub struct NewBlock<'a> {
     /// Its key as UTF-16 code units, two bytes each, little-endian, without a final zero.
     pub key: &'a [u8],

@@ -22,7 +22,7 @@ const MOST_BYTES: u64 = MOST as u64;
 
 /// A string of version information.
 #[repr(C)]
-#[derive(Clone, Copy, Debug)]
+#[derive(Clone, Copy)]
 pub struct StringRecord {
     /// Its name in UTF-16 code units, little-endian, without a final zero.
     pub name: RecordRange,
@@ -32,7 +32,7 @@ pub struct StringRecord {
 
 /// A language and a code page.
 #[repr(C)]
-#[derive(Clone, Copy, Debug)]
+#[derive(Clone, Copy)]
 pub struct LanguageRecord {
     /// As 0x409 for English (United States).
     pub language: u16,
@@ -42,7 +42,7 @@ pub struct LanguageRecord {
 
 /// The strings of a language and a code page.
 #[repr(C)]
-#[derive(Clone, Copy, Debug)]
+#[derive(Clone, Copy)]
 pub struct TableRecord {
     /// The index of its first string.
     pub first: u32,
@@ -53,7 +53,7 @@ pub struct TableRecord {
 }
 
 /// Version information.
-#[derive(Clone, Copy, Debug)]
+#[derive(Clone, Copy)]
 pub struct VersionRecords<'a> {
     /// The numbers of the file and of the product, and what the file is.
     pub fixed: &'a VsFixedFileInfo,

@@ -9,7 +9,7 @@ use pe_core::hex_digit;
 use pe_image::ParseMode;
 
 /// A command of `peinfo`.
-#[derive(Debug, Drop)]
+#[derive(Drop)]
 pub enum Command<'a> {
     /// Shows the image in a file.
     List { file: &'a str, mode: ParseMode },

@@ -39,7 +39,7 @@ typedef struct {
     PyObject *memory;               /* a memoryview of what is read, read-only; NULL once closed */
     pe_c_image_info info;
     pe_c_section *sections;
-    pe_c_index_entry *index;        /* of many sections; NULL of few */
+    pe_c_range_entry *index;        /* of many sections; NULL of few */
     uint64_t entries, rows;         /* of the index; that are left of all lists of an exact image */
     pe_c_coff_header coff;          /* of an object, or of an image */
     pe_c_te_image te;

@@ -2,9 +2,9 @@
 //! frame outwards. The caller keeps the walk between two calls, in a record with the registers of its machine, and holds the
 //! modules and the memory.
 
-ghost use Rattle.std.specs.Prelude.{◌≡◌, ◌<◌, ◌==◌, Ok, if◌then◌else◌, length, nat_lt};
+ghost use Rattle.std.specs.Prelude.{◌≡◌, ◌<◌, ◌≤◌, ◌==◌, Ok, if◌then◌else◌, length, nat_lt};
 ghost use Rattle.pe_frame.specs.FrameWalks.{Process, state_of, walk_after};
-ghost use Rattle.calls_stacks.specs.FrameCalls.{FillsFrames, HandsOutFrames, HandsOutNext, WalkRecords, end_address, end_error, end_number, marked_if, state_in, way_number, way_of};
+ghost use Rattle.calls_stacks.specs.FrameCalls.{FillsFrames, HandsOutFrames, WalkRecords, end_address, end_error, end_number, marked_if, reached, state_in, way_number, way_of};
 ghost use Rattle.calls_base.specs.declared.results.TheConstants.{DONE, NOTHING};
 
 use crate::stack::frames::reported;
@@ -109,36 +109,16 @@ pub fn error_of_end(end: &WalkEnd) -> (u32, Option<u64>)
     }
 }
 
-/// The next frame of a walk over these modules and this memory, from the position at which its record is. After a frame it is at
-/// that of the record again.
-fn next_frame_from<W: WalkRecord, L: LoadedModules, M: Memory>(
-    modules: &L,
-    memory: &M,
-    position: &mut WalkPosition<W::Frame>,
-    walk: &mut W,
-) -> u32
-    requires { state_of (record { memory = M.word memory.now; modules = L.modules modules.now }) position.old
-        ≡ state_in W.records (record { memory = M.word memory.now; modules = L.modules modules.now }) walk.old }
-    ensures next { HandsOutNext W.Frame.Calls W.records
-        (record { memory = M.word memory.now; modules = L.modules modules.now })
-        result walk.old walk.new }
-    ensures position { (result ≡ NOTHING → ⊥) →
-        state_of (record { memory = M.word memory.now; modules = L.modules modules.now }) position.new
-        ≡ state_in W.records (record { memory = M.word memory.now; modules = L.modules modules.now }) walk.new }
+/// The walk after so many frames, each of which stands in its slot.
+fn walk_after<W: WalkRecord>(walk: &W, frames: &[W], count: usize) -> W
+    requires { count ≤ length frames.now }
+    ensures { result ≡ reached walk.now frames.now count }
 {
-    if position.remaining == 0 {
-        return NOTHING;
-    }
-    if position.advance(modules, memory) {
-        walk.put_frame(&position.frame);
-        DONE
-    } else {
-        walk.put_end(&position.end);
-        NOTHING
-    }
+    if count == 0 { *walk } else { frames[count - 1] }
 }
 
-/// The next frames of a walk: in each slot the walk as it is after a frame. Returns how many there are.
+/// The next frames of a walk: in each slot the walk as it is after a frame. Returns how many there are. A frame is written to its slot
+/// alone: the walk becomes the last of them at the end.
 #[tactic(auto, using(crate::proofs::NextFrames::none_yet, crate::proofs::NextFrames::one_more, crate::proofs::NextFrames::others_stay, crate::proofs::NextFrames::over_here, crate::proofs::NextFrames::all_filled))]
 fn next_frames<W: WalkRecord, L: LoadedModules, M: Memory>(
     modules: &L,
@@ -152,11 +132,21 @@ fn next_frames<W: WalkRecord, L: LoadedModules, M: Memory>(
 {
     let mut position = walk.position();
     for i in 0..frames.len() {
-        if next_frame_from(modules, memory, &mut position, walk) == NOTHING {
+        if position.remaining == 0 {
+            *walk = walk_after(walk, frames, i);
             return i;
         }
-        frames[i] = *walk;
+        if !position.advance(modules, memory) {
+            *walk = walk_after(walk, frames, i);
+            walk.put_end(&position.end);
+            return i;
+        }
+        // Read here: before the frame, its registers would be copied too.
+        let mut next = walk_after(walk, frames, i);
+        next.put_frame(&position.frame);
+        frames[i] = next;
     }
+    *walk = walk_after(walk, frames, frames.len());
     frames.len()
 }
 

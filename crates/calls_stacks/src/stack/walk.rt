@@ -237,6 +237,8 @@ impl<'a> ViewedModules<'a> {
         ensures found { option_map (λ v. module_of v.now) result
             ≡ module_at (modules_of self.now.views.now) address }
         ensures table { IfSome result (λ v. IsTrue (has_table v.now)) }
+        ensures has { IfSome result (λ v. IsTrue (has_address module_base module_size address (module_of v.now))) }
+        ensures inside { IfSome result (λ v. address < v.now.base + v.now.image.image.now.size_of_image) }
     {
         first_with(self.views, self.is_ascending, address)
     }

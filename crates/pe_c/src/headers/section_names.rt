@@ -1,24 +1,13 @@
 //! The calls of `section_names` in calls_headers.
 
 ghost use Rattle.calls_base.specs.HandsOut.{HandsOutIf};
-ghost use Rattle.calls_headers.specs.SectionNames.{long_name_at, strings_at};
+ghost use Rattle.calls_headers.specs.SectionNames.{long_name_at};
 
 use calls_base::ranges::Range;
 use calls_base::results::hand_out_some;
 use calls_base::view::View;
-use calls_headers::section_names::{long_name_at, strings_at};
+use calls_headers::section_names::long_name_at;
 use pe_core::SectionTable;
-
-/// Returns the COFF string table, from its size field on, which follows the COFF symbols: `NOTHING` where the image has no
-/// symbols, where the bytes end after them, and in an image as loaded.
-///
-/// Errors: `SHORT` of the headers; `SHORT` where the symbols are truncated; `STRING_TABLE` where the table is.
-#[unsafe(no_mangle)]
-pub extern "C" fn pe_c_string_table(view: &View, out: &mut Range) -> u32
-    ensures { HandsOutIf result out.old out.new (strings_at view.now.bytes.now view.now.image.now) }
-{
-    hand_out_some(strings_at(view), out)
-}
 
 /// Returns the string that the name of a section leads to, in UTF-8 without its final zero. `table` is the string table.
 /// `NOTHING` where the name is none that leads there, as `.text`, or where no string is at its offset.

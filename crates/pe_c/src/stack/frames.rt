@@ -13,8 +13,8 @@ use pe_core::RvaMap;
 use pe_frame::{Memory, MemoryList, MemoryPiece};
 
 /// Finds the registers of a function's caller, from those inside the function, and writes them over those of `frame`. It is
-/// `step_in_function` of pe_frame by the records of the frame's function, which is the one that lookup found in `table`: by
-/// the RVA in the top frame and after an interrupt, by the RVA less one in every other. Where lookup found none, `leaf` of the
+/// `step_in_function_in_place` of pe_frame by the records of the frame's function, which is the one that lookup found in `table`:
+/// by the RVA in the top frame and after an interrupt, by the RVA less one in every other. Where lookup found none, `leaf` of the
 /// frame is 1, and the return address is popped: then the image, the table, the code, the function and the RVA are not read.
 ///
 /// `code` has the function's bytes from the RVA to its end there, and is empty where the RVA is a return address. Where an

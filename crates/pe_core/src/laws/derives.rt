@@ -61,6 +61,7 @@ pub fn equal_records_are_the_same()
 {}
 
 /// Directories are equal exactly if the entries that they keep are.
+#[tactic(auto, using(crate::proofs::Equality::same_rows, crate::proofs::Equality::rows_equal))]
 pub fn equal_directories_keep_the_same_rows()
     ensures { ComparesBy kept_rows ⟦<DataDirectories as PartialEq>⟧.eq }
 {}
@@ -78,6 +79,7 @@ pub fn equal_options_are_the_same()
 }
 
 /// Section headers are equal exactly if all their fields are.
+#[tactic(auto, using(crate::proofs::FieldEquality::sections_equal))]
 pub fn equal_sections_are_the_same()
     ensures { IsEquality ⟦<SectionTable as PartialEq>⟧.eq }
 {}

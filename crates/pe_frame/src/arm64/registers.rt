@@ -7,7 +7,7 @@ pub(crate) const LINK_REGISTER: usize = 30;
 
 /// The registers of a thread that a step restores. The flags, the other floating-point registers and the upper halves of
 /// vectors are not among them: a function does not preserve them.
-#[derive(Clone, Copy, Debug, PartialEq, Eq)]
+#[derive(Clone, Copy, Debug, PartialEq)]
 pub struct Arm64Registers {
     /// The integer registers, x0 to x30. `general[29]` is the frame pointer, `general[30]` the link register, in which a call
     /// leaves its return address.

@@ -36,7 +36,7 @@ use pe_unwind::{Arm64RuntimeFunction, ExceptionData};
 const SIZE_OF_INSTRUCTION: u32 = 4;
 
 /// A frame of a stack walk on ARM64.
-#[derive(Clone, Copy, Debug, PartialEq, Eq)]
+#[derive(Clone, Copy)]
 pub struct Arm64StackFrame {
     /// The registers in its function. Where it has called, `pc` is the return address.
     pub registers: Arm64Registers,

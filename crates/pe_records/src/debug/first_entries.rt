@@ -15,7 +15,7 @@ use crate::debug::constants::{
 
 /// The first whole entry of each type whose record `DebugData` reads. A field is `None` without such an entry. What the
 /// entries lead to is not read, so a caller can read each record with a result of its own.
-#[derive(Clone, Copy, Debug)]
+#[derive(Clone, Copy)]
 pub struct FirstDebugEntries {
     /// The first entry of `IMAGE_DEBUG_TYPE_CODEVIEW`: its record names the PDB, in the form of PDB 7.0 or PDB 2.0.
     pub codeview: Option<ImageDebugDirectory>,

@@ -57,6 +57,7 @@ pub fn certificates_that_are_read_are_whole()
 
 /// Listed certificates are listed again once they are written one after the other, from the table's offset on, which
 /// is a multiple of eight, into any buffer that has the table and room for them.
+#[tactic(auto, using(crate::proofs::CertificatePieces::in_turn, crate::proofs::CertificatesReadAgain::listed_again))]
 pub fn written_listings_are_listed_again()
     ensures again { (b buffer : List ℕ) (address size : ℕ) (cs : List CertificateView) →
         AreBytes b →

@@ -38,6 +38,7 @@ pub fn equal_records_are_the_same()
 {}
 
 /// Debug data are equal exactly if their tables and their records are.
+#[tactic(auto, using(crate::proofs::DebugEquality::data_equal))]
 pub fn equal_debug_data_look_the_same()
     ensures { ComparesBy debug_view ⟦<DebugData<'static> as PartialEq>⟧.eq }
 {

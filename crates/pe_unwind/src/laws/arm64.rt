@@ -78,7 +78,7 @@ pub fn arm64_records_are_concatenations()
 
 /// Where an ARM64 unwind record is read, `size` returns its size, which is that of its words. The record ends in the
 /// bytes, and a handler's data are all bytes after it.
-#[tactic(auto, using(crate::proofs::Arm64Records::sized, crate::proofs::Arm64Records::inside))]
+#[tactic(auto, using(crate::proofs::Arm64Records::sized, crate::proofs::Arm64Records::inside, crate::proofs::Arm64Records::after_record))]
 pub fn arm64_records_have_their_size()
     ensures size { (b : List ℕ) (i : Arm64InfoView) →
         info_at b 0 ≡ Ok i → size_at b ≡ Ok (record_size i.header i.extension) }

@@ -10,7 +10,8 @@ use calls_failures::headers::hand_out_failure;
 use calls_failures::steps::unwinding::{code_failure, record_failure};
 use calls_unwind::unwinding::CodeWalk;
 
-/// The same of the unwind record of an unwind RVA, which `pe_c_unwind_record` refuses. `table` is the function table.
+/// Returns why `pe_c_unwind_record` refuses the unwind record of an unwind RVA: the same result, and the numbers of that error.
+/// `NOTHING` where it does not refuse it. `table` is the function table.
 ///
 /// The RVA of `FUNCTION_CYCLE` is `unwind`, whose links never end, that of `FUNCTION_LINK` the one at which they end, and that of
 /// `UNMAPPED` is of the entry or of the record to which this one leads.

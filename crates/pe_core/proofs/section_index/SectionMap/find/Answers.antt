@@ -1,13 +1,20 @@
-use Rattle.std.proofs.Common.{◌∙◌, sym, None, Some}
-use Rattle.pe_core.proofs.SectionHalves.{found}
+use Rattle.std.proofs.Common.{◌∙◌, ◌-◌, ◌<◌, length, rules, sym, arith}
+use Rattle.pe_core.proofs.SectionWindows.{offset_found, offset_missing, section_there}
 use Rattle.pe_core.proofs.section_index.SectionMap.find.Goals as goal
 
-pub returns-in_err-owner-in-Some : goal.returns-in_err-owner-in-Some
-returns-in_err-owner-in-Some c =
-    c.from_residual.ensures ∙ found c.args.self.now _ _ _ c.in-Some.pieces.now c.self.view_is (rw c.in-Some.is at c.self.invariant) c.args.rva None
-    (sym c.in_err-owner-in-Some.was ∙ c.owner_of.ensures)
+pub returns-then-number-eq0 : goal.returns-then-number-eq0
+returns-then-number-eq0 c =
+    offset_missing c.args.self.now _ _ _ c.in-Some.entries.now c.args.rva c.self.view_is (rw c.in-Some.is at c.self.invariant) c.ranges.rva.fits (sym c.number_at-number.ensures ∙ c.if-number-eq0.true)
 
-pub returns-in_ok-owner-in-Some : goal.returns-in_ok-owner-in-Some
-returns-in_ok-owner-in-Some c =
-    found c.args.self.now _ _ _ c.in-Some.pieces.now c.self.view_is (rw c.in-Some.is at c.self.invariant) c.args.rva (Some c.in_ok-owner-in-Some.owner)
-    (sym c.in_ok-owner-in-Some.was ∙ c.owner_of.ensures)
+pub bounds-self-inside-number : goal.bounds-self-inside-number
+bounds-self-inside-number c =
+    section_there _ _ _ c.in-Some.entries.now c.args.rva _ (rw c.in-Some.is at c.self.invariant) c.ranges.rva.fits c.number_at-number.ensures (omega (arith, c.if-number-eq0.false))
+
+pub offset_bounds-self-inside-number : goal.offset_bounds-self-inside-number
+offset_bounds-self-inside-number c =
+    let below : c.number_at-number.result - 1 < length c.self.inside.sections.now = section_there _ _ _ c.in-Some.entries.now c.args.rva _ (rw c.in-Some.is at c.self.invariant) c.ranges.rva.fits c.number_at-number.ensures (omega (arith, c.if-number-eq0.false)) in
+    search rules
+
+pub returns-else-number-eq0 : goal.returns-else-number-eq0
+returns-else-number-eq0 c =
+    c.offset_by.ensures ∙ offset_found c.args.self.now _ _ _ c.in-Some.entries.now c.args.rva c.number_at-number.result _ c.self.view_is (rw c.in-Some.is at c.self.invariant) c.ranges.rva.fits (sym c.number_at-number.ensures) (omega (arith, c.if-number-eq0.false))

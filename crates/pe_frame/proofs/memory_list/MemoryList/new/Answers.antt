@@ -16,7 +16,8 @@ invariant_of-result c =
       ascending = λ is. up;
       tested = sym (test_passed (λ p. p.start) (λ p. p.length) c.args.pieces.now up);
       inside = c.are_in_order.ensures.inside c.if-are_in_order.true;
-      asked = c.first_piece.ensures;
+      asked = c.first_piece-near.ensures;
+      whole = c.words_of.ensures;
     }
 
 pub invariant_of-result-2 : goal.invariant_of-result-2
@@ -29,5 +30,6 @@ invariant_of-result-2 c =
           let none : c.is_none-is_ascending.result ≡ is_none c.first_overlap.result = search rules in
           none ∙ decided (λ p. p.start) (λ p. p.length) c.args.pieces.now c.first_overlap.result c.first_overlap.ensures;
       inside = passed (are_inside c.args.bytes.now c.args.pieces.now) tt (sym c.in_ok-require_inside.ensures);
-      asked = c.first_piece-2.ensures;
+      asked = c.first_piece-near-2.ensures;
+      whole = c.words_of-2.ensures;
     }

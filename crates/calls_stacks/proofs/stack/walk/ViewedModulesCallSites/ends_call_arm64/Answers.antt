@@ -1,8 +1,0 @@
-use Rattle.std.proofs.Common.{sym, arith}
-use Rattle.pe_frame.proofs.InModules.{in_module}
-use Rattle.calls_stacks.specs.WalkModules.{module_of, modules_of}
-use Rattle.calls_stacks.proofs.stack.walk.ViewedModulesCallSites.ends_call_arm64.Goals as goal
-
-pub ends_call_arm64_in-requires-clause-near : goal.ends_call_arm64_in-requires-clause-near
-ends_call_arm64_in-requires-clause-near c =
-    in_module (modules_of c.args.self.now.views.now) c.saturating_sub.result c.args.address (module_of c.in-Some.view.now) (sym c.in-Some.ensures.found) (omega arith)

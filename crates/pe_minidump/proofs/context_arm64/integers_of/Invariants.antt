@@ -1,0 +1,11 @@
+use Rattle.std.proofs.Common.{◌≡◌, ◌+◌, ◌*◌, length, take}
+use Rattle.pe_core.specs.Bytes.{le}
+use Rattle.pe_core.specs.Rows.{each}
+use Rattle.pe_minidump.proofs.context_arm64.integers_of.Given as goal
+
+-- the first k registers are read, of 31
+abbrev pub invariant-loop-k : goal.invariant-loop-k
+invariant-loop-k l = record {
+  read : take l.k l.registers ≡ each (λ k. le l.bytes (8 + 8 * k) 8) l.k;
+  room : length l.registers ≡ 31;
+}

@@ -1,0 +1,11 @@
+use Rattle.std.proofs.Common.{◌≡◌, ◌+◌, ◌*◌, length, take}
+use Rattle.pe_core.specs.Bytes.{le}
+use Rattle.pe_core.specs.Rows.{each}
+use Rattle.pe_minidump.proofs.context_x64.xmm_of.Given as goal
+
+-- the first k registers are read, of 16
+abbrev pub invariant-loop-k : goal.invariant-loop-k
+invariant-loop-k l = record {
+  read : take l.k l.registers ≡ each (λ k. le l.bytes (416 + 16 * k) 16) l.k;
+  room : length l.registers ≡ 16;
+}

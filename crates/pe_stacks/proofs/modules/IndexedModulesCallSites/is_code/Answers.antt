@@ -1,7 +1,0 @@
-use Rattle.std.proofs.Common.{sym, arith}
-use Rattle.pe_frame.proofs.InModules.{in_module}
-use Rattle.pe_stacks.proofs.modules.IndexedModulesCallSites.is_code.Goals as goal
-
-pub is_code-requires : goal.is_code-requires
-is_code-requires g c =
-    in_module c.args.self.now.modules.ranges.now c.args.address c.args.address c.in-Some.module.now (sym c.in-Some.ensures) (omega arith)
