@@ -162,7 +162,7 @@ enum Texts {
     Two,
 }
 
-const COUNT: u32 = 80_000;
+const COUNT: u32 = 100_000;
 
 const LENGTH: u32 = 0x8_0000;
 
@@ -211,7 +211,8 @@ fn most_sections(alloc: Global) -> Result<Vec<SectionTable>, AllocError> {
     Ok(sections)
 }
 
-/// 80,000 names in such texts, after as many sections as there may be. Name by name, or section by section, they take minutes.
+/// 100,000 names in texts of 512 KiB, after as many sections as there may be. Name by name, and section by section, this would
+/// take minutes.
 #[test]
 fn many_names_in_long_texts(rt: HostRuntime) -> Result<(), Fail> {
     let alloc = rt.alloc();
@@ -253,11 +254,11 @@ fn many_names_in_long_texts(rt: HostRuntime) -> Result<(), Fail> {
     Ok(())
 }
 
-/// 65,535 sections whose names start in one text of 1 MiB: name by name this would take minutes.
+/// 65,535 sections whose names start in one text of 8 MiB: name by name this would take minutes.
 #[test]
 fn many_long_section_names(rt: HostRuntime) -> Result<(), Fail> {
     let alloc = rt.alloc();
-    let mut bytes = vec![in alloc; b'a'; 0x10_0000]?;
+    let mut bytes = vec![in alloc; b'a'; 0x80_0000]?;
     bytes.push(0)?;
     let strings = Strtab { bytes: &bytes };
     let mut sections = most_sections(alloc)?;
@@ -273,10 +274,10 @@ fn many_long_section_names(rt: HostRuntime) -> Result<(), Fail> {
     let names = long_section_names(alloc, &sections, &strings)?;
     assert_eq!(rt; names.len(), sections.len());
     for (i, name) in names.iter().enumerate() {
-        assert_eq!(rt; name.map(str::len), Some(0x10_0000 - 4 - i));
+        assert_eq!(rt; name.map(str::len), Some(0x80_0000 - 4 - i));
     }
     assert!(rt;
-        long_section_name(&sections[5], &strings).is_some_and(|name| name.len() == 0x10_0000 - 9)
+        long_section_name(&sections[5], &strings).is_some_and(|name| name.len() == 0x80_0000 - 9)
     );
     Ok(())
 }
@@ -349,7 +350,8 @@ fn names_of_bound_imports(rt: HostRuntime) -> Result<(), Fail> {
     Ok(())
 }
 
-/// A directory that is one text of 1 MiB: 120,000 entries and forwarders have names in it. Name by name they take minutes.
+/// A directory that is one text of 1 MiB: 120,000 entries and forwarders have names in it. Name by name this would take
+/// minutes.
 #[test]
 fn many_bound_imports_in_one_text(rt: HostRuntime) -> Result<(), Fail> {
     let alloc = rt.alloc();

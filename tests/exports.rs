@@ -159,12 +159,13 @@ fn refuses_directories(rt: HostRuntime) -> Result<(), Fail> {
     Ok(())
 }
 
-/// Names in one text of 1 MiB, after as many sections as there may be. Name by name, or section by section, they take minutes.
+/// A file whose names all lie in one text of 2 MiB, after as many sections as there may be. Name by name, and section
+/// by section, this would take minutes.
 #[test]
 fn many_names_in_one_text(rt: HostRuntime) -> Result<(), Fail> {
     let alloc = rt.alloc();
-    let count: u32 = 200_000;
-    let text: u32 = 0x10_0000;
+    let count: u32 = 400_000;
+    let text: u32 = 0x20_0000;
     let mut bytes = vec![in alloc; b'a'; text as usize]?;
     bytes.push(0)?;
     let mut names = Vec::new(alloc);

@@ -127,7 +127,7 @@ fn many_names_in_one_string(rt: HostRuntime) -> Result<(), Fail> {
     let length: u32 = 1 << 20;
     let mut strings = vec![in alloc; b'a'; length as usize]?;
     strings.push(0)?;
-    let count: u32 = 40_000;
+    let count: u32 = 100_000;
     let mut table = Vec::new(alloc);
     for i in 0..count {
         if i % 2 == 0 {

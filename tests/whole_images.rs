@@ -135,7 +135,8 @@ fn limited_imports(rt: HostRuntime) -> Result<(), Fail> {
     Ok(())
 }
 
-/// 33,000 records of one list of 65,536 entries, where RVAs are file offsets. To list their imports would take 100 GiB.
+/// 50,000 records of one list of 65,536 entries, in an image whose RVAs are file offsets. To list its imports would take 150
+/// GiB.
 #[test]
 fn limited_imports_of_one_list(rt: HostRuntime) -> Result<(), Fail> {
     let alloc = rt.alloc();
@@ -149,7 +150,7 @@ fn limited_imports_of_one_list(rt: HostRuntime) -> Result<(), Fail> {
     let start = bytes.len() as u32;
     let [a, b, c, d] = u32::to_le_bytes(start);
     bytes = with_part(bytes, 0xD0, &[a, b, c, d]);
-    let records = sharing(alloc, 33_000, &after, (start, start + 8), (0, 0))?;
+    let records = sharing(alloc, 50_000, &after, (start, start + 8), (0, 0))?;
     bytes.extend_from_slice(&records)?;
     for mode in MODES {
         let opts = ParseOptions {
@@ -160,7 +161,7 @@ fn limited_imports_of_one_list(rt: HostRuntime) -> Result<(), Fail> {
         assert_eq!(rt;
             reason_in(refused),
             Some(Reason::ImportsLimit {
-                count: 2_162_688_000,
+                count: 3_276_800_000,
                 limit: 1_000_000
             })
         );
