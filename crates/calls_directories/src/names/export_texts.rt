@@ -43,6 +43,7 @@ fn forwarder_offset(
 }
 
 /// The offsets of the texts of an entry of the name table.
+#[inline(always)]
 fn text_offsets(
     view: &View,
     tables: &Tables<'_>,

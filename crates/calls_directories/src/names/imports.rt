@@ -280,6 +280,7 @@ fn named_import(names: &NamedView<'_>, kept: KeptSections, entry: u64, rva: u64)
 
 /// The import of an entry and its slot. With its highest bit set the low 16 bits of an entry are an ordinal; else its
 /// low 31 bits are the RVA of a hint and a name.
+#[inline(always)]
 #[tactic(auto, unfolding(pe_core::specs::Imports::import_of))]
 fn import_at(names: &NamedView<'_>, kept: KeptSections, entry: u64, rva: u64) -> Result<Import>
     ensures { Returns result (import_at (map_kept names.now.view.now kept)
@@ -355,6 +356,7 @@ pub fn step_library(names: &NamedView<'_>, walk: &mut LibraryWalk) -> Result<Opt
 }
 
 /// What a walk keeps after the import that it was at: the section of its hint.
+#[inline(always)]
 fn kept_after_import(
     view: &View,
     kept: KeptSections,
