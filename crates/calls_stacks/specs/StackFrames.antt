@@ -84,7 +84,8 @@ HandsOutPopped number old new (Err e) = (number ≡ error_number e) × (new ≡ 
 
 -- What a step by the records of a function leaves: it is a step of pe_frame in the image, with the code from the frame's RVA on.
 -- `HandsOut` says what becomes of it, or of a number that refuses it.
-abbrev pub StepsBy : ExceptionView → (ℕ → Option ℕ) → List ℕ → (ℕ → Option ℕ) → StackFrame → (Result (Result (Registers × Bool) FrameError) ℕ → Type 0) → Result (Option (List UnwindInfoView)) Refusal → Type 0
+abbrev pub StepsBy : ExceptionView → (ℕ → Option ℕ) → List ℕ → (ℕ → Option ℕ) → StackFrame →
+    (Result (Result (Registers × Bool) FrameError) ℕ → Type 0) → Result (Option (List UnwindInfoView)) Refusal → Type 0
 StepsBy v offset code memory old HandsOut (Err refusal) = HandsOut (Err (result_number refusal))
 StepsBy v offset code memory old HandsOut (Ok None) = HandsOut (Err LONG_CHAIN)
 StepsBy v offset code memory old HandsOut (Ok (Some plan)) =

@@ -32,7 +32,8 @@ hint_offset_of offset w e = if is_ordinal w e then 2 ^ 64 - 1 else min (offset_o
 
 -- these are the texts at the offsets of the entries' names
 pub record AreEntryNames (offset : ℕ → Option ℕ) (w : ℕ) (b : List ℕ) (entries : List Entry) (names : List (Option (Bor (List ℕ)))) : Type 0 where
-  pub are : (i : ℕ) (d : Option (Bor (List ℕ))) (e : Entry) → i < length names → option_map (λ s. s.now) (slice_index_or names i d) ≡ text_at b (hint_offset_of offset w (entry_view (slice_index_or entries i e)))
+  pub are : (i : ℕ) (d : Option (Bor (List ℕ))) (e : Entry) → i < length names →
+      option_map (λ s. s.now) (slice_index_or names i d) ≡ text_at b (hint_offset_of offset w (entry_view (slice_index_or entries i e)))
 
 -- these are the same numbers, whatever their order and however often
 pub record AreSameNumbers (xs ys : List ℕ) : Type 0 where

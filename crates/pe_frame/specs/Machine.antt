@@ -47,7 +47,12 @@ base s = base_by s.frame_base (machine_stack_pointer s)
 -- what an operation does: a push stores below the stack pointer, a save stores above the base of the frame
 abbrev pub done : FrameRegister → UnwindOperation → Machine → Machine
 done f (PushNonVolatile r) s =
-    record { general = slice_set s.general RSP (machine_stack_pointer s - 8); xmm = s.xmm; memory = stored s.memory (machine_stack_pointer s - 8) (slice_index s.general r.0); frame_base = s.frame_base }
+    record {
+      general = slice_set s.general RSP (machine_stack_pointer s - 8);
+      xmm = s.xmm;
+      memory = stored s.memory (machine_stack_pointer s - 8) (slice_index s.general r.0);
+      frame_base = s.frame_base;
+    }
 done f (Alloc n) s = record { general = slice_set s.general RSP (machine_stack_pointer s - n); xmm = s.xmm; memory = s.memory; frame_base = s.frame_base }
 done f SetFPRegister s =
     record { general = slice_set s.general f.register (machine_stack_pointer s + f.offset); xmm = s.xmm; memory = s.memory; frame_base = Some (machine_stack_pointer s) }

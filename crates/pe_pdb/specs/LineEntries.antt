@@ -41,7 +41,13 @@ column_of c b i = if has_columns c.header b then le c.content (b.offset + 12 + 8
 unfoldable pub code_line : LineCode → BlockView → ℕ → Option CodeLine
 code_line c b i =
     if nat_lt (line_row b.rows (8 * i)).offset c.header.size && nat_lt (c.rva + (line_row b.rows (8 * i)).offset) (2 ^ 32)
-    then Some (record { rva = c.rva + (line_row b.rows (8 * i)).offset; code_size = c.header.size - (line_row b.rows (8 * i)).offset; file = b.file; line = (line_row b.rows (8 * i)).line; column = column_of c b i })
+    then Some (record {
+      rva = c.rva + (line_row b.rows (8 * i)).offset;
+      code_size = c.header.size - (line_row b.rows (8 * i)).offset;
+      file = b.file;
+      line = (line_row b.rows (8 * i)).line;
+      column = column_of c b i;
+    })
     else None
 
 -- those of the first n rows of a block

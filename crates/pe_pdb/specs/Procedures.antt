@@ -44,7 +44,19 @@ unfoldable pub procedure_of : List ℕ → Result Procedure PdbRefusal
 procedure_of b = do
   start ← outcome ((holds b 0 35, Short) ∷ []) b
   text ← named (text_at b 35)
-  Ok (record { parent = le b 0 4; end = le b 4 4; next = le b 8 4; size = le b 12 4; debug_start = le b 16 4; debug_end = le b 20 4; type_index = le b 24 4; offset = le b 28 4; section = le b 32 2; flags = le b 34 1; name = text })
+  Ok (record {
+    parent = le b 0 4;
+    end = le b 4 4;
+    next = le b 8 4;
+    size = le b 12 4;
+    debug_start = le b 16 4;
+    debug_end = le b 20 4;
+    type_index = le b 24 4;
+    offset = le b 28 4;
+    section = le b 32 2;
+    flags = le b 34 1;
+    name = text;
+  })
 
 -- the kinds of records of procedures
 abbrev pub is_procedure : ℕ → Bool

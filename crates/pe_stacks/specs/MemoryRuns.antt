@@ -93,5 +93,10 @@ has_rooms pieces (es, rs) = nat_le (4 * length pieces) (length es) && nat_le (2 
 
 -- what writing the runs to rooms returns: how many there are, if the rooms have the room
 abbrev pub PutsRuns : List MemoryPiece → List RangeEntry × List MemoryPiece → List RangeEntry × List MemoryPiece → Option ℕ → Type 0
-PutsRuns pieces (es, rs) (fs, ss) (Some n) = (has_rooms pieces (es, rs) ≡ true) × (n ≤ 2 * length pieces) × AreRuns pieces (take n ss) × (drop (2 * length pieces) ss ≡ drop (2 * length pieces) rs) × (drop (4 * length pieces) fs ≡ drop (4 * length pieces) es)
+PutsRuns pieces (es, rs) (fs, ss) (Some n) =
+    (has_rooms pieces (es, rs) ≡ true)
+    × (n ≤ 2 * length pieces)
+    × AreRuns pieces (take n ss)
+    × (drop (2 * length pieces) ss ≡ drop (2 * length pieces) rs)
+    × (drop (4 * length pieces) fs ≡ drop (4 * length pieces) es)
 PutsRuns pieces old new None = (has_rooms pieces old ≡ false) × (new ≡ old)

@@ -46,7 +46,18 @@ abbrev pub symbol_rva : List SectionTable → Symbol → Option ℕ
 symbol_rva sections s =
     let n = cast_unsigned w16 s.section_number in
     if nat_lt 0 n && nat_lt n (2 ^ 15) && nat_le n (length sections)
-    then below_4g ((slice_index_or sections (n - 1) (record { name = []; virtual_size = 0; virtual_address = 0; size_of_raw_data = 0; pointer_to_raw_data = 0; pointer_to_relocations = 0; pointer_to_linenumbers = 0; number_of_relocations = 0; number_of_linenumbers = 0; characteristics = 0 })).virtual_address + s.value)
+    then below_4g ((slice_index_or sections (n - 1) (record {
+      name = [];
+      virtual_size = 0;
+      virtual_address = 0;
+      size_of_raw_data = 0;
+      pointer_to_raw_data = 0;
+      pointer_to_relocations = 0;
+      pointer_to_linenumbers = 0;
+      number_of_relocations = 0;
+      number_of_linenumbers = 0;
+      characteristics = 0;
+    })).virtual_address + s.value)
     else None
 
 -- the RVA of the function of a symbol
