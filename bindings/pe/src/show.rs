@@ -271,7 +271,8 @@ pub fn complaints(facts: &Facts) -> String {
         facts.limited().into_iter().map(|part| format!("pe: {file}: {part}: not whole: the image has more\n"));
     let exports = facts.exports.iter().filter_map(Part::present);
     let left_out = exports.filter_map(|it| it.left_out()).map(|it| format!("pe: {file}: exports: {it}\n"));
-    refused.chain(limited).chain(left_out).collect()
+    let cut = facts.cut().map(|it| format!("pe: {file}: {it}\n"));
+    refused.chain(limited).chain(left_out).chain(cut).collect()
 }
 
 /// Where a symbol server has the PDB of an image, and the image.
