@@ -69,7 +69,8 @@ pub fn text(facts: &Facts, style: Style, named: &[Topic]) -> String {
     part(facts.resources.as_ref(), resources_of, &mut page);
     part(facts.symbols.as_ref(), symbols_of, &mut page);
     for topic in named.iter().filter(|it| facts.is_absent(**it)) {
-        page.row(&topic.name(), "none");
+        // Of other machines exception data are not read.
+        page.row(&topic.name(), if *topic == Topic::Functions { "none of x64 or ARM64" } else { "none" });
     }
     for topic in named.iter().filter(|it| facts.is_not_read(**it)) {
         page.row(&topic.name(), format_args!("not read of {}", facts.file_kind.unwrap_or_default()));
@@ -124,9 +125,7 @@ fn hardening_of(hardening: &Hardening, page: &mut Page) {
     for (label, value) in tables::hardening(hardening) {
         page.line(format_args!("  {label:22}{value}"));
     }
-    for part in &hardening.refused {
-        page.line(format_args!("  {part}: refused, so what it may say is a no here"));
-    }
+    hardening.said_of_refused().for_each(|it| page.line(format_args!("  {it}")));
 }
 
 fn hashes_of(hashes: &Hashes, page: &mut Page) {

@@ -117,6 +117,7 @@ fn hardening_of(facts: &Facts, page: &mut Page) {
     };
     let words: Vec<String> = [true, false].into_iter().filter_map(named).collect();
     page.row("hardening", words.join("; "));
+    hardening.said_of_refused().for_each(|it| page.row("", it));
 }
 
 fn hashes_of(facts: &Facts, page: &mut Page) {

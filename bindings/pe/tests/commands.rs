@@ -1936,10 +1936,22 @@ fn hardening_says_which_part_is_refused() {
     let optional = u32::from_le_bytes(data[60..64].try_into().unwrap()) as usize + 24;
     let directories = optional + if data[optional + 1] == 2 { 112 } else { 96 };
     let says = |data: &[u8]| {
-        let said = "load configuration: refused, so what it may say is a no here";
-        run(&["show", &folder.file("a.exe", data), "hardening"]).0.contains(said)
+        let (said, file) = ("load configuration: refused, so what it may say is a no here", folder.file("a.exe", data));
+        [&["show", &file, "hardening"][..], &[&file], &["report", &file, "-"]].map(|it| run(it).0.contains(said))
     };
-    assert!(!says(&data));
+    assert_eq!(says(&data), [false; 3]);
     data[directories + 80..directories + 84].copy_from_slice(&0x7FFF_0000u32.to_le_bytes());
-    assert!(says(&data));
+    assert_eq!(says(&data), [true; 3]);
+}
+
+/// Exception data of another machine are there, and not read.
+#[test]
+fn functions_of_other_machines_are_not_said_to_be_none() {
+    let folder = Folder::new("functions-of-arm");
+    let mut bytes = made::with_functions();
+    let signature = u32::from_le_bytes(bytes[60..64].try_into().unwrap()) as usize;
+    // `IMAGE_FILE_MACHINE_ARMNT`
+    put(&mut bytes, signature + 4, &0x1C4u16.to_le_bytes());
+    let said = run(&["show", &folder.file("a.exe", &bytes), "functions"]).0;
+    assert!(said.ends_with("\n  functions     none of x64 or ARM64\n"), "{said}");
 }

@@ -70,6 +70,9 @@ fn hardening_of(facts: &Facts, html: &mut Html<'_>) {
         html.text(name).markup(" <b>").text(word(value)).markup("</b></li>");
     }
     html.markup("</ul>");
+    for refused in hardening.said_of_refused() {
+        html.markup("<p>").text(refused).markup("</p>");
+    }
 }
 
 pub fn of(facts: &Facts, html: &mut Html<'_>) {
