@@ -381,6 +381,7 @@ pub fn tls(tls: &Tls) -> Vec<Row> {
         ("data", format!("{:#x} to {:#x}, and {} zeros", tls.start_va, tls.end_va, tls.zero_fill)),
         ("index", format!("{:#x}", tls.index_va)),
     ];
+    rows.extend((tls.characteristics != 0).then(|| ("flags", format!("{:#x}", tls.characteristics))));
     rows.extend(tls.callbacks.entries().iter().map(|it| ("callback", format!("{:#x}", it.0))));
     rows
 }

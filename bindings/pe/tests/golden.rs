@@ -158,7 +158,7 @@ const MADE: &[(&str, &[&str])] = &[
         &[
             "  TLS           8 bytes, 2 callbacks\n",
             "\nThread-local storage\n  data          0x180001040 to 0x180001048, and 12 zeros\n",
-            "  index         0x180001050\n  callback      0x180002000\n  callback      0x180002010\n",
+            "  index         0x180001050\n  flags         0x300000\n  callback      0x180002000\n  callback      0x180002010\n",
             "\"tls\":{\"start_va\":6442455104,\"end_va\":6442455112,\"index_va\":6442455120,\"zero_fill\":12,",
             "\"characteristics\":3145728,\"callbacks\":[6442459136,6442459152],\"callbacks_error\":null,",
         ],
