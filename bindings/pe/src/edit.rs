@@ -248,7 +248,7 @@ fn set_in(
     Ok(())
 }
 
-/// The image with another manifest.
+/// The image with another manifest: in the place of that which Windows looks for, else of the first that is there.
 pub fn set_manifest(
     paths: Paths<'_>,
     image: Result<Image<'_>, Error>,
@@ -258,8 +258,10 @@ pub fn set_manifest(
     deliver(paths, image, |image, editor| {
         let content = content_of(manifest)?;
         let kind = ResourceKey::Id(MANIFEST);
-        let new = if image.info().characteristics & DLL == 0 { OF_PROGRAM } else { OF_DLL };
-        let name = names_of(editor, &kind).into_iter().next().unwrap_or(ResourceKey::Id(new));
+        let own = ResourceKey::Id(if image.info().characteristics & DLL == 0 { OF_PROGRAM } else { OF_DLL });
+        let mut names = names_of(editor, &kind).into_iter().peekable();
+        let first = names.peek().cloned();
+        let name = names.find(|it| *it == own).or(first).unwrap_or(own);
         let languages = languages_of(editor, &kind, &name, language);
         set_in(editor, (&kind, &name), &languages, &content)
     })

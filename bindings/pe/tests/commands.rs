@@ -425,6 +425,28 @@ fn an_icon_of_another_language_stays_apart() {
     assert!(has("2", "0x407") && !has("2", "0x409") && has("1", "0x409"));
 }
 
+/// Windows looks for that of the name 1 of a program, and of the name 2 of a DLL.
+#[test]
+fn of_several_manifests_the_one_that_windows_looks_for_is_changed() {
+    let folder = Folder::new("manifests");
+    let path = |name: &str| folder.0.join(name).to_str().unwrap().to_string();
+    let (both, manifest) = (path("both.exe"), folder.file("new.xml", b"<new/>"));
+    let words =
+        ["set-resource", &folder.file("a.exe", &made::editable()), &both, "24", "2", &folder.file("2", b"<two/>")];
+    assert_eq!(run(&words).2, 0);
+    let mut bytes = fs::read(&both).unwrap();
+    let signature = u32::from_le_bytes(bytes[60..64].try_into().unwrap()) as usize;
+    let kinds = [(0, ["<new/>", "<two/>"]), (0x20, ["<old/>", "<new/>"])];
+    for (flag, wanted) in kinds {
+        // The upper half of `Characteristics`, whose bit 13 is `IMAGE_FILE_DLL`.
+        bytes[signature + 23] = bytes[signature + 23] & !0x20 | flag;
+        let (image, out) = (folder.file("image", &bytes), path(&format!("out-{flag}")));
+        assert_eq!(run(&["set-manifest", &image, &out, &manifest]).2, 0);
+        let found = ["1", "2"].map(|it| run(&["extract", &out, "resource", "-", "--type", "24", "--name", it]).0);
+        assert_eq!(found, wanted);
+    }
+}
+
 #[test]
 fn icons_are_changed() {
     let folder = Folder::new("icon");
