@@ -392,7 +392,7 @@ fn refuse_mapped(reading: &Reading, what: &str) {
 fn misused(message: &str) -> ! {
     let mut program = Arguments::command();
     program.build();
-    let own = std::env::args().nth(1).and_then(|it| program.find_subcommand(it).cloned());
+    let own = std::env::args_os().nth(1).and_then(|it| program.find_subcommand(it).cloned());
     let error = own.unwrap_or(program).error(ErrorKind::ArgumentConflict, message);
     std::process::exit(streams::said_by_clap(&error).into())
 }

@@ -1326,6 +1326,10 @@ fn a_path_that_is_no_text_can_be_opened_again() {
     let said: Value = serde_json::from_slice(&ran.stdout).unwrap();
     let hex: String = path.as_os_str().as_bytes().iter().map(|it| format!("{it:02x}")).collect();
     assert_eq!(said["file_hex"], hex);
+    // Where no command comes first, words that are wrong are refused with the usage of the program.
+    let words = ["--no-hashes", "--parts", "hashes"];
+    let ran = Command::new(env!("CARGO_BIN_EXE_pe")).arg(&path).args(words).output().unwrap();
+    assert_eq!(ran.status.code(), Some(2), "{}", String::from_utf8_lossy(&ran.stderr));
 }
 
 #[test]
