@@ -1,5 +1,5 @@
-// What differs between two images, as the program pe says it (`pe diff --json`): the same rows (rows.mjs, functions.mjs), but for what an
-// overlay is, and the regions whose bytes differ.
+// What differs between two images, as the program pe says it (`pe diff --json`): the same rows (rows.mjs, functions.mjs), but for VC
+// features and what an overlay is, and the regions whose bytes differ.
 import { PARTS, hex, sectionName } from './rows.mjs';
 
 /** The rows by their names. Of several with one name each but the first has its number. */

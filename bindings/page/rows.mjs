@@ -49,7 +49,10 @@ const number = (it) => `0x${it.toString(16)}`, wide = (it) => `0x${it.toString(1
 const counted = (count, what) => `${count} ${what}${count === 1 ? '' : 's'}`;
 export const named = (it) => it.name ?? number(it.number);
 export const label = (it) => (it.name === null ? `#${it.id}` : escaped(it.name));
-const setOf = ({ flags }) => Object.keys(flags).filter((it) => flags[it]).join(', ');
+function flagsOf({ number: all, flags }) {
+  const names = Object.keys(flags).filter((it) => flags[it]).join(', ');
+  return number(all) + (names && `: ${names}`);
+}
 const hashed = (it) => (it.sha256_hex ? `, SHA-256 ${it.sha256_hex.slice(0, 16)}` : '');
 
 function built({ is_reproducible: isReproducible, time_date_stamp: stamp, time }) {
@@ -95,8 +98,8 @@ function headers({ headers: it }) {
     ['sizes', `image ${it.size_of_image}, headers ${it.size_of_headers}`],
     ['alignment', `sections ${it.section_alignment}, file ${it.file_alignment}`],
     ['checksum', `${wide(it.checksum)}${states[it.checksum_state] ?? ''}`],
-    ['flags', setOf(it.characteristics)],
-    ['DLL flags', setOf(it.dll_characteristics)],
+    ['flags', it.characteristics.number ? flagsOf(it.characteristics) : ''],
+    ['DLL flags', it.dll_characteristics.number ? flagsOf(it.dll_characteristics) : ''],
     ...(it.optional ? optional(it.optional) : []),
     ...coff(it),
   ].filter(([, value]) => value !== '');
@@ -114,8 +117,11 @@ const sections = ({ sections: all }) => all.map((it) => [sectionName(it),
 const resources = ({ resources: all }) => (all ?? []).map((it) => [[it.type, it.name, it.language].map(label).join(' '),
   `${it.size} bytes${hashed(it)}`]);
 
-const functions = (libraries) => (libraries ?? []).flatMap((library) => library.functions.map((it) => (
-  [`${escaped(library.name_lower ?? '')} ${it.name === null ? `#${it.ordinal}` : escaped(it.name)}`, ''])));
+/** The functions of each DLL. One of which none is listed has a row by itself. */
+const functions = (libraries) => (libraries ?? []).flatMap(({ name_lower: lower, functions: all }) => {
+  const dll = escaped(lower ?? '');
+  return all.length ? all.map((it) => [`${dll} ${it.name === null ? `#${it.ordinal}` : escaped(it.name)}`, '']) : [[dll, '']];
+});
 
 function exported({ exports: found }) {
   return (found?.entries ?? []).flatMap((it) => {
@@ -132,8 +138,8 @@ function versions({ version: { fixed, manifest, languages } }) {
     ...(level === null ? [] : [['rights', escaped(level)]]), ...(languages ?? []).flatMap(strings)];
 }
 
-/** The PDB with its key, and what other debug records say. */
-function debug({ debug: { pdb, pdb20, repro, embedded_pdb: embedded, pdb_checksum: checksum } }) {
+/** The PDB with its key, and what other debug records say, but for VC features. */
+function debug({ debug: { pdb, pdb20, repro, embedded_pdb: embedded, pdb_checksum: checksum, extended_dll_characteristics: extended } }) {
   const upper = (it) => it.toString(16).toUpperCase();
   return [
     ...(pdb ? [['PDB', shown(pdb)], ['GUID', `${pdb.guid}, age ${pdb.age}`], ['symbol key', pdb.key]] : []),
@@ -141,6 +147,7 @@ function debug({ debug: { pdb, pdb20, repro, embedded_pdb: embedded, pdb_checksu
     ...(repro ? [['Repro', repro.hash_hex ?? 'the time stamps are a hash']] : []),
     ...(embedded ? [['embedded PDB', `${counted(embedded.size, 'byte')}, ${embedded.compressed_size} compressed`]] : []),
     ...(checksum ? [['PDB checksum', `${shown(checksum, 'algorithm')} ${checksum.checksum_hex}`]] : []),
+    ...(extended ? [['DLL flags EX', flagsOf(extended)]] : []),
   ];
 }
 

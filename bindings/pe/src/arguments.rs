@@ -363,7 +363,7 @@ pub enum Command {
         #[command(flatten)]
         reading: Reading,
     },
-    /// Write an image with another manifest to a new file.
+    /// Write an image with another manifest to a new file: in the place of that which Windows looks for, else of the first.
     SetManifest {
         /// The image.
         file: PathBuf,

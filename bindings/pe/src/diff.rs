@@ -77,13 +77,20 @@ fn sections_of(facts: &Facts) -> Rows {
     rows
 }
 
+/// Puts a row for each function of a DLL. One of which no function is listed has a row by itself.
+fn put_dll(rows: &mut Rows, name: &Option<String>, functions: impl ExactSizeIterator<Item = String>) {
+    let name = escaped(name.as_deref().unwrap_or_default());
+    if functions.len() == 0 {
+        rows.put(name.clone(), String::new());
+    }
+    functions.for_each(|it| rows.put(format!("{name} {it}"), String::new()));
+}
+
 fn imports_of(facts: &Facts) -> Rows {
     let mut rows = Rows::default();
     for dll in facts.imports.iter().flat_map(|it| it.entries()) {
-        let name = dll.name_lower.clone().unwrap_or_default();
-        for it in dll.functions.entries() {
-            rows.put(format!("{} {}", escaped(&name), tables::import(it.name.as_ref(), it.ordinal)), String::new());
-        }
+        let functions = dll.functions.entries().iter();
+        put_dll(&mut rows, &dll.name_lower, functions.map(|it| tables::import(it.name.as_ref(), it.ordinal)));
     }
     rows
 }
@@ -91,10 +98,8 @@ fn imports_of(facts: &Facts) -> Rows {
 fn delay_imports_of(facts: &Facts) -> Rows {
     let mut rows = Rows::default();
     for dll in facts.delay_imports.iter().flat_map(|it| it.entries()) {
-        let name = dll.name_lower.clone().unwrap_or_default();
-        for it in dll.functions.entries() {
-            rows.put(format!("{} {}", escaped(&name), tables::import(it.name.as_ref(), it.ordinal)), String::new());
-        }
+        let functions = dll.functions.entries().iter();
+        put_dll(&mut rows, &dll.name_lower, functions.map(|it| tables::import(it.name.as_ref(), it.ordinal)));
     }
     rows
 }

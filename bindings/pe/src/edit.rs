@@ -203,12 +203,14 @@ fn other_name_of(editor: &ResourceEditor<'_>) -> Option<ResourceKey> {
 /// The image with other version information, by the name 1, by which Windows finds it. Where there is some by other names alone, the
 /// new one starts from the first of that, which stays.
 pub fn set_version(paths: Paths<'_>, image: Result<Image<'_>, Error>, new: &NewVersion) -> Report {
-    let mut other = None;
+    let (mut other, mut is_alone) = (None, false);
     let mut report = deliver(paths, image, |image, editor| {
         let (kind, name) = (ResourceKey::Id(VERSION), ResourceKey::Id(FOUND));
         other = other_name_of(editor);
         let from = other.as_ref().unwrap_or(&name);
         let languages = languages_of(editor, &kind, from, new.language);
+        let there = editor.languages(&kind, from);
+        is_alone = !there.is_empty() && languages.iter().any(|it| !there.contains(it));
         let strings: usize = new.all_strings().map(|(name, text)| name.len() + text.len()).sum();
         let size_of = |place| strings + editor.get(&place).map_or(0, |it| it.bytes.len());
         require_few(languages.iter().map(|language| size_of((kind.clone(), from.clone(), *language))))?;
@@ -224,6 +226,10 @@ pub fn set_version(paths: Paths<'_>, image: Result<Image<'_>, Error>, new: &NewV
         let name = escaped(&name.to_string_lossy());
         let why = "stays, which Windows does not find; the new one is by the name 1";
         report.complaints += &complaint(paths.0, format_args!("version information by the name {name} {why}"));
+    }
+    if is_alone && report.status == Status::Done {
+        let why = "it had no version information in this language: the new one has what was named alone";
+        report.complaints += &complaint(paths.0, why);
     }
     report
 }
@@ -242,7 +248,7 @@ fn set_in(
     Ok(())
 }
 
-/// The image with another manifest.
+/// The image with another manifest: in the place of that which Windows looks for, else of the first that is there.
 pub fn set_manifest(
     paths: Paths<'_>,
     image: Result<Image<'_>, Error>,
@@ -252,8 +258,10 @@ pub fn set_manifest(
     deliver(paths, image, |image, editor| {
         let content = content_of(manifest)?;
         let kind = ResourceKey::Id(MANIFEST);
-        let new = if image.info().characteristics & DLL == 0 { OF_PROGRAM } else { OF_DLL };
-        let name = names_of(editor, &kind).into_iter().next().unwrap_or(ResourceKey::Id(new));
+        let own = ResourceKey::Id(if image.info().characteristics & DLL == 0 { OF_PROGRAM } else { OF_DLL });
+        let mut names = names_of(editor, &kind).into_iter().peekable();
+        let first = names.peek().cloned();
+        let name = names.find(|it| *it == own).or(first).unwrap_or(own);
         let languages = languages_of(editor, &kind, &name, language);
         set_in(editor, (&kind, &name), &languages, &content)
     })

@@ -49,7 +49,7 @@ pub struct Which {
     #[arg(long)]
     language: Option<String>,
     /// The certificate or the section with this number in its table, from 1 on.
-    #[arg(long, value_parser = clap::value_parser!(u32).range(1..))]
+    #[arg(long, value_parser = clap::value_parser!(u32).range(1..), conflicts_with = "name")]
     number: Option<u32>,
 }
 
@@ -198,12 +198,30 @@ fn entry_of(entry: &[u8], bytes: &[u8], kind: u16) -> [u8; 8] {
 }
 
 impl ExtractedPart {
-    /// The bytes of a file, if the image has the part. How many images of a group are not in it is added to `left_out`.
+    /// An option that does not say which of this part is meant. Without it another may be written than was asked for.
+    pub fn misused(self, which: &Which) -> Option<&'static str> {
+        let is_any = self == ExtractedPart::Resources || self == ExtractedPart::Resource;
+        let (is_of_resources, is_section) = (is_any || self.is_of_resources(), self == ExtractedPart::Section);
+        let given = [
+            ("--type", which.kind.is_some(), is_any),
+            ("--name", which.name.is_some(), is_of_resources || is_section),
+            ("--language", which.language.is_some(), is_of_resources),
+            ("--number", which.number.is_some(), is_section || self == ExtractedPart::Certificate),
+        ];
+        given.into_iter().find(|(_, is_given, is_meant)| *is_given && !is_meant).map(|it| it.0)
+    }
+
+    /// How the part is named on the command line.
+    pub fn name(self) -> String {
+        self.to_possible_value().map_or(String::new(), |it| it.get_name().to_string())
+    }
+
+    /// The bytes of a file, if the image has the part. What of it is not in them is said in `left_out`.
     fn bytes_of<'a>(
         self,
         image: &Image<'a>,
         which: &Which,
-        left_out: &mut usize,
+        left_out: &mut Option<String>,
     ) -> Result<Option<Cow<'a, [u8]>>, Error> {
         let kind = match self {
             ExtractedPart::Manifest => return Ok(image.manifest()?.map(Cow::from)),
@@ -213,13 +231,20 @@ impl ExtractedPart {
                 let leaves = leaves_of(image, which, None)?;
                 return leaves.first().map(|it| it.content().map(Cow::from)).transpose();
             }
-            ExtractedPart::Overlay => return Ok(overlay_of(image).map(Cow::from)),
-            ExtractedPart::Section => return Ok(section_of(image, which).map(Cow::from)),
+            ExtractedPart::Overlay => return Ok(overlay_of(image, left_out).map(Cow::from)),
+            ExtractedPart::Section => return Ok(section_of(image, which, left_out).map(Cow::from)),
             ExtractedPart::Icon => ICON,
             ExtractedPart::Cursor | ExtractedPart::Resources => CURSOR,
         };
         match leaves_of(image, which, Some(kind + GROUP))?.first() {
-            Some(group) => Ok(file_of_group(image, group, kind, left_out)?.map(Cow::from)),
+            Some(group) => {
+                let mut count = 0;
+                let file = file_of_group(image, group, kind, &mut count)?;
+                let images = counted(count, "image");
+                let why = || format!("{images} of the group left out: no resource of the image, or too many bytes");
+                *left_out = (count > 0).then(why);
+                Ok(file.map(Cow::from))
+            }
             None => Ok(None),
         }
     }
@@ -229,19 +254,18 @@ impl ExtractedPart {
         if let (ExtractedPart::Resources, Ok(image)) = (self, &image) {
             return write_resources((path, image), which, to);
         }
-        let mut left_out = 0;
+        let mut left_out = None;
         let found = image.and_then(|image| self.bytes_of(&image, which, &mut left_out).map(|bytes| (bytes, image)));
         match found {
-            Ok((Some(bytes), _)) if left_out == 0 => files::deliver(&bytes, to, Status::Done),
-            Ok((Some(bytes), _)) => files::deliver(&bytes, to, Status::Done).and(Report::refused(
-                path,
-                format_args!(
-                    "{} of the group left out: no resource of the image, or too many bytes",
-                    counted(left_out, "image")
-                ),
-            )),
+            Ok((Some(bytes), _)) => {
+                let written = files::deliver(&bytes, to, Status::Done);
+                match left_out {
+                    Some(why) => written.and(Report::refused(path, why)),
+                    None => written,
+                }
+            }
             Ok((None, image)) => {
-                let part = self.to_possible_value().map_or(String::new(), |it| it.get_name().to_string());
+                let part = self.name();
                 let is_open = self.is_of_resources() && has_more_leaves(&image);
                 let among = if is_open { format!(" among the first {LEAVES} resources") } else { String::new() };
                 Report::refused(path, format_args!("the image has no such part: {part}{among}"))
@@ -255,13 +279,15 @@ impl ExtractedPart {
     }
 }
 
-fn overlay_of<'a>(image: &Image<'a>) -> Option<&'a [u8]> {
-    let content = overlay::of(image)?.content?;
+fn overlay_of<'a>(image: &Image<'a>, left_out: &mut Option<String>) -> Option<&'a [u8]> {
+    let overlay = overlay::of(image)?;
+    *left_out = overlay.after().map(|it| format!("{it} left out"));
+    let content = overlay.content?;
     image.bytes().get(content.file_offset..)?.get(..content.size)
 }
 
 /// The first section with a name, or the one with a number, as far as it is in the file.
-fn section_of<'a>(image: &Image<'a>, which: &Which) -> Option<&'a [u8]> {
+fn section_of<'a>(image: &Image<'a>, which: &Which, left_out: &mut Option<String>) -> Option<&'a [u8]> {
     let names = sections::names_of(image);
     let is_it = |number: usize| match (&which.name, which.number) {
         (Some(name), _) => names.get(number).is_some_and(|it| it.0 == name.as_bytes()),
@@ -269,6 +295,8 @@ fn section_of<'a>(image: &Image<'a>, which: &Which) -> Option<&'a [u8]> {
     };
     let (_, section) = image.sections().iter().enumerate().find(|it| is_it(it.0))?;
     let (range, length) = (sections::range_of(image.layout(), section), image.bytes().len() as u64);
+    let missing = range.end.saturating_sub(range.start.max(length));
+    *left_out = (missing > 0).then(|| format!("{missing} bytes left out: the file ends before the section does"));
     image.bytes().get(range.start.min(length) as usize..range.end.min(length) as usize)
 }
 

@@ -182,6 +182,12 @@ fn hex_of_path(path: &Path) -> Option<String> {
     path.to_str().is_none().then(|| hex_of(path.as_os_str().as_encoded_bytes()))
 }
 
+/// The name by which a symbol server would have an image in this file. Standard input has none.
+pub fn file_name_of(path: &Path) -> String {
+    let name = path.file_name().filter(|_| path != Path::new("-"));
+    name.map_or(String::new(), |it| it.to_string_lossy().into_owned())
+}
+
 /// Why something is refused: the library's number, name and text.
 #[derive(Clone, Debug, PartialEq, Eq, Serialize)]
 pub struct Refusal {
@@ -689,7 +695,7 @@ impl<'a> Facts<'a> {
         let is_wanted = |topic| wanted.has(topic);
         let of_parts = wanted.has_hashes_of_parts;
         let has_checksum = of_parts || is_wanted(Topic::Hashes);
-        let name = path.file_name().map(|name| name.to_string_lossy()).unwrap_or_default();
+        let name = file_name_of(path);
         let of_headers = || is_wanted(Topic::Headers).then(|| headers::of(image, &name, has_checksum));
         let of_sections = || is_wanted(Topic::Sections).then(|| sections::of(image, of_parts));
         let of_hashes = || is_wanted(Topic::Hashes).then(|| hashes::of(image, of_parts));
@@ -840,6 +846,11 @@ impl<'a> Facts<'a> {
         }
         found.extend(self.symbols.iter().filter_map(Part::list_refusal).map(|it| ("symbols", it)));
         found
+    }
+
+    /// Says how many sections the file cuts, if it does one.
+    pub fn cut(&self) -> Option<String> {
+        sections::cut(self.sections.as_deref()?)
     }
 
     /// The parts of which more is in the image than stands here.

@@ -16,6 +16,7 @@ use std::fmt::Display;
 use std::fs::{self, File};
 use std::io::{self, IsTerminal, Read, Write};
 use std::path::{Path, PathBuf};
+use std::sync::atomic::{AtomicBool, Ordering};
 
 /// How many files are read side by side.
 const AT_ONCE: usize = 64;
@@ -249,10 +250,19 @@ fn progress(is_recursive: bool) -> Progress {
     Progress::shown()
 }
 
+/// Whether standard input was read. It has its bytes once: whoever reads it again would take it for an empty file.
+static IS_READ: AtomicBool = AtomicBool::new(false);
+
 /// As `fs::read`, into large pages. `-` is standard input. A pipe or a device by another name is refused, since it may never
 /// end, or do something when it is read.
 pub fn whole(path: &Path) -> io::Result<Vec<u8>> {
     if path == Path::new("-") {
+        if IS_READ.swap(true, Ordering::Relaxed) {
+            return Err(io::Error::new(
+                io::ErrorKind::InvalidInput,
+                "standard input can be one file, and was read before",
+            ));
+        }
         let mut bytes = Vec::new();
         io::stdin().lock().read_to_end(&mut bytes)?;
         return Ok(bytes);
@@ -292,7 +302,8 @@ fn said_of(found: &Found, report: &(impl Fn(&Path, &[u8]) -> Report + Sync)) -> 
     }
     let bytes = whole(&found.path)?;
     let said = report(&found.path, &bytes);
-    Ok(if said.is_image || !found.is_below { Ok(said) } else { Err(bytes.starts_with(b"MZ").then_some(CUT)) })
+    let kind = || kind_of(&bytes).or(bytes.starts_with(b"MZ").then_some(CUT));
+    Ok(if said.is_image || !found.is_below { Ok(said) } else { Err(kind()) })
 }
 
 /// Writes what `report` says of each file, in their order. Returns the worst status.

@@ -60,7 +60,9 @@ fn write_page(facts: &Facts, image: Option<&Image<'_>>, out: &mut dyn Write) -> 
     html.markup(" · ").text(grouped(facts.file_size as u64)).markup(" bytes</p><p class=path>");
     html.text(escaped(&facts.file)).markup("</p></header>");
     overview::of(facts, &mut html);
-    warnings(&facts.refusals(), &facts.limited(), &mut html);
+    let version = facts.version.as_ref().and_then(|it| it.said_of_name());
+    let notes: Vec<String> = facts.cut().into_iter().chain(version).collect();
+    warnings(&facts.refusals(), &facts.limited(), &notes, &mut html);
     if let Some(image) = image {
         filter(&mut html);
         let regions = regions::of(image, facts);
@@ -111,12 +113,12 @@ fn head(name: &str, html: &mut Html<'_>) {
     html.text(name).markup(": pe</title><style>").markup(STYLE).markup("</style></head><body>");
 }
 
-/// What is refused comes first, each with its reason, and the parts of which the page does not have all.
-fn warnings(refusals: &[(&'static str, &Refusal)], limited: &[&'static str], html: &mut Html<'_>) {
+/// What is refused comes first, each with its reason, then the parts of which the page does not have all, and what else is warned of.
+fn warnings(refusals: &[(&'static str, &Refusal)], limited: &[&'static str], notes: &[String], html: &mut Html<'_>) {
     if refusals.is_empty() {
         html.markup("<p class=accepted>No part is refused.</p>");
     }
-    let counts = [(refusals.len(), "refused"), (limited.len(), "not shown whole")];
+    let counts = [(refusals.len(), "refused"), (limited.len(), "not shown whole"), (notes.len(), "warned of")];
     let counts: Vec<String> =
         counts.iter().filter(|(count, _)| *count > 0).map(|(count, what)| format!("{count} {what}")).collect();
     if counts.is_empty() {
@@ -130,6 +132,9 @@ fn warnings(refusals: &[(&'static str, &Refusal)], limited: &[&'static str], htm
     }
     for part in limited {
         html.markup("<li><b>").text(part).markup("</b> not shown whole: the image has more</li>");
+    }
+    for note in notes {
+        html.markup("<li>").text(note).markup("</li>");
     }
     html.markup("</ul>");
     if refusals.len() > WARNINGS {

@@ -1,6 +1,6 @@
 //! `pe list`: a table of images as CSV, a row each, for spreadsheets and databases. Numbers are in decimal digits and texts as the image
 //! has them; what an image lacks, and what is refused, is an empty cell. The cell `limited` has the parts whose counts are too small:
-//! more is in the image than is looked at.
+//! more is in the image than is looked at; and how many sections the end of the file cuts.
 
 use crate::csv::written;
 use crate::escape::{escaped, raw};
@@ -118,7 +118,8 @@ fn row_of(facts: &Facts) -> Vec<Cell> {
     let refused = facts.refusals();
     let first = refused.first().map(|(part, refusal)| format!("{part}: {refusal}"));
     let own = vec![cell("file", &facts.file), cell("file_size", facts.file_size), ("error", first)];
-    let limited = Some(facts.limited().join("; ")).filter(|it| !it.is_empty());
+    let limited: Vec<String> = facts.limited().into_iter().map(String::from).chain(facts.cut()).collect();
+    let limited = Some(limited.join("; ")).filter(|it| !it.is_empty());
     [
         own,
         of_headers(facts.headers.as_ref()),

@@ -35,10 +35,11 @@ mod verify;
 use arguments::{Arguments, Command, Files, Hashing, Missing, Output, Reading, Walk};
 use clap::error::ErrorKind;
 use clap::{CommandFactory, Parser, ValueEnum};
-use extract::ExtractedPart;
+use extract::{ExtractedPart, Which};
 use facts::others::Other;
 use facts::{Facts, Refusal, Topic, Wanted};
 use files::Report;
+use new_file::Target;
 use page::Style;
 use pe_c::{Error, Image, Mode, Placement};
 use serde::Serialize;
@@ -103,12 +104,14 @@ impl<'a> How<'a> {
 /// `pe FILE..`: summaries, or the parts that `--parts` names.
 fn summarise(arguments: &Arguments, out: &mut dyn Write) -> io::Result<Status> {
     let Arguments { files, parts, reading, hashing, output, .. } = arguments;
+    let how = How::of(reading, hashing, output);
+    refuse_no_hashes(parts, how);
     if parts.is_empty() && !output.json {
         let wanted = Wanted::summary(hashing.has_hashes());
         let text = |facts: &Facts, style| summary::text(facts, style).into();
         return files::each(files, out, |path, bytes| shown(path, bytes, reading, &wanted, text));
     }
-    shown_whole(files, parts, How::of(reading, hashing, output), out)
+    shown_whole(files, parts, how, out)
 }
 
 /// Parts whole, as text or JSON.
@@ -163,7 +166,10 @@ fn run_command(command: &Command, out: &mut dyn Write) -> io::Result<Status> {
                 return Ok(Status::FileError);
             };
             files::each(files, out, |path, bytes| {
-                of_image((path, bytes), reading, |image| verify::report(path, image, &given, output.json))
+                of_image((path, bytes), reading, |image| {
+                    let image = image.map_err(|error| refusal_with_kind(error, bytes, reading));
+                    verify::report(path, image, &given, output.json)
+                })
             })
         }
         Command::Stack { dump, given, stacks, output } => {
@@ -179,8 +185,10 @@ fn run_command(command: &Command, out: &mut dyn Write) -> io::Result<Status> {
             unwind_functions((words, *walk), *all, How::without_hashes(reading, output), out)
         }
         Command::Completions { shell } => {
-            clap_complete::generate(*shell, &mut Arguments::command(), "pe", out);
-            Ok(Status::Done)
+            // It panics where what it writes to fails.
+            let mut text = Vec::new();
+            clap_complete::generate(*shell, &mut Arguments::command(), "pe", &mut text);
+            out.write_all(&text).map(|()| Status::Done)
         }
         Command::Man => out.write_all(man::page().as_bytes()).map(|()| Status::Done),
         _ => write_file(command, out),
@@ -215,6 +223,7 @@ fn show_parts(
 ) -> io::Result<Status> {
     let (files, topics) = arguments::files_and_parts(words.0, words.1);
     refuse_unknown_parts(&files);
+    refuse_no_hashes(&topics, how);
     match csv {
         Some(table) => show_csv(&files, (&topics, table), how, out),
         None => shown_whole(&files, &topics, how, out),
@@ -272,13 +281,21 @@ fn refuse_unknown_parts(files: &Files) {
     }
 }
 
+/// Ends where a part cannot be written as it is asked for.
+fn refuse_extraction(part: ExtractedPart, which: &Which, to: &Target) {
+    if part == ExtractedPart::Resources && to.to == Path::new("-") {
+        misused("resources are written to a folder, and none to standard output");
+    }
+    if let Some(option) = part.misused(which) {
+        misused(&format!("{option} does not say which {} is meant", part.name()));
+    }
+}
+
 /// The commands that write a new file.
 fn write_file(command: &Command, out: &mut dyn Write) -> io::Result<Status> {
     match command {
         Command::Extract { file, part, to, which, reading } => {
-            if *part == ExtractedPart::Resources && to.to == Path::new("-") {
-                misused("resources are written to a folder, and none to standard output");
-            }
+            refuse_extraction(*part, which, to);
             files::each(&Files::one(file), out, |path, bytes| {
                 of_image((path, bytes), reading, |image| part.write_to((path, image), which, to))
             })
@@ -305,13 +322,16 @@ fn write_file(command: &Command, out: &mut dyn Write) -> io::Result<Status> {
             if fix.is_some() && files.is_several() {
                 misused("--fix takes one file, since it writes one");
             }
-            let fix = fix.as_ref().map(|to| new_file::Target { to: to.clone(), replace: *replace });
+            let fix = fix.as_ref().map(|to| Target { to: to.clone(), replace: *replace });
             files::each(files, out, |path, bytes| match &fix {
                 Some(to) => of_image((path, bytes), reading, |image| sign::fix(path, image, to)),
                 None => of_image((path, bytes), reading, |image| sign::checksum(path, image, output.json)),
             })
         }
         Command::Report { file, to, given, stacks, reading, hashing } => {
+            if stacks.registers {
+                misused("a page has no registers: pe stack --registers shows them");
+            }
             let wanted = Wanted::parts(&[], hashing.has_hashes());
             let there = given.are_there();
             let status = files::one(file, out, |bytes, out| match stack::is_dump(bytes) {
@@ -368,9 +388,22 @@ fn refuse_mapped(reading: &Reading, what: &str) {
     }
 }
 
+/// Ends with the usage of the command, which is the first argument where there is one.
 fn misused(message: &str) -> ! {
-    let error = Arguments::command().error(ErrorKind::ArgumentConflict, message);
+    let mut program = Arguments::command();
+    program.build();
+    let own = std::env::args_os().nth(1).and_then(|it| program.find_subcommand(it).cloned());
+    let error = own.unwrap_or(program).error(ErrorKind::ArgumentConflict, message);
     std::process::exit(streams::said_by_clap(&error).into())
+}
+
+const ONE_PART: &str = "--csv needs one PART, since a table has one kind of rows";
+
+/// Ends where the part is named that `--no-hashes` leaves out.
+fn refuse_no_hashes(topics: &[Topic], how: How) {
+    if topics.contains(&Topic::Hashes) && !how.has_hashes {
+        misused("--no-hashes leaves out the part `hashes`");
+    }
 }
 
 fn show_csv(
@@ -379,7 +412,10 @@ fn show_csv(
     how: How,
     out: &mut dyn Write,
 ) -> io::Result<Status> {
-    let [topic] = topics else { misused("--csv needs one PART, since a table has one kind of rows") };
+    let [topic] = topics else { misused(ONE_PART) };
+    if *topic == Topic::All {
+        misused(ONE_PART);
+    }
     if table.is_some_and(|it| !csv::OTHERS.contains(&(*topic, it))) {
         misused(&format!("{} has no such --table; pe show --help names them", topic.name()));
     }
@@ -433,11 +469,10 @@ fn compare(paths: [&Path; 2], how: How, out: &mut dyn Write) -> io::Result<Statu
     facts.iter().for_each(|facts| complain(show::complaints(facts)));
     match (images.as_slice(), facts.as_slice()) {
         ([Ok(one), Ok(other)], [before, after]) => say(&diff::of(paths, [one, other], [before, after]))?,
-        ([one, other], _) if how.is_json => {
-            let errors = [one, other].map(|it| it.as_ref().err().copied());
+        _ => {
+            let errors = [0, 1].map(|it| images[it].as_ref().err().copied());
             say(&diff::refused(paths, [&contents[0], &contents[1]], errors))?;
         }
-        _ => (),
     }
     Ok(Status::Refused)
 }
@@ -499,16 +534,22 @@ fn of_image<'a>(
     let mut made = report(image);
     made.is_image = error.is_none_or(|it| !is_no_image(it));
     if let Some(error) = error.filter(|_| made.status == Status::Refused && !made.complaints.is_empty()) {
-        let kind = facts::kind_of(bytes).filter(|_| !made.is_image);
-        made.complaints = complaint(path, Refusal { kind, ..refusal_of(error, bytes, reading) });
+        made.complaints = complaint(path, refusal_with_kind(error, bytes, reading));
     }
     made
+}
+
+/// Why headers are refused, and what a file is that has none of an image.
+fn refusal_with_kind(error: Error, bytes: &[u8], reading: &Reading) -> Refusal {
+    let refusal = refusal_of(error, bytes, reading);
+    Refusal { kind: facts::kind_of(bytes).filter(|_| is_no_image(error)).or(refusal.kind), ..refusal }
 }
 
 /// Why the headers of an image are refused, with its numbers.
 fn refusal_of(error: Error, bytes: &[u8], reading: &Reading) -> Refusal {
     let failure = Image::failure(bytes, reading.mode(), reading.layout()).filter(|it| it.error == error);
-    Refusal { said: failure.map(|it| it.to_string()), ..error.into() }
+    let kind = (is_no_image(error) && bytes.starts_with(b"MZ")).then_some(facts::CUT);
+    Refusal { said: failure.map(|it| it.to_string()), kind, ..error.into() }
 }
 
 /// A line of JSON.

@@ -5,7 +5,7 @@ pub mod frames;
 mod lists;
 mod text;
 
-use crate::facts::{Flags, Named, Origin, Refusal};
+use crate::facts::{file_name_of, Flags, Named, Origin, Refusal};
 use crate::files::Report;
 use crate::names::{MACHINES, PDB_FLAGS};
 use crate::page::Style;
@@ -174,9 +174,9 @@ fn put_frames(symbolizer: &Symbolizer<'_>, rvas: &[u32], told: &mut Told) {
 
 fn head_of(path: &Path, pdb: &Pdb<'_>) -> Head {
     let info = pdb.info();
-    let name = path.file_name().map(|it| it.to_string_lossy()).filter(|it| it != "-");
+    let name = file_name_of(path);
     let of_dbi = |number: u32| pdb.dbi().ok().map(|()| number);
-    let key = pdb.dbi().ok().map(|()| pdb.key(name.as_deref().unwrap_or_default()));
+    let key = pdb.dbi().ok().map(|()| pdb.key(&name));
     Head {
         guid: Some(Guid(info.guid).to_string()),
         age: of_dbi(info.dbi_age),

@@ -69,7 +69,8 @@ pub fn text(facts: &Facts, style: Style, named: &[Topic]) -> String {
     part(facts.resources.as_ref(), resources_of, &mut page);
     part(facts.symbols.as_ref(), symbols_of, &mut page);
     for topic in named.iter().filter(|it| facts.is_absent(**it)) {
-        page.row(&topic.name(), "none");
+        // Of other machines exception data are not read.
+        page.row(&topic.name(), if *topic == Topic::Functions { "none of x64 or ARM64" } else { "none" });
     }
     for topic in named.iter().filter(|it| facts.is_not_read(**it)) {
         page.row(&topic.name(), format_args!("not read of {}", facts.file_kind.unwrap_or_default()));
@@ -124,9 +125,7 @@ fn hardening_of(hardening: &Hardening, page: &mut Page) {
     for (label, value) in tables::hardening(hardening) {
         page.line(format_args!("  {label:22}{value}"));
     }
-    for part in &hardening.refused {
-        page.line(format_args!("  {part}: refused, so what it may say is a no here"));
-    }
+    hardening.said_of_refused().for_each(|it| page.line(format_args!("  {it}")));
 }
 
 fn hashes_of(hashes: &Hashes, page: &mut Page) {
@@ -271,7 +270,8 @@ pub fn complaints(facts: &Facts) -> String {
         facts.limited().into_iter().map(|part| format!("pe: {file}: {part}: not whole: the image has more\n"));
     let exports = facts.exports.iter().filter_map(Part::present);
     let left_out = exports.filter_map(|it| it.left_out()).map(|it| format!("pe: {file}: exports: {it}\n"));
-    refused.chain(limited).chain(left_out).collect()
+    let cut = facts.cut().map(|it| format!("pe: {file}: {it}\n"));
+    refused.chain(limited).chain(left_out).chain(cut).collect()
 }
 
 /// Where a symbol server has the PDB of an image, and the image.

@@ -78,11 +78,15 @@ pub fn write(path: &Path, bytes: &[u8], places: &Places, asked: Asked, out: &mut
     } else {
         text::write(&told, Style::of_stdout(), out)?;
     }
-    if let Some(thread) = asked.thread.filter(|_| told.threads.present().is_some_and(|it| it.entries.is_empty())) {
-        complain(complaint(path, format_args!("no thread has the number {thread}")));
-        return Ok(Status::Refused);
-    }
-    Ok(told.status())
+    Ok(if lacks_thread(&told, path, asked) { Status::Refused } else { told.status() })
+}
+
+/// Whether the thread that is asked for is not there, which is said.
+pub fn lacks_thread(told: &Told, path: &Path, asked: Asked) -> bool {
+    let is_none = told.threads.present().is_some_and(|it| it.entries.is_empty());
+    let lacking = asked.thread.filter(|_| is_none);
+    lacking.iter().for_each(|it| complain(complaint(path, format_args!("no thread has the number {it}"))));
+    lacking.is_some()
 }
 
 /// What is said of a dump, as records.

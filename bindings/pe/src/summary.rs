@@ -80,10 +80,8 @@ fn headers_of(headers: &Headers, page: &mut Page) {
     versions_of_headers(headers, page);
     page.row("entry point", format_args!("{:#x}, image base {:#x}", headers.entry_rva, headers.image_base_va));
     page.row("in memory", counted(headers.size_of_image as usize, "byte"));
-    if let Some(content) = headers.overlay.as_ref().and_then(|it| it.content.as_ref()) {
-        let kind = content.kind.unwrap_or("of no known kind");
-        let (size, offset) = (counted(content.size, "byte"), content.file_offset);
-        page.row("overlay", format_args!("{size} at file offset {offset:#x}, {kind}"));
+    if let Some(text) = headers.overlay.as_ref().and_then(|it| it.said()) {
+        page.row("overlay", text);
     }
     if let Some(text) = checksum_of(headers) {
         page.row("checksum", text);
@@ -119,6 +117,7 @@ fn hardening_of(facts: &Facts, page: &mut Page) {
     };
     let words: Vec<String> = [true, false].into_iter().filter_map(named).collect();
     page.row("hardening", words.join("; "));
+    hardening.said_of_refused().for_each(|it| page.row("", it));
 }
 
 fn hashes_of(facts: &Facts, page: &mut Page) {
@@ -288,10 +287,7 @@ fn version_of(facts: &Facts, page: &mut Page) {
     if let Some(fixed) = version.fixed.present() {
         page.row("version", format_args!("{}, of the product {}", fixed.file_version, fixed.product_version));
     }
-    if let Some(name) = &version.other_name {
-        let name = name.name.as_deref().map(escaped).or(name.id.map(|it| it.to_string())).unwrap_or_default();
-        page.warning(format_args!("version information by the name {name}: Windows finds that of the name 1 alone"));
-    }
+    version.said_of_name().iter().for_each(|it| page.warning(it));
     if version.table_count() > 1 {
         page.row("languages", format_args!("{} of version information", version.table_count()));
     }

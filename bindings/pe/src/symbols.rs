@@ -8,7 +8,7 @@ mod sites;
 mod unwinding;
 
 use crate::escape::escaped;
-use crate::facts::{Named, Refusal};
+use crate::facts::{file_name_of, Named, Refusal};
 use crate::files::{self, Report};
 use crate::names::MACHINES;
 use crate::new_file::Target;
@@ -91,7 +91,7 @@ fn put_image(file: &mut SymbolFile, path: &Path, image: &Image<'_>) -> Result<()
         Some((key, path)) => put_module(file, image.info().machine, &key.to_string(), path.name()),
         None => put_module(file, image.info().machine, NO_KEY, &own),
     }
-    if let Some(path) = image.info().symbol_path(&own) {
+    if let Some(path) = image.info().symbol_path(&file_name_of(path)) {
         let text = path.to_string();
         file.line(format_args!("INFO CODE_ID {} {}", text.split('/').nth(1).unwrap_or_default(), in_line(path.name())));
     }

@@ -6,7 +6,7 @@ use crate::facts::assembly::{Assembly, Tables};
 use crate::facts::bound_imports::{self, Bound};
 use crate::facts::certificates::Certificate;
 use crate::facts::clr::{self, Clr, Metadata};
-use crate::facts::debug::{Debug, Entry, Pogo};
+use crate::facts::debug::{Debug, Entry, Pogo, VcFeatures};
 use crate::facts::exports::Exports;
 use crate::facts::functions::Functions;
 use crate::facts::guards::{Guards, Target};
@@ -22,7 +22,7 @@ use crate::facts::sections::Section;
 use crate::facts::symbols::Symbol;
 use crate::facts::tls::Tls;
 use crate::facts::version::Version;
-use crate::facts::{counted, delay_imports, others, List, Name, Part};
+use crate::facts::{counted, delay_imports, others, Flags, List, Name, Part};
 use crate::show::time_of;
 use crate::summary::{built, checksum_of, stamped};
 
@@ -77,13 +77,22 @@ pub fn headers(headers: &Headers) -> Vec<Row> {
         ("sizes", format!("image {}, headers {}", headers.size_of_image, headers.size_of_headers)),
         ("alignment", format!("sections {}, file {}", headers.section_alignment, headers.file_alignment)),
         ("checksum", checksum_of(headers).unwrap_or(format!("{:#010x}", headers.checksum))),
-        ("flags", headers.characteristics.set().join(", ")),
-        ("DLL flags", headers.dll_characteristics.set().join(", ")),
+        ("flags", flags(&headers.characteristics)),
+        ("DLL flags", flags(&headers.dll_characteristics)),
     ];
     rows.extend(headers.all.iter().flat_map(more_headers));
     rows.extend(headers.overlay.iter().map(|it| ("overlay", it.to_string())));
     rows.retain(|(_, value)| !value.is_empty());
     rows
+}
+
+/// The number of flags, of which not all have names, and these; nothing where none is set.
+fn flags(flags: &Flags) -> String {
+    if flags.number == 0 {
+        String::new()
+    } else {
+        flags.to_string()
+    }
 }
 
 /// The header of a TE image, or of an object.
@@ -262,12 +271,25 @@ fn hint(hint: Option<u32>) -> String {
     hint.map_or(String::new(), |hint| hint.to_string())
 }
 
+/// The rows of a DLL. One of which no function is listed has a row by itself.
+fn or_itself(
+    dll: &Name,
+    functions: impl ExactSizeIterator<Item = Vec<String>>,
+    columns: usize,
+) -> impl Iterator<Item = Vec<String>> {
+    let mut alone = vec![String::new(); columns];
+    alone[0] = dll.to_string();
+    let alone = (functions.len() == 0).then_some(alone);
+    functions.chain(alone)
+}
+
 pub fn imports(libraries: &List<Library>) -> Table {
     let rows = libraries.entries.iter().flat_map(|library| {
-        library.functions.entries().iter().map(move |it| {
+        let functions = library.functions.entries().iter().map(move |it| {
             let name = import(it.name.as_ref(), it.ordinal);
             vec![library.name.to_string(), name, hint(it.hint), format!("{:#x}", it.slot_rva)]
-        })
+        });
+        or_itself(&library.name, functions, 4)
     });
     Table::new(&[text("DLL"), text("name or ordinal"), number("hint"), number("slot RVA")], rows)
         .limited(imports::is_limited(libraries))
@@ -317,6 +339,14 @@ pub fn debug_records(debug: &Debug) -> Vec<Row> {
     if let Some(checksum) = debug.pdb_checksum.present() {
         rows.push(("PDB checksum", format!("{} {}", checksum.algorithm, checksum.checksum_hex)));
     }
+    if let Some(VcFeatures { before_vc_11, c_and_cpp, gs, sdl, guard_n }) = debug.vc_features.present() {
+        let objects =
+            format!("before VC 11 {before_vc_11}, C and C++ {c_and_cpp}, /GS {gs}, /sdl {sdl}, guardN {guard_n}");
+        rows.push(("VC features", objects));
+    }
+    if let Some(extended) = debug.extended.present() {
+        rows.push(("DLL flags EX", extended.0.to_string()));
+    }
     rows
 }
 
@@ -351,6 +381,7 @@ pub fn tls(tls: &Tls) -> Vec<Row> {
         ("data", format!("{:#x} to {:#x}, and {} zeros", tls.start_va, tls.end_va, tls.zero_fill)),
         ("index", format!("{:#x}", tls.index_va)),
     ];
+    rows.extend((tls.characteristics != 0).then(|| ("flags", format!("{:#x}", tls.characteristics))));
     rows.extend(tls.callbacks.entries().iter().map(|it| ("callback", format!("{:#x}", it.0))));
     rows
 }
@@ -369,8 +400,10 @@ pub fn relocations(pages: &List<Page>) -> Table {
 
 pub fn delay_imports(libraries: &List<delay_imports::Library>) -> Table {
     let rows = libraries.entries.iter().flat_map(|library| {
-        let imports = library.functions.entries().iter();
-        imports.map(|it| vec![library.name.to_string(), import(it.name.as_ref(), it.ordinal), hint(it.hint)])
+        let functions = library.functions.entries().iter();
+        let functions =
+            functions.map(|it| vec![library.name.to_string(), import(it.name.as_ref(), it.ordinal), hint(it.hint)]);
+        or_itself(&library.name, functions, 3)
     });
     Table::new(&[text("DLL"), text("name or ordinal"), number("hint")], rows)
         .limited(delay_imports::is_limited(libraries))
@@ -394,9 +427,11 @@ pub fn load_config(config: &LoadConfig) -> Vec<Row> {
     let table = |va, count: Option<u64>| address(va).map(|va| format!("{} at {va}", count.unwrap_or_default()));
     let stamp = config.time_date_stamp.filter(|stamp| *stamp != 0);
     let load_flags = config.dependent_load_flags.filter(|flags| *flags != 0);
+    let version = config.major_version.zip(config.minor_version).filter(|it| *it != (0, 0));
     let rows = [
         ("size", Some(counted(config.size as usize, "byte"))),
         ("made", stamp.map(time_of)),
+        ("version", version.map(|it| format!("{}.{}", it.0, it.1))),
         ("cookie", address(config.security_cookie_va)),
         ("handlers", table(config.se_handler_table_va, config.se_handler_count)),
         ("guard check", address(config.guard_cf_check_function_pointer_va)),

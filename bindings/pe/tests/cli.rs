@@ -171,7 +171,8 @@ fn keys_are_paths_of_a_symbol_server() {
     assert_eq!((out.contains("\n  PDB           none, "), status), (true, 0), "{out}");
     let (out, error, status) = run(&["key", &folder.file("b.exe", b"MZ")]);
     assert_eq!((out.as_str(), status), ("", 1));
-    assert!(error.ends_with("b.exe: image: truncated: 64 bytes needed at offset 0x0 (SHORT)\n"), "{error}");
+    let why = "b.exe: image: truncated: 64 bytes needed at offset 0x0 (SHORT); it is a DOS or truncated MZ file, as it seems\n";
+    assert!(error.ends_with(why), "{error}");
 }
 
 #[test]
@@ -347,17 +348,13 @@ fn each_file_has_a_line_of_json() {
     assert_eq!((lines.len(), &lines[0], status), (2, &refused, 1));
     assert_eq!((&lines[1]["file"], &lines[1]["error"]), (&json!(image), &json!(null)));
     let (out, error_text, status) = run(&["digest", &short]);
-    assert_eq!(
-        (out.as_str(), error_text.ends_with("b.exe: truncated: 64 bytes needed at offset 0x0 (SHORT)\n"), status),
-        ("", true, 1)
-    );
+    let why =
+        "b.exe: truncated: 64 bytes needed at offset 0x0 (SHORT); it is a DOS or truncated MZ file, as it seems\n";
+    assert_eq!((out.as_str(), error_text.ends_with(why), status), ("", true, 1));
     let (out, _, status) = run(&["unwind", "--json", &short, "0"]);
     assert_eq!((&serde_json::from_str::<Value>(&out).unwrap()["error"], status), (&error, 1));
     let (out, error_text, status) = run(&["unwind", &short, "0"]);
-    assert_eq!(
-        (out.as_str(), error_text.ends_with("b.exe: truncated: 64 bytes needed at offset 0x0 (SHORT)\n"), status),
-        ("", true, 1)
-    );
+    assert_eq!((out.as_str(), error_text.ends_with(why), status), ("", true, 1));
 }
 
 #[test]

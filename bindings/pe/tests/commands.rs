@@ -425,6 +425,28 @@ fn an_icon_of_another_language_stays_apart() {
     assert!(has("2", "0x407") && !has("2", "0x409") && has("1", "0x409"));
 }
 
+/// Windows looks for that of the name 1 of a program, and of the name 2 of a DLL.
+#[test]
+fn of_several_manifests_the_one_that_windows_looks_for_is_changed() {
+    let folder = Folder::new("manifests");
+    let path = |name: &str| folder.0.join(name).to_str().unwrap().to_string();
+    let (both, manifest) = (path("both.exe"), folder.file("new.xml", b"<new/>"));
+    let words =
+        ["set-resource", &folder.file("a.exe", &made::editable()), &both, "24", "2", &folder.file("2", b"<two/>")];
+    assert_eq!(run(&words).2, 0);
+    let mut bytes = fs::read(&both).unwrap();
+    let signature = u32::from_le_bytes(bytes[60..64].try_into().unwrap()) as usize;
+    let kinds = [(0, ["<new/>", "<two/>"]), (0x20, ["<old/>", "<new/>"])];
+    for (flag, wanted) in kinds {
+        // The upper half of `Characteristics`, whose bit 13 is `IMAGE_FILE_DLL`.
+        bytes[signature + 23] = bytes[signature + 23] & !0x20 | flag;
+        let (image, out) = (folder.file("image", &bytes), path(&format!("out-{flag}")));
+        assert_eq!(run(&["set-manifest", &image, &out, &manifest]).2, 0);
+        let found = ["1", "2"].map(|it| run(&["extract", &out, "resource", "-", "--type", "24", "--name", it]).0);
+        assert_eq!(found, wanted);
+    }
+}
+
 #[test]
 fn icons_are_changed() {
     let folder = Folder::new("icon");
@@ -490,7 +512,9 @@ fn versions_are_changed() {
     }
     // One more language: the numbers are of the first resource, German, and the strings in English.
     let words = ["set-version", &second, &path("f.exe"), "--file-version", "8", "--language", "0x409"];
-    assert_eq!(run(&[&words[..], &["--string", "Own=English"]].concat()).2, 0);
+    let (_, error, status) = run(&[&words[..], &["--string", "Own=English"]].concat());
+    let why = "it had no version information in this language: the new one has what was named alone";
+    assert_eq!((error, status), (format!("pe: {second}: {why}\n"), 0));
     let line = run(&["--json", "--parts", "version", &path("f.exe")]).0;
     let version = &serde_json::from_str::<Value>(&line).unwrap()["version"];
     let languages = [&version["fixed_language"]["id"], &version["language"]["id"]];
@@ -728,6 +752,33 @@ fn sections_and_overlays_are_extracted() {
     assert_eq!(extracted(&["section", "--number", "1"]), (section, 0));
     assert_eq!(extracted(&["section", "--name", ".none"]), (Vec::new(), 1));
     assert_eq!(extracted(&["section", "--number", "2"]), (Vec::new(), 1));
+    // What the file lacks of a section is said, and the rest is written.
+    let cut = folder.file("b.exe", &bytes[..0x500]);
+    let (out, error, status) = run(&["extract", &cut, "section", "-"]);
+    let why = format!("pe: {cut}: 256 bytes left out: the file ends before the section does\n");
+    assert_eq!((out.as_bytes(), error, status), (&bytes[0x400..0x500], why, 1));
+}
+
+/// Before certificates and after them: an overlay is what signatures cover, and what they do not.
+#[test]
+fn bytes_after_the_certificates_are_said_beside_an_overlay() {
+    let folder = Folder::new("overlay-after");
+    let mut bytes = made::with_certificates();
+    let row = bytes.windows(8).position(|it| it == [0x600u32, 24].map(u32::to_le_bytes).concat()).unwrap();
+    bytes.splice(0x600..0x600, *b"PK\x03\x04.content");
+    put(&mut bytes, row, &0x610u32.to_le_bytes());
+    bytes.splice(0x60C..0x60C, [0; 4]);
+    let file = |bytes: &[u8]| folder.file("a.exe", bytes);
+    let own = "16 bytes at file offset 0x600, a ZIP archive";
+    assert!(run(&[&file(&bytes)]).0.contains(&format!("\n  overlay       {own}\n")));
+    bytes.extend_from_slice(b"more than eight");
+    let file = file(&bytes);
+    let after = "15 bytes after the certificates";
+    assert!(run(&[&file]).0.contains(&format!("\n  overlay       {own}; {after}\n")), "{}", run(&[&file]).0);
+    assert!(run(&["show", &file, "headers"]).0.contains(&format!("; a ZIP archive, 16 bytes; {after}\n")));
+    assert!(run(&["report", &file, "-"]).0.contains(&format!("<dd>{own}; {after}</dd>")));
+    let (out, error, status) = run(&["extract", &file, "overlay", "-"]);
+    assert_eq!((out.as_bytes(), error, status), (&bytes[0x600..0x610], format!("pe: {file}: {after} left out\n"), 1));
 }
 
 #[test]
@@ -1275,6 +1326,10 @@ fn a_path_that_is_no_text_can_be_opened_again() {
     let said: Value = serde_json::from_slice(&ran.stdout).unwrap();
     let hex: String = path.as_os_str().as_bytes().iter().map(|it| format!("{it:02x}")).collect();
     assert_eq!(said["file_hex"], hex);
+    // Where no command comes first, words that are wrong are refused with the usage of the program.
+    let words = ["--no-hashes", "--parts", "hashes"];
+    let ran = Command::new(env!("CARGO_BIN_EXE_pe")).arg(&path).args(words).output().unwrap();
+    assert_eq!(ran.status.code(), Some(2), "{}", String::from_utf8_lossy(&ran.stderr));
 }
 
 #[test]
@@ -1377,14 +1432,12 @@ fn what_is_no_image_is_named_by_every_command() {
     let elf = folder.file("a", b"\x7fELF\x02\x01\x01");
     let image = folder.file("a.exe", made::SMALL);
     let out = folder.0.join("out").to_str().unwrap().to_string();
-    let commands: [&[&str]; 9] = [
+    let commands: [&[&str]; 7] = [
         &["extract", &elf, "manifest", &out],
         &["attach", &elf, &image, &out],
         &["detach", &elf, &out],
         &["checksum", &elf, "--fix", &out],
         &["set-manifest", &elf, &out, &image],
-        &["diff", &elf, &image],
-        &["diff", &image, &elf],
         &["key", &elf],
         &["find", "a", &elf],
     ];
@@ -1394,6 +1447,126 @@ fn what_is_no_image_is_named_by_every_command() {
         assert_eq!((said.as_str(), status), ("", 1), "{words:?}");
     }
     assert!(!std::path::Path::new(&out).exists());
+    // Of their bytes no two are equal: the first of the image is M.
+    let length = made::SMALL.len();
+    let differ =
+        |before: usize, after: usize| format!("bytes\n  ~ file: {before} bytes -> {after} bytes, {length} differ\n");
+    for (words, text) in [([&elf, &image], differ(7, length)), ([&image, &elf], differ(length, 7))] {
+        let (said, error, status) = run(&["diff", words[0], words[1]]);
+        assert_eq!((said, error.ends_with("; it is an ELF file\n"), status), (text, true, 1));
+    }
+    let (said, _, status) = run(&["verify", &elf]);
+    let why = "truncated: 64 bytes needed at offset 0x0 (SHORT); it is an ELF file";
+    assert_eq!((said, status), (format!("{elf}\n  warning       {why}\n  result        refused: see why above\n"), 1));
+    let (_, error, _) = run(&["-rv", folder.0.to_str().unwrap()]);
+    assert!(error.contains("a: skipped, it is an ELF file\n"), "{error}");
+    folder.file("a", b"");
+    let (_, error, _) = run(&["-rv", folder.0.to_str().unwrap()]);
+    assert!(error.contains("a: skipped, it is an empty file\n"), "{error}");
+}
+
+/// What the program says and its status, with these bytes as standard input.
+fn run_with(input: &[u8], words: &[&str]) -> (String, String, i32) {
+    let mut ran = Command::new(env!("CARGO_BIN_EXE_pe"));
+    let ran = ran.args(words).stdin(Stdio::piped()).stdout(Stdio::piped()).stderr(Stdio::piped());
+    let mut ran = ran.spawn().unwrap();
+    ran.stdin.take().unwrap().write_all(input).unwrap();
+    let ran = ran.wait_with_output().unwrap();
+    let text = |bytes: &[u8]| String::from_utf8_lossy(bytes).into_owned();
+    (text(&ran.stdout), text(&ran.stderr), ran.status.code().unwrap())
+}
+
+/// Whoever reads it again would take it for an empty file: an image had an empty manifest after that.
+#[test]
+fn standard_input_is_one_file() {
+    let folder = Folder::new("one-input");
+    let (image, out) = (made::editable(), folder.0.join("out").to_str().unwrap().to_string());
+    let twice = ["set-manifest", "-", &out, "-"];
+    let commands: [&[&str]; 6] = [
+        &twice,
+        &["attach", "-", "-", &out],
+        &["diff", "-", "-"],
+        &["digest", "-", "-"],
+        &["symbols", "-", &out, "--pdb", "-"],
+        &["verify", "-", "--catalog", "-"],
+    ];
+    for words in commands {
+        let (_, error, status) = run_with(&image, words);
+        // A catalog is read first, and an image is none.
+        let is_catalog = words.contains(&"--catalog");
+        let why = if is_catalog { "no catalog: " } else { "standard input can be one file, and was read before\n" };
+        assert_eq!((error.contains(why), status), (true, 3), "{words:?}: {error}");
+    }
+    assert!(!std::path::Path::new(&out).exists());
+    let (_, _, status) = run_with(b"<assembly/>", &["set-manifest", &folder.file("a.exe", &image), &out, "-"]);
+    assert_eq!(status, 0);
+    // It has no name, by which a symbol server would have it.
+    assert!(run_with(&image, &["key", "-"]).0.ends_with("\n  image         none\n"));
+}
+
+/// What would be ignored is refused: the part would not be the one that was asked for.
+#[test]
+fn options_that_choose_nothing_are_refused() {
+    let folder = Folder::new("ignored");
+    let file = folder.file("a.exe", &made::with_resources());
+    let chosen: [(&str, &[&str]); 10] = [
+        ("manifest", &["--name", "1"]),
+        ("manifest", &["--language", "1033"]),
+        ("manifest", &["--type", "24"]),
+        ("manifest", &["--number", "1"]),
+        ("certificates", &["--number", "1"]),
+        ("certificate", &["--name", "1"]),
+        ("overlay", &["--name", "1"]),
+        ("icon", &["--type", "14"]),
+        ("section", &["--language", "1033"]),
+        ("section", &["--name", ".rdata", "--number", "1"]),
+    ];
+    for (part, words) in chosen {
+        let (out, error, status) = run(&[&["extract", &file, part, "-"], words].concat());
+        assert_eq!((out.as_str(), error.contains(words[words.len() - 2]), status), ("", true, 2), "{part} {words:?}");
+        assert!(error.contains("Usage: pe extract "), "{error}");
+    }
+    for words in [&["show", "--csv", &file, "all"][..], &["show", "--no-hashes", &file, "hashes"]] {
+        assert_eq!((run(words).0.as_str(), run(words).2), ("", 2), "{words:?}");
+    }
+    assert_eq!(run(&["--no-hashes", "--parts", "headers,hashes", &file]).2, 2);
+}
+
+/// A DLL is loaded whether a function of it is imported or not.
+#[test]
+fn a_dll_without_functions_is_in_tables_and_differences() {
+    let folder = Folder::new("no-functions");
+    let mut bytes = made::with_imports();
+    let before = folder.file("a.exe", &bytes);
+    let library = json_of("no-functions-before", &bytes)["imports"][1].clone();
+    assert_eq!((&library["name"], library["functions"].as_array().unwrap().len()), (&json!("a.dll"), 1));
+    // The one entry of its lookup table, which is the import address table, is at its slot.
+    let slot = library["slot_rva"].as_u64().or(library["functions"][0]["slot_rva"].as_u64()).unwrap() as usize;
+    let at = slot - 0x1000 + 0x400;
+    bytes[at..at + 8].fill(0);
+    let after = folder.file("b.exe", &bytes);
+    assert!(run(&["show", "--csv", &after, "imports"]).0.ends_with("\na.dll,,,\n"));
+    let (out, _, _) = run(&["diff", &before, &after]);
+    assert!(out.contains("imports\n  - a.dll f\n  + a.dll\nbytes\n"), "{out}");
+    let page = run(&["report", &after, "-"]).0;
+    assert!(page.contains("<td>a.dll</td><td></td>"), "{page}");
+}
+
+/// Bits without a name are in the number.
+#[test]
+fn flags_are_shown_with_their_number() {
+    let folder = Folder::new("flag-numbers");
+    let before = folder.file("a.exe", made::SMALL);
+    let mut bytes = made::SMALL.to_vec();
+    let headers = u32::from_le_bytes(bytes[60..64].try_into().unwrap()) as usize;
+    // `Characteristics`, of which 0x40 is reserved.
+    bytes[headers + 22] |= 0x40;
+    let after = folder.file("b.exe", &bytes);
+    assert!(run(&["show", &after, "headers"])
+        .0
+        .contains("\n  flags         0x62: EXECUTABLE_IMAGE, LARGE_ADDRESS_AWARE\n"));
+    let (out, _, _) = run(&["diff", &before, &after]);
+    assert!(out.starts_with("headers\n  ~ flags: 0x22: "), "{out}");
 }
 
 #[test]
@@ -1773,6 +1946,14 @@ fn a_truncated_file_says_how_many_sections_it_cuts() {
         [run(&[&file]), run(&["show", &file, "sections"])].map(|it| it.0.contains(said))
     };
     assert_eq!((says(&whole), says(&whole[..whole.len() - 1])), ([false; 2], [true; 2]));
+    // Tables say it on standard error, a list in its last cell, and a page among its warnings.
+    let (file, said) =
+        (folder.file("a.dll", &whole[..whole.len() - 1]), "sections: 1 not whole: the file ends before they do");
+    assert_eq!(run(&["show", "--csv", &file, "sections"]).1, format!("pe: {file}: {said}\n"));
+    assert!(run(&["list", &file]).0.ends_with(&format!(",{said}\n")));
+    assert!(run(&["report", &file, "-"])
+        .0
+        .contains(&format!("<h2 id=warnings>1 warned of</h2><ul><li>{said}</li></ul>")));
 }
 
 #[test]
@@ -1781,10 +1962,22 @@ fn hardening_says_which_part_is_refused() {
     let optional = u32::from_le_bytes(data[60..64].try_into().unwrap()) as usize + 24;
     let directories = optional + if data[optional + 1] == 2 { 112 } else { 96 };
     let says = |data: &[u8]| {
-        let said = "load configuration: refused, so what it may say is a no here";
-        run(&["show", &folder.file("a.exe", data), "hardening"]).0.contains(said)
+        let (said, file) = ("load configuration: refused, so what it may say is a no here", folder.file("a.exe", data));
+        [&["show", &file, "hardening"][..], &[&file], &["report", &file, "-"]].map(|it| run(it).0.contains(said))
     };
-    assert!(!says(&data));
+    assert_eq!(says(&data), [false; 3]);
     data[directories + 80..directories + 84].copy_from_slice(&0x7FFF_0000u32.to_le_bytes());
-    assert!(says(&data));
+    assert_eq!(says(&data), [true; 3]);
+}
+
+/// Exception data of another machine are there, and not read.
+#[test]
+fn functions_of_other_machines_are_not_said_to_be_none() {
+    let folder = Folder::new("functions-of-arm");
+    let mut bytes = made::with_functions();
+    let signature = u32::from_le_bytes(bytes[60..64].try_into().unwrap()) as usize;
+    // `IMAGE_FILE_MACHINE_ARMNT`
+    put(&mut bytes, signature + 4, &0x1C4u16.to_le_bytes());
+    let said = run(&["show", &folder.file("a.exe", &bytes), "functions"]).0;
+    assert!(said.ends_with("\n  functions     none of x64 or ARM64\n"), "{said}");
 }

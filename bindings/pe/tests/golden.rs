@@ -66,6 +66,8 @@ const MADE: &[(&str, &[&str])] = &[
             "  PDB           a.pdb\n  GUID          {497B72F6-390A-44FC-878E-5A2D63B6CC4B}, age 1\n",
             "  symbol key    497B72F6390A44FC878E5A2D63B6CC4B1\n",
             "  Repro         68617368\n",
+            "  VC features   before VC 11 1, C and C++ 2, /GS 3, /sdl 4, guardN 5\n",
+            "  DLL flags EX  0x41: CET_COMPAT, FORWARD_CFI_COMPAT\n",
             "\nParts of sections (LTCG)\n",
             "  .text$mn  0x1000  16\n  .bss      0x2000  8\n",
             "\n  PDB           a.pdb/497B72F6390A44FC878E5A2D63B6CC4B1/a.pdb\n  image         debug.bin/000000006000/debug.bin\n",
@@ -156,7 +158,7 @@ const MADE: &[(&str, &[&str])] = &[
         &[
             "  TLS           8 bytes, 2 callbacks\n",
             "\nThread-local storage\n  data          0x180001040 to 0x180001048, and 12 zeros\n",
-            "  index         0x180001050\n  callback      0x180002000\n  callback      0x180002010\n",
+            "  index         0x180001050\n  flags         0x300000\n  callback      0x180002000\n  callback      0x180002010\n",
             "\"tls\":{\"start_va\":6442455104,\"end_va\":6442455112,\"index_va\":6442455120,\"zero_fill\":12,",
             "\"characteristics\":3145728,\"callbacks\":[6442459136,6442459152],\"callbacks_error\":null,",
         ],
@@ -175,7 +177,7 @@ const MADE: &[(&str, &[&str])] = &[
         "load_config",
         &[
             "  load config   148 bytes, guard flags 0x10000500: CF_INSTRUMENTED, CF_FUNCTION_TABLE_PRESENT\n",
-            "\nLoad configuration\n  size          148 bytes\n  made          2020-09-13 12:26:40 UTC\n",
+            "\nLoad configuration\n  size          148 bytes\n  made          2020-09-13 12:26:40 UTC\n  version       6.1\n",
             "  cookie        0x180002000\n  guard check   0x180003000\n  guard call    0x180003008\n",
             "  guarded       3 at 0x180004000\n  guard flags   0x10000500: CF_INSTRUMENTED, CF_FUNCTION_TABLE_PRESENT\n",
             "  load flags    0x800\n",
@@ -252,8 +254,8 @@ const MADE: &[(&str, &[&str])] = &[
             "x86_dll.bin: PE32 DLL for x86, Windows GUI\n  built         2020-09-13 12:26:40 UTC by its time stamp\n",
             "  entry point   0x1004, image base 0x10000000\n  in memory     12288 bytes\n",
             "  sizes         image 12288, headers 1024\n  alignment     sections 4096, file 512\n",
-            "  checksum      0x0000111d, right\n  flags         EXECUTABLE_IMAGE, 32BIT_MACHINE, DLL\n",
-            "  DLL flags     DYNAMIC_BASE, NX_COMPAT\n",
+            "  checksum      0x0000111d, right\n  flags         0x2102: EXECUTABLE_IMAGE, 32BIT_MACHINE, DLL\n",
+            "  DLL flags     0x140: DYNAMIC_BASE, NX_COMPAT\n",
             "  export     RVA 0x2000  80\n  import     RVA 0x2060  40\n",
             "  .text  r-x          0x1000  16            0x400        512       0.08     859dadec",
             "  .data  rw-          0x2000  512           0x600        512       1.17     92bb578e",
@@ -297,8 +299,8 @@ const MADE: &[(&str, &[&str])] = &[
     (
         "short",
         &[
-            "short.bin: refused\n  warning       image: truncated: 64 bytes needed at offset 0x0 (SHORT)\nstatus 1\n",
-            "pe: short.bin: truncated: 64 bytes needed at offset 0x0 (SHORT)\nstatus 1\n",
+            "short.bin: refused\n  warning       image: truncated: 64 bytes needed at offset 0x0 (SHORT); it is a DOS or truncated MZ file, as it seems\n",
+            "pe: short.bin: truncated: 64 bytes needed at offset 0x0 (SHORT); it is a DOS or truncated MZ file, as it seems\nstatus 1\n",
             "\"file_size\":2,\"error\":{\"number\":2,\"name\":\"SHORT\",\"text\":\"truncated\"},\"file_kind\":null}\nstatus 1\n",
         ],
     ),

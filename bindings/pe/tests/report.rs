@@ -63,7 +63,8 @@ fn tables_of(all: &Value) -> Vec<(&'static str, usize)> {
     vec![
         ("directories", count(&all["headers"]["directories"])),
         ("sections", count(&all["sections"])),
-        ("imports", libraries.iter().map(|it| count(&it["functions"])).sum()),
+        // A DLL of which no function is listed has a row by itself.
+        ("imports", libraries.iter().map(|it| count(&it["functions"]).max(1)).sum()),
         ("exports", count(&all["exports"]["entries"])),
         ("debug", count(&all["debug"]["entries"])),
         ("pogo", count(&all["debug"]["pogo"]["parts"])),
@@ -169,7 +170,10 @@ fn a_page_shows_the_stacks_that_are_asked_for() {
     assert!(page.contains(&format!("<td>{image}</td>")), "{page}");
     let (page, _, _) = run(&["report", &dump, "-", "--frames", "0"]);
     assert!(page.contains("<p>there may be more frames</p>") && !page.contains("<tr id=frame-"));
-    assert!(!run(&["report", &dump, "-", "--thread", "37"]).0.contains("<details id=thread-"));
+    let (page, error, status) = run(&["report", &dump, "-", "--thread", "37"]);
+    assert!(!page.contains("<details id=thread-"));
+    assert_eq!((error, status), (format!("pe: {dump}: no thread has the number 37\n"), 1));
+    assert_eq!(run(&["report", &dump, "-", "--registers"]).2, 2);
 }
 
 #[test]

@@ -111,6 +111,7 @@ fn streams_that_are_full_or_closed_are_an_error() {
         (">&-", &[image], 3),
         (">&-", &["--json", image], 3),
         (">/dev/full", &["--help"], 3),
+        (">/dev/full", &["completions", "bash"], 3),
         (">&-", &["--version"], 3),
         ("2>/dev/full", &[none], 3),
         ("2>&-", &[none], 3),

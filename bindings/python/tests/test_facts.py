@@ -113,7 +113,8 @@ class Lines(Room):
         self.assertEqual(run("-j", "0", path)[2], 2)
         with open(path, "rb") as file:
             data = file.read()
-        self.assertEqual(json.loads(run("-", input=data)[0])["file_size"], len(data))
+        said = json.loads(run("-", input=data)[0])
+        self.assertEqual((said["file_size"], said["headers"]["symbol_server_path"]), (len(data), None))
 
     def test_options(self):
         path = os.path.join(self.room, "debug.bin")

@@ -80,6 +80,11 @@ pub fn of(image: &Image<'_>) -> Hardening {
 }
 
 impl Hardening {
+    /// Says of each part that is refused what that means for the others.
+    pub fn said_of_refused(&self) -> impl Iterator<Item = String> + '_ {
+        self.refused.iter().map(|part| format!("{part}: refused, so what it may say is a no here"))
+    }
+
     /// Each with its name, and what it is.
     pub fn rows(&self) -> [(&'static str, Option<bool>); 9] {
         [

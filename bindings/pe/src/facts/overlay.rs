@@ -1,6 +1,7 @@
 //! The overlay: the bytes after the headers and the raw data of all sections. COFF symbols and the certificate table, which the
 //! headers lead to, are parts of it; what is left is the content, which installers read themselves.
 
+use super::counted;
 use pe_c::{DirectoryIndex, Image};
 use serde::Serialize;
 use std::fmt;
@@ -14,8 +15,11 @@ pub struct Overlay {
     pub symbols_size: usize,
     /// Of the certificate table.
     pub certificates_size: usize,
-    /// What is neither, or null. Fewer than eight zeros before certificates are none.
+    /// What is neither, or null: of what comes before certificates and after them the first. Fewer than eight zeros are none.
     pub content: Option<Content>,
+    /// How many bytes come after the certificates, where `content` comes before them. For text.
+    #[serde(skip)]
+    pub size_after: usize,
 }
 
 #[derive(Clone, Debug, Serialize)]
@@ -89,15 +93,31 @@ pub fn of(image: &Image<'_>) -> Option<Overlay> {
     let table = certificates_in(image).filter(|it| it.start >= symbols);
     let (before, after) = table.as_ref().map_or((symbols..end, end..end), |it| (symbols..it.start, it.end..end));
     let is_padding = |range: &Range<usize>| range.len() < 8 && bytes[range.clone()].iter().all(|it| *it == 0);
-    let rest = [before, after].into_iter().find(|it| !is_padding(it));
-    let content = rest.map(|it| Content { file_offset: it.start, size: it.len(), kind: kind_of(&bytes[it]) });
+    let mut rest = [before, after].into_iter().filter(|it| !is_padding(it));
+    let content = rest.next().map(|it| Content { file_offset: it.start, size: it.len(), kind: kind_of(&bytes[it]) });
     Some(Overlay {
         file_offset: start,
         size,
         symbols_size: symbols - start,
         certificates_size: table.map_or(0, |it| it.len()),
         content,
+        size_after: rest.next().map_or(0, |it| it.len()),
     })
+}
+
+impl Overlay {
+    /// Says how many bytes come after the certificates, if `content` does not have them.
+    pub fn after(&self) -> Option<String> {
+        (self.size_after > 0).then(|| format!("{} after the certificates", counted(self.size_after, "byte")))
+    }
+
+    /// What its content is, and where.
+    pub fn said(&self) -> Option<String> {
+        let Content { file_offset, size, kind } = self.content.as_ref()?;
+        let (size, kind) = (counted(*size, "byte"), kind.unwrap_or("of no known kind"));
+        let after = self.after().map_or(String::new(), |it| format!("; {it}"));
+        Some(format!("{size} at file offset {file_offset:#x}, {kind}{after}"))
+    }
 }
 
 impl fmt::Display for Overlay {
@@ -112,6 +132,6 @@ impl fmt::Display for Overlay {
         if let Some(content) = &self.content {
             write!(f, "; {}, {} bytes", content.kind.unwrap_or("of no known kind"), content.size)?;
         }
-        Ok(())
+        self.after().map_or(Ok(()), |it| write!(f, "; {it}"))
     }
 }

@@ -2,6 +2,7 @@
 
 use super::resources::{label_of, language_of, Label, VERSION};
 use super::{entry, field, Budget, List, Part, Refusal};
+use crate::escape::escaped;
 use pe_c::{Error, FixedVersion, Image, ResourceLeaf, ResourceName, VersionBlock, VersionBlocks};
 use serde::Serialize;
 use std::collections::BTreeMap;
@@ -72,6 +73,13 @@ impl Version {
     /// Whether there is neither version information nor a manifest.
     pub fn is_absent(&self) -> bool {
         matches!((&self.fixed, &self.languages, &self.manifest), (Part::Absent, Part::Absent, Part::Absent))
+    }
+
+    /// Says that Windows does not find it, where it has another name.
+    pub fn said_of_name(&self) -> Option<String> {
+        let name = self.other_name.as_ref()?;
+        let name = name.name.as_deref().map(escaped).or(name.id.map(|it| it.to_string())).unwrap_or_default();
+        Some(format!("version information by the name {name}: Windows finds that of the name 1 alone"))
     }
 
     /// How many tables of strings there are.

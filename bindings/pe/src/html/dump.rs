@@ -24,7 +24,8 @@ pub fn write_to(
     (to, out): (&Target, &mut dyn Write),
 ) -> io::Result<Status> {
     let told = stack::told(path, bytes, places, asked);
-    let status = if told.is_refused() { Status::Refused } else { Status::Done };
+    let is_refused = stack::lacks_thread(&told, path, asked) || told.is_refused();
+    let status = if is_refused { Status::Refused } else { Status::Done };
     files::deliver_written(to, status, out, &mut |out| write_page(&told, bytes.len(), out))
 }
 
@@ -38,7 +39,7 @@ fn write_page(told: &Told, size: usize, out: &mut dyn Write) -> io::Result<()> {
     refused.extend(told.damaged_tables().map(|(_, it)| ("function table of a module", it)));
     refused.extend(told.damaged_names().map(|(_, _, it)| ("names of a module", it)));
     refused.extend(told.damaged_pdbs().map(|(.., it)| ("PDB of a module", it)));
-    warnings(&refused, &[], &mut html);
+    warnings(&refused, &[], &[], &mut html);
     filter(&mut html);
     // The list of the parts stands before them, so they are made twice, and only one is in memory.
     let mut unwritten = Html::unwritten();

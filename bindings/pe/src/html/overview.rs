@@ -47,11 +47,7 @@ fn rows_of(facts: &Facts) -> Vec<Row> {
     rows.push(("built", built(headers), ""));
     let class = if headers.checksum_state == Some("wrong") { "wrong" } else { "" };
     rows.extend(checksum_of(headers).map(|it| ("checksum", it, class)));
-    let content = headers.overlay.as_ref().and_then(|it| it.content.as_ref());
-    rows.extend(content.map(|it| {
-        let kind = it.kind.unwrap_or("of no known kind");
-        ("overlay", format!("{} bytes at file offset {:#x}, {kind}", it.size, it.file_offset), "")
-    }));
+    rows.extend(headers.overlay.as_ref().and_then(|it| Some(("overlay", it.said()?, ""))));
     let pdb = facts.debug.as_ref().and_then(|it| it.pdb.present());
     rows.extend(pdb.map(|it| ("PDB", format!("{}, key {}", it.name, it.key), "")));
     rows.extend(facts.hashes.as_ref().map(|it| ("SHA-256", it.sha256_hex.clone(), "")));
@@ -74,6 +70,9 @@ fn hardening_of(facts: &Facts, html: &mut Html<'_>) {
         html.text(name).markup(" <b>").text(word(value)).markup("</b></li>");
     }
     html.markup("</ul>");
+    for refused in hardening.said_of_refused() {
+        html.markup("<p>").text(refused).markup("</p>");
+    }
 }
 
 pub fn of(facts: &Facts, html: &mut Html<'_>) {

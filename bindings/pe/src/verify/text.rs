@@ -11,7 +11,7 @@ use crate::page::{Page, Style};
 /// What all of it comes to, in words that say no more than was checked.
 fn words_of(state: State) -> &'static str {
     match state {
-        State::Refused => "damaged: see the errors",
+        State::Refused => "refused: see why above",
         State::NotSigned => "not signed",
         State::Wrong => "WRONG: see what is different or wrong",
         State::Weak => "all of it fits, but by MD5: another text with the same digest is made in seconds",

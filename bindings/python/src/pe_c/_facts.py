@@ -153,7 +153,8 @@ def headers(image: Exact, file: str) -> Facts:
     info, is_reproducible = image.value("headers"), image.value("repro") is not None
     right = image.value("checksum") if image.has_hashes and not info.mode & Mode.MAPPED else None
     state = None if right is None else "none" if info.checksum == 0 else "right" if info.checksum == right.value else "wrong"
-    own = file_name(file) if info.width else None
+    # Standard input has no name.
+    own = file_name(file) if info.width and file != "-" else None
     return {
         "format": {64: "PE32+", 32: "PE32"}.get(info.width), "is_dll": bool(info.characteristics & 0x2000),
         "machine": named(info.machine, names.MACHINES), "subsystem": named(info.subsystem, names.SUBSYSTEMS),
