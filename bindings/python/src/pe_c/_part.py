@@ -13,6 +13,8 @@ from ._kinds import Kind
 T = TypeVar("T")
 # How many rows a notebook shows.
 SHOWN = 100
+# What is said of a list that is limited.
+LIMITED = "more entries than the file's bytes account for"
 
 
 class Error(ValueError):
@@ -79,9 +81,11 @@ class Part(tuple[T, ...]):
     is_limited: bool = False
 
     def check(self) -> Part[T]:
-        """The rows, if they are all there. Raises the error that ended them."""
+        """The rows, if they are all there. Raises the error that ended them, and Kind.ROOM where they are limited."""
         if self.error:
             raise self.error
+        if self.is_limited:
+            raise Error(Kind.ROOM, LIMITED, "list")
         return self
 
     @property
@@ -107,8 +111,9 @@ class Part(tuple[T, ...]):
         lines = "".join(f"<tr>{''.join(f'<td>{shown(it)}</td>' for it in row)}</tr>" for row in rows[:SHOWN])
         head = "".join(f"<th>{it}</th>" for it in self.columns)
         more = f"<p>{len(rows) - SHOWN} more</p>" if len(rows) > SHOWN else ""
-        error = f"<p><b>{shown(str(self.error))}</b></p>" if self.error else ""
-        return f"<table><tr>{head}</tr>{lines}</table>{more}{error}"
+        said = [str(self.error)] * bool(self.error) + [LIMITED] * self.is_limited
+        ends = "".join(f"<p><b>{shown(it)}</b></p>" for it in said)
+        return f"<table><tr>{head}</tr>{lines}</table>{more}{ends}"
 
 
 def fields_of(row: Any) -> tuple[str, ...]:
