@@ -53,6 +53,36 @@ test('errors are objects with the name and the text of pe.h', () => {
   assert.equal(results[error.number], 'PE_C_BAD_MAGIC');
 });
 
+test('a range that is not in the file has no bytes', () => {
+  const image = opened('imports'), length = BigInt(image.length);
+  assert.deepEqual([...image.slice({ offset: 0, length: 2 })], [0x4D, 0x5A]);
+  assert.equal(image.slice({ offset: length, length: 0n }).length, 0);
+  for (const range of [{ offset: length - 2n, length: 3n }, { offset: -1n, length: 2n }, { offset: 1n << 40n, length: 1n }, { offset: 2, length: -1 }, {}]) {
+    for (const name of ['slice', 'utf8', 'utf16']) assert.throws(() => image[name](range), RangeError);
+  }
+});
+
+test('what is no bytes is not written', () => {
+  const image = opened('x86_dll'), resource = { type: 24, name: 1, language: 0x409 }, bytes = Uint8Array.of(1, 2, 3, 4, 5, 6, 7, 8);
+  for (const content of ['<assembly/>', [1, 2], undefined, null, 5]) {
+    assert.throws(() => image.edit([{ ...resource, content }]), TypeError);
+    assert.throws(() => image.attach(content), TypeError);
+  }
+  for (const value of ['<assembly/>', [1, 2], 5]) assert.throws(() => library.versionBlock({ key: 'a', value }), TypeError);
+  for (const text of [[97, 0], 'a', new Uint16Array(2)]) {
+    assert.throws(() => library.call('pe_c_write_block', { key: text, is_text: 1, value: bytes, children: bytes }), TypeError);
+  }
+  for (const content of [bytes, bytes.buffer, new Uint16Array(bytes.buffer), new DataView(bytes.buffer)]) {
+    const [found] = library.open(image.edit([{ ...resource, content }])).resources();
+    assert.deepEqual([...found.content], [...bytes]);
+  }
+});
+
+test('an address that is none has no name', () => {
+  const image = opened('functions');
+  for (const address of [0x1000, {}, { rva: null }, { rva: -1 }]) assert.throws(() => image.functionNames([address]), RangeError);
+});
+
 test('an image has the headers and sections that it was made with', () => {
   const image = opened('imports');
   assert.deepEqual([image.info.machine, image.info.entry, image.info.base, image.info.width], [0x8664, 0x1234, 0x180000000n, 64]);
@@ -238,7 +268,7 @@ test('parameters that are missing or unknown', () => {
 
 test('numbers that do not fit are no other numbers', () => {
   const image = opened('functions'), table = image.call('pe_c_function_table');
-  for (const rva of [2 ** 32, -1, 1.5, 'x']) assert.throws(() => image.call('pe_c_offset', { rva }), RangeError);
+  for (const rva of [2 ** 32, -1, 1.5, 'x', '', '4096', null, [], [5]]) assert.throws(() => image.call('pe_c_offset', { rva }), RangeError);
   for (const index of [1n << 64n, -1]) assert.throws(() => image.call('pe_c_function_at', { table, index }), RangeError);
   assert.throws(() => image.call('pe_c_next_code', { walk: { version: 256 } }), RangeError);
   assert.throws(() => image.call('pe_c_function_at', { table: { offset: -1 }, index: 0 }), RangeError);
@@ -461,6 +491,9 @@ test('of a damaged function table the whole entries serve, and the process says 
   const rips = (process) => [...process.frames({ registers: frameRegisters(), remaining: 9n })].map((it) => it.registers.rip);
   const whole = library.process({ ...parts, modules: [{ bytes, base: BASE }] });
   new DataView(bytes.buffer).setUint32(Number(size), 47, true);
+  for (const it of [{ bytes }, { base: BASE }, { size: null, base: BASE }, { size: 2 ** 32, base: BASE }]) {
+    assert.throws(() => library.process({ ...parts, modules: [it] }), RangeError);
+  }
   const damaged = library.process({ ...parts, modules: [{ bytes, base: BASE }, { size: 0x1000, base: 0x70000000n }] });
   assert.deepEqual([whole.damaged, damaged.damaged[1], damaged.images[1]], [[null], null, null]);
   assert.equal(damaged.damaged[0].call, 'pe_c_function_table');
