@@ -1583,6 +1583,24 @@ test('names of functions without a PDB', () => {
   assert.equal(opened('functions').functionNames([{ rva: 0 }])[0], null);
 });
 
+// The samples of the README, one after the other, over images of the tests. The dump's first frame is at RVA 0x1065 of a module that
+// is loaded here, where the PDB has `helper` at 0x1050.
+const readme = [...readFileSync(join(beside, 'README.md'), 'utf8').matchAll(/^```js\n(.*?)^```/gms)].map((it) => it[1]);
+const program = readme.join('').replace(/^import .*\n/gm, '').replaceAll('0x140000000n', '0x180003F9Bn'), lines = [];
+const places = { 'a.dll': 'exports.bin', 'a.exe': 'functions.bin', 'a.dmp': 'x64.dmp', 'a.pdb': 't.pdb' };
+const withVersion = opened('x86_dll').edit([{ type: 16, name: 1, language: 0x409, content: library.versionInfo({}) }]);
+const given = {
+  readFileSync: (name) => readFileSync(join(folder, places[name])), load, PeError, constants, image: library.open(withVersion),
+  certificate: Uint8Array.of(8, 0, 0, 0, 0, 2, 2, 0), console: { log: (...words) => lines.push(words.join(' ')) },
+};
+const { constructor: AsyncFunction } = Object.getPrototypeOf(async () => {});
+const ran = await new AsyncFunction(...Object.keys(given), program)(...Object.values(given)).catch((error) => error);
+test('the samples of the README run', () => {
+  assert.deepEqual([readme.length, ran], [6, undefined]);
+  assert.equal(lines[0].startsWith('first,second'), true, lines[0]);
+  assert.equal(lines.at(-1).startsWith('helper+21'), true, lines.at(-1));
+});
+
 test('every call of pe.h succeeds in some test', () => {
   assert.deepEqual(Object.keys(calls).filter((name) => !done.has(name)), []);
 });
