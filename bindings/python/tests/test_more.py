@@ -475,7 +475,10 @@ class Dumps(unittest.TestCase):
         self.assertEqual([(it.handle, it.pointer_count, it.type_name) for it in dump.handles], [(0x44, 4, "a.exe")])
         self.assertEqual([(it.exit_status, it.affinity) for it in dump.thread_infos], [(259, 6)])
         self.assertEqual([(it.start, it.length, it.lost) for it in dump.memory64], [(0x20000, 400, 624)])
-        self.assertEqual((dump.warnings, dump.system.processor_architecture), ((), 9))
+        # Of the second list the file ends inside its piece.
+        self.assertEqual([(it.kind, it.part, it.text) for it in dump.warnings],
+                         [(Kind.SHORT, "memory", "624 bytes are lost: the file is truncated")])
+        self.assertEqual(dump.system.processor_architecture, 9)
         self.assertEqual((len(dump.at(0x20000, 8)), len(dump.at(0x20000 + 399, 8)), len(dump.at(0x50000, 8))), (8, 1, 0))
 
     def test_stacks(self):
@@ -531,6 +534,26 @@ class Dumps(unittest.TestCase):
                 struct.pack_into("<II", dump, directory + 12 * i + 4, 4 + 108 * count, len(dump))
                 dump += struct.pack("<I", count) + module * count
         return dump
+
+    def test_memory_that_is_not_in_the_file(self):
+        dump = bytearray(bytes_of("x64.dmp") + bytes(624))
+        self.assertEqual(pe_c.Dump(bytes(dump)).warnings, ())
+        count, directory = struct.unpack_from("<II", dump, 8)
+        threads, = (at for kind, _, at in struct.iter_unpack("<III", dump[directory:directory + 12 * count]) if kind == 3)
+        # Stacks that the lists lack: of one the file has 8 bytes of 40, of the other, which starts there too, 4.
+        for i, length in enumerate((8, 4)):
+            struct.pack_into("<QII", dump, threads + 4 + 48 * i + 24, 0x50000, 40, len(dump) - length)
+        self.assertEqual([(it.kind, it.text) for it in pe_c.Dump(bytes(dump)).warnings], [(Kind.SHORT, "32 bytes are lost: the file is truncated")])
+
+    def test_modules_that_share_a_long_name(self):
+        dump, count = self.many(8000), 8000
+        name, first = len(dump), len(dump) - 108 * count
+        dump += struct.pack("<I", 60000) + "a".encode("utf-16-le") * 30000 + b"\0\0"
+        for i in range(count):
+            struct.pack_into("<I", dump, first + 108 * i + 20, name)
+        found = pe_c.Dump(bytes(dump))
+        self.assertTrue(found.modules.is_limited and len(found.modules) < count and found.stack(found.threads[0]).frames.is_limited)
+        self.assertEqual([(it.kind, it.part) for it in found.warnings], [(Kind.ROOM, "modules")])
 
     def test_many_modules_over_one_piece(self):
         """All modules are the same bytes: what is kept of them has a bound, in bytes and in sections."""
