@@ -5,6 +5,7 @@ what osslsigncode and openssl do."""
 import copy
 import datetime
 import enum
+import errno
 import gc
 import io
 import os
@@ -403,6 +404,19 @@ class Files(unittest.TestCase):
         with self.assertRaises(OSError):
             pe_c.open(io.BytesIO(content), limit=len(content) - 1)
         self.assertEqual(len(pe_c.open(io.BytesIO(content), limit=len(content)).memory), len(content))
+        # What never ends is read up to the limit alone, and no more is asked for at once than there is room for.
+        with open("/dev/zero", "rb") as endless:
+            for file in (endless, "/dev/zero"):
+                with self.assertRaises(OSError) as caught:
+                    pe_c.open(file, limit=3 << 20)
+                self.assertEqual((caught.exception.errno, caught.exception.filename), (errno.EFBIG, "/dev/zero"))
+        asked = []
+        class Asked(io.BytesIO):
+            def read(self, count=-1):
+                asked.append(count)
+                return super().read(min(count, 1000))
+        self.assertEqual(bytes(pe_c.Dump.open(Asked(bytes_of("x64.dmp"))).memory), bytes_of("x64.dmp"))
+        self.assertTrue(len(asked) > 2 and all(0 < it <= 1 << 20 for it in asked))
 
     def test_copies(self):
         image = pe_c.open(os.path.join(IMAGES, "debug.bin"))
