@@ -857,6 +857,9 @@ class Edits(unittest.TestCase):
         self.assertEqual(list(editor.resources), [(1, 1, 1), (1, 1, 2)])
         editor.set("ÄB", 7, 0, b"hello")
         editor.set(1, 1, 2, b"")
+        for content in (5, True, "text", [1, 2], None):
+            with self.assertRaises(TypeError):
+                editor.set(1, 1, 2, content)
         editor.remove(1, 1, 1)
         editor.set(16, 1, 0x409, pe_c.version_info(file_version=(1, 2, 3, 4), strings={"ProductName": "Größe", "FileVersion": "1.2.3.4"}))
         written = pe_c.Image(editor.write())
