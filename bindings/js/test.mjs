@@ -8,7 +8,7 @@ import { dirname, join } from 'node:path';
 import { pathToFileURL } from 'node:url';
 import { runInNewContext } from 'node:vm';
 import { File, Image, Library, PeError, abi, calls, constants, load, results, version } from 'pe-c';
-import { factsOf } from 'pe-c/facts';
+import { factsOf, kindOf } from 'pe-c/facts';
 
 const folder = process.argv[2], library = await load(), done = new Set();
 const file = (name) => readFileSync(join(folder, `${name}.bin`));
@@ -50,6 +50,7 @@ test('errors are objects with the name and the text of pe.h', () => {
   assert.deepEqual(said, ['pe_c_image', 3, 'PE_C_BAD_MAGIC', 'invalid magic number']);
   assert.equal(refused(() => library.open(new Uint8Array(0))).constant, 'PE_C_SHORT');
   assert.equal(library.text(100).length > 0, true);
+  for (const number of ['PE_C_SHORT', -1, undefined]) assert.throws(() => library.text(number), RangeError);
   assert.equal(results[error.number], 'PE_C_BAD_MAGIC');
 });
 
@@ -60,6 +61,13 @@ test('a range that is not in the file has no bytes', () => {
   for (const range of [{ offset: length - 2n, length: 3n }, { offset: -1n, length: 2n }, { offset: 1n << 40n, length: 1n }, { offset: 2, length: -1 }, {}]) {
     for (const name of ['slice', 'utf8', 'utf16']) assert.throws(() => image[name](range), RangeError);
   }
+});
+
+test('what a file is that is no image is said of any bytes', () => {
+  const { buffer } = Uint8Array.of(0x7F, 0x45, 0x4C, 0x46);
+  assert.deepEqual([buffer, new DataView(buffer), new Uint8Array(buffer)].map(kindOf), Array(3).fill('an ELF file'));
+  assert.deepEqual([kindOf(new ArrayBuffer(0)), kindOf(new ArrayBuffer(4))], ['an empty file', null]);
+  assert.throws(() => kindOf('\x7fELF'), TypeError);
 });
 
 test('what is no bytes is not written', () => {
