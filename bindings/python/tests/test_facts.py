@@ -390,6 +390,9 @@ class Cluster(unittest.TestCase):
         for i in range(120):
             with open(os.path.join(images, f"{i:03}.dll"), "wb") as file:
                 file.write(data + bytes(i))
+        # One that can't be read: it is too long.
+        with open(os.path.join(images, "long.dll"), "wb") as file:
+            file.truncate((1 << 32) + 1)
         with socket.socket() as free:
             free.bind(("127.0.0.1", 0))
             address = "tcp://127.0.0.1:%d" % free.getsockname()[1]
@@ -409,7 +412,7 @@ class Cluster(unittest.TestCase):
             self.fail(f"the scan was over before a worker was killed: {done.communicate()[0].decode()}")
         workers[0].send_signal(signal.SIGKILL)
         said, _ = done.communicate(timeout=90)
-        self.assertEqual(done.returncode, 0, said)
+        self.assertEqual((done.returncode, f"{images}/long.dll: it has more than 4 GiB\n" in said.decode()), (3, True), said)
         lines = b""
         for name in sorted(os.listdir(out)):
             with open(os.path.join(out, name), "rb") as file:
