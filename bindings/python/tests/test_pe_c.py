@@ -349,6 +349,11 @@ class Values(unittest.TestCase):
 
     def test_texts_of_errors(self):
         self.assertEqual(str(pe_c.Error(2, "truncated", "headers", "a.dll")), "a.dll: headers: truncated")
+        # Names are the file's.
+        parts = "lines of Größe\x1b[2J\n", "truncated", "a\udcff.dll"
+        wanted = "a\\udcff.dll: lines of Größe\\x1b[2J\\n: truncated"
+        self.assertEqual(str(pe_c.Error(2, parts[1], parts[0], parts[2])), wanted)
+        self.assertEqual(str(pe_c.ImageWarning(pe_c.WarningKind.DAMAGED, *parts[:2], None, parts[2])), wanted)
         self.assertIs(Kind(12345), Kind.OTHER)
         self.assertEqual(pickle.loads(pickle.dumps(pe_c.Error(2, "truncated", "headers"))).kind, Kind.SHORT)
 

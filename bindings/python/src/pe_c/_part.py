@@ -36,7 +36,12 @@ class Error(ValueError):
         return Kind(self.number)
 
     def __str__(self) -> str:
-        return ": ".join(it for it in (self.path, self.part, self.text) if it)
+        return as_line(self.path, self.part, self.text)
+
+
+def as_line(*parts: str | None) -> str:
+    """An error or a warning as a line. A name of a file, which stands in some, may hold anything, and is not to drive a terminal."""
+    return shown_text(": ".join(it for it in parts if it))
 
 
 def error_of(number: int, part: str, path: str | None = None) -> Error:
@@ -66,7 +71,7 @@ class ImageWarning(typing.NamedTuple):
     path: str | None = None
 
     def __str__(self) -> str:
-        return ": ".join(it for it in (self.path, self.part, self.text) if it)
+        return as_line(self.path, self.part, self.text)
 
 
 class Part(tuple[T, ...]):
