@@ -1,8 +1,9 @@
 // node test.mjs FOLDER: tests the package pe-c as it is installed, over the images that the tests of the cargo crate
 // make. Each call that the package has is to be made by some test, and to succeed. The last line is 'N passed, M failed'.
 import { strict as assert } from 'node:assert';
+import { spawnSync } from 'node:child_process';
 import { createHash } from 'node:crypto';
-import { readFileSync, readdirSync } from 'node:fs';
+import { openSync, readFileSync, readdirSync } from 'node:fs';
 import { createRequire } from 'node:module';
 import { dirname, join } from 'node:path';
 import { pathToFileURL } from 'node:url';
@@ -1607,6 +1608,13 @@ test('the samples of the README run', () => {
   assert.deepEqual([readme.length, ran], [6, undefined]);
   assert.equal(lines[0].startsWith('first,second'), true, lines[0]);
   assert.equal(lines.at(-1).startsWith('helper+21'), true, lines.at(-1));
+});
+
+test('lines that cannot be written are no success', () => {
+  const words = [join(beside, 'pe-js.mjs'), join(folder, 'functions.bin')];
+  const status = (to) => spawnSync(process.execPath, words, { stdio: ['ignore', openSync(to, 'w'), 'pipe'], encoding: 'utf8' });
+  const full = status('/dev/full'), none = status('/dev/null');
+  assert.deepEqual([full.status, full.stderr.startsWith('pe-js: ENOSPC'), none.status, none.stderr], [2, true, 0, '']);
 });
 
 test('every call of pe.h succeeds in some test', () => {

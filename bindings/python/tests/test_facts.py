@@ -30,9 +30,11 @@ EXAMPLES = os.environ.get("PE_C_EXAMPLES", os.path.join(HERE, "..", "examples"))
 OTHERS = {"te_image.bin": "te_image.te", "object.bin": "object.obj"}
 
 
+CODE = f"import sys, runpy; sys.path[:] = {sys.path!r}; sys.argv[0] = 'pe_c'; runpy.run_module('pe_c', run_name='__main__')"
+
+
 def run(*words, **more):
-    code = f"import sys, runpy; sys.path[:] = {sys.path!r}; sys.argv[0] = 'pe_c'; runpy.run_module('pe_c', run_name='__main__')"
-    done = subprocess.run([sys.executable, "-c", code, *words], capture_output=True, timeout=120, **more)
+    done = subprocess.run([sys.executable, "-c", CODE, *words], capture_output=True, timeout=120, **more)
     return done.stdout, done.stderr.decode(), done.returncode
 
 
@@ -157,13 +159,30 @@ class Lines(Room):
         self.assertTrue(all(len(it) <= scan.BATCH_FILES for it in cut))
 
     def test_a_reader_that_has_seen_enough(self):
-        code = f"import sys, runpy; sys.path[:] = {sys.path!r}; sys.argv[0] = 'pe_c'; runpy.run_module('pe_c', run_name='__main__')"
-        done = subprocess.Popen([sys.executable, "-c", code, "-r", *[self.room] * 30], stdout=subprocess.PIPE, stderr=subprocess.PIPE)
+        done = subprocess.Popen([sys.executable, "-c", CODE, "-r", *[self.room] * 30], stdout=subprocess.PIPE, stderr=subprocess.PIPE)
         done.stdout.read(10)
         done.stdout.close()
         complaints = done.stderr.read()
         done.stderr.close()
         self.assertEqual((done.wait(60), complaints), (3, b""))
+
+
+class Streams(unittest.TestCase):
+    """Where lines cannot be written or read the status is that of a file, and not that of an image that is refused."""
+
+    def said_by(self, redirected, *words):
+        words = ["sh", "-c", f'exec "$@" {redirected}', "sh", sys.executable, "-c", CODE, *words]
+        done = subprocess.run(words, capture_output=True, timeout=120)
+        return done.stdout.decode(), done.stderr.decode(), done.returncode
+
+    def test_output_that_is_full_or_closed(self):
+        path = os.path.join(IMAGES, "functions.bin")
+        for words in ((path,), ("scan", IMAGES), ("scan", "-j", "2", IMAGES)):
+            self.assertEqual(self.said_by(">/dev/full", *words), ("", "pe_c: No space left on device\n", 3))
+        self.assertEqual(self.said_by(">&-", path), ("", "pe_c: standard output is closed\n", 3))
+
+    def test_input_that_is_closed(self):
+        self.assertEqual(self.said_by("<&-", "-"), ("", "pe_c: -: Bad file descriptor\n", 3))
 
 
 class Signers(unittest.TestCase):

@@ -93,6 +93,8 @@ def files(paths: typing.Iterable[str | os.PathLike[str]], recursive: bool = Fals
 def _content(file: File) -> bytes | None:
     """A file whole. Of one below a folder the start is read first: one that is no image is not read on."""
     if file.path == "-":
+        if sys.stdin is None:
+            raise OSError(errno.EBADF, os.strerror(errno.EBADF), file.path)
         return sys.stdin.buffer.read()
     mode = os.stat(file.path).st_mode
     if not stat.S_ISREG(mode) and not stat.S_ISDIR(mode):
