@@ -4,6 +4,7 @@ The environment names PE_C_IMAGES, as for test_pe_c; PE_C_GOLDEN and PE_C_EXAMPL
 import ast
 import json
 import os
+import pathlib
 import re
 import shutil
 import signal
@@ -150,6 +151,15 @@ class Lines(Room):
         with pe_c.open(os.path.join(self.room, "debug.bin")) as image:
             found = image.facts()
         self.assertEqual(found, json.loads(run(os.path.join(self.room, "debug.bin"))[0]))
+
+    def test_a_path_is_not_many(self):
+        inner, path = os.path.join(self.room, "inner"), os.path.join(self.room, "inner", "a.txt")
+        os.mkdir(inner)
+        with open(path, "w", encoding="utf-8") as file:
+            file.write("no image")
+        for named in (inner, pathlib.Path(inner), [inner], (pathlib.Path(inner),)):
+            self.assertEqual([it.path for it in scan.files(named, recursive=True)], [path])
+            self.assertEqual([it.complaint for it in scan.scan(named, jobs=1)], [f"{path}: skipped, it is no image"])
 
     def test_batches_by_bytes(self):
         found = [scan.File(str(it), True, size) for it, size in enumerate([1, 1, 90 << 20, 1, 9 << 20, 8 << 20] + [0] * 100)]
