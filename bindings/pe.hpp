@@ -10,9 +10,13 @@
  *     if (exports.refused())
  *         return fail(exports.refused().text());
  *
- * Nothing here owns the bytes of a file: they outlive the image and all that comes of it. An image owns its section headers and an
- * index of them, and a list the entries of its last call, in std::vector, which throws std::bad_alloc where memory is short. Nothing
- * else throws, unless PE_C_EXCEPTIONS is defined before this header is included: then `outcome::value` throws pe_c::failure.
+ * Nothing here owns the bytes of a file: they outlive the image and all that comes of it. A list reads by its image, which outlives
+ * it and is neither changed nor moved: so the image is a variable, as above, since that of `image::parse(..)->exports()` has ended where
+ * a `for` over it starts.
+ *
+ * An image owns its section headers and an index of them, and a list the entries of its last call, in std::vector, which throws
+ * std::bad_alloc where memory is short. Nothing else throws, unless PE_C_EXCEPTIONS is defined before this header is included: then
+ * `outcome::value` throws pe_c::failure. A list that an error ends throws nothing: `refused` says so.
  *
  * Calls of which `image` has no function by name are made through it all the same, by their form:
  *
@@ -214,6 +218,9 @@ public:
             number = it.make_index();
         return number == PE_C_DONE ? outcome<image>(std::move(it)) : outcome<image>(result(number));
     }
+    /* No image has the bytes of a vector that ends before it. */
+    template <class V, class = std::enable_if_t<std::is_same_v<std::remove_const_t<V>, std::vector<std::uint8_t>>>>
+    static outcome<image> parse(V &&of, std::uint32_t mode = PE_C_PERMISSIVE) = delete;
 
     const pe_c_image_info &info() const noexcept { return info_; }
     const std::vector<pe_c_section> &sections() const noexcept { return sections_; }

@@ -143,6 +143,7 @@ export class Caller {
 
   #array(filled, [own, type, way], given) {
     const values = given[own] ?? (type === 'uint8_t' ? new Uint8Array() : []), memory = this.#memory, size = width(type);
+    if (type === 'uint8_t' && values.BYTES_PER_ELEMENT !== 1) throw new TypeError(`${own} is a Uint8Array, and not ${kindOf(values)}`);
     const at = memory.reserve(values.length * size);
     if (values instanceof Room) values.at = at;
     else if (type === 'uint8_t') new Uint8Array(memory.exports.memory.buffer, at, values.length).set(values);
@@ -228,13 +229,17 @@ export function firstOfType(entries, type) {
   return null;
 }
 
+/** What a value is, in words. */
+function kindOf(given) {
+  return `a ${given && typeof given === 'object' ? given.constructor?.name ?? 'object' : given === null ? 'null' : typeof given}`;
+}
+
 /** The bytes of a file: an ArrayBuffer, or any view of one, as a Buffer. One of another realm is none of this realm's class. */
 export function bytesOf(given) {
   if (ArrayBuffer.isView(given)) return new Uint8Array(given.buffer, given.byteOffset, given.byteLength);
   if (/^\[object (Shared)?ArrayBuffer\]$/.test(Object.prototype.toString.call(given))) return new Uint8Array(given);
-  const kind = given && typeof given === 'object' ? given.constructor?.name ?? 'object' : given === null ? 'null' : typeof given;
-  const path = kind === 'string' ? ': a file is read first, as by readFileSync' : '';
-  throw new TypeError(`bytes are an ArrayBuffer or a view of one, as a Uint8Array or a Buffer, and not a ${kind}${path}`);
+  const path = typeof given === 'string' ? ': a file is read first, as by readFileSync, and a text is encoded' : '';
+  throw new TypeError(`bytes are an ArrayBuffer or a view of one, as a Uint8Array or a Buffer, and not ${kindOf(given)}${path}`);
 }
 
 /** Puts a file into the memory of an instance: the arguments that it is for calls. */
@@ -275,14 +280,21 @@ export class File extends Caller {
     this.length = Number(own.length);
   }
 
+  /** Where a range of the bytes is in the memory, which has other bytes around them. */
+  #place({ offset, length }) {
+    const start = Number(offset), size = Number(length);
+    if (start >= 0 && size >= 0 && start + size <= this.length) return [this.#start + start, size];
+    throw new RangeError(`${length} bytes at ${offset} are not in the ${this.length} bytes of the file`);
+  }
+
   /** A copy of a range of the bytes. */
   slice(range) {
-    return this.#memory.bytes(this.#start + Number(range.offset), Number(range.length));
+    return this.#memory.bytes(...this.#place(range));
   }
 
   /** The text of a range, in UTF-8 or ASCII. */
   utf8(range) {
-    return this.#memory.textAt(this.#start + Number(range.offset), Number(range.length), utf8);
+    return this.#memory.textAt(...this.#place(range), utf8);
   }
 
   /** The text of a range, in UTF-16, up to the first zero unless it is whole. */

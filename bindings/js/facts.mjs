@@ -617,8 +617,8 @@ function rich(image) {
 }
 
 /** What a file is that is no image, by its first bytes. */
-export function kindOf(bytes) {
-  const starts = (text) => [...text].every((it, i) => bytes[i] === it.charCodeAt(0));
+export function kindOf(given) {
+  const bytes = bytesOf(given), starts = (text) => [...text].every((it, i) => bytes[i] === it.charCodeAt(0));
   if (bytes.length === 0) return 'an empty file';
   if (starts('\x7fELF')) return 'an ELF file';
   if (starts('!<arch>\n')) return 'an archive of objects';

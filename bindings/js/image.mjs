@@ -1,7 +1,7 @@
 // An image: its headers and sections, all calls of pe.h over it, and its lists as iterators.
-import { File, firstOfType, listOf, memoryOf, ownOf, placed, placeFor, wholeEntries, written } from './calls.mjs';
+import { File, bytesOf, firstOfType, listOf, memoryOf, ownOf, placed, placeFor, wholeEntries, written } from './calls.mjs';
 import { constants } from './layouts.mjs';
-import { width } from './memory.mjs';
+import { whole, width } from './memory.mjs';
 import { delayImportsOf, digestOf, exportsOf, importsOf, manifestOf, signaturesOf, versionsOf } from './parts.mjs';
 import { recordsOf, resourcesOf } from './resources.mjs';
 import { symbolsOf } from './symbols.mjs';
@@ -211,7 +211,7 @@ export class Image extends File {
   /** What names each of these addresses without a PDB: RVAs, which return addresses are where `isReturn`. It is the last COFF symbol within
    * its function, else the export that starts it, or in an image without a function table the nearest of either; else null. */
   functionNames(addresses) {
-    const asked = addresses.map(({ rva, isReturn = false }) => ({ rva, is_return: Number(isReturn) }));
+    const asked = addresses.map(({ rva, isReturn = false }) => ({ rva: whole('uint32_t', rva), is_return: Number(isReturn) }));
     const sources = this.call('pe_c_name_tables'), names = asked.map(() => ({}));
     this.call('pe_c_function_names', { sources, addresses: asked, room: placeFor(sources.room), names });
     return names.map(({ name, start, offset, source, is_nearest: isNearest }) => source === 0 ? null : {
@@ -245,7 +245,7 @@ export class Image extends File {
 
   /** The file with a certificate, or several: entries of a certificate table. */
   attach(certificate, { placement = constants.PE_C_AFTER } = {}) {
-    return written(this, 'pe_c_attach', { certificate, placement });
+    return written(this, 'pe_c_attach', { certificate: bytesOf(certificate), placement });
   }
 
   /** The file without its certificates. */

@@ -7,7 +7,7 @@ import { Caller, File, placed } from './calls.mjs';
 import { Dump } from './dump.mjs';
 import { Image, checkMode } from './image.mjs';
 import { abi, calls, constants, records, results, version } from './layouts.mjs';
-import { Memory, PeError } from './memory.mjs';
+import { Memory, PeError, whole } from './memory.mjs';
 import { Coff, TeImage } from './objects.mjs';
 import { Pdb } from './pdb.mjs';
 import { Process } from './process.mjs';
@@ -89,6 +89,6 @@ export class Library {
 
   /** The text of a result. */
   text(number) {
-    return new Memory(this.module).text(number);
+    return new Memory(this.module).text(whole('uint32_t', number));
   }
 }

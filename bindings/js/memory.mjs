@@ -23,6 +23,8 @@ export const width = (type) => (isAddress(type) ? 8 : WIDTHS[type] ?? records[ty
 /** A number as a call or a field of this type takes it: one of 64 bits as BigInt. What does not fit is an error, and not another
  * number. */
 export function whole(type, value) {
+  // Other values become numbers too: null and an empty text become 0.
+  if (!['number', 'bigint', 'boolean'].includes(typeof value)) throw new RangeError(`${String(value)} is no ${type}`);
   const most = MOST[type], number = most ? Number(value) : BigInt(value);
   const fits = most ? Number.isInteger(number) && number >= (LEAST[type] ?? 0) && number <= most : number >= 0n && number <= MOST_64;
   if (!fits) throw new RangeError(`${value} is no ${type}`);

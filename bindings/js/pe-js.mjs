@@ -1,6 +1,6 @@
 #!/usr/bin/env node
 // pe-js [--strict] [--mapped] FILE..: a line of JSON for each file, what `facts` returns. The status is 1 where a
-// file is refused, and 2 where one cannot be read.
+// file is refused, and 2 where one cannot be read, or the lines cannot be written.
 import { readFileSync } from 'node:fs';
 import { basename } from 'node:path';
 import { constants, load } from './index.mjs';
@@ -17,6 +17,11 @@ const mode = (options.has('--strict') ? constants.PE_C_STRICT : constants.PE_C_P
   | (options.has('--mapped') ? constants.PE_C_MAPPED : 0);
 // A number above 2^53 is a text: JSON in JavaScript has none that is so large.
 const plain = (_, value) => (typeof value === 'bigint' ? String(value) : value);
+// console.log would say nothing of an error. Whoever read from a pipe that is broken has seen enough, as `head` has.
+process.stdout.on('error', (error) => {
+  if (error.code !== 'EPIPE') console.error(`pe-js: ${error.message}`);
+  process.exit(2);
+});
 const library = await load();
 for (const path of files) {
   let bytes;
@@ -29,5 +34,5 @@ for (const path of files) {
   }
   const found = factsOf(library, bytes, basename(path), { mode });
   if (found.error) process.exitCode ||= 1;
-  console.log(JSON.stringify(found, plain));
+  process.stdout.write(`${JSON.stringify(found, plain)}\n`);
 }

@@ -1,8 +1,8 @@
 // Stack walks on x64 and ARM64, through the modules of a process.
-import { Caller, ownOf } from './calls.mjs';
+import { Caller, bytesOf, ownOf } from './calls.mjs';
 import { Image } from './image.mjs';
 import { constants } from './layouts.mjs';
-import { PeError, width } from './memory.mjs';
+import { PeError, whole, width } from './memory.mjs';
 
 const ARM64 = 0xAA64;
 
@@ -34,18 +34,19 @@ function moduleOf(image, base) {
 }
 
 /** One whose image is not at hand, by its size. */
-function withoutImage(memory, { size, base }) {
+function withoutImage(memory, size, base) {
   const info = memory.reserve(width('pe_c_image_info'));
   const none = { bytes: 0n, length: 0n, sections: 0n, count: 0n, index: 0n, entries: 0n };
-  memory.write('pe_c_image_info', info, { size_of_image: size });
+  memory.write('pe_c_image_info', info, { size_of_image: whole('uint32_t', size) });
   return [{ image: { ...none, image: BigInt(info) }, table: {}, base }, null];
 }
 
 /** The modules of a process and its memory, in one instance. */
 export class Process extends Caller {
-  constructor(memory, { modules, memory: bytes, pieces }) {
+  constructor(memory, { modules, memory: given, pieces }) {
+    const bytes = bytesOf(given), bases = modules.map(({ base }) => whole('uint64_t', base));
     const images = modules.map((it) => (it.bytes ? new Image(memory, it.bytes, it.mode ?? constants.PE_C_STRICT) : null));
-    const found = images.map((it, i) => (it ? moduleOf(it, modules[i].base) : withoutImage(memory, modules[i])));
+    const found = images.map((it, i) => (it ? moduleOf(it, bases[i]) : withoutImage(memory, modules[i].size, bases[i])));
     const [first, count] = array(memory, 'pe_c_module', found.map(([it]) => it));
     const [piece, pieceCount] = array(memory, 'pe_c_memory_piece', pieces);
     super(memory, {

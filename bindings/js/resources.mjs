@@ -1,5 +1,5 @@
 // Resources as values, and version information as bytes: what is written in place of that which an image has.
-import { memoryOf, written } from './calls.mjs';
+import { bytesOf, memoryOf, written } from './calls.mjs';
 import { constants } from './layouts.mjs';
 import { whole } from './memory.mjs';
 
@@ -86,7 +86,7 @@ export function recordsOf(resources) {
   const number = (value) => whole('uint32_t', value);
   const key = (it) => (isText(it) ? { name: range(units(it)), has_name: 1 } : { id: number(it) });
   const records = sorted.map((it) => ({
-    resource_type: key(it.type), name: key(it.name), content: range(it.content),
+    resource_type: key(it.type), name: key(it.name), content: range(bytesOf(it.content)),
     language: number(it.language), code_page: number(it.codePage ?? 0),
   }));
   return { resources: records, data: joined(parts) };
@@ -97,7 +97,7 @@ export function recordsOf(resources) {
 /** A block of version information and the blocks in it, as bytes: a value is bytes, or a text. */
 export function blockOf(caller, { key, text = '', value, children = [] }) {
   const given = {
-    key: units(key), is_text: value ? 0 : 1, value: value ?? units(text ? `${text}\0` : ''),
+    key: units(key), is_text: value ? 0 : 1, value: value ? bytesOf(value) : units(text ? `${text}\0` : ''),
     children: joined(children.map((it) => blockOf(caller, it))),
   };
   // A reader takes a text up to its first zero.

@@ -1,14 +1,15 @@
 // node test.mjs FOLDER: tests the package pe-c as it is installed, over the images that the tests of the cargo crate
 // make. Each call that the package has is to be made by some test, and to succeed. The last line is 'N passed, M failed'.
 import { strict as assert } from 'node:assert';
+import { spawnSync } from 'node:child_process';
 import { createHash } from 'node:crypto';
-import { readFileSync, readdirSync } from 'node:fs';
+import { openSync, readFileSync, readdirSync } from 'node:fs';
 import { createRequire } from 'node:module';
 import { dirname, join } from 'node:path';
 import { pathToFileURL } from 'node:url';
 import { runInNewContext } from 'node:vm';
 import { File, Image, Library, PeError, abi, calls, constants, load, results, version } from 'pe-c';
-import { factsOf } from 'pe-c/facts';
+import { factsOf, kindOf } from 'pe-c/facts';
 
 const folder = process.argv[2], library = await load(), done = new Set();
 const file = (name) => readFileSync(join(folder, `${name}.bin`));
@@ -50,7 +51,45 @@ test('errors are objects with the name and the text of pe.h', () => {
   assert.deepEqual(said, ['pe_c_image', 3, 'PE_C_BAD_MAGIC', 'invalid magic number']);
   assert.equal(refused(() => library.open(new Uint8Array(0))).constant, 'PE_C_SHORT');
   assert.equal(library.text(100).length > 0, true);
+  for (const number of ['PE_C_SHORT', -1, undefined]) assert.throws(() => library.text(number), RangeError);
   assert.equal(results[error.number], 'PE_C_BAD_MAGIC');
+});
+
+test('a range that is not in the file has no bytes', () => {
+  const image = opened('imports'), length = BigInt(image.length);
+  assert.deepEqual([...image.slice({ offset: 0, length: 2 })], [0x4D, 0x5A]);
+  assert.equal(image.slice({ offset: length, length: 0n }).length, 0);
+  for (const range of [{ offset: length - 2n, length: 3n }, { offset: -1n, length: 2n }, { offset: 1n << 40n, length: 1n }, { offset: 2, length: -1 }, {}]) {
+    for (const name of ['slice', 'utf8', 'utf16']) assert.throws(() => image[name](range), RangeError);
+  }
+});
+
+test('what a file is that is no image is said of any bytes', () => {
+  const { buffer } = Uint8Array.of(0x7F, 0x45, 0x4C, 0x46);
+  assert.deepEqual([buffer, new DataView(buffer), new Uint8Array(buffer)].map(kindOf), Array(3).fill('an ELF file'));
+  assert.deepEqual([kindOf(new ArrayBuffer(0)), kindOf(new ArrayBuffer(4))], ['an empty file', null]);
+  assert.throws(() => kindOf('\x7fELF'), TypeError);
+});
+
+test('what is no bytes is not written', () => {
+  const image = opened('x86_dll'), resource = { type: 24, name: 1, language: 0x409 }, bytes = Uint8Array.of(1, 2, 3, 4, 5, 6, 7, 8);
+  for (const content of ['<assembly/>', [1, 2], undefined, null, 5]) {
+    assert.throws(() => image.edit([{ ...resource, content }]), TypeError);
+    assert.throws(() => image.attach(content), TypeError);
+  }
+  for (const value of ['<assembly/>', [1, 2], 5]) assert.throws(() => library.versionBlock({ key: 'a', value }), TypeError);
+  for (const text of [[97, 0], 'a', new Uint16Array(2)]) {
+    assert.throws(() => library.call('pe_c_write_block', { key: text, is_text: 1, value: bytes, children: bytes }), TypeError);
+  }
+  for (const content of [bytes, bytes.buffer, new Uint16Array(bytes.buffer), new DataView(bytes.buffer)]) {
+    const [found] = library.open(image.edit([{ ...resource, content }])).resources();
+    assert.deepEqual([...found.content], [...bytes]);
+  }
+});
+
+test('an address that is none has no name', () => {
+  const image = opened('functions');
+  for (const address of [0x1000, {}, { rva: null }, { rva: -1 }]) assert.throws(() => image.functionNames([address]), RangeError);
 });
 
 test('an image has the headers and sections that it was made with', () => {
@@ -238,7 +277,7 @@ test('parameters that are missing or unknown', () => {
 
 test('numbers that do not fit are no other numbers', () => {
   const image = opened('functions'), table = image.call('pe_c_function_table');
-  for (const rva of [2 ** 32, -1, 1.5, 'x']) assert.throws(() => image.call('pe_c_offset', { rva }), RangeError);
+  for (const rva of [2 ** 32, -1, 1.5, 'x', '', '4096', null, [], [5]]) assert.throws(() => image.call('pe_c_offset', { rva }), RangeError);
   for (const index of [1n << 64n, -1]) assert.throws(() => image.call('pe_c_function_at', { table, index }), RangeError);
   assert.throws(() => image.call('pe_c_next_code', { walk: { version: 256 } }), RangeError);
   assert.throws(() => image.call('pe_c_function_at', { table: { offset: -1 }, index: 0 }), RangeError);
@@ -461,6 +500,9 @@ test('of a damaged function table the whole entries serve, and the process says 
   const rips = (process) => [...process.frames({ registers: frameRegisters(), remaining: 9n })].map((it) => it.registers.rip);
   const whole = library.process({ ...parts, modules: [{ bytes, base: BASE }] });
   new DataView(bytes.buffer).setUint32(Number(size), 47, true);
+  for (const it of [{ bytes }, { base: BASE }, { size: null, base: BASE }, { size: 2 ** 32, base: BASE }]) {
+    assert.throws(() => library.process({ ...parts, modules: [it] }), RangeError);
+  }
   const damaged = library.process({ ...parts, modules: [{ bytes, base: BASE }, { size: 0x1000, base: 0x70000000n }] });
   assert.deepEqual([whole.damaged, damaged.damaged[1], damaged.images[1]], [[null], null, null]);
   assert.equal(damaged.damaged[0].call, 'pe_c_function_table');
@@ -1548,6 +1590,31 @@ test('names of functions without a PDB', () => {
   assert.notDeepEqual(before, found);
   assert.deepEqual(image.functionNames([]), []);
   assert.equal(opened('functions').functionNames([{ rva: 0 }])[0], null);
+});
+
+// The samples of the README, one after the other, over images of the tests. The dump's first frame is at RVA 0x1065 of a module that
+// is loaded here, where the PDB has `helper` at 0x1050.
+const readme = [...readFileSync(join(beside, 'README.md'), 'utf8').matchAll(/^```js\n(.*?)^```/gms)].map((it) => it[1]);
+const program = readme.join('').replace(/^import .*\n/gm, '').replaceAll('0x140000000n', '0x180003F9Bn'), lines = [];
+const places = { 'a.dll': 'exports.bin', 'a.exe': 'functions.bin', 'a.dmp': 'x64.dmp', 'a.pdb': 't.pdb' };
+const withVersion = opened('x86_dll').edit([{ type: 16, name: 1, language: 0x409, content: library.versionInfo({}) }]);
+const given = {
+  readFileSync: (name) => readFileSync(join(folder, places[name])), load, PeError, constants, image: library.open(withVersion),
+  certificate: Uint8Array.of(8, 0, 0, 0, 0, 2, 2, 0), console: { log: (...words) => lines.push(words.join(' ')) },
+};
+const { constructor: AsyncFunction } = Object.getPrototypeOf(async () => {});
+const ran = await new AsyncFunction(...Object.keys(given), program)(...Object.values(given)).catch((error) => error);
+test('the samples of the README run', () => {
+  assert.deepEqual([readme.length, ran], [6, undefined]);
+  assert.equal(lines[0].startsWith('first,second'), true, lines[0]);
+  assert.equal(lines.at(-1).startsWith('helper+21'), true, lines.at(-1));
+});
+
+test('lines that cannot be written are no success', () => {
+  const words = [join(beside, 'pe-js.mjs'), join(folder, 'functions.bin')];
+  const status = (to) => spawnSync(process.execPath, words, { stdio: ['ignore', openSync(to, 'w'), 'pipe'], encoding: 'utf8' });
+  const full = status('/dev/full'), none = status('/dev/null');
+  assert.deepEqual([full.status, full.stderr.startsWith('pe-js: ENOSPC'), none.status, none.stderr], [2, true, 0, '']);
 });
 
 test('every call of pe.h succeeds in some test', () => {

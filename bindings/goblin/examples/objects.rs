@@ -34,12 +34,13 @@ fn show(bytes: &[u8]) -> error::Result<()> {
     Ok(())
 }
 
-fn main() {
+fn main() -> std::io::Result<()> {
     for path in std::env::args().skip(1) {
         println!("{path}");
-        let bytes = std::fs::read(&path).expect("the file can be read");
-        if show(&bytes).is_err() {
+        if let Err(error) = show(&std::fs::read(&path)?) {
             println!("refused");
+            eprintln!("{path}: {error}");
         }
     }
+    Ok(())
 }

@@ -71,17 +71,22 @@ fn functions(pe: &PE<'_>, out: &mut String) -> Result {
     Ok(())
 }
 
-fn main() {
+fn main() -> std::io::Result<()> {
     for path in std::env::args().skip(1) {
         println!("{path}");
-        let bytes = std::fs::read(&path).expect("the file can be read");
-        let Ok(pe) = PE::parse(&bytes) else {
-            println!("refused");
-            continue;
+        let bytes = std::fs::read(&path)?;
+        let pe = match PE::parse(&bytes) {
+            Ok(pe) => pe,
+            Err(error) => {
+                println!("refused");
+                eprintln!("{path}: {error}");
+                continue;
+            }
         };
         let mut out = String::new();
         let written = head(&pe, &mut out).and_then(|()| names(&pe, &mut out)).and_then(|()| functions(&pe, &mut out));
         written.expect("a String takes all that is written");
         print!("{out}");
     }
+    Ok(())
 }

@@ -4,6 +4,7 @@ The environment names PE_C_IMAGES, as for test_pe_c; PE_C_GOLDEN and PE_C_EXAMPL
 import ast
 import json
 import os
+import pathlib
 import re
 import shutil
 import signal
@@ -30,9 +31,11 @@ EXAMPLES = os.environ.get("PE_C_EXAMPLES", os.path.join(HERE, "..", "examples"))
 OTHERS = {"te_image.bin": "te_image.te", "object.bin": "object.obj"}
 
 
+CODE = f"import sys, runpy; sys.path[:] = {sys.path!r}; sys.argv[0] = 'pe_c'; runpy.run_module('pe_c', run_name='__main__')"
+
+
 def run(*words, **more):
-    code = f"import sys, runpy; sys.path[:] = {sys.path!r}; sys.argv[0] = 'pe_c'; runpy.run_module('pe_c', run_name='__main__')"
-    done = subprocess.run([sys.executable, "-c", code, *words], capture_output=True, timeout=120, **more)
+    done = subprocess.run([sys.executable, "-c", CODE, *words], capture_output=True, timeout=120, **more)
     return done.stdout, done.stderr.decode(), done.returncode
 
 
@@ -150,6 +153,15 @@ class Lines(Room):
             found = image.facts()
         self.assertEqual(found, json.loads(run(os.path.join(self.room, "debug.bin"))[0]))
 
+    def test_a_path_is_not_many(self):
+        inner, path = os.path.join(self.room, "inner"), os.path.join(self.room, "inner", "a.txt")
+        os.mkdir(inner)
+        with open(path, "w", encoding="utf-8") as file:
+            file.write("no image")
+        for named in (inner, pathlib.Path(inner), [inner], (pathlib.Path(inner),)):
+            self.assertEqual([it.path for it in scan.files(named, recursive=True)], [path])
+            self.assertEqual([it.complaint for it in scan.scan(named, jobs=1)], [f"{path}: skipped, it is no image"])
+
     def test_batches_by_bytes(self):
         found = [scan.File(str(it), True, size) for it, size in enumerate([1, 1, 90 << 20, 1, 9 << 20, 8 << 20] + [0] * 100)]
         cut = list(scan.batches(found))
@@ -158,13 +170,30 @@ class Lines(Room):
         self.assertTrue(all(len(it) <= scan.BATCH_FILES for it in cut))
 
     def test_a_reader_that_has_seen_enough(self):
-        code = f"import sys, runpy; sys.path[:] = {sys.path!r}; sys.argv[0] = 'pe_c'; runpy.run_module('pe_c', run_name='__main__')"
-        done = subprocess.Popen([sys.executable, "-c", code, "-r", *[self.room] * 30], stdout=subprocess.PIPE, stderr=subprocess.PIPE)
+        done = subprocess.Popen([sys.executable, "-c", CODE, "-r", *[self.room] * 30], stdout=subprocess.PIPE, stderr=subprocess.PIPE)
         done.stdout.read(10)
         done.stdout.close()
         complaints = done.stderr.read()
         done.stderr.close()
         self.assertEqual((done.wait(60), complaints), (3, b""))
+
+
+class Streams(unittest.TestCase):
+    """Where lines cannot be written or read the status is that of a file, and not that of an image that is refused."""
+
+    def said_by(self, redirected, *words):
+        words = ["sh", "-c", f'exec "$@" {redirected}', "sh", sys.executable, "-c", CODE, *words]
+        done = subprocess.run(words, capture_output=True, timeout=120)
+        return done.stdout.decode(), done.stderr.decode(), done.returncode
+
+    def test_output_that_is_full_or_closed(self):
+        path = os.path.join(IMAGES, "functions.bin")
+        for words in ((path,), ("scan", IMAGES), ("scan", "-j", "2", IMAGES)):
+            self.assertEqual(self.said_by(">/dev/full", *words), ("", "pe_c: No space left on device\n", 3))
+        self.assertEqual(self.said_by(">&-", path), ("", "pe_c: standard output is closed\n", 3))
+
+    def test_input_that_is_closed(self):
+        self.assertEqual(self.said_by("<&-", "-"), ("", "pe_c: -: Bad file descriptor\n", 3))
 
 
 class Signers(unittest.TestCase):
@@ -391,6 +420,9 @@ class Cluster(unittest.TestCase):
         for i in range(120):
             with open(os.path.join(images, f"{i:03}.dll"), "wb") as file:
                 file.write(data + bytes(i))
+        # One that can't be read: it is too long.
+        with open(os.path.join(images, "long.dll"), "wb") as file:
+            file.truncate((1 << 32) + 1)
         with socket.socket() as free:
             free.bind(("127.0.0.1", 0))
             address = "tcp://127.0.0.1:%d" % free.getsockname()[1]
@@ -410,7 +442,7 @@ class Cluster(unittest.TestCase):
             self.fail(f"the scan was over before a worker was killed: {done.communicate()[0].decode()}")
         workers[0].send_signal(signal.SIGKILL)
         said, _ = done.communicate(timeout=90)
-        self.assertEqual(done.returncode, 0, said)
+        self.assertEqual((done.returncode, f"{images}/long.dll: it has more than 4 GiB\n" in said.decode()), (3, True), said)
         lines = b""
         for name in sorted(os.listdir(out)):
             with open(os.path.join(out, name), "rb") as file:

@@ -5,6 +5,7 @@ what osslsigncode and openssl do."""
 import copy
 import datetime
 import enum
+import errno
 import gc
 import io
 import os
@@ -403,6 +404,19 @@ class Files(unittest.TestCase):
         with self.assertRaises(OSError):
             pe_c.open(io.BytesIO(content), limit=len(content) - 1)
         self.assertEqual(len(pe_c.open(io.BytesIO(content), limit=len(content)).memory), len(content))
+        # What never ends is read up to the limit alone, and no more is asked for at once than there is room for.
+        with open("/dev/zero", "rb") as endless:
+            for file in (endless, "/dev/zero"):
+                with self.assertRaises(OSError) as caught:
+                    pe_c.open(file, limit=3 << 20)
+                self.assertEqual((caught.exception.errno, caught.exception.filename), (errno.EFBIG, "/dev/zero"))
+        asked = []
+        class Asked(io.BytesIO):
+            def read(self, count=-1):
+                asked.append(count)
+                return super().read(min(count, 1000))
+        self.assertEqual(bytes(pe_c.Dump.open(Asked(bytes_of("x64.dmp"))).memory), bytes_of("x64.dmp"))
+        self.assertTrue(len(asked) > 2 and all(0 < it <= 1 << 20 for it in asked))
 
     def test_copies(self):
         image = pe_c.open(os.path.join(IMAGES, "debug.bin"))
@@ -475,7 +489,10 @@ class Dumps(unittest.TestCase):
         self.assertEqual([(it.handle, it.pointer_count, it.type_name) for it in dump.handles], [(0x44, 4, "a.exe")])
         self.assertEqual([(it.exit_status, it.affinity) for it in dump.thread_infos], [(259, 6)])
         self.assertEqual([(it.start, it.length, it.lost) for it in dump.memory64], [(0x20000, 400, 624)])
-        self.assertEqual((dump.warnings, dump.system.processor_architecture), ((), 9))
+        # Of the second list the file ends inside its piece.
+        self.assertEqual([(it.kind, it.part, it.text) for it in dump.warnings],
+                         [(Kind.SHORT, "memory", "624 bytes are lost: the file is truncated")])
+        self.assertEqual(dump.system.processor_architecture, 9)
         self.assertEqual((len(dump.at(0x20000, 8)), len(dump.at(0x20000 + 399, 8)), len(dump.at(0x50000, 8))), (8, 1, 0))
 
     def test_stacks(self):
@@ -531,6 +548,26 @@ class Dumps(unittest.TestCase):
                 struct.pack_into("<II", dump, directory + 12 * i + 4, 4 + 108 * count, len(dump))
                 dump += struct.pack("<I", count) + module * count
         return dump
+
+    def test_memory_that_is_not_in_the_file(self):
+        dump = bytearray(bytes_of("x64.dmp") + bytes(624))
+        self.assertEqual(pe_c.Dump(bytes(dump)).warnings, ())
+        count, directory = struct.unpack_from("<II", dump, 8)
+        threads, = (at for kind, _, at in struct.iter_unpack("<III", dump[directory:directory + 12 * count]) if kind == 3)
+        # Stacks that the lists lack: of one the file has 8 bytes of 40, of the other, which starts there too, 4.
+        for i, length in enumerate((8, 4)):
+            struct.pack_into("<QII", dump, threads + 4 + 48 * i + 24, 0x50000, 40, len(dump) - length)
+        self.assertEqual([(it.kind, it.text) for it in pe_c.Dump(bytes(dump)).warnings], [(Kind.SHORT, "32 bytes are lost: the file is truncated")])
+
+    def test_modules_that_share_a_long_name(self):
+        dump, count = self.many(8000), 8000
+        name, first = len(dump), len(dump) - 108 * count
+        dump += struct.pack("<I", 60000) + "a".encode("utf-16-le") * 30000 + b"\0\0"
+        for i in range(count):
+            struct.pack_into("<I", dump, first + 108 * i + 20, name)
+        found = pe_c.Dump(bytes(dump))
+        self.assertTrue(found.modules.is_limited and len(found.modules) < count and found.stack(found.threads[0]).frames.is_limited)
+        self.assertEqual([(it.kind, it.part) for it in found.warnings], [(Kind.ROOM, "modules")])
 
     def test_many_modules_over_one_piece(self):
         """All modules are the same bytes: what is kept of them has a bound, in bytes and in sections."""
@@ -820,6 +857,9 @@ class Edits(unittest.TestCase):
         self.assertEqual(list(editor.resources), [(1, 1, 1), (1, 1, 2)])
         editor.set("ÄB", 7, 0, b"hello")
         editor.set(1, 1, 2, b"")
+        for content in (5, True, "text", [1, 2], None):
+            with self.assertRaises(TypeError):
+                editor.set(1, 1, 2, content)
         editor.remove(1, 1, 1)
         editor.set(16, 1, 0x409, pe_c.version_info(file_version=(1, 2, 3, 4), strings={"ProductName": "Größe", "FileVersion": "1.2.3.4"}))
         written = pe_c.Image(editor.write())

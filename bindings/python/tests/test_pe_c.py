@@ -298,6 +298,14 @@ class Values(unittest.TestCase):
         damaged = pe_c.Image(hostile.image(b"\0\0\0\0\3" + bytes(59), {5: (hostile.RVA, 8)}))
         self.assertEqual([(it.kind, it.error.kind) for it in damaged.warnings],
                          [(pe_c.WarningKind.DAMAGED, Kind.DIRECTORY_BLOCK_SIZE)])
+        # A file that ends before its directory, or in it, may have had other bytes there.
+        data, relocations = bytes_of("relocations"), made("relocations")
+        start = relocations.offset_of(relocations.headers.directories[5].virtual_address)
+        self.assertEqual(len(relocations.relocations), 2)
+        for cut in (data[:start], hostile.image(bytes(64), {5: (hostile.RVA, 8)})[:hostile.OFFSET + 4]):
+            image = pe_c.Image(cut)
+            self.assertEqual((image.relocations, image.relocations.error.kind), ((), Kind.SHORT))
+            self.assertEqual([(it.part, it.error.kind) for it in image.warnings], [("relocations", Kind.SHORT)])
 
     def test_a_damaged_record_of_the_debug_directory_is_a_warning(self):
         def warned(kind, offset):
@@ -311,8 +319,41 @@ class Values(unittest.TestCase):
         directory = pe_c.Image(hostile.image(bytes(64), {6: (0x7000_0000, 28)}))
         self.assertEqual([it.part for it in directory.warnings], ["debug_entries", "symbol_key"])
 
+    def test_a_damaged_record_of_pdb_20_is_a_warning(self):
+        data = bytearray(bytes_of("old_debug"))
+        entry = made("old_debug").offset_of(made("old_debug").headers.directories[6].virtual_address)
+        self.assertEqual(made("old_debug").warnings, ())
+        struct.pack_into("<I", data, entry + 16, 0x7000_0000)
+        image = pe_c.Image(data)
+        with self.assertRaises(pe_c.Error):
+            image.pdb20
+        self.assertEqual([(it.part, it.error.kind) for it in image.warnings], [("pdb20", Kind.DEBUG_DATA)])
+
+    def test_a_resource_without_content_is_a_warning(self):
+        data, image = bytearray(bytes_of("resources")), made("resources")
+        leaf, = (it for it in image.resources if it.type == 24)
+        self.assertEqual(image.warnings, ())
+        struct.pack_into("<I", data, data.index(struct.pack("<II", leaf.rva, leaf.size)), 0x7FFF0000)
+        image = pe_c.Image(data)
+        with self.assertRaises(pe_c.Error):
+            image.manifest
+        self.assertEqual([(it.part, it.error.kind) for it in image.warnings], [(it, Kind.UNMAPPED) for it in ("manifest", "resources")])
+        self.assertRegex(str(image.warnings[1]), "^resources: 1 without content, the first of type 24 and name 1: ")
+
+    def test_a_mode_that_there_is_not(self):
+        data = bytes_of("functions")
+        for mode in (-1, 4, 7, "rb", "1", 1.0, None):
+            with self.assertRaises(TypeError, msg=mode):
+                pe_c.Image(data, mode)
+        self.assertEqual([pe_c.Image(data, it).headers.mode for it in range(2)], [0, 1])
+
     def test_texts_of_errors(self):
         self.assertEqual(str(pe_c.Error(2, "truncated", "headers", "a.dll")), "a.dll: headers: truncated")
+        # Names are the file's.
+        parts = "lines of Größe\x1b[2J\n", "truncated", "a\udcff.dll"
+        wanted = "a\\udcff.dll: lines of Größe\\x1b[2J\\n: truncated"
+        self.assertEqual(str(pe_c.Error(2, parts[1], parts[0], parts[2])), wanted)
+        self.assertEqual(str(pe_c.ImageWarning(pe_c.WarningKind.DAMAGED, *parts[:2], None, parts[2])), wanted)
         self.assertIs(Kind(12345), Kind.OTHER)
         self.assertEqual(pickle.loads(pickle.dumps(pe_c.Error(2, "truncated", "headers"))).kind, Kind.SHORT)
 
@@ -629,6 +670,9 @@ class Hostile(unittest.TestCase):
     def test_how_many_rows_a_large_file_has(self):
         image = pe_c.Image(hostile.imports(2_000, 2_000) + bytes(5 << 20))
         self.assertTrue(image.imports.is_limited)
+        with self.assertRaises(pe_c.Error) as caught:
+            image.imports.check()
+        self.assertEqual(caught.exception.kind, Kind.ROOM)
         self.assertLess(sum(1 + len(it.imports) for it in image.imports), (1 << 18) + 1)
 
     def test_hashes_and_entropies_are_bounded(self):

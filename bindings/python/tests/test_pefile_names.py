@@ -10,6 +10,7 @@ import struct
 import tempfile
 import unittest
 
+import hostile
 import pe_c
 from pe_c import pefile as ours
 from pe_c._pefile_gaps import GAPS, NotInPeC
@@ -176,6 +177,17 @@ class Gaps(unittest.TestCase):
         if SPEC:
             theirs = importlib.import_module("pefile").PE(path, max_symbol_exports=1)
             self.assertEqual([(it.name, it.ordinal) for it in theirs.DIRECTORY_ENTRY_EXPORT.symbols], listed(max_symbol_exports=1)[0])
+
+    def test_string_tables_that_are_left_out(self):
+        """Sixty tables are the same 1,000 bytes, in a file of fewer than 60,000: a warning says so before they are asked for."""
+        data = bytearray(hostile.resources(1, 60, 1))
+        self.assertEqual((len(data), data[hostile.OFFSET + 16]), (2048, 1))
+        data[hostile.OFFSET + 16] = 6
+        entry = data.index(struct.pack("<IIII", hostile.RVA, 4, 0, 0))
+        struct.pack_into("<I", data, entry + 4, 1000)
+        pe = ours.PE(data=bytes(data))
+        self.assertTrue(any(it.startswith("String tables have more bytes than the file") for it in pe.get_warnings()))
+        self.assertEqual(len(pe.DIRECTORY_ENTRY_RESOURCE.entries[0].directory.entries), 60)
 
     def test_what_is_written(self):
         """Fields of headers and bytes are changed, and nothing else of the file; what is not written is an error."""

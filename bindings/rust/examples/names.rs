@@ -37,13 +37,13 @@ pub fn names(bytes: &[u8]) -> Result<Vec<String>, Error> {
     Ok(lines)
 }
 
-fn main() {
+fn main() -> Result<(), Box<dyn std::error::Error>> {
     let Some(name) = std::env::args().nth(1) else {
         eprintln!("usage: names FILE");
         std::process::exit(2);
     };
-    let bytes = std::fs::read(&name).expect("the file is read");
-    for line in names(&bytes).expect("it is an image") {
+    for line in names(&std::fs::read(&name)?)? {
         println!("{line}");
     }
+    Ok(())
 }

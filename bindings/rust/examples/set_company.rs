@@ -25,13 +25,12 @@ pub fn with_company(bytes: &[u8], name: &str) -> Result<Vec<u8>, Error> {
     editor.write()
 }
 
-fn main() {
+fn main() -> Result<(), Box<dyn std::error::Error>> {
     let words: Vec<String> = std::env::args().skip(1).collect();
     let [file, name, out] = &words[..] else {
         eprintln!("usage: set_company FILE NAME OUT");
         std::process::exit(2);
     };
-    let bytes = std::fs::read(file).expect("the file is read");
-    let written = with_company(&bytes, name).expect("the name is set");
-    std::fs::write(out, written).expect("the file is written");
+    std::fs::write(out, with_company(&std::fs::read(file)?, name)?)?;
+    Ok(())
 }

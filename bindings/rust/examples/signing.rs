@@ -23,27 +23,26 @@ pub fn signed(bytes: &[u8], signature: &[u8]) -> Result<Vec<u8>, Error> {
     Image::parse(bytes, Mode::Permissive)?.attach(&certificate, Placement::InPlace)
 }
 
-fn main() {
+fn main() -> Result<(), Box<dyn std::error::Error>> {
     let words: Vec<String> = std::env::args().skip(1).collect();
     let words: Vec<&str> = words.iter().map(String::as_str).collect();
-    let read = |name| std::fs::read(name).expect("the file is read");
     match words[..] {
         ["digest", file] => {
-            let bytes = read(file);
+            let bytes = std::fs::read(file)?;
             let mut covered = 0;
-            hash_image(&bytes, |piece| covered += piece.len()).expect("it is an image");
-            let image = Image::parse(&bytes, Mode::Permissive).expect("it is an image");
-            let (digest, sum) = (image.digest_ranges().expect("it has a digest"), image.checksum().expect("and a sum"));
+            hash_image(&bytes, |piece| covered += piece.len())?;
+            let image = Image::parse(&bytes, Mode::Permissive)?;
+            let (digest, sum) = (image.digest_ranges()?, image.checksum()?);
             digest.ranges().for_each(|range| println!("range {:#x} {:#x}", range.start, range.end));
             println!("zeros {}\ncovered {covered}\nchecksum {:#x} at {:#x}", digest.zeros(), sum.value, sum.offset);
         }
         ["attach", file, signature, out] => {
-            let written = signed(&read(file), &read(signature)).expect("the signature is attached");
-            std::fs::write(out, written).expect("the file is written");
+            std::fs::write(out, signed(&std::fs::read(file)?, &std::fs::read(signature)?)?)?;
         }
         _ => {
             eprintln!("usage: signing digest FILE | signing attach FILE PKCS7 OUT");
             std::process::exit(2);
         }
     }
+    Ok(())
 }

@@ -14,13 +14,13 @@ pub fn symbol_paths(bytes: &[u8], file_name: &str) -> Result<Vec<String>, Error>
     Ok([pdb, older, own].into_iter().flatten().map(|path| path.to_string()).collect())
 }
 
-fn main() {
+fn main() -> Result<(), Box<dyn std::error::Error>> {
     let Some(name) = std::env::args().nth(1) else {
         eprintln!("usage: symbols FILE");
         std::process::exit(2);
     };
-    let bytes = std::fs::read(&name).expect("the file is read");
-    for path in symbol_paths(&bytes, &name).expect("it is an image") {
+    for path in symbol_paths(&std::fs::read(&name)?, &name)? {
         println!("{path}");
     }
+    Ok(())
 }

@@ -29,8 +29,8 @@ pub fn version_line(bytes: &[u8]) -> Result<Option<String>, Error> {
 
 fn main() {
     for name in std::env::args().skip(1) {
-        let bytes = std::fs::read(&name).expect("the file is read");
-        match version_line(&bytes) {
+        let line = std::fs::read(&name).map_err(|it| it.to_string());
+        match line.and_then(|bytes| version_line(&bytes).map_err(|it| it.to_string())) {
             Ok(line) => println!("{name}\t{}", line.as_deref().unwrap_or("no version information")),
             Err(error) => println!("{name}\t{error}"),
         }

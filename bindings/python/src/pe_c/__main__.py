@@ -58,6 +58,9 @@ class Bar:
 
 def run(words: list[str]) -> int:
     asked = arguments(words)
+    if sys.stdout is None:
+        print("pe_c: standard output is closed", file=sys.stderr)
+        return FILE_ERROR
     mode = (Mode.STRICT if asked.strict else Mode.PERMISSIVE) | (Mode.MAPPED if asked.mapped else Mode.STRICT)
     bar = Bar(sys.stderr, asked.recursive and sys.stderr.isatty() and not sys.stdout.isatty())
     worst, skipped, cut, out = DONE, 0, 0, sys.stdout.buffer
@@ -71,9 +74,12 @@ def run(words: list[str]) -> int:
                 bar.end()
                 print(f"pe_c: {said.complaint}", file=sys.stderr)
         out.flush()
-    except BrokenPipeError:
-        # Whoever read the output has seen enough, as `head` has.
+    except OSError as error:
+        # Python would write what is left once more as it ends.
         os.dup2(os.open(os.devnull, os.O_WRONLY), sys.stdout.fileno())
+        # Whoever read from a pipe that is broken has seen enough, as `head` has.
+        if not isinstance(error, BrokenPipeError):
+            print(f"pe_c: {error.strerror or error}", file=sys.stderr)
         return FILE_ERROR
     except concurrent.futures.process.BrokenProcessPool:
         print("pe_c: a process ended early, as one that the system killed", file=sys.stderr)

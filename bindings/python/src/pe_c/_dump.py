@@ -13,7 +13,7 @@ from ._core import (Arm64Context, Arm64Registers, Context, DumpEntry, DumpExcept
 from ._functions import LONGEST, AnyFrame, Names, Places, address_of, refused_tables
 from ._image import Image, Mode
 from ._kinds import End, Kind
-from ._part import Error, ImageWarning, Part, WarningKind, error_of
+from ._part import LIMITED, Error, ImageWarning, Part, WarningKind, error_of
 from ._pdb import Pdb, PdbFrame
 from ._reader import BYTES, AnyFile, Reader, content_of
 from ._symbols import AnyFolders, Folders, PdbFiles, Wanted, is_in_function, name_of
@@ -244,11 +244,29 @@ class Dump(Reader):
 
     @property
     def warnings(self) -> tuple[Error, ...]:
-        """What of the dump is damaged, an error a stream."""
-        answers = [(name, self._part(f"dump_{name}").error) for name in LISTS]
-        found = [error for _, error in answers if error]
-        return tuple(found + [error_of(number, name, self.path) for name in RECORDS
-                              if (number := self._kept_answer(f"dump_{name}")[1])])
+        """What of the dump is damaged, an error a stream; how much memory it says it has that is not in the file; and the lists that
+        are limited, as Kind.ROOM."""
+        parts = {name: self._part(f"dump_{name}") for name in LISTS}
+        found = [it.error for it in parts.values() if it.error]
+        found += [error_of(number, name, self.path) for name in RECORDS if (number := self._kept_answer(f"dump_{name}")[1])]
+        if self._lost:
+            found.append(Error(Kind.SHORT, f"{self._lost} bytes are lost: the file is truncated", "memory", self.path))
+        return tuple(found + [Error(Kind.ROOM, LIMITED, name, self.path) for name, it in parts.items() if it.is_limited])
+
+    @property
+    def _lost(self) -> int:
+        """How many bytes of the memory of the lists, and of the stacks of threads that these lack, the file does not have."""
+        listed = [*self.memory_list, *self.memory64]
+        longest: dict[int, int] = {}
+        for it in listed:
+            longest[it.start] = max(it.length, longest.get(it.start, 0))
+        lost = sum(it.lost for it in listed)
+        for start, at in (it.stack for it in self.threads):
+            there = max(min(at.size, len(self.memory) - at.rva), 0)
+            if at.rva and there > longest.get(start, -1):
+                longest[start] = there
+                lost += at.size - there
+        return lost
 
     def symbol_key(self, module: DumpModule) -> SymbolKey | None:
         """The symbol key of a module, as its record in the dump has it. Raises Error."""
@@ -487,7 +505,7 @@ class Dump(Reader):
                 sections -= image.headers.number_of_sections if image else 0
             is_taken = image is not None and left >= 0 and sections >= 0
             found.append((image if image is not None and is_taken else it.size_of_image, it.base_of_image))
-        return found, left < 0 or sections < 0 or len(self.modules) > MOST_IMAGES
+        return found, left < 0 or sections < 0 or self.modules.is_limited or len(self.modules) > MOST_IMAGES
 
     def _image_or_looked_up(self, module: DumpModule,
                             look_up: typing.Callable[[DumpModule], Image | None] | None) -> tuple[Image | None, int]:

@@ -16,7 +16,7 @@ from ._core import (AllHeaders, Arm64Function, Arm64Packed, Arm64Record, BoundLi
 from ._functions import Address, names_of, refused_tables
 from ._kinds import Kind
 from ._ordinals import ORDINALS
-from ._part import SHOWN, Error, ImageWarning, Part, WarningKind, entropy_of, error_of, plain, shown
+from ._part import LIMITED, SHOWN, Error, ImageWarning, Part, WarningKind, entropy_of, error_of, plain, shown
 from ._reader import IMAGE, AnyFile, Reader, content_of
 from ._report import Report
 
@@ -34,7 +34,7 @@ SECTOR = 512
 LISTS = ("sections", "imports", "exports", "delay_imports", "bound_imports", "debug_entries", "certificates", "resources", "relocations",
          "functions", "arm64_functions")
 RECORDS = ("symbol_key", "tls", "load_config", "clr_header", "clr_metadata")
-# Those of the debug directory, beside the symbol key.
+# Those of the debug directory, beside the symbol key and the record of PDB 2.0 in its place.
 DEBUG_RECORDS = ("vc_features", "extended_dll_characteristics", "repro", "pogo", "embedded_pdb", "pdb_checksum")
 
 
@@ -102,6 +102,9 @@ class Image(Reader):
 
     def __init__(self, data: _typeshed.ReadableBuffer, mode: Mode = Mode.PERMISSIVE, *, copy: bool = True,
                  path: str | None = None) -> None:
+        if not isinstance(mode, int) or not 0 <= mode <= Mode.PERMISSIVE | Mode.MAPPED:
+            # The library takes bits of no name for none.
+            raise TypeError(f"mode is a pe_c.Mode, and not {mode!r}")
         super().__init__(data, IMAGE, "headers", mode=int(mode), copy=copy, path=path)
 
     def __repr__(self) -> str:
@@ -223,8 +226,9 @@ class Image(Reader):
             if part.error and not part:
                 at = self.headers.directories[IMAGE_DIRECTORY_ENTRY_BASERELOC]
                 offset = self.offset_of(at.virtual_address)
-                content = b"x" if offset is None else self.memory[offset:offset + at.size]
-                part.error = part.error if any(content) else None
+                content = b"" if offset is None else self.memory[offset:offset + at.size]
+                # One that the file does not have may be zeros, or not.
+                part.error = part.error if len(content) < at.size or any(content) else None
             return part
         return self._once("relocations", read)
 
@@ -562,12 +566,14 @@ class Image(Reader):
             errors = [part.error for part in (self._part(name) for name in LISTS) if part.error]
             errors += [error for it in self.versions for error in (it.fixed_error, it.strings_error, it.blocks.error) if error]
             errors += [it for it in (self.versions.error,) if it and not self.resources.error]
-            # By a directory that is refused each of its records is.
+            # By a directory that is refused each of its records is, and the manifest by one of resources.
             of_debug = () if self.debug_entries.error else DEBUG_RECORDS
-            errors += [it for it in map(self._error_of, ("rich_header", *RECORDS, *of_debug)) if it]
+            older = () if self._error_of("symbol_key") else ("pdb20",)
+            manifest = () if self.resources.error else ("manifest",)
+            errors += [it for it in map(self._error_of, ("rich_header", *RECORDS, *older, *of_debug, *manifest)) if it]
             found = [ImageWarning(WarningKind.DAMAGED, it.part, it.text, it, self.path) for it in errors]
-            found += self._unmapped()
-            found += [ImageWarning(WarningKind.LIMITED, it, "more entries than the file's bytes account for", None, self.path)
+            found += self._unmapped() + self._without_content()
+            found += [ImageWarning(WarningKind.LIMITED, it, LIMITED, None, self.path)
                       for it in self.limited]
             return tuple(found + self._alignment())
         return self._once("warnings", read)
@@ -581,6 +587,15 @@ class Image(Reader):
         text = f"{len(found)} unmapped lookup tables, {first}: what is imported is what the address tables name"
         error = error_of(Kind.UNMAPPED, "imports", self.path)
         return [ImageWarning(WarningKind.DAMAGED, "imports", text, error, self.path)]
+
+    def _without_content(self) -> list[ImageWarning]:
+        """Of the resources whose content is refused."""
+        found = [it for it in self.resources if it.content is None]
+        if not found:
+            return []
+        error = error_of(found[0].content_result, "resources", self.path)
+        text = f"{len(found)} without content, the first of type {found[0].type!r} and name {found[0].name!r}: {error.text}"
+        return [ImageWarning(WarningKind.DAMAGED, "resources", text, error, self.path)]
 
     def _alignment(self) -> list[ImageWarning]:
         headers = self.headers

@@ -13,6 +13,8 @@ from ._kinds import Kind
 T = TypeVar("T")
 # How many rows a notebook shows.
 SHOWN = 100
+# What is said of a list that is limited.
+LIMITED = "more entries than the file's bytes account for"
 
 
 class Error(ValueError):
@@ -34,7 +36,12 @@ class Error(ValueError):
         return Kind(self.number)
 
     def __str__(self) -> str:
-        return ": ".join(it for it in (self.path, self.part, self.text) if it)
+        return as_line(self.path, self.part, self.text)
+
+
+def as_line(*parts: str | None) -> str:
+    """An error or a warning as a line. A name of a file, which stands in some, may hold anything, and is not to drive a terminal."""
+    return shown_text(": ".join(it for it in parts if it))
 
 
 def error_of(number: int, part: str, path: str | None = None) -> Error:
@@ -64,7 +71,7 @@ class ImageWarning(typing.NamedTuple):
     path: str | None = None
 
     def __str__(self) -> str:
-        return ": ".join(it for it in (self.path, self.part, self.text) if it)
+        return as_line(self.path, self.part, self.text)
 
 
 class Part(tuple[T, ...]):
@@ -79,9 +86,11 @@ class Part(tuple[T, ...]):
     is_limited: bool = False
 
     def check(self) -> Part[T]:
-        """The rows, if they are all there. Raises the error that ended them."""
+        """The rows, if they are all there. Raises the error that ended them, and Kind.ROOM where they are limited."""
         if self.error:
             raise self.error
+        if self.is_limited:
+            raise Error(Kind.ROOM, LIMITED, "list")
         return self
 
     @property
@@ -107,8 +116,9 @@ class Part(tuple[T, ...]):
         lines = "".join(f"<tr>{''.join(f'<td>{shown(it)}</td>' for it in row)}</tr>" for row in rows[:SHOWN])
         head = "".join(f"<th>{it}</th>" for it in self.columns)
         more = f"<p>{len(rows) - SHOWN} more</p>" if len(rows) > SHOWN else ""
-        error = f"<p><b>{shown(str(self.error))}</b></p>" if self.error else ""
-        return f"<table><tr>{head}</tr>{lines}</table>{more}{error}"
+        said = [str(self.error)] * bool(self.error) + [LIMITED] * self.is_limited
+        ends = "".join(f"<p><b>{shown(it)}</b></p>" for it in said)
+        return f"<table><tr>{head}</tr>{lines}</table>{more}{ends}"
 
 
 def fields_of(row: Any) -> tuple[str, ...]:

@@ -4,6 +4,7 @@ from __future__ import annotations
 import errno
 import io
 import os
+import stat
 import typing
 from typing import TYPE_CHECKING, Any, TypeVar
 
@@ -17,8 +18,29 @@ T = TypeVar("T")
 Self = TypeVar("Self", bound="Reader")
 # What the bytes of a _core.Image are.
 IMAGE, OBJECT, TE, BYTES = range(4)
+# How many bytes are read at once of what does not say how many it has.
+PIECE = 1 << 20
 # A path, or a file that is open in binary mode.
 AnyFile = typing.Union[str, "os.PathLike[str]", typing.BinaryIO]
+
+
+def _in_pieces(file: Any, limit: int, path: str | None) -> bytes:
+    """What follows the position of a file that is open. One call would make room for as much as it asks for."""
+    pieces: list[bytes] = []
+    while True:
+        piece: object = file.read(min(PIECE, limit + 1))
+        if not isinstance(piece, (bytes, bytearray, memoryview)):
+            raise TypeError(f"the file is not open in binary mode: it reads {type(piece).__name__}")
+        if not piece:
+            return b"".join(pieces)
+        limit -= len(piece)
+        if limit < 0:
+            raise _too_large(path)
+        pieces.append(bytes(piece))
+
+
+def _too_large(path: str | None) -> OSError:
+    return OSError(errno.EFBIG, os.strerror(errno.EFBIG), path)
 
 
 def content_of(file: AnyFile, limit: int) -> tuple[bytes, str | None]:
@@ -27,19 +49,16 @@ def content_of(file: AnyFile, limit: int) -> tuple[bytes, str | None]:
     if isinstance(file, (str, os.PathLike)):
         name = os.fspath(file)
         with io.open(name, "rb", buffering=0) as opened:
-            if os.fstat(opened.fileno()).st_size > limit:
-                raise OSError(errno.EFBIG, os.strerror(errno.EFBIG), name)
-            return opened.readall(), name
+            about = os.fstat(opened.fileno())
+            if about.st_size > limit:
+                raise _too_large(name)
+            # A pipe or a device does not say how much it has.
+            return opened.readall() if stat.S_ISREG(about.st_mode) else _in_pieces(opened, limit, name), name
     if not hasattr(file, "read"):
         raise TypeError(f"a path or a file that is open in binary mode, and not {type(file).__name__}")
-    content: object = file.read(limit + 1)
     given = getattr(file, "name", None)
     path = given if isinstance(given, str) else None
-    if not isinstance(content, (bytes, bytearray, memoryview)):
-        raise TypeError(f"the file is not open in binary mode: it reads {type(content).__name__}")
-    if len(content) > limit:
-        raise OSError(errno.EFBIG, os.strerror(errno.EFBIG), path)
-    return bytes(content), path
+    return _in_pieces(file, limit, path), path
 
 
 class Reader:

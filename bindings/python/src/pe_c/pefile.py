@@ -1197,9 +1197,10 @@ class PE:
         return made and _with_parts(made)
 
     def get_warnings(self) -> list[str]:
-        """What of the image is damaged or limited, a small file alignment, and exports that are left out. pefile's texts, and its guesses
-        at packers, are others."""
-        getattr(self, "DIRECTORY_ENTRY_EXPORT", None)
+        """What of the image is damaged or limited, a small file alignment, and exports and string tables that are left out. pefile's
+        texts, and its guesses at packers, are others."""
+        for name in ("DIRECTORY_ENTRY_EXPORT", "DIRECTORY_ENTRY_RESOURCE"):
+            getattr(self, name, None)
         return [*map(str, self._image.warnings), *self._limits]
 
     def dump_dict(self) -> dict[str, Any]:

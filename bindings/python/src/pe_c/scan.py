@@ -34,6 +34,10 @@ LIMIT = 1 << 32
 CUT = "it is a DOS or truncated MZ file, as it seems"
 
 
+AnyPath = typing.Union[str, "os.PathLike[str]"]
+AnyPaths = typing.Union[AnyPath, typing.Iterable[AnyPath]]
+
+
 class File(typing.NamedTuple):
     """A file that is asked for."""
 
@@ -81,9 +85,10 @@ def below(folder: str) -> typing.Iterator[File]:
         yield File(os.fsdecode(path), True, size)
 
 
-def files(paths: typing.Iterable[str | os.PathLike[str]], recursive: bool = False) -> typing.Iterator[File]:
-    """The files that are named, and those below the folders that are."""
-    for path in (os.fspath(it) for it in paths):
+def files(paths: AnyPaths, recursive: bool = False) -> typing.Iterator[File]:
+    """The files that are named, and those below the folders that are. A text is one path, and not many of one letter."""
+    several = [paths] if isinstance(paths, (str, os.PathLike)) else paths
+    for path in (os.fspath(it) for it in several):
         if recursive and os.path.isdir(path):
             yield from below(path)
         else:
@@ -93,6 +98,8 @@ def files(paths: typing.Iterable[str | os.PathLike[str]], recursive: bool = Fals
 def _content(file: File) -> bytes | None:
     """A file whole. Of one below a folder the start is read first: one that is no image is not read on."""
     if file.path == "-":
+        if sys.stdin is None:
+            raise OSError(errno.EBADF, os.strerror(errno.EBADF), file.path)
         return sys.stdin.buffer.read()
     mode = os.stat(file.path).st_mode
     if not stat.S_ISREG(mode) and not stat.S_ISDIR(mode):
@@ -152,8 +159,7 @@ def batches(found: typing.Iterable[File], size: int = BATCH_BYTES, count: int = 
         yield batch
 
 
-def scan(paths: typing.Iterable[str | os.PathLike[str]], *, recursive: bool = True, jobs: int | None = None,
-         how: How = How()) -> typing.Iterator[Said]:
+def scan(paths: AnyPaths, *, recursive: bool = True, jobs: int | None = None, how: How = How()) -> typing.Iterator[Said]:
     """What is said of each file, in the order of the files, by so many processes: by default as many as the machine has."""
     jobs = jobs or len(os.sched_getaffinity(0))
     found = batches(files(paths, recursive))
