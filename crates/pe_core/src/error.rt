@@ -175,91 +175,72 @@ impl Reason {
         })
     }
 
-    /// The texts before and after a number in hexadecimal digits. `None` if the reason has no such number, or two.
-    fn texts_around_hex(&self) -> Option<(&'static str, &'static str)> {
-        Some(match self {
-            Reason::HeaderPointer(..) => (
-                "PE header offset ",
-                " lies inside the DOS header's 64 bytes",
-            ),
-            Reason::ImportName(..) => (
-                "import name at RVA ",
-                " is not NUL-terminated or not UTF-8",
-            ),
-            Reason::StringTable(..) => (
-                "string not NUL-terminated, not UTF-8 or truncated (at offset ",
-                " of the string table, unless it is an inline name)",
-            ),
-            Reason::CertificateRevision(..) => ("invalid certificate revision ", ""),
-            Reason::CertificateType(..) => ("invalid certificate type ", ""),
-            Reason::CertificateTable(..) => (
-                "certificate table ends at file offset ",
-                ", past the end of the file",
-            ),
-            Reason::Unmapped(..) => (
-                "RVA ",
-                " maps to no file offset: no section covers it, or the file alignment is not a power of two",
-            ),
-            Reason::DebugBounds(..) => (
-                "debug directory ends at file offset ",
-                ", past the end of the file",
-            ),
-            Reason::ExceptionOffset(..) => (
-                "exception directory at file offset ",
-                " is not aligned to 4 bytes",
-            ),
-            Reason::ExceptionBounds(..) => (
-                "exception directory ends at file offset ",
-                ", past the end of the file",
-            ),
-            Reason::FunctionLink(..) => ("link to RVA ", " leads to no function entry"),
-            Reason::UnwindCode(..) => ("invalid unwind code ", ""),
-            Reason::Arm64Cut(..) => ("ARM64 unwind code truncated at offset ", " of its stream"),
-            Reason::ResourceBounds(..) => (
-                "resource data ends at file offset ",
-                ", past the bytes that hold it",
-            ),
-            Reason::ResourceCycle(..) => (
-                "loop in the resource tree through the directory at offset ",
-                "",
-            ),
-            Reason::ResourceString(..) => (
-                "version string at offset ",
-                ": value missing, or its length above 32,767",
-            ),
-            Reason::WriteAlignment(..) => ("images with alignment ", " cannot be written"),
-            Reason::WriteSymbols(..) => (
-                "images with COFF symbols cannot be written (symbol table at file offset ",
-                ")",
-            ),
-            _ => return None,
-        })
+    /// The numbers of the reason, as its text has them. 0 in place of one that it does not have.
+    fn numbers(&self) -> [u64; 2] {
+        match *self {
+            Reason::PogoName { needed, length } => [needed as u64, length as u64],
+            Reason::Arm64Stream { length, start } => [length as u64, start as u64],
+            Reason::WriteOverlap(first, second) => [first as u64, second as u64],
+            Reason::WriteFit { end, length } => [end, length as u64],
+            Reason::ImportsLimit { count, limit } => [count as u64, limit as u64],
+            _ => [self.number().unwrap_or(0), 0],
+        }
     }
 
-    /// The texts before and after a number in decimal digits. Empty if the reason has no such number, or two.
-    fn texts_around_decimal(&self) -> (&'static str, &'static str) {
+    /// The text of the reason, for `write_numbers`.
+    fn text(&self) -> &'static str {
         match self {
-            Reason::CertificateSize(..) => ("certificate truncated: ", " bytes needed"),
-            Reason::DebugSize(..) => ("debug record of ", " bytes is too small for its type"),
-            Reason::DebugData(..) => ("debug record truncated: ", " bytes needed"),
-            Reason::PogoSize(..) => ("POGO record of ", " bytes has no entries"),
-            Reason::ExceptionSize(..) => (
-                "exception directory size of ",
-                " bytes is not a multiple of the entry size",
-            ),
-            Reason::FunctionIndex(..) => ("function index ", " is out of range"),
-            Reason::FunctionCycle(..) => (
-                "loop in unwind links or chained records, found after ",
-                " steps",
-            ),
-            Reason::UnwindVersion(..) => ("unknown unwind record version ", ""),
-            Reason::Arm64Version(..) => ("unknown ARM64 unwind record version ", ""),
-            Reason::TeSize(..) => (
-                "stripped size of ",
-                " bytes is smaller than the 40 bytes of a TE header",
-            ),
-            Reason::WriteSection(..) => ("data of section ", " is not in the source bytes"),
-            _ => ("", ""),
+            Reason::HeaderPointer(..) =>
+                "PE header offset 0x{} lies inside the DOS header's 64 bytes",
+            Reason::ImportName(..) => "import name at RVA 0x{} is not NUL-terminated or not UTF-8",
+            Reason::StringTable(..) =>
+                "string not NUL-terminated, not UTF-8 or truncated (at offset 0x{} of the string table, unless it is an inline name)",
+            Reason::CertificateRevision(..) => "invalid certificate revision 0x{}",
+            Reason::CertificateType(..) => "invalid certificate type 0x{}",
+            Reason::CertificateSize(..) => "certificate truncated: {} bytes needed",
+            Reason::CertificateTable(..) =>
+                "certificate table ends at file offset 0x{}, past the end of the file",
+            Reason::Unmapped(..) =>
+                "RVA 0x{} maps to no file offset: no section covers it, or the file alignment is not a power of two",
+            Reason::DebugBounds(..) =>
+                "debug directory ends at file offset 0x{}, past the end of the file",
+            Reason::DebugSize(..) => "debug record of {} bytes is too small for its type",
+            Reason::DebugData(..) => "debug record truncated: {} bytes needed",
+            Reason::PogoSize(..) => "POGO record of {} bytes has no entries",
+            Reason::PogoName { .. } =>
+                "POGO entry truncated: {} bytes needed up to the end of its padded name, {} left",
+            Reason::ExceptionSize(..) =>
+                "exception directory size of {} bytes is not a multiple of the entry size",
+            Reason::ExceptionOffset(..) =>
+                "exception directory at file offset 0x{} is not aligned to 4 bytes",
+            Reason::ExceptionBounds(..) =>
+                "exception directory ends at file offset 0x{}, past the end of the file",
+            Reason::FunctionIndex(..) => "function index {} is out of range",
+            Reason::FunctionLink(..) => "link to RVA 0x{} leads to no function entry",
+            Reason::FunctionCycle(..) =>
+                "loop in unwind links or chained records, found after {} steps",
+            Reason::UnwindVersion(..) => "unknown unwind record version {}",
+            Reason::UnwindCode(..) => "invalid unwind code 0x{}",
+            Reason::Arm64Version(..) => "unknown ARM64 unwind record version {}",
+            Reason::Arm64Stream { .. } =>
+                "no ARM64 unwind code stream in {} bytes from offset 0x{}",
+            Reason::Arm64Cut(..) => "ARM64 unwind code truncated at offset 0x{} of its stream",
+            Reason::ResourceBounds(..) =>
+                "resource data ends at file offset 0x{}, past the bytes that hold it",
+            Reason::ResourceCycle(..) =>
+                "loop in the resource tree through the directory at offset 0x{}",
+            Reason::ResourceString(..) =>
+                "version string at offset 0x{}: value missing, or its length above 32,767",
+            Reason::TeSize(..) =>
+                "stripped size of {} bytes is smaller than the 40 bytes of a TE header",
+            Reason::NoOptionalHeader => "image has no optional header",
+            Reason::WriteAlignment(..) => "images with alignment 0x{} cannot be written",
+            Reason::WriteSymbols(..) =>
+                "images with COFF symbols cannot be written (symbol table at file offset 0x{})",
+            Reason::WriteOverlap(..) => "sections {} and {} overlap in the file and are not equal",
+            Reason::WriteSection(..) => "data of section {} is not in the source bytes",
+            Reason::WriteFit { .. } => "write ends at offset 0x{}, past a buffer of {} bytes",
+            Reason::ImportsLimit { .. } => "image has {} imports, more than the limit of {}",
         }
     }
 }
@@ -271,80 +252,52 @@ impl fmt::Debug for Reason {
         if let Some(number) = self.number() {
             return f.debug_tuple(name).field(&number).finish();
         }
-        match self {
-            Reason::PogoName { needed, length } => f
-                .debug_struct(name)
-                .field("needed", needed)
-                .field("length", length)
-                .finish(),
-            Reason::Arm64Stream { length, start } => f
-                .debug_struct(name)
-                .field("length", length)
-                .field("start", start)
-                .finish(),
-            Reason::WriteOverlap(first, second) => f
+        let [first, second] = self.numbers();
+        let (one, other) = match self {
+            Reason::PogoName { .. } => ("needed", "length"),
+            Reason::Arm64Stream { .. } => ("length", "start"),
+            Reason::WriteFit { .. } => ("end", "length"),
+            Reason::ImportsLimit { .. } => ("count", "limit"),
+            Reason::WriteOverlap(..) => return f
                 .debug_tuple(name)
-                .field(first)
-                .field(second)
+                .field(&first)
+                .field(&second)
                 .finish(),
-            Reason::WriteFit { end, length } => f
-                .debug_struct(name)
-                .field("end", end)
-                .field("length", length)
-                .finish(),
-            Reason::ImportsLimit { count, limit } => f
-                .debug_struct(name)
-                .field("count", count)
-                .field("limit", limit)
-                .finish(),
-            _ => f.write_str(name),
-        }
+            _ => return f.write_str(name),
+        };
+        f.debug_struct(name)
+            .field(one, &first)
+            .field(other, &second)
+            .finish()
     }
 }
 
-// One `write!` for many reasons: with a `write!` in each arm the proof takes three times as long.
 impl fmt::Display for Reason {
     fn fmt<W: fmt::Write>(&self, f: &mut fmt::Formatter<W>) -> fmt::Result {
-        let Some(number) = self.number() else {
-            return self.fmt_others(f);
-        };
-        match self.texts_around_hex() {
-            Some((before, after)) => write!(f, "{before}{number:#x}{after}"),
-            None => {
-                let (before, after) = self.texts_around_decimal();
-                write!(f, "{before}{number}{after}")
-            }
-        }
+        write_numbers(f, self.text(), &self.numbers())
     }
 }
 
-impl Reason {
-    /// The text of a reason that has no number, or two.
-    fn fmt_others<W: fmt::Write>(&self, f: &mut fmt::Formatter<W>) -> fmt::Result {
-        match self {
-            Reason::PogoName { needed, length } => write!(
-                f,
-                "POGO entry truncated: {needed} bytes needed up to the end of its padded name, {length} left"
-            ),
-            Reason::Arm64Stream { length, start } => write!(
-                f,
-                "no ARM64 unwind code stream in {length} bytes from offset {start:#x}"
-            ),
-            Reason::WriteOverlap(first, second) => write!(
-                f,
-                "sections {first} and {second} overlap in the file and are not equal"
-            ),
-            Reason::WriteFit { end, length } => write!(
-                f,
-                "write ends at offset {end:#x}, past a buffer of {length} bytes"
-            ),
-            Reason::ImportsLimit { count, limit } => write!(
-                f,
-                "image has {count} imports, more than the limit of {limit}"
-            ),
-            _ => write!(f, "image has no optional header"),
+/// Writes a text with a number in place of each `{}`: after `0x` in hexadecimal digits, else in decimal ones. With a `write!` for
+/// each reason the proof takes three times as long.
+fn write_numbers<W: fmt::Write>(
+    f: &mut fmt::Formatter<W>,
+    text: &str,
+    numbers: &[u64],
+) -> fmt::Result {
+    let mut rest = text;
+    for number in numbers {
+        if let Some((before, after)) = rest.split_once("{}") {
+            let written = if before.ends_with("0x") {
+                write!(f, "{before}{number:x}")
+            } else {
+                write!(f, "{before}{number}")
+            };
+            written?;
+            rest = after;
         }
     }
+    f.write_str(rest)
 }
 
 /// Why a call failed.
