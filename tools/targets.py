@@ -14,9 +14,9 @@ One proof serves all. The kit keeps what it checked of a crate in the crate's ou
 first target that is built proves what has changed, and for each further one the kit says in its log that it checked no
 module, `modules loaded=N checked=0`, which stands in PROOF too.
 
-`rt lib` proves all crates below anew that it has not built itself in this folder or another one. Where `rt ci` has proved them, as the gate
-does, its libraries serve too: with OVER_CI among the words `rt ci` runs first, which takes what it keeps and removes what else was
-built, and then the kit's compiler proves pe_c over these libraries and makes the archive, with the flags that `rt lib` gives it."""
+`rt lib` proves all crates below anew that it has not built itself in this folder or another one. Where `rt ci` has proved them under
+the gate, its libraries serve too: with OVER_CI among the words tools/prove_changed puts them in place, and proves the others, and then
+the kit's compiler proves pe_c over these libraries and makes the archive, with the flags that `rt lib` gives it."""
 
 import contextlib
 import hashlib
@@ -28,7 +28,6 @@ import tempfile
 import time
 
 import header_files
-import verdicts
 from contents import bytes_of, copy, text_of, write
 from header import TOP, Header
 from limits import SECONDS, Failed, limited
@@ -125,25 +124,15 @@ def run_loud(words, seconds, **more):
         os.close(heard)
 
 
-def prove_by_ci():
-    """Has `rt ci` prove what it does not keep, unless the libraries that it left are those of the crates as they are. It empties out/."""
-    crate, mark = Crate(TOP, "pe_c", read_lines(TOP)), os.path.join(CRATE, "out", "over-ci")
-    sources = [verdicts.files_of(os.path.join(TOP, "crates", it), {"out"}) for it in [*crate.below, "pe_c"]]
-    now = verdicts.sum_of(run([find_rt(), "version"]), text_of(TOP, "crates.txt"), sources)
-    with contextlib.suppress(OSError), open(mark, encoding="utf-8") as file:
-        built = [os.path.getmtime(f"{TOP}/crates/{it}/out/rlib/{it}.rlib/format") for it in crate.below]
-        if file.read() == now and max(built) <= os.path.getmtime(mark):
-            return
-    processors = str(len(os.sched_getaffinity(0)))
-    said = run_loud([find_rt(), "ci"], SECONDS_TO_PROVE, cwd=TOP, env={**os.environ, "RT_JOBS": processors})
+def prove_below():
+    """Has the libraries proved that pe_c rests on, but for those that were proved on this machine as they are."""
+    said = run_loud([os.path.join(TOP, "tools", "prove_changed"), "--below", "pe_c"], SECONDS_TO_PROVE)
     if not re.search(r"^\d+ passed, 0 failed$", said, re.M):
-        raise Failed(f"rt ci: not all crates are proved: {said[-2000:]}")
-    os.makedirs(os.path.dirname(mark), exist_ok=True)
-    write(now, mark)
+        raise Failed(f"not all crates are proved: {said[-2000:]}")
 
 
 def over_ci(rt, words):
-    """The command that makes the archive over the libraries that `rt ci` left."""
+    """The command that makes the archive over the libraries that prove_below put in place."""
     kit = os.path.dirname(os.path.dirname(rt))
     own = Crate(TOP, "pe_c", read_lines(TOP)).words(kit)[1:]
     jobs = [] if "--jobs" in words else ["--jobs", str(len(os.sched_getaffinity(0)))]
@@ -260,7 +249,7 @@ def build(target, folder, code=None, words=()):
     expect_there(target)
     folder = os.path.realpath(folder)
     if OVER_CI in words:
-        prove_by_ci()
+        prove_below()
     os.makedirs(folder, exist_ok=True)
     archive = os.path.join(folder, "libpe_c.a")
     proof = "not proved"
