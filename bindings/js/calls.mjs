@@ -1,6 +1,6 @@
 // How a call of pe.h is made: what is given goes into the memory of the instance, and what the call writes comes back.
 import { calls, constants, steps } from './layouts.mjs';
-import { PeError, whole, width } from './memory.mjs';
+import { PeError, optionsOf, whole, width } from './memory.mjs';
 
 const utf8 = new TextDecoder('utf-8', { ignoreBOM: true }), utf16 = new TextDecoder('utf-16le', { ignoreBOM: true });
 
@@ -36,6 +36,12 @@ let memoryIn, ownIn;
 /** The memory of what makes calls, and the arguments that it passes itself, for the files of this package. */
 export const memoryOf = (caller) => memoryIn(caller);
 export const ownOf = (caller) => ownIn(caller);
+
+/** An image among its own arguments, as the fields of pe_c_view. */
+export function viewOf(image) {
+  const { view: _, ...fields } = ownOf(image);
+  return fields;
+}
 
 /** An instance, and what stands in its memory for each call: `own` has these arguments, addresses and lengths, by the names
  * of their parameters. */
@@ -298,7 +304,8 @@ export class File extends Caller {
   }
 
   /** The text of a range, in UTF-16, up to the first zero unless it is whole. */
-  utf16(range, { isWhole = false } = {}) {
+  utf16(range, options) {
+    const { isWhole = false } = optionsOf(options, 'isWhole');
     const text = utf16.decode(this.slice(range));
     return isWhole ? text : text.replace(/\0.*$/s, '');
   }

@@ -4,7 +4,7 @@
 import { PeError, constants, results } from './library.mjs';
 import { Tables } from './metadata.mjs';
 import * as names from './names.mjs';
-import { Image, namedExports } from './image.mjs';
+import { Image, modeOf, namedExports } from './image.mjs';
 import { bytesOf, memoryOf } from './calls.mjs';
 import { Memory } from './memory.mjs';
 import { Budget } from './parts.mjs';
@@ -645,8 +645,8 @@ export function facts(image, fileName = '') {
 const spare = new WeakMap(), MOST_SPARE = 1 << 24;
 
 /** The facts of a file: of one that is refused, why. */
-export function factsOf(library, given, fileName, { mode = constants.PE_C_STRICT } = {}) {
-  const bytes = bytesOf(given), memory = spare.get(library) ?? new Memory(library.module), { free } = memory;
+export function factsOf(library, given, fileName, options) {
+  const mode = modeOf(options), bytes = bytesOf(given), memory = spare.get(library) ?? new Memory(library.module), { free } = memory;
   let image, said;
   spare.delete(library);
   try {

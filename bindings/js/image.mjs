@@ -1,7 +1,7 @@
 // An image: its headers and sections, all calls of pe.h over it, and its lists as iterators.
-import { File, bytesOf, firstOfType, listOf, memoryOf, ownOf, placed, placeFor, wholeEntries, written } from './calls.mjs';
+import { File, bytesOf, firstOfType, listOf, memoryOf, ownOf, placed, placeFor, viewOf, wholeEntries, written } from './calls.mjs';
 import { constants } from './layouts.mjs';
-import { whole, width } from './memory.mjs';
+import { only, optionsOf, whole, width } from './memory.mjs';
 import { delayImportsOf, digestOf, exportsOf, importsOf, manifestOf, signaturesOf, versionsOf } from './parts.mjs';
 import { recordsOf, resourcesOf } from './resources.mjs';
 import { symbolsOf } from './symbols.mjs';
@@ -35,8 +35,13 @@ export const namedExports = (image, exports) => image.many('pe_c_list_exports', 
 /** A walk of its own, for a list that starts anew each time. */
 const copied = (walk) => structuredClone(walk);
 
-/** A mode that pe.h has: it takes others for one of these. */
-export function checkMode(mode) {
+/** The mode among options, one that pe.h has: it takes others for one of these. */
+export function modeOf(options) {
+  const { mode = constants.PE_C_STRICT } = optionsOf(options, 'mode');
+  return checkMode(mode);
+}
+
+function checkMode(mode) {
   const { PE_C_STRICT, PE_C_PERMISSIVE, PE_C_MAPPED } = constants;
   if ([PE_C_STRICT, PE_C_PERMISSIVE, PE_C_STRICT + PE_C_MAPPED, PE_C_PERMISSIVE + PE_C_MAPPED].includes(mode)) return mode;
   throw new TypeError(`mode is PE_C_PERMISSIVE or PE_C_STRICT, or one of these + PE_C_MAPPED, and not ${String(mode)}`);
@@ -78,7 +83,7 @@ export class Image extends File {
     const memory = memoryOf(this), own = ownOf(this), most = 4n * own.count;
     const room = BigInt(memory.reserve(Number(most) * width('pe_c_range_entry'))), count = memory.reserve(8);
     memory.isDone('pe_c_index', memory.make('pe_c_index', [own.view, room, most, BigInt(count)]));
-    memory.write('pe_c_view', Number(own.view), { ...own, index: room, entries: memory.read('uint64_t', count) });
+    memory.write('pe_c_view', Number(own.view), { ...viewOf(this), index: room, entries: memory.read('uint64_t', count) });
   }
 
   /** All numbers of the headers: pe_c_headers_info. */
@@ -211,7 +216,8 @@ export class Image extends File {
   /** What names each of these addresses without a PDB: RVAs, which return addresses are where `isReturn`. It is the last COFF symbol within
    * its function, else the export that starts it, or in an image without a function table the nearest of either; else null. */
   functionNames(addresses) {
-    const asked = addresses.map(({ rva, isReturn = false }) => ({ rva: whole('uint32_t', rva), is_return: Number(isReturn) }));
+    const asked = addresses.map((it) => ({
+      rva: whole('uint32_t', it.rva), is_return: Number(only('fields of an address', ['rva', 'isReturn'], it).isReturn ?? false) }));
     const sources = this.call('pe_c_name_tables'), names = asked.map(() => ({}));
     this.call('pe_c_function_names', { sources, addresses: asked, room: placeFor(sources.room), names });
     return names.map(({ name, start, offset, source, is_nearest: isNearest }) => source === 0 ? null : {
@@ -244,7 +250,8 @@ export class Image extends File {
   // ---- what is written: a new file each, and the image stays
 
   /** The file with a certificate, or several: entries of a certificate table. */
-  attach(certificate, { placement = constants.PE_C_AFTER } = {}) {
+  attach(certificate, options) {
+    const { placement = constants.PE_C_AFTER } = optionsOf(options, 'placement');
     return written(this, 'pe_c_attach', { certificate: bytesOf(certificate), placement });
   }
 

@@ -5,7 +5,7 @@
 // memory. That memory never shrinks, so drop the image, and with it the instance, when the file is done.
 import { Caller, File, placed } from './calls.mjs';
 import { Dump } from './dump.mjs';
-import { Image, checkMode } from './image.mjs';
+import { Image, modeOf } from './image.mjs';
 import { abi, calls, constants, records, results, version } from './layouts.mjs';
 import { Memory, PeError, whole } from './memory.mjs';
 import { Coff, TeImage } from './objects.mjs';
@@ -23,8 +23,8 @@ export class Library {
   }
 
   /** Reads the headers of an image: a file, or with the mode PE_C_MAPPED a module in memory. */
-  open(bytes, { mode = constants.PE_C_STRICT } = {}) {
-    return new Image(new Memory(this.module), bytes, mode);
+  open(bytes, options) {
+    return new Image(new Memory(this.module), bytes, modeOf(options));
   }
 
   /** Reads the headers of a COFF object. Any 20 bytes are such a header: look at its machine. */
@@ -54,8 +54,8 @@ export class Library {
   }
 
   /** Why `open` refuses bytes, pe_c_failure, or null where it reads their headers. */
-  failure(bytes, { mode = constants.PE_C_STRICT } = {}) {
-    return this.file(bytes).call('pe_c_image_failure', { mode: checkMode(mode) });
+  failure(bytes, options) {
+    return this.file(bytes).call('pe_c_image_failure', { mode: modeOf(options) });
   }
 
   /** Why `openTe` does. */

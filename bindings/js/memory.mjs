@@ -31,6 +31,17 @@ export function whole(type, value) {
   return number;
 }
 
+/** What is given as an object, if each name in it is one of these: what has another name would be dropped without a word. */
+export function only(what, names, given) {
+  if (given === null || typeof given !== 'object') throw new TypeError(`${String(given)} is no object with the ${what}: ${names.join(', ')}`);
+  for (const it of Object.keys(given)) {
+    if (!names.includes(it)) throw new TypeError(`${it} is none of the ${what}: ${names.join(', ')}`);
+  }
+  return given;
+}
+
+export const optionsOf = (given = {}, ...names) => only('options', names, given);
+
 /** Why a call refused its arguments: `number` and `constant` are those of pe.h, such as 2 and PE_C_SHORT, and `message` is
  * its text. Of a call for signatures `failure` is its pe_c_signature_failure. */
 export class PeError extends Error {
@@ -137,7 +148,7 @@ export class Memory {
     return read[type] ?? NUMBERS[type];
   }
 
-  /** Writes a number, an address or a record. A field that the record lacks is 0. */
+  /** Writes a number, an address or a record. A field that the record lacks is 0; it has no other ones. */
   write(type, at, value) {
     const view = this.all && this.#view;
     if (isAddress(type)) return view.setBigUint64(at, value, true);
@@ -148,10 +159,16 @@ export class Memory {
       case 'uint32_t': return view.setUint32(at, whole(type, value), true);
       case 'uint64_t': case 'size_t': return view.setBigUint64(at, whole(type, value), true);
     }
-    for (const [name, kind, offset, count] of records[type][1]) {
-      const size = width(kind), own = value[name];
+    const fields = records[type][1];
+    let known = 0;
+    for (const [name, kind, offset, count] of fields) {
+      const size = width(kind), own = value?.[name];
+      if (own !== undefined || (value && Object.hasOwn(value, name))) known++;
       const values = own === undefined ? [] : count ? own.slice(0, count) : [own];
       values.forEach((it, i) => this.write(kind, at + offset + i * size, it));
+    }
+    if (!value || typeof value !== 'object' || Object.keys(value).length > known) {
+      only(`fields of ${type}`, fields.map(([name]) => name), value);
     }
   }
 

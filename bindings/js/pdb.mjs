@@ -1,8 +1,9 @@
 // Program databases (PDB 7.0): the names and lines of an image that was linked with debug information. Its streams are scattered over
 // blocks of the file: each that is read stands once more in the memory of the instance, and calls take that copy.
 import { File, memoryOf, ownOf, placed } from './calls.mjs';
+import { Image } from './image.mjs';
 import { constants } from './layouts.mjs';
-import { PeError, width } from './memory.mjs';
+import { PeError, optionsOf, width } from './memory.mjs';
 
 const INFO_STREAM = 1, DBI_STREAM = 3, ID_STREAM = 4, NO_STREAM = 0xFFFF;
 const S_PUB32 = 0x110E, PROCEDURES = [0x110F, 0x1110, 0x1146, 0x1147];
@@ -192,8 +193,10 @@ export class Pdb extends File {
     return { guid: this.info.guid, age: this.info.dbi_age };
   }
 
-  /** Whether it is the PDB of an image with this key, pe_c_key. */
-  matches(key) {
+  /** Whether it is the PDB of an image, or of one with this key, pe_c_key. */
+  matches(given) {
+    const isImage = given instanceof Image, key = isImage ? given.call('pe_c_symbol_key') : given;
+    if (isImage && key === null) return false;
     return this.info.dbi_result === constants.PE_C_DONE && this.call('pe_c_is_pdb_of', { key, pdb: this.info }) !== null;
   }
 
@@ -349,8 +352,9 @@ export class Pdb extends File {
   }
 
   /** The function at an RVA and its line, or null: see index.d.ts. */
-  find(rva, { isReturn = false } = {}) {
-    const asked = rva - Number(isReturn), at = asked >= 0 && asked <= 0xFFFFFFFF ? this.#moved(asked) : null;
+  find(rva, options) {
+    const { isReturn = false } = optionsOf(options, 'isReturn'), asked = rva - Number(isReturn);
+    const at = asked >= 0 && asked <= 0xFFFFFFFF ? this.#moved(asked) : null;
     if (at === null) return null;
     const own = this.#moduleAt(at)?.symbols, found = own?.find(at) ?? null;
     const symbols = found ? own : this.#publics, symbol = found ?? this.#publics?.find(at);

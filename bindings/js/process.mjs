@@ -1,8 +1,8 @@
 // Stack walks on x64 and ARM64, through the modules of a process.
-import { Caller, bytesOf, ownOf } from './calls.mjs';
+import { Caller, bytesOf, viewOf } from './calls.mjs';
 import { Image } from './image.mjs';
 import { constants } from './layouts.mjs';
-import { PeError, whole, width } from './memory.mjs';
+import { PeError, only, whole, width } from './memory.mjs';
 
 const ARM64 = 0xAA64;
 
@@ -26,10 +26,10 @@ function wholeEntries(image) {
  * or null. */
 function moduleOf(image, base) {
   try {
-    return [{ image: ownOf(image), table: image.functionTable() ?? {}, base }, null];
+    return [{ image: viewOf(image), table: image.functionTable() ?? {}, base }, null];
   } catch (error) {
     if (!(error instanceof PeError)) throw error;
-    return [{ image: ownOf(image), table: wholeEntries(image), base }, error];
+    return [{ image: viewOf(image), table: wholeEntries(image), base }, error];
   }
 }
 
@@ -43,7 +43,9 @@ function withoutImage(memory, size, base) {
 
 /** The modules of a process and its memory, in one instance. */
 export class Process extends Caller {
-  constructor(memory, { modules, memory: given, pieces }) {
+  constructor(memory, parts) {
+    const { modules, memory: given, pieces } = only('parts of a process', ['modules', 'memory', 'pieces'], parts);
+    for (const it of modules) only('fields of a module', ['bytes', 'size', 'base', 'mode'], it);
     const bytes = bytesOf(given), bases = modules.map(({ base }) => whole('uint64_t', base));
     const images = modules.map((it) => (it.bytes ? new Image(memory, it.bytes, it.mode ?? constants.PE_C_STRICT) : null));
     const found = images.map((it, i) => (it ? moduleOf(it, bases[i]) : withoutImage(memory, modules[i].size, bases[i])));

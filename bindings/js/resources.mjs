@@ -1,7 +1,7 @@
 // Resources as values, and version information as bytes: what is written in place of that which an image has.
 import { bytesOf, memoryOf, written } from './calls.mjs';
 import { constants } from './layouts.mjs';
-import { whole } from './memory.mjs';
+import { only, whole } from './memory.mjs';
 
 // The most leaves that a tree can be written of, and the most bytes that their names can have.
 const MOST = 65535, MOST_NAMES = 1 << 24;
@@ -85,6 +85,7 @@ export function recordsOf(resources) {
   const { parts, range } = ranges();
   const number = (value) => whole('uint32_t', value);
   const key = (it) => (isText(it) ? { name: range(units(it)), has_name: 1 } : { id: number(it) });
+  for (const it of sorted) only('fields of a resource', ['type', 'name', 'language', 'codePage', 'content'], it);
   const records = sorted.map((it) => ({
     resource_type: key(it.type), name: key(it.name), content: range(bytesOf(it.content)),
     language: number(it.language), code_page: number(it.codePage ?? 0),
@@ -95,7 +96,8 @@ export function recordsOf(resources) {
 // ---- version information
 
 /** A block of version information and the blocks in it, as bytes: a value is bytes, or a text. */
-export function blockOf(caller, { key, text = '', value, children = [] }) {
+export function blockOf(caller, block) {
+  const { key, text = '', value, children = [] } = only('fields of a block', ['key', 'text', 'value', 'children'], block);
   const given = {
     key: units(key), is_text: value ? 0 : 1, value: value ? bytesOf(value) : units(text ? `${text}\0` : ''),
     children: joined(children.map((it) => blockOf(caller, it))),
@@ -106,7 +108,10 @@ export function blockOf(caller, { key, text = '', value, children = [] }) {
 }
 
 /** Version information of one language, as bytes. */
-export function versionOf(caller, { fileVersion = [0, 0, 0, 0], productVersion = fileVersion, language = 0, strings = {} }) {
+export function versionOf(caller, information) {
+  const names = ['fileVersion', 'productVersion', 'language', 'strings'];
+  only('parts of version information', names, information);
+  const { fileVersion = [0, 0, 0, 0], productVersion = fileVersion, language = 0, strings = {} } = information;
   const word = (value) => whole('uint16_t', value), double = (high, low) => word(high) * 0x10000 + word(low);
   const [file, product] = [fileVersion, productVersion].map(([a, b, c, d]) => [double(a, b), double(c, d)]);
   const rows = Object.entries(strings).map(([key, text]) => ({ name: units(key), text: units(text ? `${text}\0` : '') }));

@@ -29,7 +29,7 @@ const pieces = [{ start: 1, length: 3n }], table = { offset: 0, length: 12n };
 const step: true | null = image.call('pe_c_step', { table, memory: bytes, pieces, frame: { registers: { rip: 2 } } });
 const dump = library.openDump(bytes), threads: PeDumpThread[] = [...dump.list('threads')], code = dump.exception()?.exception_code;
 const pdb = library.openPdb(bytes), named = pdb.find(1, { isReturn: true })?.line, key = image.call('pe_c_symbol_key');
-const isOwn: boolean = key !== null && pdb.matches(key), first: string | null = pdb.lines(pdb.modules()[0])[0].file;
+const isOwn: boolean = pdb.matches(image) && key !== null && pdb.matches(key), first: string | null = pdb.lines(pdb.modules()[0])[0].file;
 const [certificate] = image.certificates(), signed = image.call('pe_c_signature', { range: certificate.body });
 const tags: number[] = signed ? [...image.elements(signed.signers)].map((it) => it.tag) : [], at = new PeError().failure?.offset;
 const listed: { next: bigint; written: bigint } | null = image.call('pe_c_list_functions', { table: {}, next: 0, entries: [{}] });

@@ -1165,8 +1165,49 @@ test('code that was moved is named', () => {
   assert.deepEqual([0x1060, 0x1000].map((rva) => table.call('pe_c_pdb_moved_rva', { rva })), [0x3020, null]);
 });
 
+test('an option or a field that there is not is an error that names it, and those that there are', () => {
+  const image = opened('x86_dll'), bytes = file('x86_dll'), pdb = pdbWith(), range = { offset: 0n, length: 2n };
+  const says = (name, known, run) => assert.throws(run, (it) => it instanceof TypeError
+    && it.message.startsWith(`${name} is none of the `) && it.message.endsWith(`: ${known}`), name);
+  says('mod', 'mode', () => library.open(bytes, { mod: 1 }));
+  says('mod', 'mode', () => library.failure(bytes, { mode: 1, mod: 1 }));
+  says('strict', 'mode', () => factsOf(library, bytes, 'a.dll', { strict: true }));
+  says('whole', 'isWhole', () => image.utf16(range, { whole: true }));
+  says('place', 'placement', () => image.attach(new Uint8Array(16), { place: 1 }));
+  says('is_return', 'isReturn', () => pdb.find(0x1000, { is_return: true }));
+  says('is_return', 'isReturn', () => pdb.frames(0x1000, { is_return: true }));
+  says('is_return', 'rva, isReturn', () => image.functionNames([{ rva: 1, is_return: true }]));
+  says('codepage', 'type, name, language, codePage, content',
+    () => image.edit([{ type: 24, name: 1, language: 0, codepage: 1252, content: bytes.subarray(0, 8) }]));
+  says('child', 'key, text, value, children', () => library.versionBlock({ key: 'a', children: [{ key: 'b', child: [] }] }));
+  says('fileversion', 'fileVersion, productVersion, language, strings', () => library.versionInfo({ fileversion: [1, 2, 3, 4] }));
+  const module = { bytes, base: 0n }, process = { modules: [module], memory: bytes, pieces: [] };
+  says('piece', 'modules, memory, pieces', () => library.process({ ...process, piece: [] }));
+  says('address', 'bytes, size, base, mode', () => library.process({ ...process, modules: [{ ...module, address: 0n }] }));
+  says('at', 'start, offset, length', () => library.process({ ...process, pieces: [{ ...range, at: 0n }] }));
+  // Of a record of pe.h, one inside of another, and one of an array.
+  says('size', 'offset, length', () => image.call('pe_c_name', { range: { offset: 0n, size: 2n } }));
+  says('rvo', 'left, rva', () => image.call('pe_c_next_import', { walk: { imports: { left: range, rvo: 1n } } }));
+  const resource = { resource_type: { id: 24 }, name: { id: 1 }, content: range, codepage: 0 };
+  assert.throws(() => image.call('pe_c_edit', { resources: [resource], data: bytes, room: new Uint8Array(0) }), /codepage is none of the fields of /);
+  for (const options of [1, null, 'mode', true]) {
+    assert.throws(() => library.open(bytes, options), TypeError);
+    assert.throws(() => image.call('pe_c_name', { range: options }), TypeError);
+  }
+  assert.equal(library.open(bytes, { mode: undefined }).info.machine, library.open(bytes, undefined).info.machine);
+  assert.deepEqual([pdb.find(0x1048, {}).name, pdb.find(0x1048, { isReturn: undefined }).name], ['entry', 'entry']);
+});
+
 test('a PDB is that of the image that names it', () => {
   const pdb = pdbWith(), { guid, age } = pdb.key;
+  const bytes = Uint8Array.from(file('debug')), image = library.open(bytes), key = image.call('pe_c_symbol_key');
+  assert.deepEqual([pdb.matches(image), pdb.matches(opened('imports'))], [false, false]);
+  // The image with the PDB's GUID and age: both stand before the name of its record, after the four bytes RSDS.
+  const at = Buffer.from(bytes).indexOf(Uint8Array.from(key.guid));
+  bytes.set(guid, at);
+  new DataView(bytes.buffer).setUint32(at + guid.length, age, true);
+  assert.equal(pdb.matches(library.open(bytes)), true);
+  for (const it of [null, undefined, 5, 'a', bytes, library]) assert.throws(() => pdb.matches(it), TypeError);
   assert.deepEqual([age, pdb.matches({ guid, age }), pdb.matches({ guid, age: 2 })], [1, true, false]);
   assert.equal(pdb.matches(opened('debug').call('pe_c_symbol_key')), false);
 });
@@ -1578,6 +1619,9 @@ test('signatures as values, and the digest that they are of', () => {
   const right = hash.update(new Uint8Array(Number(zeros))).digest('hex');
   pending.push(image.digest().then((it) => test('a digest', () => assert.equal(Buffer.from(it).toString('hex'), right))));
 });
+pending.push(load({ width: true }).then(() => null, (error) => error).then((it) => test('an option of load that there is not', () => {
+  assert.deepEqual([it instanceof TypeError, it?.message], [true, 'width is none of the options: wide']);
+})));
 await Promise.all(pending);
 
 test('names of functions without a PDB', () => {

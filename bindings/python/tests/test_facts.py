@@ -162,6 +162,15 @@ class Lines(Room):
             self.assertEqual([it.path for it in scan.files(named, recursive=True)], [path])
             self.assertEqual([it.complaint for it in scan.scan(named, jobs=1)], [f"{path}: skipped, it is no image"])
 
+    def test_a_path_that_no_file_has_is_said(self):
+        for path, shown in (("a\0b", "a\\x00b"), ("\ud800", "\\ud800")):
+            for is_below in (False, True):
+                said = scan.line_of(scan.File(path, is_below, 0))
+                self.assertEqual((said.line, said.status, said.is_skipped), ("", scan.FILE_ERROR, False))
+                self.assertTrue(said.complaint.startswith(f"{shown}: "), said.complaint)
+        image = os.path.join(self.room, "debug.bin")
+        self.assertEqual([bool(it.line) for it in scan.scan(["a\0b", image], jobs=1)], [False, True])
+
     def test_batches_by_bytes(self):
         found = [scan.File(str(it), True, size) for it, size in enumerate([1, 1, 90 << 20, 1, 9 << 20, 8 << 20] + [0] * 100)]
         cut = list(scan.batches(found))

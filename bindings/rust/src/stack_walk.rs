@@ -317,6 +317,24 @@ const MOST_AT_ONCE: usize = 1024;
 /// assert_eq!(frames.end(), Some(End::Bottom));
 /// # Ok::<(), pe_c::Error>(())
 /// ```
+///
+/// A walk is neither `Send` nor `Sync`. Each thread makes its own, of modules and memory that they share:
+///
+/// ```
+/// fn shared<T: Send + Sync>() {}
+/// shared::<pe_c::Module>();
+/// shared::<pe_c::MemoryList>();
+/// ```
+///
+/// ```compile_fail,E0277
+/// fn sent<T: Send>() {}
+/// sent::<pe_c::Frames>();
+/// ```
+///
+/// ```compile_fail,E0277
+/// fn shared<T: Sync>() {}
+/// shared::<pe_c::Frames>();
+/// ```
 #[derive(Clone)]
 pub struct Frames<'m, R: MachineRegisters = Registers> {
     modules: Vec<sys::Module>,

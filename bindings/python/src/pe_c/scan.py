@@ -129,6 +129,9 @@ def line_of(file: File, how: How = How()) -> Said:
         if file.is_below and os.path.islink(file.path) and os.path.isdir(file.path):
             return skipped("it is no regular file")
         data = _content(file)
+    except ValueError as error:
+        # A path that no file has: with a NUL, or with a character that names of files can't have.
+        return Said("", f"{shown_text(file.path)}: {error}", FILE_ERROR, False, 0)
     except OSError as error:
         if file.is_below and os.path.islink(file.path) and error.errno in (errno.ENOENT, errno.ELOOP):
             return skipped("the link leads to no file")
