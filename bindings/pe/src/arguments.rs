@@ -540,9 +540,9 @@ pub struct Stacks {
     /// The stack of this thread alone.
     #[arg(long, value_name = "ID")]
     pub thread: Option<u32>,
-    /// At most so many frames of each thread.
-    #[arg(long, value_name = "N", default_value_t = 100)]
-    pub frames: usize,
+    /// At most so many frames of each thread, 100 without it.
+    #[arg(long, value_name = "N")]
+    pub frames: Option<usize>,
     /// The registers of each frame.
     #[arg(long)]
     pub registers: bool,
@@ -551,8 +551,19 @@ pub struct Stacks {
 impl Stacks {
     pub fn asked(self, is_json: bool) -> crate::stack::Asked {
         let Stacks { thread, frames, registers: has_registers } = self;
-        crate::stack::Asked { thread, frames, has_registers, is_json }
+        crate::stack::Asked { thread, frames: frames.unwrap_or(100), has_registers, is_json }
     }
+}
+
+/// The options that are of minidumps alone, and whether each is there. `--registers` is of no page.
+pub fn of_dumps(given: &Given, stacks: &Stacks) -> [(&'static str, bool); 4] {
+    let (images, symbols) = (!given.images.is_empty(), !given.symbols.is_empty());
+    [
+        ("--images", images),
+        ("--symbols", symbols),
+        ("--thread", stacks.thread.is_some()),
+        ("--frames", stacks.frames.is_some()),
+    ]
 }
 
 /// A resource.
