@@ -167,6 +167,11 @@ fn parts_help() -> String {
     format!("Parts, in any case:\n{}", lines.collect::<Vec<_>>().join("\n"))
 }
 
+/// An option that a command refuses, with its reason, is not in its help.
+fn hidden(option: clap::Arg) -> clap::Arg {
+    option.hide(true)
+}
+
 #[derive(Debug, Subcommand)]
 pub enum Command {
     /// Show parts of images, whole.
@@ -260,6 +265,7 @@ pub enum Command {
         output: Output,
     },
     /// Show the SHA-256 of what an Authenticode signature of an image covers.
+    #[command(mut_arg("mapped", hidden))]
     Digest {
         #[command(flatten)]
         files: Files,
@@ -269,6 +275,7 @@ pub enum Command {
         output: Output,
     },
     /// Show what the signatures of images say, and whether it fits: the digests and the signatures, and with roots the chains.
+    #[command(mut_arg("mapped", hidden))]
     Verify {
         #[command(flatten)]
         files: Files,
@@ -328,6 +335,7 @@ pub enum Command {
         reading: Reading,
     },
     /// Write an image with a certificate to a new file.
+    #[command(mut_arg("mapped", hidden))]
     Attach {
         /// The image.
         file: PathBuf,
@@ -342,6 +350,7 @@ pub enum Command {
         reading: Reading,
     },
     /// Write an image without its certificates to a new file.
+    #[command(mut_arg("mapped", hidden))]
     Detach {
         /// The image.
         file: PathBuf,
@@ -351,6 +360,7 @@ pub enum Command {
         reading: Reading,
     },
     /// Write an image with other version information to a new file. What is not named stays as it is.
+    #[command(mut_arg("mapped", hidden))]
     SetVersion {
         /// The image.
         file: PathBuf,
@@ -364,6 +374,7 @@ pub enum Command {
         reading: Reading,
     },
     /// Write an image with another manifest to a new file: in the place of that which Windows looks for, else of the first.
+    #[command(mut_arg("mapped", hidden))]
     SetManifest {
         /// The image.
         file: PathBuf,
@@ -380,6 +391,7 @@ pub enum Command {
         reading: Reading,
     },
     /// Write an image with other icons to a new file: in the place of those of its first group of icons.
+    #[command(mut_arg("mapped", hidden))]
     SetIcon {
         /// The image.
         file: PathBuf,
@@ -396,6 +408,7 @@ pub enum Command {
         reading: Reading,
     },
     /// Write an image with a resource that has the content of a file to a new file.
+    #[command(mut_arg("mapped", hidden))]
     SetResource {
         /// The image.
         file: PathBuf,
@@ -411,6 +424,7 @@ pub enum Command {
         reading: Reading,
     },
     /// Write an image without a resource, or without several, to a new file.
+    #[command(mut_arg("mapped", hidden))]
     RemoveResource {
         /// The image.
         file: PathBuf,
@@ -424,6 +438,7 @@ pub enum Command {
         reading: Reading,
     },
     /// Show the checksums of images and the right ones, or write an image with the right one.
+    #[command(mut_arg("mapped", hidden))]
     Checksum {
         #[command(flatten)]
         files: Files,
