@@ -117,8 +117,10 @@ fn summarise(arguments: &Arguments, out: &mut dyn Write) -> io::Result<Status> {
 /// Parts whole, as text or JSON.
 fn shown_whole(files: &Files, topics: &[Topic], how: How, out: &mut dyn Write) -> io::Result<Status> {
     let wanted = Wanted::parts(topics, how.has_hashes).with_others();
-    let text = |facts: &Facts, style| if how.is_json { json(facts) } else { show::text(facts, style, topics) };
-    let said = |facts: &Facts, style| text(facts, style).into();
+    let said = |facts: &Facts, style| match how.is_json {
+        true => Said { complaints: show::complaints_of_hardening(facts), ..Said::from(json(facts)) },
+        false => show::text(facts, style, topics).into(),
+    };
     files::each(files, out, |path, bytes| shown(path, bytes, how.reading, &wanted, said))
 }
 
