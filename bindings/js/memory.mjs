@@ -164,7 +164,8 @@ export class Memory {
     for (const [name, kind, offset, count] of fields) {
       const size = width(kind), own = value?.[name];
       if (own !== undefined || (value && Object.hasOwn(value, name))) known++;
-      const values = own === undefined ? [] : count ? own.slice(0, count) : [own];
+      if (count && own?.length > count) throw new RangeError(`${name} has room for ${count}, and not for ${own.length}`);
+      const values = own === undefined ? [] : count ? [...own] : [own];
       values.forEach((it, i) => this.write(kind, at + offset + i * size, it));
     }
     if (!value || typeof value !== 'object' || Object.keys(value).length > known) {

@@ -45,7 +45,10 @@ function withoutImage(memory, size, base) {
 export class Process extends Caller {
   constructor(memory, parts) {
     const { modules, memory: given, pieces } = only('parts of a process', ['modules', 'memory', 'pieces'], parts);
-    for (const it of modules) only('fields of a module', ['bytes', 'size', 'base', 'mode'], it);
+    for (const it of modules) {
+      only('fields of a module', ['bytes', 'size', 'base', 'mode'], it);
+      if (it.bytes && it.size !== undefined) throw new TypeError('a module has bytes or a size, and not both');
+    }
     const bytes = bytesOf(given), bases = modules.map(({ base }) => whole('uint64_t', base));
     const images = modules.map((it) => (it.bytes ? new Image(memory, it.bytes, it.mode ?? constants.PE_C_STRICT) : null));
     const found = images.map((it, i) => (it ? moduleOf(it, bases[i]) : withoutImage(memory, modules[i].size, bases[i])));

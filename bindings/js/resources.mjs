@@ -102,6 +102,7 @@ export function blockOf(caller, block) {
     key: units(key), is_text: value ? 0 : 1, value: value ? bytesOf(value) : units(text ? `${text}\0` : ''),
     children: joined(children.map((it) => blockOf(caller, it))),
   };
+  if (text && value) throw new TypeError('a block has a value or a text, and not both');
   // A reader takes a text up to its first zero.
   if (text.includes('\0')) throw memoryOf(caller).error('pe_c_write_block', constants.PE_C_BLOCK_TEXT);
   return written(caller, 'pe_c_write_block', given);
@@ -113,6 +114,7 @@ export function versionOf(caller, information) {
   only('parts of version information', names, information);
   const { fileVersion = [0, 0, 0, 0], productVersion = fileVersion, language = 0, strings = {} } = information;
   const word = (value) => whole('uint16_t', value), double = (high, low) => word(high) * 0x10000 + word(low);
+  if (fileVersion.length !== 4 || productVersion.length !== 4) throw new RangeError('a version has four numbers');
   const [file, product] = [fileVersion, productVersion].map(([a, b, c, d]) => [double(a, b), double(c, d)]);
   const rows = Object.entries(strings).map(([key, text]) => ({ name: units(key), text: units(text ? `${text}\0` : '') }));
   // A reader takes a text up to its first zero.

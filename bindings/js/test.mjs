@@ -1194,6 +1194,11 @@ test('an option or a field that there is not is an error that names it, and thos
     assert.throws(() => library.open(bytes, options), TypeError);
     assert.throws(() => image.call('pe_c_name', { range: options }), TypeError);
   }
+  // What is too long for its place, and one of two things for it.
+  assert.throws(() => pdb.matches({ guid: new Uint8Array(17), age: 1 }), RangeError);
+  assert.throws(() => library.versionInfo({ fileVersion: [1, 2, 3, 4, 5] }), RangeError);
+  assert.throws(() => library.versionBlock({ key: 'a', text: 'b', value: Uint8Array.of(1) }), TypeError);
+  assert.throws(() => library.process({ ...process, modules: [{ ...module, size: 1 }] }), TypeError);
   assert.equal(library.open(bytes, { mode: undefined }).info.machine, library.open(bytes, undefined).info.machine);
   assert.deepEqual([pdb.find(0x1048, {}).name, pdb.find(0x1048, { isReturn: undefined }).name], ['entry', 'entry']);
 });

@@ -167,6 +167,11 @@ fn parts_help() -> String {
     format!("Parts, in any case:\n{}", lines.collect::<Vec<_>>().join("\n"))
 }
 
+/// An option that a command refuses, with its reason, is not in its help.
+fn hidden(option: clap::Arg) -> clap::Arg {
+    option.hide(true)
+}
+
 #[derive(Debug, Subcommand)]
 pub enum Command {
     /// Show parts of images, whole.
@@ -260,6 +265,7 @@ pub enum Command {
         output: Output,
     },
     /// Show the SHA-256 of what an Authenticode signature of an image covers.
+    #[command(mut_arg("mapped", hidden))]
     Digest {
         #[command(flatten)]
         files: Files,
@@ -269,6 +275,7 @@ pub enum Command {
         output: Output,
     },
     /// Show what the signatures of images say, and whether it fits: the digests and the signatures, and with roots the chains.
+    #[command(mut_arg("mapped", hidden))]
     Verify {
         #[command(flatten)]
         files: Files,
@@ -328,6 +335,7 @@ pub enum Command {
         reading: Reading,
     },
     /// Write an image with a certificate to a new file.
+    #[command(mut_arg("mapped", hidden))]
     Attach {
         /// The image.
         file: PathBuf,
@@ -342,6 +350,7 @@ pub enum Command {
         reading: Reading,
     },
     /// Write an image without its certificates to a new file.
+    #[command(mut_arg("mapped", hidden))]
     Detach {
         /// The image.
         file: PathBuf,
@@ -351,6 +360,7 @@ pub enum Command {
         reading: Reading,
     },
     /// Write an image with other version information to a new file. What is not named stays as it is.
+    #[command(mut_arg("mapped", hidden))]
     SetVersion {
         /// The image.
         file: PathBuf,
@@ -364,6 +374,7 @@ pub enum Command {
         reading: Reading,
     },
     /// Write an image with another manifest to a new file: in the place of that which Windows looks for, else of the first.
+    #[command(mut_arg("mapped", hidden))]
     SetManifest {
         /// The image.
         file: PathBuf,
@@ -380,6 +391,7 @@ pub enum Command {
         reading: Reading,
     },
     /// Write an image with other icons to a new file: in the place of those of its first group of icons.
+    #[command(mut_arg("mapped", hidden))]
     SetIcon {
         /// The image.
         file: PathBuf,
@@ -396,6 +408,7 @@ pub enum Command {
         reading: Reading,
     },
     /// Write an image with a resource that has the content of a file to a new file.
+    #[command(mut_arg("mapped", hidden))]
     SetResource {
         /// The image.
         file: PathBuf,
@@ -411,6 +424,7 @@ pub enum Command {
         reading: Reading,
     },
     /// Write an image without a resource, or without several, to a new file.
+    #[command(mut_arg("mapped", hidden))]
     RemoveResource {
         /// The image.
         file: PathBuf,
@@ -424,6 +438,7 @@ pub enum Command {
         reading: Reading,
     },
     /// Show the checksums of images and the right ones, or write an image with the right one.
+    #[command(mut_arg("mapped", hidden))]
     Checksum {
         #[command(flatten)]
         files: Files,
@@ -540,9 +555,9 @@ pub struct Stacks {
     /// The stack of this thread alone.
     #[arg(long, value_name = "ID")]
     pub thread: Option<u32>,
-    /// At most so many frames of each thread.
-    #[arg(long, value_name = "N", default_value_t = 100)]
-    pub frames: usize,
+    /// At most so many frames of each thread, 100 without it.
+    #[arg(long, value_name = "N")]
+    pub frames: Option<usize>,
     /// The registers of each frame.
     #[arg(long)]
     pub registers: bool,
@@ -551,8 +566,19 @@ pub struct Stacks {
 impl Stacks {
     pub fn asked(self, is_json: bool) -> crate::stack::Asked {
         let Stacks { thread, frames, registers: has_registers } = self;
-        crate::stack::Asked { thread, frames, has_registers, is_json }
+        crate::stack::Asked { thread, frames: frames.unwrap_or(100), has_registers, is_json }
     }
+}
+
+/// The options that are of minidumps alone, and whether each is there. `--registers` is of no page.
+pub fn of_dumps(given: &Given, stacks: &Stacks) -> [(&'static str, bool); 4] {
+    let (images, symbols) = (!given.images.is_empty(), !given.symbols.is_empty());
+    [
+        ("--images", images),
+        ("--symbols", symbols),
+        ("--thread", stacks.thread.is_some()),
+        ("--frames", stacks.frames.is_some()),
+    ]
 }
 
 /// A resource.

@@ -117,8 +117,10 @@ fn summarise(arguments: &Arguments, out: &mut dyn Write) -> io::Result<Status> {
 /// Parts whole, as text or JSON.
 fn shown_whole(files: &Files, topics: &[Topic], how: How, out: &mut dyn Write) -> io::Result<Status> {
     let wanted = Wanted::parts(topics, how.has_hashes).with_others();
-    let text = |facts: &Facts, style| if how.is_json { json(facts) } else { show::text(facts, style, topics) };
-    let said = |facts: &Facts, style| text(facts, style).into();
+    let said = |facts: &Facts, style| match how.is_json {
+        true => Said { complaints: show::complaints_of_hardening(facts), ..Said::from(json(facts)) },
+        false => show::text(facts, style, topics).into(),
+    };
     files::each(files, out, |path, bytes| shown(path, bytes, how.reading, &wanted, said))
 }
 
@@ -335,8 +337,12 @@ fn write_file(command: &Command, out: &mut dyn Write) -> io::Result<Status> {
             let wanted = Wanted::parts(&[], hashing.has_hashes());
             let there = given.are_there();
             let status = files::one(file, out, |bytes, out| match stack::is_dump(bytes) {
-                true => html::dump::write_to((file, bytes), (&given.places(), stacks.asked(false)), (to, out)),
+                true => {
+                    refuse_ignored([("--strict", reading.strict), ("--mapped", reading.mapped)], "an image");
+                    html::dump::write_to((file, bytes), (&given.places(), stacks.asked(false)), (to, out))
+                }
                 false => {
+                    refuse_ignored(arguments::of_dumps(given, stacks), "a minidump");
                     let image = parsed(bytes, reading).map_err(|error| refusal_of(error, bytes, reading));
                     html::write_to((file, bytes), image, &wanted, (to, out))
                 }
@@ -379,6 +385,13 @@ fn edit_file(command: &Command, out: &mut dyn Write) -> io::Result<Status> {
             _ => files::Report::of("", Status::Done),
         })
     })
+}
+
+/// Ends where one of these options is there, which are for another kind of file.
+fn refuse_ignored<const N: usize>(options: [(&str, bool); N], of: &str) {
+    if let Some((option, _)) = options.iter().find(|it| it.1) {
+        misused(&format!("{option} is of {of}, and FILE is none"));
+    }
 }
 
 /// Ends where a module in memory is asked for what files alone have.

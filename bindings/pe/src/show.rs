@@ -260,6 +260,13 @@ fn symbols_of(symbols: &List<Symbol>, page: &mut Page) {
     more(symbols.is_limited, page);
 }
 
+/// What hardening lacks of parts that are refused, as lines for standard error. Where all of them are wanted they say it.
+pub fn complaints_of_hardening(facts: &Facts) -> String {
+    let are_there = facts.load_config.is_some() && facts.debug.is_some() && facts.certificates.is_some();
+    let said = facts.hardening.iter().filter(|_| !are_there).flat_map(|it| it.said_of_refused());
+    said.map(|it| format!("pe: {}: {it}\n", escaped(&facts.file))).collect()
+}
+
 /// What is refused, and of which parts the image has more than is looked at, as lines for standard error.
 pub fn complaints(facts: &Facts) -> String {
     let file = escaped(&facts.file);
@@ -271,7 +278,7 @@ pub fn complaints(facts: &Facts) -> String {
     let exports = facts.exports.iter().filter_map(Part::present);
     let left_out = exports.filter_map(|it| it.left_out()).map(|it| format!("pe: {file}: exports: {it}\n"));
     let cut = facts.cut().map(|it| format!("pe: {file}: {it}\n"));
-    refused.chain(limited).chain(left_out).chain(cut).collect()
+    refused.chain(limited).chain(left_out).chain(cut).chain([complaints_of_hardening(facts)]).collect()
 }
 
 /// Where a symbol server has the PDB of an image, and the image.

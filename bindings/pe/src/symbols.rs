@@ -29,6 +29,8 @@ const NO_KEY: &str = "000000000000000000000000000000000";
 struct SymbolFile {
     text: String,
     complaints: Vec<String>,
+    /// What is said too, where nothing is refused.
+    note: Option<&'static str>,
 }
 
 impl SymbolFile {
@@ -64,10 +66,10 @@ pub fn write(path: &Path, bytes: &[u8], mode: Mode, pdb: Option<&Path>, to: &Tar
         },
     };
     match made {
-        Ok(SymbolFile { text, complaints }) => {
+        Ok(SymbolFile { text, complaints, note }) => {
             let status = if complaints.is_empty() { Status::Done } else { Status::Refused };
             let written = files::deliver(text.as_bytes(), to, status);
-            let own: String = complaints.iter().map(|it| complaint(path, it)).collect();
+            let own: String = complaints.iter().map(String::as_str).chain(note).map(|it| complaint(path, it)).collect();
             Report { complaints: own + &written.complaints, ..written }
         }
         Err(complaints) => Report { complaints, ..Report::of("", Status::Refused) },
@@ -151,6 +153,7 @@ fn functions_of(pdb: &Pdb<'_>, file: &mut SymbolFile) -> Functions {
 /// Writes functions, and how frames of an image are unwound.
 fn put_all(functions: Functions, image: Option<&Image<'_>>, file: &mut SymbolFile) {
     let ranges = functions.ranges();
+    file.note = functions.is_empty().then_some("no function is named: no FUNC and no PUBLIC is written");
     functions.put(file);
     if let Some(image) = image {
         unwinding::put(image, &ranges, file);

@@ -42,6 +42,15 @@ fn symbols(words: &[&str]) -> String {
     out
 }
 
+/// The same of an image that names no function, which is said.
+fn nameless_symbols(image: &str) -> String {
+    let (out, complaints, status) = run(&["symbols", image, "-"]);
+    let why = format!("pe: {image}: no function is named: no FUNC and no PUBLIC is written\n");
+    assert_eq!((complaints, status), (why, 0));
+    assert!(!out.contains("FUNC ") && !out.contains("PUBLIC "), "{out}");
+    out
+}
+
 const FUNCTIONS: &str = "FILE 0 crash.cpp\nFILE 1 generated\\else.inc\nFILE 2 shapes.h\n\
     INLINE_ORIGIN 0 geo::twice\nINLINE_ORIGIN 1 geo::load\nINLINE_ORIGIN 2 app::through\n\
     FUNC 1000 1f 0 middle\n1000 7 11 0\n1007 9 900 1\n1010 f 16 0\n\
@@ -352,7 +361,7 @@ fn stopped_at(rva: u64, rsp: u64, rbp: u64, stack: &[u64]) -> Vec<u8> {
 fn stack_cfi_leads_to_the_same_callers() {
     let folder = Folder::new("breakpad-cfi");
     let image = folder.file("a.exe", &prologs());
-    let text = symbols(&[&image, "-"]);
+    let text = nameless_symbols(&image);
     // Each word is an address of the image, and another one.
     let stack: Vec<u64> = (0..160).map(|it| if it % 3 == 0 { BASE + 0x1100 + it } else { STACK + 8 * it }).collect();
     let (mut compared, mut changed) = (0, 0);
@@ -382,7 +391,7 @@ fn stack_cfi_leads_to_the_same_callers() {
 #[test]
 fn stack_cfi_of_arm64() {
     let folder = Folder::new("breakpad-arm64");
-    let text = symbols(&[&folder.file("a.dll", &made::with_arm64_calls()), "-"]);
+    let text = nameless_symbols(&folder.file("a.dll", &made::with_arm64_calls()));
     let rules: String = text.lines().filter(|it| it.starts_with("STACK")).map(|it| format!("{it}\n")).collect();
     assert_eq!(
         rules,
@@ -429,4 +438,12 @@ fn a_dump_is_walked_by_its_symbol_file() {
         assert_eq!((registers["rip"], rsp), (frame["ip_va"].as_u64().unwrap(), frame["sp_va"].as_u64().unwrap()));
     }
     assert_eq!(frames.len(), 4);
+}
+
+/// Names are in COFF symbols, exports and PDB files: this image has none of them.
+#[test]
+fn a_symbol_file_without_functions_says_so() {
+    let folder = Folder::new("nameless");
+    let out = nameless_symbols(&folder.file("a.exe", made::SMALL));
+    assert!(out.starts_with("MODULE windows x86_64 000000000000000000000000000000000 a.exe\n"), "{out}");
 }

@@ -642,3 +642,31 @@ fn the_man_page_has_each_command() {
         Err(_) => eprintln!("Debian's package groff-base is missing: the man page is not laid out"),
     }
 }
+
+/// Help has the options that a command takes: one that it always refuses, and says why, is none of them.
+#[test]
+fn help_does_not_offer_what_is_refused() {
+    let folder = Folder::new("help-mapped");
+    let (file, out) = (folder.file("a.exe", made::SMALL), folder.0.join("out").to_str().unwrap().to_string());
+    let refused: [&[&str]; 10] = [
+        &["digest", &file],
+        &["verify", &file],
+        &["checksum", &file],
+        &["attach", &file, &file, &out],
+        &["detach", &file, &out],
+        &["set-version", &file, &out, "--file-version", "1"],
+        &["set-manifest", &file, &out, &file],
+        &["set-icon", &file, &out, &file],
+        &["set-resource", &file, &out, "10", "1", &file],
+        &["remove-resource", &file, &out, "10", "1"],
+    ];
+    for words in refused {
+        let (_, error, status) = run(&[words, &["--mapped"]].concat());
+        assert_eq!((error.contains("--mapped is for modules as they were in memory"), status), (true, 2), "{error}");
+        let (help, _, status) = run(&[words[0], "--help"]);
+        assert_eq!((help.contains("--strict"), help.contains("--mapped"), status), (true, false, 0), "{help}");
+    }
+    for command in ["show", "list", "find", "diff", "unwind", "key", "extract", "report"] {
+        assert!(run(&[command, "--help"]).0.contains("--mapped"), "{command}");
+    }
+}

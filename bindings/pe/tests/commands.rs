@@ -1968,6 +1968,17 @@ fn hardening_says_which_part_is_refused() {
     assert_eq!(says(&data), [false; 3]);
     data[directories + 80..directories + 84].copy_from_slice(&0x7FFF_0000u32.to_le_bytes());
     assert_eq!(says(&data), [true; 3]);
+    // JSON and CSV say it beside them, unless the parts themselves do.
+    let file = folder.file("a.exe", &data);
+    let why = format!("pe: {file}: load configuration: refused, so what it may say is a no here\n");
+    for words in [&["--json", "--parts", "hardening", &file][..], &["show", "--csv", &file, "hardening"]] {
+        let (_, error, status) = run(words);
+        assert_eq!((error, status), (why.clone(), 0), "{words:?}");
+    }
+    let all = "hardening,load-config,debug,certificates";
+    assert_eq!([run(&["--json", &file]).1, run(&["--json", "--parts", all, &file]).1], ["", ""]);
+    // Another part that is wanted does not speak for it.
+    assert_eq!(run(&["--json", "--parts", "hardening,debug,certificates", &file]).1, why);
 }
 
 /// Exception data of another machine are there, and not read.

@@ -176,6 +176,30 @@ fn a_page_shows_the_stacks_that_are_asked_for() {
     assert_eq!(run(&["report", &dump, "-", "--registers"]).2, 2);
 }
 
+/// What would be ignored is refused, and no page is written: also where what is asked for is what there is without it.
+#[test]
+fn options_of_the_other_kind_of_file_are_refused() {
+    let folder = Folder::new("report-ignored");
+    let image = folder.file("a.exe", made::SMALL);
+    let dump = folder.file("a.dmp", &made::dump());
+    let to = folder.0.join("page.html").to_str().unwrap().to_string();
+    let there = folder.0.to_str().unwrap();
+    let of_dumps = [&["--images", there][..], &["--symbols", there], &["--thread", "36"], &["--frames", "100"]];
+    let of_images = [&["--strict"][..], &["--mapped"]];
+    for (file, options, of) in [(&image, &of_dumps[..], "a minidump"), (&dump, &of_images, "an image")] {
+        for words in options {
+            let (out, error, status) = run(&[&["report", file.as_str(), to.as_str()], *words].concat());
+            let why = format!("error: {} is of {of}, and FILE is none\n", words[0]);
+            assert_eq!((out.as_str(), error.starts_with(&why), status), ("", true, 2), "{file} {words:?}: {error}");
+            assert!(error.contains("Usage: pe report "), "{error}");
+        }
+    }
+    assert!(!std::path::Path::new(&to).exists());
+    // The others are of either file.
+    assert_eq!(run(&["report", &image, "-", "--strict"]).2, 0);
+    assert_eq!(run(&["report", &dump, "-", "--thread", "36", "--frames", "100"]).2, 0);
+}
+
 #[test]
 fn texts_of_a_dump_are_no_markup() {
     let folder = Folder::new("report-dump-hostile");

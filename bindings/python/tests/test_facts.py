@@ -119,6 +119,17 @@ class Lines(Room):
         said = json.loads(run("-", input=data)[0])
         self.assertEqual((said["file_size"], said["headers"]["symbol_server_path"]), (len(data), None))
 
+    def test_standard_input_is_one_file(self):
+        """Whoever reads it again would take it for an empty file, and so would a process that does not have it."""
+        path = os.path.join(self.room, "debug.bin")
+        with open(path, "rb") as file:
+            data = file.read()
+        for jobs in ("1", "2"):
+            out, complaints, status = run("-j", jobs, "-", path, "-", input=data)
+            sizes = [(it["file"], it["file_size"]) for it in map(json.loads, out.decode().splitlines())]
+            self.assertEqual(sizes, [("-", len(data)), (path, len(data))], jobs)
+            self.assertEqual((complaints, status), ("pe_c: -: standard input can be one file, and was read before\n", 3), jobs)
+
     def test_options(self):
         path = os.path.join(self.room, "debug.bin")
         self.assertNotIn("hashes", json.loads(run("--no-hashes", path)[0]))

@@ -26,7 +26,7 @@ pub struct Hardening {
     pub signed: bool,
     /// No section may be written and executed.
     pub no_writable_code: bool,
-    /// The parts that are refused: what they would say is false here. For text.
+    /// The parts that are refused: what they would say is false here. For people.
     #[serde(skip)]
     pub refused: Vec<&'static str>,
 }

@@ -236,6 +236,11 @@ impl Functions {
         self.functions.iter().map(|it| (it.start, it.end)).collect()
     }
 
+    /// Whether none is there, public or not.
+    pub fn is_empty(&self) -> bool {
+        self.functions.is_empty() && self.publics.is_empty()
+    }
+
     /// Writes them.
     pub fn put(mut self, file: &mut SymbolFile) {
         let is_unnamed = |it: &Lines| it.lines.iter().any(|it| it.line.is_some() && it.file.is_none());

@@ -16,7 +16,7 @@ from .scan import CUT, DONE, FILE_ERROR, How, scan
 def arguments(words: list[str]) -> argparse.Namespace:
     parser = argparse.ArgumentParser(prog="python -m pe_c", description=__doc__, epilog=(
         "The status is 0, 1 where an image or a part of one is refused, 2 for misused arguments, 3 for an error of a file."))
-    parser.add_argument("paths", nargs="+", metavar="FILE", help="a file, or with -r a folder; - is standard input")
+    parser.add_argument("paths", nargs="+", metavar="FILE", help="a file, or with -r a folder; - is standard input, which can be one file")
     parser.add_argument("-r", "--recursive", action="store_true", help="all images below the folders that are named")
     parser.add_argument("-j", "--jobs", type=int, metavar="N", help="processes; 1 without scan, else as many as processors")
     parser.add_argument("-v", "--verbose", action="store_true", help="name the files that are skipped")

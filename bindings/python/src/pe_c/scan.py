@@ -95,12 +95,24 @@ def files(paths: AnyPaths, recursive: bool = False) -> typing.Iterator[File]:
             yield File(path, False, os.path.getsize(path) if os.path.isfile(path) else 0)
 
 
+# The standard input that was read. It has its bytes once: whoever reads it again would take it for an empty file.
+_read_input: typing.TextIO | None = None
+
+
+def _standard_input() -> bytes:
+    global _read_input
+    if sys.stdin is None:
+        raise OSError(errno.EBADF, os.strerror(errno.EBADF), "-")
+    if sys.stdin is _read_input:
+        raise OSError(errno.EINVAL, "standard input can be one file, and was read before")
+    _read_input = sys.stdin
+    return sys.stdin.buffer.read()
+
+
 def _content(file: File) -> bytes | None:
     """A file whole. Of one below a folder the start is read first: one that is no image is not read on."""
     if file.path == "-":
-        if sys.stdin is None:
-            raise OSError(errno.EBADF, os.strerror(errno.EBADF), file.path)
-        return sys.stdin.buffer.read()
+        return _standard_input()
     mode = os.stat(file.path).st_mode
     if not stat.S_ISREG(mode) and not stat.S_ISDIR(mode):
         raise OSError(0, "it is no regular file; - reads standard input", file.path)
@@ -148,6 +160,13 @@ def lines_of(batch: list[File], how: How) -> list[Said]:
     return [line_of(it, how) for it in batch]
 
 
+def _said_here(batch: list[File], how: How) -> concurrent.futures.Future[list[Said]]:
+    """The lines of a batch with standard input, which other processes do not have: to them it is an empty file."""
+    said: concurrent.futures.Future[list[Said]] = concurrent.futures.Future()
+    said.set_result(lines_of(batch, how))
+    return said
+
+
 def batches(found: typing.Iterable[File], size: int = BATCH_BYTES, count: int = BATCH_FILES) -> typing.Iterator[list[File]]:
     """The files in lists of so many bytes, and of so many files at most: files of 90 MB stand beside files of 9 KB."""
     batch: list[File] = []
@@ -173,7 +192,7 @@ def scan(paths: AnyPaths, *, recursive: bool = True, jobs: int | None = None, ho
     with concurrent.futures.ProcessPoolExecutor(jobs) as pool:
         waiting: collections.deque[concurrent.futures.Future[list[Said]]] = collections.deque()
         for batch in found:
-            waiting.append(pool.submit(lines_of, batch, how))
+            waiting.append(pool.submit(lines_of, batch, how) if "-" not in (it.path for it in batch) else _said_here(batch, how))
             if len(waiting) > AHEAD * jobs:
                 yield from waiting.popleft().result()
         while waiting:
