@@ -155,15 +155,23 @@ fn a_signal_leaves_all_or_nothing() {
     let arguments = ["checksum", &image, "--fix", &out];
     let start = Instant::now();
     assert_eq!(run(&arguments).2, 0);
-    let (whole, wanted) = (start.elapsed(), fs::read(&out).unwrap());
+    let (mut whole, wanted) = (start.elapsed(), fs::read(&out).unwrap());
     fs::remove_file(&out).unwrap();
     let mut ended = 0;
-    for number in 0..kills {
+    for number in 0..10 * kills {
+        if number >= kills && ended > kills / 4 {
+            break;
+        }
         // SIGHUP, SIGINT, SIGTERM, SIGKILL, SIGABRT, SIGVTALRM, SIGPROF.
         let signal = [1, 2, 15, 9, 6, 26, 27][number % 7];
         // The moments go over the time of a whole run, in an order of no pattern.
         let after = whole * (number as u32 * 37 % 100 + 1) / 100;
-        ended += usize::from(ended_by(signal, &arguments, after));
+        if ended_by(signal, &arguments, after) {
+            ended += 1;
+        } else {
+            // It was done by then: the first run may have been slowed down by other work.
+            whole = (whole + after) / 2;
+        }
         if let Ok(found) = fs::read(&out) {
             assert!(found == wanted, "a part of the image under its name, after signal {signal}");
             fs::remove_file(&out).unwrap();
