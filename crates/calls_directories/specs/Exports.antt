@@ -100,7 +100,7 @@ index_at d i = le d.ordinals (2 * i) 2
 abbrev pub reported_entry : (ℕ → Option ℕ) → List ℕ → DataDirectory → ExportDataView → ℕ → Option Export
 reported_entry offset b directory d i =
     option_and_then (λ p. option_map (export_reported b directory p (index_at d i)) (option_and_then (named_export offset d i) (text_at b p)))
-      (offset (le d.names (4 * i) 4))
+    (offset (le d.names (4 * i) 4))
 
 -- the exports of the entries from one index up to another, in their order; an entry may have none
 abbrev pub reported_from : (ℕ → Option Export) → ℕ → ℕ → List Export
