@@ -8,20 +8,19 @@ import struct
 import subprocess
 import sys
 
-from contents import bytes_of, ended
+from contents import TOOLS as HERE
+from contents import TOP, bytes_of, ended
 from limits import Failed
 
-HERE = os.path.dirname(os.path.realpath(__file__))
-TOP = os.path.dirname(HERE)
 SECONDS = 120
 X64, ARM64 = 0x8664, 0xAA64
 
 
-class Unread(Exception):
+class Unread(Failed):
     """What stands at an offset can't be read; the word is the kind of the refusal."""
 
 
-class Difference(Exception):
+class Difference(Failed):
     """Where two readings are unlike, in words."""
 
 
@@ -31,7 +30,6 @@ def same(what, ours, theirs):
 
 
 # Files and programs.
-
 
 def all_there(command, places):
     """Whether each path is a file or a folder; if not, this says so in the command's name."""
@@ -89,7 +87,6 @@ def first_unlike(one, other):
 
 # The headers of an image.
 
-
 class Image:
     """The headers of an image, as far as the readers of these commands need them: of a file, or of bytes. `pe` is the offset of the PE
     signature."""
@@ -144,7 +141,6 @@ def as_loaded(path):
 
 
 # What llvm-readobj prints.
-
 
 def newest_readobj():
     """The newest llvm-readobj on PATH and its version."""
@@ -210,7 +206,6 @@ def listed(text):
 
 # Counts and rows.
 
-
 class Counts:
     """Cases that passed and failed, of which so many are printed, each up to so many characters."""
 
@@ -225,12 +220,12 @@ class Counts:
             print(f"failed: {name}{': ' if why else ''}{why}".rstrip()[:self.length], flush=True)
         return bool(is_so)
 
-    def tried(self, name, action):
-        """Counts an action that raises Failed where it fails. Returns its result, or None."""
+    def tried(self, name, action, *more):
+        """Counts an action that raises Failed, or one of `more`, where it fails. Returns its result, or None."""
         try:
             result = action()
-        except Failed as why:
-            self.expect(name, False, str(why))
+        except (Failed, *more) as why:
+            self.expect(name, False, str(why) if isinstance(why, Failed) else f"{type(why).__name__}: {why}")
             return None
         self.expect(name, True)
         return result

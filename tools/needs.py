@@ -201,7 +201,6 @@ def stops(tool, *groups):
 
 # ---- setting up
 
-
 def has_apt():
     return shutil.which("apt-get") is not None
 
