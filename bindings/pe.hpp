@@ -11,8 +11,8 @@
  *         return fail(exports.refused().text());
  *
  * Nothing here owns the bytes of a file: they outlive the image and all that comes of it. A list reads by its image, which outlives
- * it and is neither changed nor moved: so the image is a variable, as above, since that of `image::parse(..)->exports()` has ended where
- * a `for` over it starts.
+ * it and is neither changed nor moved: so the image is a variable, as above. `image::parse(..)->exports()`, whose image has ended where
+ * a `for` over the list starts, does not compile.
  *
  * An image owns its section headers and an index of them, and a list the entries of its last call, in std::vector, which throws
  * std::bad_alloc where memory is short. Nothing else throws, unless PE_C_EXCEPTIONS is defined before this header is included: then
@@ -89,6 +89,8 @@ private:
 };
 #endif
 
+class image;
+
 /* A value, or why there is none: an error, or PE_C_NOTHING where the file has nothing of the kind. Without a value * and -> lead to
  * an empty one. */
 template <class T> class outcome {
@@ -99,8 +101,14 @@ public:
     bool is_nothing() const noexcept { return why_.number() == PE_C_NOTHING; }
     result why() const noexcept { return why_; }
     const char *text() const noexcept { return why_.text(); }
-    const T &operator*() const noexcept { return value_; }
-    const T *operator->() const noexcept { return &value_; }
+    const T &operator*() const & noexcept { return value_; }
+    T operator*() && { return std::move(value_); }
+    const T *operator->() const & noexcept { return &value_; }
+    const T *operator->() const && noexcept
+    {
+        static_assert(!std::is_same_v<T, image>, "keep the image in a variable: a list reads by it, and what is named here ends with the statement");
+        return &value_;
+    }
 #if defined(PE_C_EXCEPTIONS)
     const T &value() const
     {
