@@ -1,12 +1,14 @@
-"""What the commands of this folder that compare with other readers share: finding files, running programs, reading the headers of an
-image and what llvm-readobj prints, counts of cases, and the rows of files and their counts."""
+"""What the commands of this folder that compare with other readers share: their arguments, finding files, running programs, reading the
+headers of an image and what llvm-readobj prints, counts of cases, and the rows of files and their counts."""
 
+import argparse
 import os
 import re
 import shutil
 import struct
 import subprocess
 import sys
+import textwrap
 
 from contents import TOOLS as HERE
 from contents import TOP, bytes_of, ended
@@ -29,7 +31,26 @@ def same(what, ours, theirs):
         raise Difference(f"{what}: {ours}, there {theirs}")
 
 
-# Files and programs.
+# Arguments, files and programs.
+
+def arguments(about, *places, one=(), **options):
+    """The arguments of a tool, whose use is the second paragraph of what is said about it: places by their names, with + or * behind that
+    of a list, and options with what they are unless they are named: False of a flag, a number, a text, None, or ... where each run names
+    it. Of those in `one` each run names one. `refuse` ends the tool with the use and a text."""
+    parser = argparse.ArgumentParser(usage=textwrap.dedent(about.split("\n\n")[1]), description=about,
+                                     formatter_class=argparse.RawDescriptionHelpFormatter)
+    for it in places:
+        parser.add_argument(it.rstrip("+*"), nargs=it[-1] if it[-1] in "+*" else None)
+    group = parser.add_mutually_exclusive_group(required=bool(one))
+    for it in one:
+        group.add_argument(f"--{it}")
+    for name, usual in options.items():
+        how = {"action": "store_true"} if usual is False else {"type": type(usual) if isinstance(usual, int) else str, "required": usual is ...}
+        parser.add_argument(f"--{name}", default=None if usual is ... else usual, **how)
+    given = parser.parse_intermixed_args()
+    given.refuse = parser.error
+    return given
+
 
 def all_there(command, places):
     """Whether each path is a file or a folder; if not, this says so in the command's name."""
