@@ -33,10 +33,11 @@ def same(what, ours, theirs):
 
 # Arguments, files and programs.
 
-def arguments(about, *places, one=(), **options):
+def arguments(about, *places, words=None, one=(), **options):
     """The arguments of a tool, whose use is the second paragraph of what is said about it: places by their names, with + or * behind that
-    of a list, and options with what they are unless they are named: False of a flag, a number, a text, None, or ... where each run names
-    it. Of those in `one` each run names one. `refuse` ends the tool with the use and a text."""
+    of a list, and options with what they are unless they are named: False of a flag, [] of a list, a number, a text, None, or ... where
+    each run names it. Of those in `one` each run names one. `refuse` ends the tool with the use and a text. `words` are those of the command line, unless
+    they are given."""
     parser = argparse.ArgumentParser(usage=textwrap.dedent(about.split("\n\n")[1]), description=about,
                                      formatter_class=argparse.RawDescriptionHelpFormatter)
     for it in places:
@@ -45,9 +46,10 @@ def arguments(about, *places, one=(), **options):
     for it in one:
         group.add_argument(f"--{it}")
     for name, usual in options.items():
-        how = {"action": "store_true"} if usual is False else {"type": type(usual) if isinstance(usual, int) else str, "required": usual is ...}
+        how = {"type": type(usual) if isinstance(usual, int) else str, "required": usual is ...}
+        how = {"action": "store_true"} if usual is False else {"nargs": "+", "action": "extend"} if usual == [] else how
         parser.add_argument(f"--{name}", default=None if usual is ... else usual, **how)
-    given = parser.parse_intermixed_args()
+    given = parser.parse_intermixed_args(words)
     given.refuse = parser.error
     return given
 
@@ -93,10 +95,10 @@ def run(words):
     return done.returncode, text, done.stderr.decode("utf-8", "replace")
 
 
-def said_of(*words, given=None):
-    """The standard output of a command, which may end with status 1. It ends the tool where the command fails."""
+def said_of(*words, given=None, good=(0, 1)):
+    """The standard output of a command, which may end with a status of these. It ends the tool where the command fails."""
     done = subprocess.run(words, input=given, capture_output=True, text=True, errors="surrogateescape", check=False)
-    if done.returncode not in (0, 1):
+    if done.returncode not in good:
         sys.exit(f"{' '.join(words[:3])}: status {done.returncode}: {done.stderr[-300:]}")
     return done.stdout
 

@@ -98,6 +98,7 @@ GROUPS = {
         "npm": "npm", "node": "nodejs", "chromium": "chromium", "rustc 1.85": RUSTC, WINE: "wine64", "gcc": "gcc", "clang": "clang"}),
     "breakpad": by_hand("symbol files of pe by LLDB", **{"clang": "clang", "lld-link": "lld", "lldb-19": "lldb-19",
                                                          "yaml2obj-14": "llvm-14"}),
+    "arm64-dumps": by_hand("ARM64 dumps by pe", **{"clang": "clang", "lld-link": "lld", "yaml2obj-14": "llvm-14"}),
     "notebook": by_hand("notebooks", **{"chromium": "chromium", "jupyter-nbconvert": "jupyter-nbconvert",
                                         "module ipykernel": "python3-ipykernel"}),
     "dumps": by_hand("dumps of programs that crash", **RUST, **{
