@@ -1034,32 +1034,6 @@ test('the stack of a thread is memory that the lists lack', () => {
   assert.deepEqual(damaged.runs(), [piece]);
 });
 
-test('what is no record of a list, no walk, no stream and no RVA is said, and lists nothing', () => {
-  const image = opened('imports'), [library_] = image.imports(), pdb = pdbWith(), process = library.process({ modules: [], memory: file('imports'), pieces: [] });
-  const says = (call, text) => assert.throws(() => { const it = call(); return it?.next?.(); }, (it) => it instanceof TypeError && it.message.includes(text), text);
-  // A library as a value is none of the list, and one that was looked for and is not there is no question after all of them.
-  for (const it of [library_, {}, undefined, null]) says(() => image.imports(it), 'of the list libraries: it has no imports');
-  for (const it of [library_, undefined]) says(() => image.hasUnmappedList(it), 'of the list libraries');
-  for (const it of [{}, undefined]) {
-    says(() => image.delayedFunctions(it), 'of the list delayImports: it has no functions');
-    says(() => image.relocations(it), 'of the list relocationBlocks: it has no entries');
-    says(() => image.records(it), 'a function: it has no unwind');
-    says(() => image.codes(it), 'an unwind record: it has no codes');
-    for (const name of ['elements', 'nameAttributes']) says(() => image[name](it), 'a range: it has no offset');
-    for (const name of ['procedures', 'lines']) says(() => pdb[name](it), 'of modules(): it has no stream');
-  }
-  says(() => image.items('pe_c_next_debug_entry', undefined), 'pe_c_next_debug_entry needs a walk');
-  assert.deepEqual([...image.items('pe_c_next_debug_entry', image.call('pe_c_debug_entries'))], []);
-  for (const walk of [{ registers: {} }, { remaining: 1 }]) {
-    for (const name of ['frames', 'arm64Frames']) says(() => process[name](walk), 'a walk: it has no re');
-  }
-  for (const it of ['1', undefined, null, 1.5, -1]) assert.throws(() => pdb.stream(it), RangeError);
-  for (const it of ['4096', '', null, undefined, 0x1000n]) for (const name of ['find', 'frames']) says(() => pdb[name](it), 'an RVA is a number, and not');
-  assert.deepEqual([pdb.find(0x1048 + 0.5), pdb.find(0x1049, { isReturn: 1 }).name], [null, 'entry']);
-  for (const it of ['2', undefined]) assert.throws(() => image.debugEntry(it), RangeError);
-  for (const placement of [2, 7, '0', null]) says(() => image.attach(new Uint8Array(16), { placement }), 'placement is PE_C_AFTER or PE_C_IN_PLACE');
-});
-
 test('what no file, no mode and no list is, is said', () => {
   const bytes = file('imports'), says = (call, text) => assert.throws(call, (it) => it instanceof TypeError && it.message.includes(text));
   says(() => library.open('a.dll'), 'as a Uint8Array or a Buffer, and not a string: a file is read first, as by readFileSync');
@@ -1675,6 +1649,32 @@ test('names of functions without a PDB', () => {
   assert.notDeepEqual(before, found);
   assert.deepEqual(image.functionNames([]), []);
   assert.equal(opened('functions').functionNames([{ rva: 0 }])[0], null);
+});
+
+test('what is no record of a list, no walk, no stream and no RVA is said, and lists nothing', () => {
+  const image = opened('imports'), [library_] = image.imports(), pdb = pdbWith(), process = library.process({ modules: [], memory: file('imports'), pieces: [] });
+  const says = (call, text) => assert.throws(() => { const it = call(); return it?.next?.(); }, (it) => it instanceof TypeError && it.message.includes(text), text);
+  // A library as a value is none of the list, and one that was looked for and is not there is no question after all of them.
+  for (const it of [library_, {}, undefined, null]) says(() => image.imports(it), 'of the list libraries: it has no imports');
+  for (const it of [library_, undefined]) says(() => image.hasUnmappedList(it), 'of the list libraries');
+  for (const it of [{}, undefined]) {
+    says(() => image.delayedFunctions(it), 'of the list delayImports: it has no functions');
+    says(() => image.relocations(it), 'of the list relocationBlocks: it has no entries');
+    says(() => image.records(it), 'a function: it has no unwind');
+    says(() => image.codes(it), 'an unwind record: it has no codes');
+    for (const name of ['elements', 'nameAttributes']) says(() => image[name](it), 'a range: it has no offset');
+    for (const name of ['procedures', 'lines']) says(() => pdb[name](it), 'of modules(): it has no stream');
+  }
+  says(() => image.items('pe_c_next_debug_entry', undefined), 'pe_c_next_debug_entry needs a walk');
+  assert.deepEqual([...image.items('pe_c_next_debug_entry', image.call('pe_c_debug_entries'))], []);
+  for (const walk of [{ registers: {} }, { remaining: 1 }]) {
+    for (const name of ['frames', 'arm64Frames']) says(() => process[name](walk), 'a walk: it has no re');
+  }
+  for (const it of ['1', undefined, null, 1.5, -1]) assert.throws(() => pdb.stream(it), RangeError);
+  for (const it of ['4096', '', null, undefined, 0x1000n]) for (const name of ['find', 'frames']) says(() => pdb[name](it), 'an RVA is a number, and not');
+  assert.deepEqual([pdb.find(0x1048 + 0.5), pdb.find(0x1049, { isReturn: 1 }).name], [null, 'entry']);
+  for (const it of ['2', undefined]) assert.throws(() => image.debugEntry(it), RangeError);
+  for (const placement of [2, 7, '0', null]) says(() => image.attach(new Uint8Array(16), { placement }), 'placement is PE_C_AFTER or PE_C_IN_PLACE');
 });
 
 // The samples of the README, one after the other, over images of the tests. The dump's first frame is at RVA 0x1065 of a module that
