@@ -1702,6 +1702,13 @@ test('lines that cannot be written are no success', () => {
   assert.deepEqual([full.status, full.stderr.startsWith('pe-js: ENOSPC'), none.status, none.stderr], [2, true, 0, '']);
 });
 
+test('pe-js says of each line and of each refusal which file it is of', () => {
+  const words = [join(beside, 'pe-js.mjs'), join(folder, 'functions.bin'), folder];
+  const { stdout, stderr, status } = spawnSync(process.execPath, words, { encoding: 'utf8' });
+  assert.deepEqual([JSON.parse(stdout).file, status], [words[1], 2]);
+  assert.equal(stderr, `pe-js: ${folder}: EISDIR: illegal operation on a directory, read\n`);
+});
+
 test('every call of pe.h succeeds in some test', () => {
   assert.deepEqual(Object.keys(calls).filter((name) => !done.has(name)), []);
 });
