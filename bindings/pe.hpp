@@ -11,8 +11,8 @@
  *         return fail(exports.refused().text());
  *
  * Nothing here owns the bytes of a file: they outlive the image and all that comes of it. A list reads by its image, which outlives
- * it and is neither changed nor moved: so the image is a variable, as above, since that of `image::parse(..)->exports()` has ended where
- * a `for` over it starts.
+ * it and is neither changed nor moved: so the image is a variable, as above. A list of an image that ends with the statement, as
+ * `image::parse(..)->exports()`, does not compile.
  *
  * An image owns its section headers and an index of them, and a list the entries of its last call, in std::vector, which throws
  * std::bad_alloc where memory is short. Nothing else throws, unless PE_C_EXCEPTIONS is defined before this header is included: then
@@ -89,6 +89,8 @@ private:
 };
 #endif
 
+class image;
+
 /* A value, or why there is none: an error, or PE_C_NOTHING where the file has nothing of the kind. Without a value * and -> lead to
  * an empty one. */
 template <class T> class outcome {
@@ -99,8 +101,14 @@ public:
     bool is_nothing() const noexcept { return why_.number() == PE_C_NOTHING; }
     result why() const noexcept { return why_; }
     const char *text() const noexcept { return why_.text(); }
-    const T &operator*() const noexcept { return value_; }
-    const T *operator->() const noexcept { return &value_; }
+    const T &operator*() const & noexcept { return value_; }
+    T operator*() && { return std::move(value_); }
+    const T *operator->() const & noexcept { return &value_; }
+    const T *operator->() const && noexcept
+    {
+        static_assert(!std::is_same_v<T, image>, "keep the image in a variable: a list reads by it, and what is named here ends with the statement");
+        return &value_;
+    }
 #if defined(PE_C_EXCEPTIONS)
     const T &value() const
     {
@@ -263,7 +271,7 @@ public:
 
     /* The entries of a list by its call, from where a walk stands; none where that is PE_C_NOTHING, and its error where it is one. */
     template <class W, class T, class A>
-    auto list(std::uint32_t (*call)(const pe_c_view *, W *, T *, std::size_t, std::uint64_t *), const outcome<A> &walk) const
+    auto list(std::uint32_t (*call)(const pe_c_view *, W *, T *, std::size_t, std::uint64_t *), const outcome<A> &walk) const &
     {
         return entries_of<T>(walk, [this, call, at = walk_at<W>(*walk)](T *room, std::size_t size, std::uint64_t &written) mutable {
             pe_c_view of = view();
@@ -274,7 +282,7 @@ public:
      * call takes, and `more` for those that it skips. */
     template <class W, class T, class A>
     auto list(std::uint32_t (*call)(const pe_c_view *, W *, pe_c_run *, std::size_t, T *, std::size_t, std::uint64_t *),
-              const outcome<A> &walk, std::size_t more = 0) const
+              const outcome<A> &walk, std::size_t more = 0) const &
     {
         return entries_of<T>(walk, [this, call, more, at = walk_at<W>(*walk)](T *room, std::size_t size, std::uint64_t &written) mutable {
             runs_room runs(2 * size + more);
@@ -285,7 +293,7 @@ public:
     /* The same of a list that takes the bytes alone; and of the entries of a table, from the first on. */
     template <class W, class T>
     auto list(std::uint32_t (*call)(const std::uint8_t *, std::size_t, W *, T *, std::size_t, std::uint64_t *),
-              const outcome<W> &walk) const
+              const outcome<W> &walk) const &
     {
         return entries_of<T>(walk, [this, call, at = *walk](T *room, std::size_t size, std::uint64_t &written) mutable {
             return call(bytes_.data(), bytes_.size(), &at, room, size, &written);
@@ -293,7 +301,7 @@ public:
     }
     template <class R, class T>
     auto list(std::uint32_t (*call)(const std::uint8_t *, std::size_t, const R *, std::uint64_t *, T *, std::size_t, std::uint64_t *),
-              const outcome<R> &table) const
+              const outcome<R> &table) const &
     {
         return entries_of<T>(table, [this, call, of = *table, next = std::uint64_t(0)](T *room, std::size_t size,
                                                                                      std::uint64_t &written) mutable {
@@ -302,7 +310,7 @@ public:
     }
     /* The items of a walk by the call of a step, which takes the bytes alone. */
     template <class W, class T>
-    auto walk(std::uint32_t (*call)(const std::uint8_t *, std::size_t, W *, T *), const outcome<W> &from) const
+    auto walk(std::uint32_t (*call)(const std::uint8_t *, std::size_t, W *, T *), const outcome<W> &from) const &
     {
         return entries_of<T>(from, [this, call, at = *from](T *room, std::size_t, std::uint64_t &written) mutable {
             std::uint32_t number = call(bytes_.data(), bytes_.size(), &at, room);
@@ -314,17 +322,17 @@ public:
     /* The key by which a symbol server files the symbols of the image. */
     outcome<pe_c_key> symbol_key() const { return ask(pe_c_symbol_key); }
     outcome<std::uint64_t> offset(std::uint32_t rva) const { return ask(pe_c_offset, rva); }
-    auto debug_entries() const { return walk(pe_c_next_debug_entry, ask(pe_c_debug_entries)); }
-    auto functions() const { return list(pe_c_list_functions, ask(pe_c_function_table)); }
-    auto resource_leaves() const { return list(pe_c_list_resource_leaves, ask(pe_c_resource_leaves)); }
-    auto relocation_blocks() const { return list(pe_c_list_relocation_blocks, ask(pe_c_relocation_blocks)); }
+    auto debug_entries() const & { return walk(pe_c_next_debug_entry, ask(pe_c_debug_entries)); }
+    auto functions() const & { return list(pe_c_list_functions, ask(pe_c_function_table)); }
+    auto resource_leaves() const & { return list(pe_c_list_resource_leaves, ask(pe_c_resource_leaves)); }
+    auto relocation_blocks() const & { return list(pe_c_list_relocation_blocks, ask(pe_c_relocation_blocks)); }
     /* The exports that have a name; all of them, those without one too. */
-    auto exports() const
+    auto exports() const &
     {
         auto tables = ask(pe_c_export_tables);
         return list(pe_c_list_exports, tables, static_cast<std::size_t>(tables->names.length / 2));
     }
-    auto export_addresses() const
+    auto export_addresses() const &
     {
         return entries_of<pe_c_exported>(ask(pe_c_export_addresses), [this, of = *ask(pe_c_export_addresses), next = std::uint64_t(0)](
                 pe_c_exported *room, std::size_t size, std::uint64_t &written) mutable {
@@ -333,12 +341,12 @@ public:
             return pe_c_list_export_addresses(&it, &of, &next, runs.data(), runs.size(), room, size, &written);
         });
     }
-    auto libraries() const { return list(pe_c_list_libraries, ask(pe_c_import_libraries), most_libraries()); }
-    auto imports(const pe_c_library &of) const { return list(pe_c_list_imports, outcome<pe_c_imports>(of.imports)); }
-    auto delay_imports() const { return list(pe_c_list_delay_imports, ask(pe_c_delay_imports)); }
+    auto libraries() const & { return list(pe_c_list_libraries, ask(pe_c_import_libraries), most_libraries()); }
+    auto imports(const pe_c_library &of) const & { return list(pe_c_list_imports, outcome<pe_c_imports>(of.imports)); }
+    auto delay_imports() const & { return list(pe_c_list_delay_imports, ask(pe_c_delay_imports)); }
     /* The imports of all libraries, each with the name of its library. Libraries of a hostile file may share a list, and its leaves a
      * directory, so that there are many more of them than the file has bytes: a loop over such ends by a number of its own. */
-    auto all_imports() const
+    auto all_imports() const &
     {
         auto libraries = ask(pe_c_import_libraries);
         pe_c_library_imports all{};
@@ -346,6 +354,20 @@ public:
         auto start = libraries ? outcome<pe_c_library_imports>(all) : outcome<pe_c_library_imports>(libraries.why());
         return list(pe_c_list_all_imports, start, most_libraries());
     }
+
+    /* A list reads by its image: of one that ends with the statement there is none. */
+    void debug_entries() const && = delete;
+    void functions() const && = delete;
+    void resource_leaves() const && = delete;
+    void relocation_blocks() const && = delete;
+    void exports() const && = delete;
+    void export_addresses() const && = delete;
+    void libraries() const && = delete;
+    void imports(const pe_c_library &of) const && = delete;
+    void delay_imports() const && = delete;
+    void all_imports() const && = delete;
+    template <class... A> void list(A &&...arguments) const && = delete;
+    template <class... A> void walk(A &&...arguments) const && = delete;
 
 private:
     /* Runs for two names of each library: a record of the directory has 20 bytes. */

@@ -40,7 +40,6 @@ def numbers(form, data):
 
 # Debug records.
 
-
 def pogo_of(data):
     """The signature of a POGO record, and its parts: name, RVA and size."""
     signature = numbers("<I", data)[0]
@@ -97,7 +96,6 @@ def records_of(entries, data_of):
 
 # Directories.
 
-
 def load_config(image):
     """The fields of a load configuration by their names in winnt.h, those that its size covers."""
     address = image.directory(CONFIG)[0]
@@ -123,7 +121,6 @@ def is_wide(image):
 
 
 # Symbols, objects and TE images.
-
 
 def symbols_of(data, place, count):
     """The COFF symbols: index, name, value, section, type, storage class and number of auxiliary records."""
@@ -203,7 +200,6 @@ def inputs(path):
 
 
 # All of a file.
-
 
 def read(kind, data, path):
     """The parts of an input, by compare_pe's names. One that cannot be read is left out."""

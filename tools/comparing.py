@@ -1,27 +1,28 @@
-"""What the commands of this folder that compare with other readers share: finding files, running programs, reading the headers of an
-image and what llvm-readobj prints, counts of cases, and the rows of files and their counts."""
+"""What the commands of this folder that compare with other readers share: their arguments, finding files, running programs, reading the
+headers of an image and what llvm-readobj prints, counts of cases, and the rows of files and their counts."""
 
+import argparse
 import os
 import re
 import shutil
 import struct
 import subprocess
 import sys
+import textwrap
 
-from contents import bytes_of, ended
+from contents import TOOLS as HERE
+from contents import TOP, bytes_of, ended
 from limits import Failed
 
-HERE = os.path.dirname(os.path.realpath(__file__))
-TOP = os.path.dirname(HERE)
 SECONDS = 120
 X64, ARM64 = 0x8664, 0xAA64
 
 
-class Unread(Exception):
+class Unread(Failed):
     """What stands at an offset can't be read; the word is the kind of the refusal."""
 
 
-class Difference(Exception):
+class Difference(Failed):
     """Where two readings are unlike, in words."""
 
 
@@ -30,7 +31,27 @@ def same(what, ours, theirs):
         raise Difference(f"{what}: {ours}, there {theirs}")
 
 
-# Files and programs.
+# Arguments, files and programs.
+
+def arguments(about, *places, words=None, one=(), **options):
+    """The arguments of a tool, whose use is the second paragraph of what is said about it: places by their names, with + or * behind that
+    of a list, and options with what they are unless they are named: False of a flag, [] of a list, a number, a text, None, or ... where
+    each run names it. Of those in `one` each run names one. `refuse` ends the tool with the use and a text. `words` are those of the command line, unless
+    they are given."""
+    parser = argparse.ArgumentParser(usage=textwrap.dedent(about.split("\n\n")[1]), description=about,
+                                     formatter_class=argparse.RawDescriptionHelpFormatter)
+    for it in places:
+        parser.add_argument(it.rstrip("+*"), nargs=it[-1] if it[-1] in "+*" else None)
+    group = parser.add_mutually_exclusive_group(required=bool(one))
+    for it in one:
+        group.add_argument(f"--{it}")
+    for name, usual in options.items():
+        how = {"type": type(usual) if isinstance(usual, int) else str, "required": usual is ...}
+        how = {"action": "store_true"} if usual is False else {"nargs": "+", "action": "extend"} if usual == [] else how
+        parser.add_argument(f"--{name}", default=None if usual is ... else usual, **how)
+    given = parser.parse_intermixed_args(words)
+    given.refuse = parser.error
+    return given
 
 
 def all_there(command, places):
@@ -74,10 +95,10 @@ def run(words):
     return done.returncode, text, done.stderr.decode("utf-8", "replace")
 
 
-def said_of(*words, given=None):
-    """The standard output of a command, which may end with status 1. It ends the tool where the command fails."""
+def said_of(*words, given=None, good=(0, 1)):
+    """The standard output of a command, which may end with a status of these. It ends the tool where the command fails."""
     done = subprocess.run(words, input=given, capture_output=True, text=True, errors="surrogateescape", check=False)
-    if done.returncode not in (0, 1):
+    if done.returncode not in good:
         sys.exit(f"{' '.join(words[:3])}: status {done.returncode}: {done.stderr[-300:]}")
     return done.stdout
 
@@ -88,7 +109,6 @@ def first_unlike(one, other):
 
 
 # The headers of an image.
-
 
 class Image:
     """The headers of an image, as far as the readers of these commands need them: of a file, or of bytes. `pe` is the offset of the PE
@@ -144,7 +164,6 @@ def as_loaded(path):
 
 
 # What llvm-readobj prints.
-
 
 def newest_readobj():
     """The newest llvm-readobj on PATH and its version."""
@@ -210,7 +229,6 @@ def listed(text):
 
 # Counts and rows.
 
-
 class Counts:
     """Cases that passed and failed, of which so many are printed, each up to so many characters."""
 
@@ -225,12 +243,12 @@ class Counts:
             print(f"failed: {name}{': ' if why else ''}{why}".rstrip()[:self.length], flush=True)
         return bool(is_so)
 
-    def tried(self, name, action):
-        """Counts an action that raises Failed where it fails. Returns its result, or None."""
+    def tried(self, name, action, *more):
+        """Counts an action that raises Failed, or one of `more`, where it fails. Returns its result, or None."""
         try:
             result = action()
-        except Failed as why:
-            self.expect(name, False, str(why))
+        except (Failed, *more) as why:
+            self.expect(name, False, str(why) if isinstance(why, Failed) else f"{type(why).__name__}: {why}")
             return None
         self.expect(name, True)
         return result

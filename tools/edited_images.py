@@ -101,7 +101,6 @@ def version(chance):
 
 # ---- the tree of resources
 
-
 def order(key):
     """Names before ids; these names are in the order of their code units."""
     return isinstance(key, int), key
@@ -193,7 +192,6 @@ def leaves_of(chance, hazards):
 
 
 # ---- the image
-
 
 class Section:
     def __init__(self, name, content, flags=DATA, size=None):

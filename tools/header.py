@@ -9,9 +9,8 @@ import dataclasses
 import os
 import re
 
-from contents import text_of
+from contents import TOP, text_of
 
-TOP = os.path.dirname(os.path.dirname(os.path.realpath(__file__)))
 PE_H = os.path.join(TOP, "bindings", "pe.h")
 # A comment right above something.
 ABOUT = r"(?:/\*((?:(?!\*/).)*?)\*/\n)?"

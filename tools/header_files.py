@@ -92,7 +92,6 @@ def checked_c(header):
 
 # ---- plain C
 
-
 def length_of(call, parameter):
     """How many bytes an argument has that is a pointer: those of an array, if the parameter after it is its length, or of one
     record."""

@@ -66,6 +66,15 @@ def limited(words, seconds=SECONDS, merged=False, **more):
     return subprocess.CompletedProcess(words, program.returncode, said, complaints)
 
 
+def outcome(words, seconds=SECONDS, **more):
+    """The status and all output of a command; None, and why, for one that does not end in these seconds."""
+    try:
+        done = limited(words, seconds, merged=True, **more)
+    except Failed as why:
+        return None, str(why)
+    return done.returncode, done.stdout.decode("utf-8", "replace")
+
+
 def written(file):
     file.seek(0)
     return file.read()

@@ -98,10 +98,11 @@ GROUPS = {
         "npm": "npm", "node": "nodejs", "chromium": "chromium", "rustc 1.85": RUSTC, WINE: "wine64", "gcc": "gcc", "clang": "clang"}),
     "breakpad": by_hand("symbol files of pe by LLDB", **{"clang": "clang", "lld-link": "lld", "lldb-19": "lldb-19",
                                                          "yaml2obj-14": "llvm-14"}),
+    "arm64-dumps": by_hand("ARM64 dumps by pe", **{"clang": "clang", "lld-link": "lld", "yaml2obj-14": "llvm-14"}),
     "notebook": by_hand("notebooks", **{"chromium": "chromium", "jupyter-nbconvert": "jupyter-nbconvert",
                                         "module ipykernel": "python3-ipykernel"}),
-    "dumps": by_hand("dumps of programs that crash", **RUST, **{
-        f"{MINGW}-gcc": "gcc-mingw-w64-x86-64-win32", f"{MINGW}-g++": "g++-mingw-w64-x86-64-win32", WINE: "wine64", "clang": "clang", "ld.lld": "lld"}),
+    "dumps": by_hand("dumps of programs that crash", **{
+        f"{MINGW}-gcc": "gcc-mingw-w64-x86-64-win32", WINE: "wine64", "clang": "clang", "ld.lld": "lld"}),
     "emulator": by_hand("steps and walks at the states of an emulator", **{
         "module unicorn": "python3-unicorn", "module capstone": "python3-capstone", "cc": "gcc", "clang": "clang", "lld-link": "lld"}),
     "portable": by_hand("plain C", **TRIAL, **WASM, **{"node": "nodejs", "clang": "clang", "wasm2c": "wabt"}),
@@ -200,7 +201,6 @@ def stops(tool, *groups):
 
 
 # ---- setting up
-
 
 def has_apt():
     return shutil.which("apt-get") is not None

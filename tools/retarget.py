@@ -12,11 +12,13 @@ import os
 import re
 import subprocess
 
+from limits import Failed
+
 NAME = re.compile(r'@("(?:[^"\\]|\\.)*"|[\w.$-]+)')
 EXPORTED = re.compile(r"pe_c_\w+")
 
 
-class Unlike(Exception):
+class Unlike(Failed):
     """What of the code is not as it has to be."""
 
 

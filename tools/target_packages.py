@@ -50,7 +50,6 @@ def program_text(program):
 
 # ---- npm and the page
 
-
 def make_npm(folder, build, room, to):
     """The npm package. Its files are the same bytes each time, and npm gives all of them one date."""
     package = os.path.join(room, "npm")
@@ -73,7 +72,6 @@ def portable_tree(folder, build, tree):
 
 
 # ---- Windows
-
 
 def windows_tree(folder, build, tree):
     """What the zip has."""

@@ -86,7 +86,6 @@ def find_rt():
 
 # ---- the library, of proved crates
 
-
 @contextlib.contextmanager
 def kit_that_keeps(rt, code):
     """A kit, made of links to another, whose compiler keeps a copy of the code that it compiles last. Yields its command."""
@@ -166,7 +165,6 @@ def archive_of_kit(rt, out, words):
 
 # ---- the library, of code
 
-
 def archive_of_code(target, text, out, level="-O2"):
     """Writes the archive of the target, of LLVM code. The kit compiles what is proved at -O3."""
     compiler = Compiler(find_rt())
@@ -190,7 +188,6 @@ def archive_of_code(target, text, out, level="-O2"):
 
 
 # ---- the other files of a target
-
 
 def lowered(module, out):
     """Writes the module with a memory of 32 bits in place of 64. Pointers and lengths stay numbers of 64 bits at its calls."""

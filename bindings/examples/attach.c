@@ -24,7 +24,7 @@ static size_t entry_of(size_t signature_length)
 int main(int argc, char **argv)
 {
     if (argc != 4)
-        return 2;
+        return usage("attach FILE PKCS7 OUT");
     size_t length = read_file(argv[1], file, sizeof file);
     size_t entry = entry_of(read_file(argv[2], certificate + SIZE_OF_HEADER, sizeof certificate - SIZE_OF_HEADER));
     pe_c_image_info image = PE_C_EMPTY;

@@ -24,7 +24,7 @@ static pe_c_module module;
 static const char *const ends[] = {"bound", "bottom", "no module", "no function", "records", "long chain", "step",
                                    "zero", "no return address"};
 
-/* Reads the pieces of memory, of both kinds, as many as there is room for. */
+/* Reads the pieces of memory, of both kinds, as many as there is room for: where there may be more, main says so. */
 static uint32_t read_memory(void)
 {
     pe_c_range stream = PE_C_EMPTY;
@@ -130,7 +130,7 @@ int main(int argc, char **argv)
 {
     pe_c_context context = PE_C_EMPTY;
     if (argc != 3)
-        return 2;
+        return usage("dump_stack DUMP IMAGE");
     dump_length = read_file(argv[1], dump, sizeof dump);
     uint32_t result = pe_c_dump(dump, dump_length, &info);
     if (result == PE_C_DONE)
@@ -147,8 +147,14 @@ int main(int argc, char **argv)
         result = read_stacks();
     if (result == PE_C_DONE || result == PE_C_NOTHING)
         result = order_memory();
+    if (piece_count == MOST_PIECES)
+        fprintf(stderr, "the walk has the first %d pieces of memory alone\n", MOST_PIECES);
     if (result == PE_C_DONE)
         result = read_context(&context);
+    if (result == PE_C_NOTHING) {
+        puts("the dump has no exception");
+        return 1;
+    }
     if (result == PE_C_DONE)
         result = show_stack(&context);
     return status_of(result);

@@ -4,9 +4,32 @@
 
 #include "pe.h"
 
+#include <ctype.h>
+#include <errno.h>
 #include <stdint.h>
 #include <stdio.h>
 #include <stdlib.h>
+
+/* Says how a program is called. Returns the status by which it ends then. */
+static inline int usage(const char *text)
+{
+    fprintf(stderr, "usage: %s\n", text);
+    return 2;
+}
+
+/* The hexadecimal number that a text is. One that is none, or is greater than `most`, ends the program with status 2: it would be taken
+ * for 0, or for its last digits. */
+static inline uint64_t hexadecimal(const char *text, uint64_t most)
+{
+    char *end = NULL;
+    errno = 0;
+    unsigned long long number = strtoull(text, &end, 16);
+    if (!isxdigit((unsigned char)*text) || *end != 0 || errno != 0 || number > most) {
+        fprintf(stderr, "%s: no hexadecimal number up to %llx\n", text, (unsigned long long)most);
+        exit(2);
+    }
+    return number;
+}
 
 /* Writes the bytes of a file to `room`, and returns how many there are. A file that cannot be read, or has more than `size`
  * bytes, is named on standard error, and ends the program with status 2: a truncated image would be taken for another one. */
@@ -54,6 +77,15 @@ static inline uint32_t read_image(const char *name, uint32_t mode, pe_c_view *ou
     pe_c_view view = {bytes, length, &image, sections, image.number_of_sections, NULL, 0};
     *out = view;
     return result;
+}
+
+/* Whether an image is for a machine, IMAGE_FILE_MACHINE_* of winnt.h. Where it is not, standard error says so: the frames of a walk
+ * would be wrong without an error. */
+static inline int is_for(const pe_c_view *view, uint32_t machine)
+{
+    if (view->image->machine != machine)
+        fprintf(stderr, "an image for the machine %x, and not %x\n", (unsigned)view->image->machine, (unsigned)machine);
+    return view->image->machine == machine;
 }
 
 /* Shows the bytes of a range up to a zero. A name may hold anything, and is not to drive a terminal: a byte that is no printable

@@ -22,7 +22,7 @@ static void show_key(const pe_c_view *view, const pe_c_key *key)
 int main(int argc, char **argv)
 {
     if (argc != 2)
-        return 2;
+        return usage("minidump_module FILE");
     pe_c_view view = PE_C_EMPTY;
     pe_c_key key = PE_C_EMPTY;
     uint32_t result = read_image(argv[1], PE_C_PERMISSIVE | PE_C_MAPPED, &view);

@@ -10,6 +10,7 @@
 #include <inttypes.h>
 #include <stdio.h>
 #include <stdlib.h>
+#include <string.h>
 
 enum { MOST_PIECES = 1 << 16, MOST_FRAMES = 1000 };
 
@@ -21,28 +22,37 @@ static pe_c_memory_piece pieces[MOST_PIECES];
 static const char *const ends[] = {"bound", "bottom", "no module", "no function", "records", "long chain", "step",
                                    "zero", "no return address"};
 
+static const char *const words = "minidump_stack FILE BASE RIP RSP MEMORY START:OFFSET:LENGTH ..";
+
+static pe_c_memory_piece piece_of(char *text)
+{
+    char *offset = strchr(text, ':'), *length = offset == NULL ? NULL : strchr(offset + 1, ':');
+    if (length == NULL)
+        exit(usage(words));
+    *offset++ = *length++ = 0;
+    pe_c_memory_piece piece = {hexadecimal(text, UINT64_MAX), hexadecimal(offset, UINT64_MAX), hexadecimal(length, UINT64_MAX)};
+    return piece;
+}
+
 int main(int argc, char **argv)
 {
     if (argc < 6 || argc - 6 > MOST_PIECES)
-        return 2;
+        return usage(words);
     memory_length = read_file(argv[5], memory, sizeof memory);
-    for (int i = 6; i < argc; i++) {
-        pe_c_memory_piece *piece = &pieces[piece_count++];
-        char *end = argv[i];
-        piece->start = strtoull(end, &end, 16);
-        piece->offset = strtoull(*end ? end + 1 : end, &end, 16);
-        piece->length = strtoull(*end ? end + 1 : end, &end, 16);
-    }
+    for (int i = 6; i < argc; i++)
+        pieces[piece_count++] = piece_of(argv[i]);
     pe_c_module module = PE_C_EMPTY;
-    module.base = strtoull(argv[2], NULL, 16);
+    module.base = hexadecimal(argv[2], UINT64_MAX);
     uint32_t result = read_image(argv[1], PE_C_PERMISSIVE, &module.image);
+    if (result == PE_C_DONE && !is_for(&module.image, 0x8664))
+        return 1;
     if (result == PE_C_DONE)
         result = pe_c_function_table(&module.image, &module.table);
     if (result != PE_C_DONE && result != PE_C_NOTHING)
         return status_of(result);
     pe_c_stack_walk walk = PE_C_EMPTY;
-    walk.registers.rip = strtoull(argv[3], NULL, 16);
-    walk.registers.general[4] = strtoull(argv[4], NULL, 16);
+    walk.registers.rip = hexadecimal(argv[3], UINT64_MAX);
+    walk.registers.general[4] = hexadecimal(argv[4], UINT64_MAX);
     walk.remaining = MOST_FRAMES;
     while ((result = pe_c_next_frame(&module, 1, memory, memory_length, pieces, piece_count, &walk)) == PE_C_DONE)
         printf("%" PRIx64 "\n", walk.registers.rip);

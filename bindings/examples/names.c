@@ -72,7 +72,7 @@ static uint32_t show_names(const pe_c_address_table *table)
 int main(int argc, char **argv)
 {
     if (argc != 2)
-        return 2;
+        return usage("names FILE");
     pe_c_address_table table = PE_C_EMPTY;
     uint32_t result = read_image(argv[1], PE_C_PERMISSIVE, &view);
     if (result == PE_C_DONE)

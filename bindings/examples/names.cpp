@@ -62,7 +62,7 @@ int main(int argc, char **argv)
 {
     static std::uint8_t bytes[1 << 26];
     if (argc != 2)
-        return 2;
+        return usage("names FILE");
     pe_c::outcome<pe_c::image> image = pe_c::image::parse({bytes, read_file(argv[1], bytes, sizeof bytes)});
     pe_c::result ended = image ? show_imports(*image) : image.why();
     if (!ended)

@@ -38,14 +38,12 @@ static uint8_t pdb[1 << 27], symbols[MOST_SYMBOLS];
  *     pdb_name IMAGE PDB HEXRVA */
 int main(int argc, char **argv)
 {
-    if (argc != 4) {
-        fprintf(stderr, "pdb_name IMAGE PDB HEXRVA\n");
-        return 2;
-    }
+    if (argc != 4)
+        return usage("pdb_name IMAGE PDB HEXRVA");
     pe_c_view view = PE_C_EMPTY;
     pe_c_key key = PE_C_EMPTY;
     pe_c_pdb_symbol found = PE_C_EMPTY;
-    uint32_t rva = (uint32_t)strtoul(argv[3], NULL, 16);
+    uint32_t rva = (uint32_t)hexadecimal(argv[3], UINT32_MAX);
     uint32_t result = read_image(argv[1], PE_C_PERMISSIVE, &view);
     if (result == PE_C_DONE)
         result = pe_c_symbol_key(&view, &key);
@@ -55,6 +53,10 @@ int main(int argc, char **argv)
     if (result == PE_C_DONE) {
         show_name(symbols, &found.name);
         printf("+%x\n", rva - found.rva);
+    }
+    if (result == PE_C_NOTHING) {
+        fprintf(stderr, "the PDB is not that of the image, or no public function is there\n");
+        return 1;
     }
     return status_of(result);
 }

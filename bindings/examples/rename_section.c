@@ -23,10 +23,8 @@ static pe_c_section *section_named(const char *name, size_t count)
 
 int main(int argc, char **argv)
 {
-    if (argc != 5 || strlen(argv[2]) > SIZE_OF_NAME || strlen(argv[3]) > SIZE_OF_NAME) {
-        fprintf(stderr, "rename_section FILE OLD NEW OUT\n");
-        return 2;
-    }
+    if (argc != 5 || strlen(argv[2]) > SIZE_OF_NAME || strlen(argv[3]) > SIZE_OF_NAME)
+        return usage("rename_section FILE OLD NEW OUT, names of 8 bytes at most");
     size_t length = read_file(argv[1], file, sizeof file);
     pe_c_image_info image = PE_C_EMPTY;
     uint64_t needed = 0, end = 0;

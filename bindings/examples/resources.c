@@ -28,7 +28,7 @@ static uint32_t show_part(const pe_c_resource_name *part)
     return result;
 }
 
-/* Whether so many are not all that may be shown, which is said where they are. */
+/* Whether one more may be shown after so many; where there is one and it may not, this says so. */
 static int has_room(int count)
 {
     int has = count < MOST_RESOURCES && shown_bytes < MOST_BYTES;
@@ -43,9 +43,9 @@ static uint32_t show_types(const pe_c_range *tree)
     pe_c_resource_directory root = PE_C_EMPTY;
     pe_c_resource_item item = PE_C_EMPTY;
     uint32_t result = pe_c_resource_root(&view, &root);
-    for (int i = 0; result == PE_C_DONE && has_room(i); i++) {
+    for (int i = 0; result == PE_C_DONE; i++) {
         result = pe_c_next_resource_item(view.bytes, view.length, tree, &root.entries, &item);
-        if (result != PE_C_DONE)
+        if (result != PE_C_DONE || !has_room(i))
             break;
         printf("type");
         result = show_part(&item.name);
@@ -58,9 +58,9 @@ static uint32_t show_resources(pe_c_leaf_walk *walk)
 {
     pe_c_resource_leaf leaf = PE_C_EMPTY;
     uint32_t result = PE_C_DONE;
-    for (int i = 0; result == PE_C_DONE && has_room(i); i++) {
+    for (int i = 0; result == PE_C_DONE; i++) {
         result = pe_c_next_resource_leaf(&view, walk, &leaf);
-        if (result != PE_C_DONE)
+        if (result != PE_C_DONE || !has_room(i))
             break;
         printf("resource");
         const pe_c_resource_name *parts[] = {&leaf.resource_type, &leaf.name, &leaf.language};
@@ -76,7 +76,7 @@ static uint32_t show_resources(pe_c_leaf_walk *walk)
 int main(int argc, char **argv)
 {
     if (argc != 2)
-        return 2;
+        return usage("resources FILE");
     pe_c_leaf_walk walk = PE_C_EMPTY;
     uint32_t result = read_image(argv[1], PE_C_PERMISSIVE, &view);
     if (result == PE_C_DONE)

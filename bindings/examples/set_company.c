@@ -50,10 +50,8 @@ int main(int argc, char **argv)
 {
     uint8_t texts[1 << 12] = {'C', 0, 'o', 0, 'm', 0, 'p', 0, 'a', 0, 'n', 0, 'y', 0, 'N', 0, 'a', 0, 'm', 0, 'e', 0};
     size_t name_length = 22, length = argc == 4 ? strlen(argv[2]) : sizeof texts;
-    if (length > sizeof texts / 2 - name_length) {
-        fprintf(stderr, "set_company FILE NAME OUT\n");
-        return 2;
-    }
+    if (length > sizeof texts / 2 - name_length)
+        return usage("set_company FILE NAME OUT");
     for (size_t i = 0; i < length; i++)
         texts[name_length + 2 * i] = (uint8_t)argv[2][i];
     pe_c_view view = PE_C_EMPTY;

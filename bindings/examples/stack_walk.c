@@ -37,16 +37,18 @@ static uint8_t stack[1 << 12];
 int main(int argc, char **argv)
 {
     if (argc < 4 || (size_t)(argc - 4) > sizeof stack / 8)
-        return 2;
+        return usage("stack_walk FILE BASE RIP WORD.., 512 words at most");
     size_t stack_length = 0;
-    uint64_t base = strtoull(argv[2], NULL, 16);
+    uint64_t base = hexadecimal(argv[2], UINT64_MAX);
     for (int i = 4; i < argc; i++, stack_length += 8)
         for (int j = 0; j < 8; j++)
-            stack[stack_length + j] = (uint8_t)(strtoull(argv[i], NULL, 16) >> 8 * j);
+            stack[stack_length + j] = (uint8_t)(hexadecimal(argv[i], UINT64_MAX) >> 8 * j);
 
     pe_c_module module = PE_C_EMPTY;
     module.base = base;
     uint32_t result = read_image(argv[1], PE_C_PERMISSIVE, &module.image);
+    if (result == PE_C_DONE && !is_for(&module.image, 0x8664))
+        return 1;
     if (result == PE_C_DONE)
         result = pe_c_function_table(&module.image, &module.table);
     /* Without a table all functions are leaf functions. */
@@ -54,7 +56,7 @@ int main(int argc, char **argv)
         result = PE_C_DONE;
     pe_c_memory_piece piece = {0x20000, 0, stack_length};
     pe_c_frame frame = PE_C_EMPTY;
-    frame.registers.rip = strtoull(argv[3], NULL, 16);
+    frame.registers.rip = hexadecimal(argv[3], UINT64_MAX);
     frame.registers.general[4] = piece.start;
     for (uint32_t depth = 0; result == PE_C_DONE && depth < 1000; depth++) {
         printf("%" PRIx64 "\n", frame.registers.rip);

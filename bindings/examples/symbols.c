@@ -53,8 +53,13 @@ static uint32_t show_symbols(const pe_c_coff_header *coff, const pe_c_range *str
 int main(int argc, char **argv)
 {
     if (argc != 2)
-        return 2;
+        return usage("symbols FILE");
     length = read_file(argv[1], file, sizeof file);
+    /* Any 20 bytes are the header of an object: those of an image too. */
+    if (length >= 2 && file[0] == 'M' && file[1] == 'Z') {
+        fprintf(stderr, "an image, and no object\n");
+        return 1;
+    }
     pe_c_coff_header coff = PE_C_EMPTY;
     pe_c_range strings = PE_C_EMPTY;
     uint32_t result = pe_c_coff(file, length, &coff);

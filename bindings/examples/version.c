@@ -43,7 +43,7 @@ static uint32_t show_version(void)
 int main(int argc, char **argv)
 {
     if (argc != 2)
-        return 2;
+        return usage("version FILE");
     uint32_t result = read_image(argv[1], PE_C_PERMISSIVE, &view);
     if (result == PE_C_DONE)
         result = show_version();

@@ -1,6 +1,6 @@
 // How a call of pe.h is made: what is given goes into the memory of the instance, and what the call writes comes back.
 import { calls, constants, steps } from './layouts.mjs';
-import { PeError, optionsOf, whole, width } from './memory.mjs';
+import { PeError, fieldOf, optionsOf, whole, width } from './memory.mjs';
 
 const utf8 = new TextDecoder('utf-8', { ignoreBOM: true }), utf16 = new TextDecoder('utf-16le', { ignoreBOM: true });
 
@@ -218,6 +218,7 @@ export class Caller {
   /** The items of a walk, from where it is, or of what starts one. */
   *items(name, start, given = {}) {
     const walk = typeof start === 'function' ? start() : start;
+    if (walk === undefined) throw new TypeError(`${name} needs a walk, or null where there is none`);
     while (walk) {
       const item = this.call(name, { ...given, walk });
       if (item === null) return;
@@ -231,7 +232,8 @@ export const wholeEntries = (walk) => walk && { ...walk, length: walk.length - w
 
 /** The first of some debug entries of a type, or null. */
 export function firstOfType(entries, type) {
-  for (const it of entries) if (it.data_type === type) return it;
+  const wanted = whole('uint32_t', type);
+  for (const it of entries) if (it.data_type === wanted) return it;
   return null;
 }
 
@@ -286,6 +288,12 @@ export class File extends Caller {
     this.length = Number(own.length);
   }
 
+  /** A walk over the elements of a range. */
+  #walkIn(range) {
+    for (const it of ['offset', 'length']) fieldOf(range, it, 'a range');
+    return { ...range };
+  }
+
   /** Where a range of the bytes is in the memory, which has other bytes around them. */
   #place({ offset, length }) {
     const start = Number(offset), size = Number(length);
@@ -312,12 +320,12 @@ export class File extends Caller {
 
   /** The elements of a list in a signature, or in a certificate of one. */
   elements(range) {
-    return this.items('pe_c_next_element', { ...range });
+    return this.items('pe_c_next_element', this.#walkIn(range));
   }
 
   /** The attributes of a name in a signature. */
   *nameAttributes(range) {
-    yield* this.items('pe_c_next_name_attribute', this.call('pe_c_name', { range }));
+    yield* this.items('pe_c_next_name_attribute', this.call('pe_c_name', { range: this.#walkIn(range) }));
   }
 
   /** The name of a section in its header. */

@@ -98,7 +98,7 @@ const attempt = (read) => {
 
 // ---- headers, hardening, sections
 
-function headers(image, fileName) {
+function headers(image) {
   const { info } = image, isReproducible = isHashed(image);
   const isMapped = (info.mode & constants.PE_C_MAPPED) !== 0;
   const right = isMapped ? null : attempt(() => image.call('pe_c_checksum'))?.value ?? null;
@@ -634,7 +634,7 @@ export function kindOf(given) {
 export function facts(image, fileName = '') {
   return {
     file: fileName, file_size: image.length, error: null,
-    headers: headers(image, fileName), hardening: hardening(image), sections: sections(image),
+    headers: headers(image), hardening: hardening(image), sections: sections(image),
     ...imports(image), ...exports(image), debug: debug(image), ...certificates(image), version: version(image), ...tls(image),
     ...relocations(image), ...delayImports(image), ...loadConfig(image), ...clr(image), ...rich(image), ...resources(image),
   };

@@ -1,7 +1,7 @@
 // An image: its headers and sections, all calls of pe.h over it, and its lists as iterators.
 import { File, bytesOf, firstOfType, listOf, memoryOf, ownOf, placed, placeFor, viewOf, wholeEntries, written } from './calls.mjs';
 import { constants } from './layouts.mjs';
-import { only, optionsOf, whole, width } from './memory.mjs';
+import { fieldOf, only, optionsOf, whole, width } from './memory.mjs';
 import { delayImportsOf, digestOf, exportsOf, importsOf, manifestOf, signaturesOf, versionsOf } from './parts.mjs';
 import { recordsOf, resourcesOf } from './resources.mjs';
 import { symbolsOf } from './symbols.mjs';
@@ -136,14 +136,15 @@ export class Image extends File {
   // ---- walks whose start or whose next item needs more
 
   /** All libraries with what is imported of each, as values; or the imports of one library, as records. */
-  imports(library) {
-    if (!library) return importsOf(this);
-    return this.many('pe_c_list_imports', copied({ imports: library.imports }), { runs: 1 });
+  imports(...given) {
+    if (!given.length) return importsOf(this);
+    return this.many('pe_c_list_imports', copied({ imports: fieldOf(given[0], 'imports', 'of the list libraries') }), { runs: 1 });
   }
 
   /** Whether the RVA of a library's list is unmapped, so that `imports` has nothing. A list at the file offset 0 is not empty: the DOS
    * header starts there. */
-  hasUnmappedList({ imports: { left } }) {
+  hasUnmappedList(library) {
+    const { left } = fieldOf(library, 'imports', 'of the list libraries');
     return left.offset === 0n && left.length === 0n;
   }
 
@@ -163,7 +164,7 @@ export class Image extends File {
 
   /** The functions of a DLL that is loaded when it is needed. */
   delayedFunctions(delayImport) {
-    return this.many('pe_c_list_delayed_functions', copied({ functions: delayImport.functions }), { runs: 1 });
+    return this.many('pe_c_list_delayed_functions', copied({ functions: fieldOf(delayImport, 'functions', 'of the list delayImports') }), { runs: 1 });
   }
 
   /** All exports by their index, with those that have no name. */
@@ -199,7 +200,7 @@ export class Image extends File {
 
   /** The relocations of a block. */
   relocations(block) {
-    return this.many('pe_c_list_relocations', copied(block.entries), { given: { page_rva: block.page_rva } });
+    return this.many('pe_c_list_relocations', copied(fieldOf(block, 'entries', 'of the list relocationBlocks')), { given: { page_rva: block.page_rva } });
   }
 
   /** The range of the function table of an x64 or ARM64 image, or null. */
@@ -226,13 +227,13 @@ export class Image extends File {
 
   /** The unwind records of an x64 function, up to the root of its chain. */
   *records(found) {
-    const table = this.call('pe_c_function_table'), plan = { unwind: found.unwind, saved: found.unwind, limit: 1n };
+    const table = this.call('pe_c_function_table'), unwind = fieldOf(found, 'unwind', 'a function'), plan = { unwind, saved: unwind, limit: 1n };
     if (table) yield* this.items('pe_c_next_record', { plan }, { table });
   }
 
   /** The unwind codes of an x64 record. */
   codes(record) {
-    return this.items('pe_c_next_code', structuredClone(record.codes));
+    return this.items('pe_c_next_code', copied(fieldOf(record, 'codes', 'an unwind record')));
   }
 
   /** The callbacks that run when a thread starts or ends, virtual addresses. */
@@ -251,7 +252,9 @@ export class Image extends File {
 
   /** The file with a certificate, or several: entries of a certificate table. */
   attach(certificate, options) {
-    const { placement = constants.PE_C_AFTER } = optionsOf(options, 'placement');
+    const { placement = constants.PE_C_AFTER } = optionsOf(options, 'placement'), { PE_C_AFTER, PE_C_IN_PLACE } = constants;
+    // The call takes others for one of these.
+    if (![PE_C_AFTER, PE_C_IN_PLACE].includes(placement)) throw new TypeError(`placement is PE_C_AFTER or PE_C_IN_PLACE, and not ${String(placement)}`);
     return written(this, 'pe_c_attach', { certificate: bytesOf(certificate), placement });
   }
 

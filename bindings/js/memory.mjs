@@ -25,6 +25,8 @@ export const width = (type) => (isAddress(type) ? 8 : WIDTHS[type] ?? records[ty
 export function whole(type, value) {
   // Other values become numbers too: null and an empty text become 0.
   if (!['number', 'bigint', 'boolean'].includes(typeof value)) throw new RangeError(`${String(value)} is no ${type}`);
+  // A number above 2^53 is rounded before it comes here: an address of the kernel is a BigInt.
+  if (typeof value === 'number' && value > Number.MAX_SAFE_INTEGER) throw new RangeError(`${value} is no ${type} for certain: give it as a BigInt`);
   const most = MOST[type], number = most ? Number(value) : BigInt(value);
   const fits = most ? Number.isInteger(number) && number >= (LEAST[type] ?? 0) && number <= most : number >= 0n && number <= MOST_64;
   if (!fits) throw new RangeError(`${value} is no ${type}`);
@@ -38,6 +40,12 @@ export function only(what, names, given) {
     if (!names.includes(it)) throw new TypeError(`${it} is none of the ${what}: ${names.join(', ')}`);
   }
   return given;
+}
+
+/** A field of a record that is given. Without it, as of another record or of none, there would be nothing to list, without a word. */
+export function fieldOf(given, field, what) {
+  if (given?.[field] === undefined) throw new TypeError(`${String(given)} is not ${what}: it has no ${field}`);
+  return given[field];
 }
 
 export const optionsOf = (given = {}, ...names) => only('options', names, given);

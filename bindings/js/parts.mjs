@@ -119,7 +119,8 @@ const four = (high, low) => [high >>> 16, high & 0xFFFF, low >>> 16, low & 0xFFF
 
 /** The strings of version information by the key of their table, as far as they can be read, and the first error of a block. */
 function stringsOf(image, content) {
-  const strings = {}, errors = [], blocks = (walk) => {
+  // Maps: a key of a hostile file, as __proto__, would name what every object has.
+  const tables = new Map(), errors = [], blocks = (walk) => {
     const found = rows(image.items('pe_c_next_version_block', { ...walk }), (it) => it);
     if (found.error) errors.push(found.error);
     return found;
@@ -127,9 +128,14 @@ function stringsOf(image, content) {
   const isStrings = (it) => image.utf16(it.key).toLowerCase() === 'stringfileinfo';
   const infos = blocks(content).flatMap((root) => blocks(root.children)).filter(isStrings);
   for (const table of infos.flatMap((it) => blocks(it.children))) {
-    const found = strings[image.utf16(table.key)] ??= {};
-    for (const it of blocks(table.children)) found[image.utf16(it.key)] ??= image.utf16(it.value);
+    const key = image.utf16(table.key), found = tables.get(key) ?? new Map();
+    tables.set(key, found);
+    for (const it of blocks(table.children)) {
+      const name = image.utf16(it.key);
+      if (!found.has(name)) found.set(name, image.utf16(it.value));
+    }
   }
+  const strings = Object.fromEntries([...tables].map(([key, found]) => [key, Object.fromEntries(found)]));
   return { strings, error: errors[0] ?? null };
 }
 

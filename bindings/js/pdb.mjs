@@ -3,7 +3,7 @@
 import { File, memoryOf, ownOf, placed } from './calls.mjs';
 import { Image } from './image.mjs';
 import { constants } from './layouts.mjs';
-import { PeError, optionsOf, width } from './memory.mjs';
+import { PeError, fieldOf, optionsOf, whole, width } from './memory.mjs';
 
 const INFO_STREAM = 1, DBI_STREAM = 3, ID_STREAM = 4, NO_STREAM = 0xFFFF;
 const S_PUB32 = 0x110E, PROCEDURES = [0x110F, 0x1110, 0x1146, 0x1147];
@@ -216,9 +216,9 @@ export class Pdb extends File {
 
   /** A copy of the stream with a number. */
   stream(index) {
-    const memory = memoryOf(this), own = ownOf(this);
+    const memory = memoryOf(this), own = ownOf(this), number = whole('uint32_t', index);
     return lent(memory, () => {
-      const [at, length] = listed(memory, 'pe_c_pdb_stream', 'uint8_t', [own.bytes, own.length, ...this.#starts, index]);
+      const [at, length] = listed(memory, 'pe_c_pdb_stream', 'uint8_t', [own.bytes, own.length, ...this.#starts, number]);
       return memory.bytes(Number(at), Number(length));
     });
   }
@@ -276,12 +276,12 @@ export class Pdb extends File {
 
   /** The procedures of a module. */
   procedures(module) {
-    return module.stream === null ? [] : this.#listedSymbols(this.stream(module.stream), module.symbols, PROCEDURES);
+    return fieldOf(module, 'stream', 'of modules()') === null ? [] : this.#listedSymbols(this.stream(module.stream), module.symbols, PROCEDURES);
   }
 
   /** The lines of a module, by their RVAs; of several at one RVA the last counts. */
   lines(module) {
-    if (module.stream === null) return Object.assign([], { isLimited: false });
+    if (fieldOf(module, 'stream', 'of modules()') === null) return Object.assign([], { isLimited: false });
     const sections = this.#sectionHeaders(), names = this.#fileNames(), memory = memoryOf(this);
     return lent(memory, () => {
       const symbols = new Symbols(memory, this.stream(module.stream), 1, {}, sections);
@@ -353,8 +353,10 @@ export class Pdb extends File {
 
   /** The function at an RVA and its line, or null: see index.d.ts. */
   find(rva, options) {
-    const { isReturn = false } = optionsOf(options, 'isReturn'), asked = rva - Number(isReturn);
-    const at = asked >= 0 && asked <= 0xFFFFFFFF ? this.#moved(asked) : null;
+    // A text would become a number: '4096', and '' too.
+    if (typeof rva !== 'number') throw new TypeError(`an RVA is a number, and not ${typeof rva === 'bigint' ? 'a BigInt' : String(rva)}`);
+    const isReturn = Boolean(optionsOf(options, 'isReturn').isReturn), asked = rva - Number(isReturn);
+    const at = Number.isInteger(asked) && asked >= 0 && asked <= 0xFFFFFFFF ? this.#moved(asked) : null;
     if (at === null) return null;
     const own = this.#moduleAt(at)?.symbols, found = own?.find(at) ?? null;
     const symbols = found ? own : this.#publics, symbol = found ?? this.#publics?.find(at);
@@ -369,7 +371,7 @@ export class Pdb extends File {
 
   /** The functions at an RVA, the innermost first: see index.d.ts. */
   frames(rva, options = {}) {
-    const own = this.find(rva, options), at = own && this.#moved(rva - Number(options.isReturn ?? false));
+    const own = this.find(rva, options), at = own && this.#moved(rva - Number(Boolean(options.isReturn)));
     const found = own?.source === 'procedure' ? this.#inlined(this.#moduleAt(at), at) : Object.assign([], { isLimited: false });
     const inlined = found.map(({ name, file, line }) => ({ ...own, name, file, line, column: null, isInlined: true }));
     return Object.assign(own ? [...inlined, own] : [], { isLimited: found.isLimited });

@@ -2,7 +2,6 @@
 // pe-js [--strict] [--mapped] FILE..: a line of JSON for each file, what `facts` returns. The status is 1 where a
 // file is refused, and 2 where one cannot be read, or the lines cannot be written.
 import { readFileSync } from 'node:fs';
-import { basename } from 'node:path';
 import { constants, load } from './index.mjs';
 import { factsOf } from './facts.mjs';
 
@@ -28,11 +27,11 @@ for (const path of files) {
   try {
     bytes = readFileSync(path);
   } catch (error) {
-    console.error(`pe-js: ${error.message}`);
+    console.error(`pe-js: ${path}: ${error.message}`);
     process.exitCode = 2;
     continue;
   }
-  const found = factsOf(library, bytes, basename(path), { mode });
+  const found = factsOf(library, bytes, path, { mode });
   if (found.error) process.exitCode ||= 1;
   process.stdout.write(`${JSON.stringify(found, plain)}\n`);
 }

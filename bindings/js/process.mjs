@@ -2,7 +2,7 @@
 import { Caller, bytesOf, viewOf } from './calls.mjs';
 import { Image } from './image.mjs';
 import { constants } from './layouts.mjs';
-import { PeError, only, whole, width } from './memory.mjs';
+import { PeError, fieldOf, only, whole, width } from './memory.mjs';
 
 const ARM64 = 0xAA64;
 
@@ -41,6 +41,12 @@ function withoutImage(memory, size, base) {
   return [{ image: { ...none, image: BigInt(info) }, table: {}, base }, null];
 }
 
+/** A walk with what it starts from: a frame of no registers, or no frame at all, would be walked without a word. */
+function walkOf(walk) {
+  for (const it of ['registers', 'remaining']) fieldOf(walk, it, 'a walk');
+  return walk;
+}
+
 /** The modules of a process and its memory, in one instance. */
 export class Process extends Caller {
   constructor(memory, parts) {
@@ -67,11 +73,11 @@ export class Process extends Caller {
   /** The frames of a stack, from the top frame on: the walk, pe_c_stack_walk, as it is after each. The one that is given is moved,
    * and says in the end why no frame follows. */
   *frames(walk) {
-    while (this.call('pe_c_next_frame', { walk })) yield structuredClone(walk);
+    while (this.call('pe_c_next_frame', { walk: walkOf(walk) })) yield structuredClone(walk);
   }
 
   /** The same on ARM64: pe_c_arm64_stack_walk. */
   *arm64Frames(walk) {
-    while (this.call('pe_c_next_arm64_frame', { walk })) yield structuredClone(walk);
+    while (this.call('pe_c_next_arm64_frame', { walk: walkOf(walk) })) yield structuredClone(walk);
   }
 }

@@ -278,7 +278,8 @@ test('parameters that are missing or unknown', () => {
 test('numbers that do not fit are no other numbers', () => {
   const image = opened('functions'), table = image.call('pe_c_function_table');
   for (const rva of [2 ** 32, -1, 1.5, 'x', '', '4096', null, [], [5]]) assert.throws(() => image.call('pe_c_offset', { rva }), RangeError);
-  for (const index of [1n << 64n, -1]) assert.throws(() => image.call('pe_c_function_at', { table, index }), RangeError);
+  // A number above 2^53, as an address of the kernel, is rounded: 0xFFFFF80012345679 is 0xFFFFF80012345800 here.
+  for (const index of [1n << 64n, -1, 0xFFFFF80012345679, 2 ** 53]) assert.throws(() => image.call('pe_c_function_at', { table, index }), RangeError);
   assert.throws(() => image.call('pe_c_next_code', { walk: { version: 256 } }), RangeError);
   assert.throws(() => image.call('pe_c_function_at', { table: { offset: -1 }, index: 0 }), RangeError);
 });
@@ -490,7 +491,7 @@ test('a stack walk comes to its end, and says which', () => {
   assert.equal([...several.frames({ registers: frameRegisters(), remaining: 9n })].length, 2);
   assert.deepEqual(several.images.map((it) => it.sections.length), [1, 1]);
   const outside = { modules: [], memory: new Uint8Array(8), pieces: [{ start: 0, offset: 1, length: 8 }] };
-  assert.equal(refused(() => [...library.process(outside).frames({ remaining: 1 })]).constant, 'PE_C_SHORT');
+  assert.equal(refused(() => [...library.process(outside).frames({ registers: {}, remaining: 1 })]).constant, 'PE_C_SHORT');
   assert.equal(refused(() => library.process({ ...outside, modules: [{ bytes: new Uint8Array(9), base: 0n }] })).constant, 'PE_C_SHORT');
 });
 
@@ -1603,6 +1604,15 @@ test('version information and the manifest as values', () => {
   const key = Buffer.from('StringFileInfo', 'utf16le'), upper = file('resources');
   upper.set(Buffer.from('STRINGFILEINFO', 'utf16le'), upper.indexOf(key));
   assert.deepEqual(library.open(upper, { mode: 1 }).versions()[0].strings, version.strings);
+  // Keys that every object has, in a hostile file: they are strings as others, and no object changes.
+  const child = (key, ...children) => ({ key, children }), text = (key) => ({ key, text: `of ${key}` });
+  const names = ['__proto__', 'constructor', 'toString'], tables = names.map((key) => child(key, ...names.map(text), text('polluted')));
+  const content = library.versionBlock({ ...child('VS_VERSION_INFO', child('StringFileInfo', ...tables)), value: new Uint8Array(52) });
+  const [hostile] = library.open(opened('x86_dll').edit([{ type: 16, name: 1, language: 0, content }])).versions();
+  assert.deepEqual([{}.polluted, Object.polluted], [undefined, undefined]);
+  for (const key of names) {
+    assert.deepEqual(Object.entries(Object.getOwnPropertyDescriptor(hostile.strings, key).value), [...names, 'polluted'].map((it) => [it, `of ${it}`]));
+  }
   // One whose content is not in the file.
   const leaf = [...image.list('resourceLeaves')].find((it) => it.resource_type.id === 16), moved = file('resources');
   moved.writeUInt32LE(0x7FFF0000, moved.indexOf(Buffer.from(Uint32Array.of(leaf.rva, leaf.size).buffer)));
@@ -1641,6 +1651,32 @@ test('names of functions without a PDB', () => {
   assert.equal(opened('functions').functionNames([{ rva: 0 }])[0], null);
 });
 
+test('what is no record of a list, no walk, no stream and no RVA is said, and lists nothing', () => {
+  const image = opened('imports'), [library_] = image.imports(), pdb = pdbWith(), process = library.process({ modules: [], memory: file('imports'), pieces: [] });
+  const says = (call, text) => assert.throws(() => { const it = call(); return it?.next?.(); }, (it) => it instanceof TypeError && it.message.includes(text), text);
+  // A library as a value is none of the list, and one that was looked for and is not there is no question after all of them.
+  for (const it of [library_, {}, undefined, null]) says(() => image.imports(it), 'of the list libraries: it has no imports');
+  for (const it of [library_, undefined]) says(() => image.hasUnmappedList(it), 'of the list libraries');
+  for (const it of [{}, undefined]) {
+    says(() => image.delayedFunctions(it), 'of the list delayImports: it has no functions');
+    says(() => image.relocations(it), 'of the list relocationBlocks: it has no entries');
+    says(() => image.records(it), 'a function: it has no unwind');
+    says(() => image.codes(it), 'an unwind record: it has no codes');
+    for (const name of ['elements', 'nameAttributes']) says(() => image[name](it), 'a range: it has no offset');
+    for (const name of ['procedures', 'lines']) says(() => pdb[name](it), 'of modules(): it has no stream');
+  }
+  says(() => image.items('pe_c_next_debug_entry', undefined), 'pe_c_next_debug_entry needs a walk');
+  assert.deepEqual([...image.items('pe_c_next_debug_entry', image.call('pe_c_debug_entries'))], []);
+  for (const walk of [{ registers: {} }, { remaining: 1 }]) {
+    for (const name of ['frames', 'arm64Frames']) says(() => process[name](walk), 'a walk: it has no re');
+  }
+  for (const it of ['1', undefined, null, 1.5, -1]) assert.throws(() => pdb.stream(it), RangeError);
+  for (const it of ['4096', '', null, undefined, 0x1000n]) for (const name of ['find', 'frames']) says(() => pdb[name](it), 'an RVA is a number, and not');
+  assert.deepEqual([pdb.find(0x1048 + 0.5), pdb.find(0x1049, { isReturn: 1 }).name], [null, 'entry']);
+  for (const it of ['2', undefined]) assert.throws(() => image.debugEntry(it), RangeError);
+  for (const placement of [2, 7, '0', null]) says(() => image.attach(new Uint8Array(16), { placement }), 'placement is PE_C_AFTER or PE_C_IN_PLACE');
+});
+
 // The samples of the README, one after the other, over images of the tests. The dump's first frame is at RVA 0x1065 of a module that
 // is loaded here, where the PDB has `helper` at 0x1050.
 const readme = [...readFileSync(join(beside, 'README.md'), 'utf8').matchAll(/^```js\n(.*?)^```/gms)].map((it) => it[1]);
@@ -1664,6 +1700,13 @@ test('lines that cannot be written are no success', () => {
   const status = (to) => spawnSync(process.execPath, words, { stdio: ['ignore', openSync(to, 'w'), 'pipe'], encoding: 'utf8' });
   const full = status('/dev/full'), none = status('/dev/null');
   assert.deepEqual([full.status, full.stderr.startsWith('pe-js: ENOSPC'), none.status, none.stderr], [2, true, 0, '']);
+});
+
+test('pe-js says of each line and of each refusal which file it is of', () => {
+  const words = [join(beside, 'pe-js.mjs'), join(folder, 'functions.bin'), folder];
+  const { stdout, stderr, status } = spawnSync(process.execPath, words, { encoding: 'utf8' });
+  assert.deepEqual([JSON.parse(stdout).file, status], [words[1], 2]);
+  assert.equal(stderr, `pe-js: ${folder}: EISDIR: illegal operation on a directory, read\n`);
 });
 
 test('every call of pe.h succeeds in some test', () => {

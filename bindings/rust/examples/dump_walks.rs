@@ -8,8 +8,9 @@ use std::collections::HashMap;
 
 fn main() -> Result<(), Box<dyn std::error::Error>> {
     let mut words = std::env::args().skip(1);
-    let (Some(path), Some(most)) = (words.next(), words.next()) else {
-        return Err("usage: dump_walks DUMP MOST [FILE ..]".into());
+    let (Some(path), Some(Ok(most))) = (words.next(), words.next().map(|it| it.parse())) else {
+        eprintln!("usage: dump_walks DUMP MOST [FILE ..]");
+        std::process::exit(2);
     };
     let bytes = std::fs::read(path)?;
     let files: Vec<Vec<u8>> = words.map(std::fs::read).collect::<Result<_, _>>()?;
@@ -17,8 +18,9 @@ fn main() -> Result<(), Box<dyn std::error::Error>> {
     let key = |file: &[u8]| {
         Image::parse(file, Mode::Permissive).map(|it| (it.info().time_date_stamp, it.info().size_of_image))
     };
-    let by_key: HashMap<_, _> = files.iter().filter_map(|file| Some((key(file).ok()?, file.as_slice()))).collect();
-    walk(&bytes, most.parse()?, &by_key)?;
+    let by_key =
+        files.iter().map(|file| Ok((key(file)?, file.as_slice()))).collect::<Result<HashMap<_, _>, Error>>()?;
+    walk(&bytes, most, &by_key)?;
     Ok(())
 }
 

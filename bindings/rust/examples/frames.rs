@@ -16,9 +16,11 @@ pub fn backtrace<R: MachineRegisters>(
 fn main() -> Result<(), Box<dyn std::error::Error>> {
     // The frames of a thread in one image. Its stack starts at address 20000 with the words that are named.
     let arguments: Vec<String> = std::env::args().skip(1).collect();
-    let [file, numbers @ ..] = arguments.as_slice() else { return Err("usage: frames FILE BASE RIP WORD..".into()) };
-    let numbers = numbers.iter().map(|it| u64::from_str_radix(it, 16)).collect::<Result<Vec<_>, _>>()?;
-    let [base, rip, words @ ..] = numbers.as_slice() else { return Err("usage: frames FILE BASE RIP WORD..".into()) };
+    let numbers = arguments.iter().skip(1).map(|it| u64::from_str_radix(it, 16)).collect::<Result<Vec<_>, _>>();
+    let (Some(file), Some([base, rip, words @ ..])) = (arguments.first(), numbers.as_deref().ok()) else {
+        eprintln!("usage: frames FILE BASE RIP WORD.., numbers in hexadecimal");
+        std::process::exit(2);
+    };
     let data = std::fs::read(file)?;
     let image = Image::parse(&data, pe_c::Mode::Permissive)?;
     let bytes: Vec<u8> = words.iter().flat_map(|word| word.to_le_bytes()).collect();

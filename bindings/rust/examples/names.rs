@@ -38,11 +38,12 @@ pub fn names(bytes: &[u8]) -> Result<Vec<String>, Error> {
 }
 
 fn main() -> Result<(), Box<dyn std::error::Error>> {
-    let Some(name) = std::env::args().nth(1) else {
+    let words: Vec<String> = std::env::args().skip(1).collect();
+    let [name] = &words[..] else {
         eprintln!("usage: names FILE");
         std::process::exit(2);
     };
-    for line in names(&std::fs::read(&name)?)? {
+    for line in names(&std::fs::read(name)?)? {
         println!("{line}");
     }
     Ok(())

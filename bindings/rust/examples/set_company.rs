@@ -31,6 +31,8 @@ fn main() -> Result<(), Box<dyn std::error::Error>> {
         eprintln!("usage: set_company FILE NAME OUT");
         std::process::exit(2);
     };
-    std::fs::write(out, with_company(&std::fs::read(file)?, name)?)?;
+    let changed = with_company(&std::fs::read(file)?, name)?;
+    // A file that is there stays: FILE, too.
+    std::io::Write::write_all(&mut std::fs::File::create_new(out)?, &changed)?;
     Ok(())
 }

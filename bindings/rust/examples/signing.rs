@@ -37,7 +37,9 @@ fn main() -> Result<(), Box<dyn std::error::Error>> {
             println!("zeros {}\ncovered {covered}\nchecksum {:#x} at {:#x}", digest.zeros(), sum.value, sum.offset);
         }
         ["attach", file, signature, out] => {
-            std::fs::write(out, signed(&std::fs::read(file)?, &std::fs::read(signature)?)?)?;
+            let signed = signed(&std::fs::read(file)?, &std::fs::read(signature)?)?;
+            // A file that is there stays: FILE, too.
+            std::io::Write::write_all(&mut std::fs::File::create_new(out)?, &signed)?;
         }
         _ => {
             eprintln!("usage: signing digest FILE | signing attach FILE PKCS7 OUT");

@@ -15,11 +15,12 @@ pub fn symbol_paths(bytes: &[u8], file_name: &str) -> Result<Vec<String>, Error>
 }
 
 fn main() -> Result<(), Box<dyn std::error::Error>> {
-    let Some(name) = std::env::args().nth(1) else {
+    let words: Vec<String> = std::env::args().skip(1).collect();
+    let [name] = &words[..] else {
         eprintln!("usage: symbols FILE");
         std::process::exit(2);
     };
-    for path in symbol_paths(&std::fs::read(&name)?, &name)? {
+    for path in symbol_paths(&std::fs::read(name)?, name)? {
         println!("{path}");
     }
     Ok(())

@@ -27,12 +27,22 @@ pub fn version_line(bytes: &[u8]) -> Result<Option<String>, Error> {
     Ok(Some(fields.join("\t")))
 }
 
-fn main() {
-    for name in std::env::args().skip(1) {
+/// The status is 1 where a file is not read, or no image.
+fn main() -> std::process::ExitCode {
+    let (names, mut status) = (std::env::args().skip(1), 0);
+    if names.len() == 0 {
+        eprintln!("usage: version_report FILE ..");
+        status = 2;
+    }
+    for name in names {
         let line = std::fs::read(&name).map_err(|it| it.to_string());
         match line.and_then(|bytes| version_line(&bytes).map_err(|it| it.to_string())) {
             Ok(line) => println!("{name}\t{}", line.as_deref().unwrap_or("no version information")),
-            Err(error) => println!("{name}\t{error}"),
+            Err(error) => {
+                println!("{name}\t{error}");
+                status = 1;
+            }
         }
     }
+    status.into()
 }

@@ -191,6 +191,26 @@ impl<'a> Iterator for AllDelayedFunctions<'_, 'a> {
 
 impl FusedIterator for AllDelayedFunctions<'_, '_> {}
 
+impl AllDelayedFunctions<'_, '_> {
+    /// Why the item that is an error is one, as [`DelayedFunctions::failure`] or [`DelayImports::failure`] says it. `None` where no item
+    /// was an error.
+    pub fn failure(&self) -> Option<Failure> {
+        let (image, before) = (self.0.source, self.0.refused()?);
+        let mut functions = DelayedFunctions(ImageList::new(image, before.functions.into()));
+        let mut libraries = DelayImports(ImageList::new(image, before.libraries.into()));
+        // The step that was refused may have passed DLLs without functions.
+        loop {
+            if let Some(first) = functions.next() {
+                return first.err().and_then(|_| functions.failure());
+            }
+            match libraries.next()? {
+                Ok(library) => functions = library.functions(),
+                Err(_) => return libraries.failure(),
+            }
+        }
+    }
+}
+
 impl<'a> Image<'a> {
     /// The DLLs that are loaded when one of their functions is called first, each with its functions; none where the
     /// directory is absent.

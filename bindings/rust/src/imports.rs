@@ -281,6 +281,25 @@ impl<'a> Iterator for AllImports<'_, 'a> {
 
 impl FusedIterator for AllImports<'_, '_> {}
 
+impl AllImports<'_, '_> {
+    /// Why the item that is an error is one, as [`Imports::failure`] or [`Libraries::failure`] says it. `None` where no item was an error.
+    pub fn failure(&self) -> Option<Failure> {
+        let (image, before) = (self.list.source, self.list.refused()?);
+        let mut imports = Imports { list: ImageList::new(image, before.imports.into()), rest: None };
+        let mut libraries = Libraries(ImageList::new(image, before.libraries.into()));
+        // The step that was refused may have passed libraries without imports.
+        loop {
+            if let Some(first) = imports.next() {
+                return first.err().and_then(|_| imports.failure());
+            }
+            match libraries.next()? {
+                Ok(library) => imports = library.imports(),
+                Err(_) => return libraries.failure(),
+            }
+        }
+    }
+}
+
 impl<'a> Image<'a> {
     /// The imports of all DLLs that the image imports from; none without an import directory. A DLL whose list is unmapped has none
     /// here, which [`Library::has_unmapped_list`] says of it. The names of DLLs and imports are

@@ -119,8 +119,8 @@ impl<'a> Image<'a> {
     }
 
     /// The file with a certificate: zeros up to a multiple of eight bytes and the certificate after the image, the entry of
-    /// the certificate directory, and the checksum. What the digest covers stays as it was, so a signature of it is valid.
-    /// The certificate is one or more entries of a certificate table (`WIN_CERTIFICATE`), each of them but the last with its
+    /// the certificate directory, and the checksum. What the digest covers stays as it was. Whether a signature is valid nothing
+    /// here says. The certificate is one or more entries of a certificate table (`WIN_CERTIFICATE`), each of them but the last with its
     /// padding to a multiple of eight bytes.
     ///
     /// ```

@@ -257,6 +257,11 @@ impl<S: Copy, W: Copy, T: Copy + Default> List<S, W, T> {
         self.taken
     }
 
+    /// The walk as it was before the step that returned an error.
+    pub fn refused(&self) -> Option<&W> {
+        self.refused.as_ref()
+    }
+
     /// Goes on with another walk after the end of this one.
     pub fn restart(&mut self, walk: W) {
         (self.walk, self.is_over) = (walk, false);

@@ -49,6 +49,12 @@ fn walk(image: &Image<'_>) -> usize {
     if let Ok(libraries) = image.delay_imports() {
         errors += errors_of!(libraries, library => errors_of!(library.functions()));
     }
+    if let Ok(imports) = image.imports() {
+        errors += errors_of!(imports);
+    }
+    if let Ok(functions) = image.delayed_functions() {
+        errors += errors_of!(functions);
+    }
     if let Ok(imports) = image.bound_imports() {
         errors += errors_of!(imports);
     }
@@ -124,6 +130,9 @@ fn failures_of_imports_have_rvas() {
     // It stays after the end.
     assert!(libraries.next().is_none());
     assert_eq!(libraries.failure(), Some(failure));
+    // The same of the walk over the imports of all, whose first items are those of the DLL before it.
+    let mut imports = image.imports().unwrap();
+    assert_eq!((imports.by_ref().filter(Result::is_ok).count(), imports.failure()), (2, Some(failure)));
 }
 
 #[test]
