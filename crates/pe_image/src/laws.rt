@@ -40,9 +40,9 @@ pub fn headline()
 {}
 
 /// The promise of the calls on an image. In an exception table that is sorted by start RVA, lookup finds what a linear
-/// scan of the image's bytes finds. The table has one entry for every 12 bytes of its size, and `search` reads at most
-/// as many entries as that number has binary digits. An accepted write leaves the overlay of its pieces, and a refused
-/// one changes nothing.
+/// scan of the image's bytes finds. The table has one entry for every 12 bytes of its size; that `search` reads at most as
+/// many entries as that number has binary digits is its own contract. An accepted write leaves the overlay of its pieces, and a
+/// refused one changes nothing.
 #[tactic(auto, using(crate::proofs::HeadlineCalls::image_leaves, crate::proofs::HeadlineCalls::sections_leave, crate::proofs::HeadlineCalls::certificates_leave))]
 pub fn headline_calls()
     ensures lookup { (b : List ℕ) (o : ParseOptions) (c : CoreView)

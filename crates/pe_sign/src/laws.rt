@@ -20,7 +20,7 @@ ghost use Rattle.pe_sign.specs.declared.file_ranges.DigestRanges.{DigestRanges};
 
 pub mod calls;
 
-/// A signature stays valid: what the digest covers of an image that `attach` or `detach` writes are the bytes that it
+/// What a signature signs stays: what the digest covers of an image that `attach` or `detach` writes are the bytes that it
 /// covers of the image that they were given. To attach may put zeros into the file that the digest of the image added;
 /// as bytes both are equal. The parts that the digest leaves out of what is written are those of the image, with the
 /// certificate table that the entry names now.
@@ -110,7 +110,7 @@ pub fn parsed_headers_name_the_parts()
         left_out_of k ≡ Ok (without_table l) }
 {}
 
-/// A signature stays valid for whoever parses what was written: by those headers the digest covers what it covered of the
+/// What a signature signs stays for whoever parses what was written: by those headers the digest covers what it covered of the
 /// image, as bytes with the zeros that follow them.
 #[tactic(auto, using(crate::proofs::WrittenHeaders::attached_digest_parsed, crate::proofs::WrittenHeaders::detached_digest_parsed))]
 pub fn parsed_digests_stay()
