@@ -1,6 +1,6 @@
 //! What a signing tool needs of an image: the ranges of the file that its Authenticode digest covers, its checksum, and
 //! certificates attached and detached. The digest leaves out the checksum, the entry of the certificate directory and the
-//! certificates, so a signature stays valid when it is attached. The certificate table is the end of the file.
+//! certificates, so what a signature signs stays when it is attached. The certificate table is the end of the file.
 //! https://learn.microsoft.com/windows/win32/debug/pe-format#process-for-generating-the-authenticode-pe-image-hash
 //!
 //! Each call reads the headers from the bytes, in the mode of the image that is passed: its other fields, and the
