@@ -7,7 +7,7 @@ mod regions;
 use crate::escape::escaped;
 use crate::facts::certificates::CertificateSigner;
 use crate::facts::resources::Label;
-use crate::facts::{Facts, Name, Origin, Part, Refusal};
+use crate::facts::{Facts, Name, NotWhole, Origin, Part, Refusal};
 use crate::page::Style;
 use crate::tables;
 use pe_c::{Error, Image};
@@ -38,6 +38,9 @@ pub struct Differences {
     /// Why a file is refused. Then the bytes alone are compared, as one region.
     pub before_error: Option<Refusal>,
     pub after_error: Option<Refusal>,
+    /// The parts of each image that are not compared whole.
+    pub before_not_whole: Vec<NotWhole>,
+    pub after_not_whole: Vec<NotWhole>,
 }
 
 /// The rows of a part, by their names. Of several with one name each has its number, from 0 on.
@@ -201,7 +204,13 @@ pub fn of(paths: [&Path; 2], images: [&Image<'_>; 2], [before, after]: [&Facts; 
     }
     let [one, other] = functions::of(images);
     compare("functions", &one, &other, &mut differences);
-    Differences { differences, regions: regions::changed(images, [before, after]), ..Differences::none(paths) }
+    Differences {
+        differences,
+        regions: regions::changed(images, [before, after]),
+        before_not_whole: before.not_whole(),
+        after_not_whole: after.not_whole(),
+        ..Differences::none(paths)
+    }
 }
 
 /// What differs between two files of which at least one is refused.
@@ -225,6 +234,8 @@ impl Differences {
             regions: Vec::new(),
             before_error: None,
             after_error: None,
+            before_not_whole: Vec::new(),
+            after_not_whole: Vec::new(),
         }
     }
 

@@ -13,9 +13,8 @@ use crate::facts::version::Version;
 use crate::facts::{Facts, Part, Topic, Wanted};
 
 /// The parts that the columns are of.
-const PARTS: [Topic; 12] = [
+const PARTS: [Topic; 11] = [
     Topic::Headers,
-    Topic::Hardening,
     Topic::Hashes,
     Topic::Sections,
     Topic::Imports,

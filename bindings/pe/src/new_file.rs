@@ -59,7 +59,10 @@ impl Target {
     fn name(&self) -> io::Result<PathBuf> {
         match (self.to.symlink_metadata(), self.replace) {
             (Err(_), _) => Ok(self.to.clone()),
-            (Ok(_), false) => Err(io::ErrorKind::AlreadyExists.into()),
+            (Ok(it), _) if it.is_dir() => {
+                Err(io::Error::new(io::ErrorKind::AlreadyExists, "it is a folder, and no file's name"))
+            }
+            (Ok(_), false) => Err(io::Error::new(io::ErrorKind::AlreadyExists, "it exists; --replace replaces it")),
             (Ok(_), true) if fs::metadata(&self.to)?.is_file() => fs::canonicalize(&self.to),
             (Ok(_), true) => {
                 Err(io::Error::new(io::ErrorKind::InvalidInput, "it is no regular file, and not replaced"))

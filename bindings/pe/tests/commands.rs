@@ -836,6 +836,7 @@ fn names_of_exports_that_are_left_out_are_said() {
     assert_eq!((complaints, status), (format!("pe: {file}: exports: {why}\n"), 1));
     assert!(run(&[&file]).0.contains(&format!("; {why}\n")));
     assert!(run(&["show", &file, "exports"]).0.ends_with(&format!("\n  {why}\n")));
+    assert!(run(&["show", "--json", &file, "exports"]).0.contains("\"names_left_out\":1"));
     assert!(run(&["report", &file, "-"]).0.contains(&format!("<dt>names</dt><dd>{why}</dd>")));
 }
 
@@ -1956,29 +1957,103 @@ fn a_truncated_file_says_how_many_sections_it_cuts() {
         .contains(&format!("<h2 id=warnings>1 warned of</h2><ul><li>{said}</li></ul>")));
 }
 
-#[test]
-fn hardening_says_which_part_is_refused() {
-    let (folder, mut data) = (Folder::new("hardening-refused"), made::with_load_config());
+/// An image whose headers ask for control flow guard, with the RVA of the directory with this index outside of the image.
+fn with_refused(mut data: Vec<u8>, index: usize) -> Vec<u8> {
     let optional = u32::from_le_bytes(data[60..64].try_into().unwrap()) as usize + 24;
     let directories = optional + if data[optional + 1] == 2 { 112 } else { 96 };
+    put(&mut data, optional + 70, &0x4000u16.to_le_bytes());
+    put(&mut data, directories + 8 * index, &[0x7FFF_0000u32, 100].map(u32::to_le_bytes).concat());
+    data
+}
+
+#[test]
+fn hardening_says_what_is_not_known() {
+    let (folder, said) =
+        (Folder::new("hardening-refused"), "load configuration: refused, so it is not known here: CFG");
     let says = |data: &[u8]| {
-        let (said, file) = ("load configuration: refused, so what it may say is a no here", folder.file("a.exe", data));
+        let file = folder.file("a.exe", data);
         [&["show", &file, "hardening"][..], &[&file], &["report", &file, "-"]].map(|it| run(it).0.contains(said))
     };
-    assert_eq!(says(&data), [false; 3]);
-    data[directories + 80..directories + 84].copy_from_slice(&0x7FFF_0000u32.to_le_bytes());
+    assert_eq!(says(&made::with_load_config()), [false; 3]);
+    let data = with_refused(made::with_load_config(), 10);
     assert_eq!(says(&data), [true; 3]);
     // JSON and CSV say it beside them, unless the parts themselves do.
     let file = folder.file("a.exe", &data);
-    let why = format!("pe: {file}: load configuration: refused, so what it may say is a no here\n");
+    assert!(run(&[&file]).0.contains("; not known: CFG\n"));
+    let why = format!("pe: {file}: {said}\n");
     for words in [&["--json", "--parts", "hardening", &file][..], &["show", "--csv", &file, "hardening"]] {
-        let (_, error, status) = run(words);
+        let (out, error, status) = run(words);
         assert_eq!((error, status), (why.clone(), 0), "{words:?}");
+        assert!(out.contains("\"cfg\":null") || out.contains("CFG,not known"), "{out}");
     }
     let all = "hardening,load-config,debug,certificates";
     assert_eq!([run(&["--json", &file]).1, run(&["--json", "--parts", all, &file]).1], ["", ""]);
     // Another part that is wanted does not speak for it.
     assert_eq!(run(&["--json", "--parts", "hardening,debug,certificates", &file]).1, why);
+    // Without the flag there is no control flow guard, whatever the load configuration says.
+    let mut data = data;
+    let optional = u32::from_le_bytes(data[60..64].try_into().unwrap()) as usize + 24;
+    put(&mut data, optional + 70, &[0, 0]);
+    assert_eq!(says(&data), [false; 3]);
+}
+
+#[test]
+fn what_refused_parts_would_say_of_hardening_is_null() {
+    let folder = Folder::new("hardening-null");
+    let hardening = |data: Vec<u8>, index| {
+        let file = folder.file("a.exe", &with_refused(data, index));
+        let said: Value = serde_json::from_str(&run(&["--json", &file]).0).unwrap();
+        ["cfg", "safe_seh", "cet", "signed"].map(|it| said["hardening"][it].clone())
+    };
+    let [no, null] = [json!(false), json!(null)];
+    let x86 = made::x86_dll();
+    // The load configuration, the debug data and the certificates, of x86 and of x64.
+    assert_eq!(hardening(x86.clone(), 10), [&null, &null, &no, &no].map(Value::clone));
+    assert_eq!(hardening(x86.clone(), 6), [&no, &no, &null, &no].map(Value::clone));
+    assert_eq!(hardening(x86, 4), [&no, &no, &no, &null].map(Value::clone));
+    assert_eq!(hardening(made::with_exports(), 10), [&null, &null, &no, &no].map(Value::clone));
+}
+
+/// What find and diff did not look at is in their JSON.
+#[test]
+fn what_is_not_looked_at_is_in_json() {
+    let folder = Folder::new("not-whole-json");
+    let (file, other) = (folder.file("a.exe", &with_refused(made::with_exports(), 1)), folder.file("b.exe", b"MZ"));
+    let json = |words: &[&str]| -> Value { serde_json::from_str(run(words).0.lines().next().unwrap()).unwrap() };
+    let found = json(&["find", "--json", "first", &file])["not_whole"].clone();
+    assert_eq!((&found[0]["part"], &found[0]["error"]["name"]), (&json!("imports"), &json!("UNMAPPED")), "{found}");
+    let found = json(&["find", "--json", "first", &other])["not_whole"].clone();
+    assert_eq!((&found[0]["part"], &found[0]["error"]["name"]), (&json!("image"), &json!("SHORT")), "{found}");
+    let whole = folder.file("c.exe", &made::with_exports());
+    assert_eq!(json(&["find", "--json", "first", &whole])["not_whole"], json!([]));
+    let found = json(&["diff", "--json", &file, &whole]);
+    assert_eq!((&found["before_not_whole"][0]["part"], &found["after_not_whole"]), (&json!("imports"), &json!([])));
+}
+
+/// Whoever sets another file than a manifest is told: Windows does not start an image with one that it cannot read.
+#[test]
+fn what_is_no_manifest_is_said() {
+    let folder = Folder::new("no-manifest");
+    let (file, out) = (folder.file("a.exe", &made::editable()), folder.0.join("b.exe").to_str().unwrap().to_string());
+    let utf16 = |text: &str| text.encode_utf16().flat_map(u16::to_le_bytes).collect::<Vec<u8>>();
+    let good = "<?xml version='1.0'?><assembly xmlns='urn:schemas-microsoft-com:asm.v1' manifestVersion='1.0'/>";
+    let cases: [(Vec<u8>, &str); 7] = [
+        (good.into(), ""),
+        (["\u{feff}", good].concat().into(), ""),
+        ([&[0xFF, 0xFE], &utf16(good)[..]].concat(), ""),
+        (vec![], "it is no XML, which starts with <"),
+        (b"\x7fELF".to_vec(), "it is no XML, which starts with <"),
+        (b"<html/>".to_vec(), "it has no element assembly, which a manifest is"),
+        (b"<assembly name='\xE9'/>".to_vec(), "it is not UTF-8, nor UTF-16 with its mark"),
+    ];
+    for (content, why) in cases {
+        let manifest = folder.file("a.manifest", &content);
+        let (_, error, status) = run(&["set-manifest", "--replace", &file, &out, &manifest]);
+        let said = format!("pe: {manifest}: {why}: Windows may not start the image\n");
+        assert_eq!((error, status), (if why.is_empty() { String::new() } else { said }, 0));
+        assert_eq!(run(&["extract", "--replace", &out, "manifest", &manifest]).2, 0);
+        assert_eq!(fs::read(&manifest).unwrap(), content);
+    }
 }
 
 /// Exception data of another machine are there, and not read.
