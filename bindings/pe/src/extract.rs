@@ -356,7 +356,10 @@ fn write_resources((path, image): (&Path, &Image<'_>), which: &Which, to: &Targe
         return Report::refused(path, "its resources share what they contain, and have more than 16 times its bytes");
     }
     match fs::create_dir(&to.to) {
-        Err(error) if !to.replace || !to.to.is_dir() => return Report::unread(&to.to, error),
+        Err(_) if !to.replace && to.to.is_dir() => {
+            return Report::unread(&to.to, "it exists; --replace writes into it")
+        }
+        Err(error) if !to.to.is_dir() => return Report::unread(&to.to, error),
         _ => (),
     }
     let mut report = Report::of("", Status::Done);

@@ -6,7 +6,7 @@ use crate::arguments::{Arguments, Files};
 use crate::facts::{counted, kind_of, Topic, CUT, OTHERS};
 use crate::new_file::Target;
 use crate::streams::{complain, complain_of_unread, complaint};
-use crate::system::{ask_for_large_pages, is_folder, is_loop, Progress};
+use crate::system::{ask_for_large_pages, is_closed, is_folder, is_loop, Progress};
 use crate::Status;
 use clap::{CommandFactory, ValueEnum};
 use pe_c::{Error, Image, Mode};
@@ -251,11 +251,12 @@ static IS_READ: AtomicBool = AtomicBool::new(false);
 /// end, or do something when it is read.
 pub fn whole(path: &Path) -> io::Result<Vec<u8>> {
     if path == Path::new("-") {
+        let error = |why| Err(io::Error::new(io::ErrorKind::InvalidInput, why));
+        if is_closed(0) {
+            return error("it is closed");
+        }
         if IS_READ.swap(true, Ordering::Relaxed) {
-            return Err(io::Error::new(
-                io::ErrorKind::InvalidInput,
-                "standard input can be one file, and was read before",
-            ));
+            return error("standard input can be one file, and was read before");
         }
         let mut bytes = Vec::new();
         io::stdin().lock().read_to_end(&mut bytes)?;
@@ -369,7 +370,7 @@ pub fn are_there(paths: &[PathBuf]) -> Status {
 
 /// What was meant by a folder, or by the name of a file that is not there.
 fn hint(path: &Path, error: &io::Error) -> String {
-    if is_folder(error, path) {
+    if is_folder(error, path) && path != Path::new("-") {
         return "; -r reads the files below it".to_string();
     }
     if error.kind() != io::ErrorKind::NotFound {

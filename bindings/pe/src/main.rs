@@ -41,7 +41,7 @@ use facts::{Facts, Refusal, Topic, Wanted};
 use files::Report;
 use new_file::Target;
 use page::Style;
-use pe_c::{Error, Image, Placement};
+use pe_c::{Error, Image, Pdb, Placement};
 use serde::Serialize;
 use stack::missing::Stores;
 use std::io::{self, Write};
@@ -304,7 +304,7 @@ fn refuse_extraction(part: ExtractedPart, which: &Which, to: &Target) {
         misused("resources are written to a folder, and none to standard output");
     }
     if let Some(option) = part.misused(which) {
-        misused(&format!("{option} does not say which {} is meant", part.name()));
+        misused(&format!("{option} is no option of the part `{}`", part.name()));
     }
 }
 
@@ -325,7 +325,11 @@ fn write_file(command: &Command, out: &mut dyn Write) -> io::Result<Status> {
         }
         Command::Symbols { file, pdb, to, strict } => {
             let mode = strict.reading().mode();
-            files::each(&Files::one(file), out, |path, bytes| symbols::write(path, bytes, mode, pdb.as_deref(), to))
+            files::each(&Files::one(file), out, |path, bytes| {
+                let is_alone = pdb.is_none() && Pdb::parse(bytes).is_ok();
+                refuse_ignored([("--strict", strict.strict && is_alone)], "an image");
+                symbols::write(path, bytes, mode, pdb.as_deref(), to)
+            })
         }
         Command::Checksum { files, fix, replace, strict, output } => {
             if fix.is_some() && files.is_several() {

@@ -74,6 +74,7 @@ fn a_symbol_file_has_functions_lines_and_unwinding() {
     assert_eq!(symbols(&[&exe, "--pdb", &pdb, "-"]), format!("{module}{code}{FUNCTIONS}{unwinding}"));
     // A PDB alone says nothing of unwinding.
     assert_eq!(symbols(&[&pdb, "-"]), format!("{module}{FUNCTIONS}"));
+    assert_eq!(run(&["symbols", "--strict", &pdb, "-"]).2, 2);
     // It is written whole, and replaces nothing.
     let out = folder.path("crash.sym");
     assert_eq!(run(&["symbols", &exe, &out, "--pdb", &pdb]), (String::new(), String::new(), 0));
