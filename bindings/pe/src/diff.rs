@@ -6,6 +6,7 @@ mod regions;
 
 use crate::escape::escaped;
 use crate::facts::certificates::CertificateSigner;
+use crate::facts::hashes::sha256_of;
 use crate::facts::resources::Label;
 use crate::facts::{Facts, Name, NotWhole, Origin, Part, Refusal};
 use crate::page::Style;
@@ -107,10 +108,21 @@ fn delay_imports_of(facts: &Facts) -> Rows {
     rows
 }
 
+/// How many bytes of a forwarder stand in each row of its names, of which a hostile image may have many.
+const FORWARDER: usize = 512;
+
+/// Where a forwarder leads, or of a longer one its hash.
+fn forwarder_of(to: &Name<'_>) -> String {
+    match to.0.len() {
+        ..=FORWARDER => format!("to {to}"),
+        length => format!("to a name of {length} bytes, SHA-256 {}", &sha256_of(to.0)[..16]),
+    }
+}
+
 fn exports_of(facts: &Facts) -> Rows {
     let mut rows = Rows::default();
     for it in facts.exports.iter().filter_map(Part::present).flat_map(|it| &it.entries) {
-        let value = it.forwarder.as_ref().map_or(String::new(), |to| format!("to {to}"));
+        let value = it.forwarder.as_ref().map_or(String::new(), forwarder_of);
         let names: Vec<String> = it.names.iter().map(Name::to_string).collect();
         match names.as_slice() {
             [] => rows.put(format!("#{}", it.ordinal), value),

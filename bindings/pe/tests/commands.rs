@@ -896,6 +896,23 @@ fn differences_are_what_came_went_and_changed() {
     assert_eq!(run(&["diff", &one, folder.0.join("none").to_str().unwrap()]).2, 3);
 }
 
+/// A long name that an export leads to does not stand in the row of each of its names: in memory it would have 2 GB.
+#[test]
+fn many_names_of_a_forwarder_are_compared() {
+    let folder = Folder::new("diff-forwarder");
+    let (short, long) = (limited::names_of_one_forwarder(10_000, 20), limited::names_of_one_forwarder(10_000, 200_000));
+    let (one, other) = (folder.file("a.dll", &short), folder.file("b.dll", &long));
+    let found = parsed(&["diff", "--json", &one, &other]);
+    let rows = found["differences"].as_array().unwrap().iter().filter(|it| it["part"] == "exports");
+    let texts: Vec<&str> = rows.map(|it| it["after"].as_str().unwrap()).collect();
+    assert_eq!(texts.len(), 10_000);
+    // sha256sum says the start of it.
+    assert!(texts.iter().all(|it| *it == "to a name of 200000 bytes, SHA-256 4ad5b5be02ab83e6"), "{}", texts[0].len());
+    let is_export = |it: &&Value| it["part"] == "exports";
+    let first = found["differences"].as_array().unwrap().iter().find(is_export).unwrap();
+    assert_eq!(first["before"], format!("to a.{}", "b".repeat(18)));
+}
+
 /// What is shown of functions of images that differ in functions alone: entries of start and length, and their bytes, from 0x1000 on.
 fn functions_that_differ(before: &[(u32, &[u8])], after: &[(u32, &[u8])]) -> Vec<(String, String)> {
     let folder = Folder::new("diff-functions");
