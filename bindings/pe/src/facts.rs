@@ -882,6 +882,11 @@ impl<'a> Facts<'a> {
         !self.refusals().is_empty()
     }
 
+    /// What a file is that is refused, after why.
+    pub fn said_of_kind(&self) -> String {
+        self.file_kind.filter(|_| self.error.is_some()).map_or(String::new(), |kind| format!("; it is {kind}"))
+    }
+
     /// What is refused, and the parts of which more is in the image.
     pub fn not_whole(&self) -> Vec<NotWhole> {
         let refused = self.refusals().into_iter().map(|(part, it)| NotWhole { part, error: Some(it.clone()) });

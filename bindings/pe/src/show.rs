@@ -270,8 +270,7 @@ pub fn complaints_of_hardening(facts: &Facts) -> String {
 /// What is refused, and of which parts the image has more than is looked at, as lines for standard error.
 pub fn complaints(facts: &Facts) -> String {
     let file = escaped(&facts.file);
-    let kind =
-        facts.file_kind.filter(|_| facts.error.is_some()).map_or(String::new(), |kind| format!("; it is {kind}"));
+    let kind = facts.said_of_kind();
     let refused = facts.refusals().into_iter().map(|(part, refusal)| format!("pe: {file}: {part}: {refusal}{kind}\n"));
     let limited =
         facts.limited().into_iter().map(|part| format!("pe: {file}: {part}: not whole: the image has more\n"));

@@ -1073,7 +1073,7 @@ fn a_list_has_a_row_of_each_image() {
     let folder = Folder::new("list");
     let named = folder.file("a,\"b\x1b.dll", &made::with_resources());
     folder.file("b.exe", &made::with_imports());
-    folder.file("c.txt", b"no image");
+    let text = folder.file("c.txt", b"no image");
     folder.file("d.exe", &made::SMALL[..0x100]);
     let (out, complaints, status) = run(&["list", "--csv", "-r", folder.0.to_str().unwrap()]);
     let skipped = "pe: 2 files are no images, and skipped; by their start 1 DOS or truncated MZ file\n";
@@ -1091,6 +1091,7 @@ fn a_list_has_a_row_of_each_image() {
     );
     assert_eq!([cell(0, "signer"), cell(0, "pdb_key"), cell(1, "file_version")], ["", "", ""]);
     assert_eq!(run(&["list", "--no-hashes", &named]).0.lines().count(), 2);
+    assert!(run(&["list", &text]).0.contains(" (SHORT); it is a text,,"));
 }
 
 #[test]
@@ -2029,6 +2030,17 @@ fn what_refused_parts_would_say_of_hardening_is_null() {
     assert_eq!(hardening(x86.clone(), 6), [&no, &no, &null, &no].map(Value::clone));
     assert_eq!(hardening(x86, 4), [&no, &no, &no, &null].map(Value::clone));
     assert_eq!(hardening(made::with_exports(), 10), [&null, &null, &no, &no].map(Value::clone));
+}
+
+/// The functions of ARM64EC code stand in tables to which `CHPEMetadataPointer` leads, at 200 of `IMAGE_LOAD_CONFIG_DIRECTORY64`.
+#[test]
+fn code_for_another_machine_is_not_said_to_be_read() {
+    let (folder, mut data) = (Folder::new("hybrid"), made::with_guards());
+    let said =
+        |data: &[u8]| run(&[&folder.file("a.dll", data)]).0.contains(", hybrid: what is for ARM64 alone is not read\n");
+    assert!(!said(&data));
+    put(&mut data, 0x400 + 200, &0x1_8000_1000u64.to_le_bytes());
+    assert!(said(&data));
 }
 
 /// What find and diff did not look at is in their JSON.

@@ -38,6 +38,13 @@ pub struct LoadConfig {
 
 field!(LoadConfig, "load_config");
 
+impl LoadConfig {
+    /// Whether the image has code for ARM64 beside that for its machine (ARM64EC, ARM64X, CHPE), which has tables of its own.
+    pub fn is_hybrid(&self) -> bool {
+        self.fields.0.iter().any(|it| it.0 == "CHPEMetadataPointer" && it.1.is_some_and(|it| it != 0))
+    }
+}
+
 /// Fields by their names in winnt.h, in its order.
 #[derive(Clone, Debug)]
 pub struct Fields(pub Vec<(&'static str, Option<u64>)>);
