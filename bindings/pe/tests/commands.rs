@@ -263,7 +263,12 @@ fn certificates_are_attached_and_detached() {
     assert_eq!(fs::read(&same).unwrap(), bytes);
     // Signed data get a header of eight bytes.
     let data = folder.file("signature", &[0x30, 1, 2, 3, 4]);
-    assert_eq!(run(&["attach", &bare, &data, &signed]).2, 0);
+    let (out, error, status) = run(&["attach", &bare, &data, &signed]);
+    let why = format!("pe: {data}: it is attached, and is no PKCS #7 signed data: ");
+    assert_eq!((out.as_str(), error.starts_with(&why), status), ("", true, 0), "{error}");
+    let pem = folder.file("pem", b"-----BEGIN PKCS7-----\nMAECAw==\n-----END PKCS7-----\n");
+    let (out, error, status) = run(&["attach", &bare, &pem, "-"]);
+    assert_eq!((out.as_str(), error.contains("pem: it is PEM, and not DER"), status), ("", true, 1), "{error}");
     let short = folder.file("short.txt", b"short");
     assert_eq!(run(&["attach", &bare, &short, "-"]).1, format!("pe: {short}: truncated (SHORT)\n"));
     let said = json_of("attached", &fs::read(&signed).unwrap());
