@@ -273,7 +273,7 @@ pub fn set_manifest(
     language: Option<u16>,
 ) -> Report {
     let mut wrong = None;
-    let mut report = deliver(paths, image, |image, editor| {
+    let report = deliver(paths, image, |image, editor| {
         let content = content_of(manifest)?;
         wrong = wrong_manifest(&content);
         let kind = ResourceKey::Id(MANIFEST);
@@ -284,6 +284,11 @@ pub fn set_manifest(
         let languages = languages_of(editor, &kind, &name, language);
         set_in(editor, (&kind, &name), &languages, &content)
     });
+    with_wrong_manifest(report, manifest, wrong)
+}
+
+/// What is said of an image, and what is wrong with the manifest that was written.
+fn with_wrong_manifest(mut report: Report, manifest: &Path, wrong: Option<&str>) -> Report {
     if let Some(why) = wrong.filter(|_| report.status == Status::Done) {
         report.complaints += &complaint(manifest, format_args!("{why}: Windows may not start the image"));
     }
@@ -324,14 +329,17 @@ fn keys_of(editor: &ResourceEditor<'_>, (kind, name): (&str, &str)) -> (Resource
     (kind, name)
 }
 
-/// The image with a resource of this content.
-pub fn set_resource(paths: Paths<'_>, image: Result<Image<'_>, Error>, which: &OneResource, content: &Path) -> Report {
-    deliver(paths, image, |_, editor| {
-        let content = content_of(content)?;
+/// The image with a resource of this content, which is warned of where it is to be a manifest and is none.
+pub fn set_resource(paths: Paths<'_>, image: Result<Image<'_>, Error>, which: &OneResource, file: &Path) -> Report {
+    let mut wrong = None;
+    let report = deliver(paths, image, |_, editor| {
+        let content = content_of(file)?;
         let (kind, name) = keys_of(editor, (&which.kind, &which.name));
+        wrong = wrong_manifest(&content).filter(|_| kind == ResourceKey::Id(MANIFEST));
         let languages = languages_of(editor, &kind, &name, which.language);
         set_in(editor, (&kind, &name), &languages, &content)
-    })
+    });
+    with_wrong_manifest(report, file, wrong)
 }
 
 /// The image without these resources: in one language, or in all. None is removed where one is not there.

@@ -2084,7 +2084,12 @@ fn what_is_no_manifest_is_said() {
         let manifest = folder.file("a.manifest", &content);
         let (_, error, status) = run(&["set-manifest", "--replace", &file, &out, &manifest]);
         let said = format!("pe: {manifest}: {why}: Windows may not start the image\n");
-        assert_eq!((error, status), (if why.is_empty() { String::new() } else { said }, 0));
+        let said = if why.is_empty() { String::new() } else { said };
+        assert_eq!((error, status), (said.clone(), 0));
+        let words = ["set-resource", "--replace", &file, &out];
+        assert_eq!(run(&[&words[..], &["manifest", "1", &manifest]].concat()).1, said);
+        assert_eq!(run(&[&words[..], &["raw data", "1", &manifest]].concat()).1, "");
+        assert_eq!(run(&["set-manifest", "--replace", &file, &out, &manifest]).2, 0);
         assert_eq!(run(&["extract", "--replace", &out, "manifest", &manifest]).2, 0);
         assert_eq!(fs::read(&manifest).unwrap(), content);
     }
