@@ -55,7 +55,7 @@ fn version() -> &'static str {
 
 /// Shows what is in Windows executables (.exe, .dll, .sys, .efi).
 #[derive(Debug, Parser)]
-#[command(name = "pe", version = version(), after_help = after_help(), args_conflicts_with_subcommands = true)]
+#[command(name = "pe", bin_name = "pe", version = version(), after_help = after_help(), args_conflicts_with_subcommands = true)]
 #[command(subcommand_negates_reqs = true, arg_required_else_help = true)]
 pub struct Arguments {
     #[command(flatten)]

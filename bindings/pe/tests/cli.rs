@@ -655,6 +655,20 @@ fn the_man_page_has_each_command() {
     }
 }
 
+/// `./pe` at the top of the repository starts a file of another name.
+#[cfg(unix)]
+#[test]
+fn help_has_the_name_of_the_program() {
+    let folder = Folder::new("help-name");
+    let other = folder.0.join("built-0abf79c5");
+    std::os::unix::fs::symlink(env!("CARGO_BIN_EXE_pe"), &other).unwrap();
+    for words in [&[][..], &["--help"], &["show", "--help"], &["list"], &["--nonsense"], &["unwind", "a"]] {
+        let ran = Command::new(&other).args(words).output().unwrap();
+        let said = String::from_utf8([ran.stdout, ran.stderr].concat()).unwrap();
+        assert!(said.contains("Usage: pe ") && !said.contains("built-"), "{words:?}: {said}");
+    }
+}
+
 /// Whether fish completes an option of a command.
 fn is_completed(command: &str, option: &str) -> bool {
     let (of, name) = (format!(" {command}\""), format!(" -l {option} "));
