@@ -444,6 +444,9 @@ fn show_csv(
 }
 
 fn find_word(word: &str, files: &Files, how: How, out: &mut dyn Write) -> io::Result<Status> {
+    if word.is_empty() {
+        misused("WORD is empty, and so in every name");
+    }
     let wanted = Wanted::parts(&[Topic::Imports, Topic::DelayImports, Topic::Exports], how.has_hashes);
     let is_found = AtomicBool::new(false);
     let text = |facts: &Facts, _| {

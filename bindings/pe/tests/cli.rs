@@ -446,7 +446,9 @@ fn options_stand_where_they_do_something() {
     for command in [["show", file.as_str()].as_slice(), &["key", "--json", &file], &["report", &file, "-"]] {
         assert_eq!(run(&[command, &["--no-hashes"]].concat()).2, 0, "{command:?}");
     }
-    for command in [&["-v", &file][..], &["list", "-v", &file], &["report", "--registers", &dump, "-"]] {
+    let more: [&[&str]; 4] =
+        [&["-v", &file], &["list", "-v", &file], &["report", "--registers", &dump, "-"], &["find", "", &file]];
+    for command in more {
         assert_eq!(run(command).2, 2, "{command:?}");
     }
 }
