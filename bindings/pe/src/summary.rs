@@ -247,8 +247,7 @@ fn more_of(facts: &Facts, page: &mut Page) {
             let more = if it.is_limited { " and more" } else { "" };
             format!(", {}{more}", counted(it.entries.len(), "guarded function"))
         });
-        let hybrid = if config.is_hybrid() { ", hybrid: what is for ARM64 alone is not read" } else { "" };
-        page.row("load config", format_args!("{} bytes{guarded}{flags}{hybrid}", config.size));
+        page.row("load config", format_args!("{} bytes{guarded}{flags}{}", config.size, config.said_of_hybrid()));
     }
     if let Some(clr) = facts.clr.as_ref().and_then(Part::present) {
         let version = clr.metadata.present().map_or(String::new(), |it| format!(", made for {}", it.version));
