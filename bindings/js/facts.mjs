@@ -163,20 +163,23 @@ function directory({ virtual_address: start, size }, index) {
   return { index, name: names.DIRECTORIES[index], rva: isOffset ? null : start, file_offset: isOffset ? start : null, size };
 }
 
+/** What is null does not apply, or the part that would say it is refused. */
 function hardening(image) {
   const { info } = image, has = (flag) => (info.dll_characteristics & flag) !== 0;
-  const config = attempt(() => image.call('pe_c_load_config'));
-  const extended = attempt(() => recordOf(image, 'characteristics')) ?? 0;
+  const config = attempt(() => image.call('pe_c_load_config') ?? {});
+  const extended = attempt(() => recordOf(image, 'characteristics') ?? 0);
+  const { certificates, certificates_error: isRefused } = list('certificates', image.certificates(), (it) => it);
+  const isSigned = certificates.some((it) => it.type === 2);
   const aslr = has(0x40) && (info.characteristics & 1) === 0;
   return {
     aslr,
     high_entropy_aslr: info.width === 64 ? aslr && has(0x20) : null,
     dep: has(0x100),
-    cfg: has(0x4000) && Boolean(config?.has_guard_flags) && (config.guard_flags & 0x100) !== 0,
-    cet: [X86, X64].includes(info.machine) ? (extended & 1) !== 0 : null,
-    safe_seh: info.machine === X86 && !has(0x400) ? Boolean(config?.se_handler_table && config.se_handler_count) : null,
+    cfg: has(0x4000) ? config && Boolean(config.has_guard_flags) && (config.guard_flags & 0x100) !== 0 : false,
+    cet: extended !== null && [X86, X64].includes(info.machine) ? (extended & 1) !== 0 : null,
+    safe_seh: config && info.machine === X86 && !has(0x400) ? Boolean(config.se_handler_table && config.se_handler_count) : null,
     force_integrity: has(0x80),
-    signed: list('certificates', image.certificates(), (it) => it).certificates.some((it) => it.type === 2),
+    signed: isRefused && !isSigned ? null : isSigned,
     no_writable_code: image.sections.every((it) => (it.characteristics & CODE_AND_WRITABLE) >>> 0 !== CODE_AND_WRITABLE),
   };
 }
@@ -263,8 +266,9 @@ function exports(image) {
       entries.push({ ordinal: number(it.ordinal), rva: it.rva, names: names_,
         forwarder: it.is_forwarder ? image.utf8(it.forwarder) : null });
     }
-    const own = table.has_name ? image.utf8(table.name) : null;
-    return { name: own, name_lower: lower(own), ordinal_base: table.ordinal_base, entries, is_limited: isLimited };
+    const own = table.has_name ? image.utf8(table.name) : null, shown = entries.reduce((sum, it) => sum + it.names.length, 0);
+    const leftOut = isLimited ? null : Math.max(0, image.call('pe_c_export_directory').number_of_names - shown);
+    return { name: own, name_lower: lower(own), ordinal_base: table.ordinal_base, entries, is_limited: isLimited, names_left_out: leftOut };
   });
 }
 

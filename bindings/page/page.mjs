@@ -4,7 +4,7 @@
 import { Library } from './library.mjs';
 import { factsOf } from './facts.mjs';
 import { dumpFacts } from './crash.mjs';
-import { HARDENING, escaped, label, named, sectionName, shown } from './rows.mjs';
+import { HARDENING, escaped, hardeningWord, label, named, sectionName, shown } from './rows.mjs';
 import { addHashes, differences, regions, wholeFiles } from './diff.mjs';
 import { functionRows } from './functions.mjs';
 import { module as encoded } from './module.mjs';
@@ -120,11 +120,11 @@ function overview(to, { headers, version, debug, clr }) {
     ?? debug.pdb_checksum_error ?? debug.repro_error ?? debug.extended_dll_characteristics_error);
 }
 
-function hardening(to, it) {
+function hardening(to, facts) {
   add(to, 'h3', 'Hardening, as the image asks for it');
   const made = add(to, 'ul', undefined, 'hardening');
-  for (const [field, text] of HARDENING.filter(([name]) => it[name] !== null)) {
-    add(made, 'li', `${text}: ${it[field] ? 'yes' : 'no'}`, it[field] ? 'good' : '');
+  for (const [text, word] of HARDENING.map(([field, text]) => [text, hardeningWord(facts, field)])) {
+    if (word !== 'not applicable') add(made, 'li', `${text}: ${word}`, word === 'yes' ? 'good' : '');
   }
 }
 
@@ -218,7 +218,7 @@ function show(to, facts) {
   overview(to, facts);
   if (!isRefused(facts)) add(to, 'p', 'No part is refused.', 'faint accepted');
   cut(to, facts);
-  hardening(to, facts.hardening);
+  hardening(to, facts);
   sections(to, facts.sections);
   libraries(to, 'Imports', facts, 'imports');
   libraries(to, 'Delay imports', facts, 'delay_imports');

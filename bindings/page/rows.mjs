@@ -108,8 +108,14 @@ function headers({ headers: it }) {
 /** The fields of hardening, and how each is called. */
 export const HARDENING = [['aslr', 'ASLR'], ['high_entropy_aslr', 'high-entropy ASLR'], ['dep', 'DEP'], ['cfg', 'CFG'], ['cet', 'CET'],
   ['safe_seh', 'SafeSEH'], ['force_integrity', 'force integrity'], ['signed', 'has a signature entry'], ['no_writable_code', 'no writable code']];
-const word = (it) => (it === null ? 'not applicable' : it ? 'yes' : 'no');
-const hardening = ({ hardening: it }) => HARDENING.map(([field, name]) => [name, word(it[field])]);
+/** What is said of one: it is not known where it applies, and the part that would say it is refused. */
+export function hardeningWord({ hardening: it, headers: { machine, dll_characteristics: flags } }, field) {
+  if (it[field] !== null) return it[field] ? 'yes' : 'no';
+  const isX86 = machine.name === 'x86';
+  const applies = { cfg: true, signed: true, cet: isX86 || machine.name === 'x64', safe_seh: isX86 && !flags.flags.NO_SEH };
+  return applies[field] ? 'not known' : 'not applicable';
+}
+const hardening = (facts) => HARDENING.map(([field, name]) => [name, hardeningWord(facts, field)]);
 
 const sections = ({ sections: all }) => all.map((it) => [sectionName(it),
   `${it.permissions}, ${it.virtual_size} bytes in memory, ${it.file_size} in the file${hashed(it)}`]);

@@ -55,7 +55,7 @@ fn version() -> &'static str {
 
 /// Shows what is in Windows executables (.exe, .dll, .sys, .efi).
 #[derive(Debug, Parser)]
-#[command(name = "pe", version = version(), after_help = after_help(), args_conflicts_with_subcommands = true)]
+#[command(name = "pe", bin_name = "pe", version = version(), after_help = after_help(), args_conflicts_with_subcommands = true)]
 #[command(subcommand_negates_reqs = true, arg_required_else_help = true)]
 pub struct Arguments {
     #[command(flatten)]
@@ -81,6 +81,9 @@ pub struct Files {
     pub files: Vec<PathBuf>,
     #[command(flatten)]
     pub walk: Walk,
+    /// Whether it is the one file of a command that takes no other, and no folder.
+    #[arg(skip)]
+    pub is_one: bool,
 }
 
 /// What is done with folders.
@@ -90,14 +93,18 @@ pub struct Walk {
     #[arg(short, long)]
     pub recursive: bool,
     /// Name what is skipped.
-    #[arg(short, long)]
+    #[arg(short, long, requires = "recursive")]
     pub verbose: bool,
 }
 
 impl Files {
+    pub fn of(files: Vec<PathBuf>, walk: Walk) -> Files {
+        Files { files, walk, is_one: false }
+    }
+
     /// A file that is named by itself.
     pub fn one(file: &Path) -> Files {
-        Files { files: vec![file.to_path_buf()], walk: Walk::default() }
+        Files { is_one: true, ..Files::of(vec![file.to_path_buf()], Walk::default()) }
     }
 
     /// Whether there may be more than one.
@@ -109,12 +116,25 @@ impl Files {
 /// How images are read.
 #[derive(Args, Clone, Debug)]
 pub struct Reading {
-    /// Refuse damaged headers and directories where Windows may accept them.
-    #[arg(long)]
-    pub strict: bool,
+    #[command(flatten)]
+    pub strict: Strict,
     /// FILE is a module as it was in memory, not a file: RVAs are offsets.
     #[arg(long)]
     pub mapped: bool,
+}
+
+/// How images are read by commands that are for files alone.
+#[derive(Args, Clone, Copy, Debug)]
+pub struct Strict {
+    /// Refuse damaged headers and directories where Windows may accept them.
+    #[arg(long)]
+    pub strict: bool,
+}
+
+impl Strict {
+    pub fn reading(self) -> Reading {
+        Reading { strict: self, mapped: false }
+    }
 }
 
 /// What is worked out of the bytes of a whole file.
@@ -135,7 +155,7 @@ pub struct Output {
 
 impl Reading {
     pub fn mode(&self) -> Mode {
-        if self.strict {
+        if self.strict.strict {
             Mode::Strict
         } else {
             Mode::Permissive
@@ -165,11 +185,6 @@ fn parts_help() -> String {
         format!("  {:14}{help}", it.get_name()).trim_end().to_string()
     });
     format!("Parts, in any case:\n{}", lines.collect::<Vec<_>>().join("\n"))
-}
-
-/// An option that a command refuses, with its reason, is not in its help.
-fn hidden(option: clap::Arg) -> clap::Arg {
-    option.hide(true)
 }
 
 #[derive(Debug, Subcommand)]
@@ -265,17 +280,15 @@ pub enum Command {
         output: Output,
     },
     /// Show the SHA-256 of what an Authenticode signature of an image covers.
-    #[command(mut_arg("mapped", hidden))]
     Digest {
         #[command(flatten)]
         files: Files,
         #[command(flatten)]
-        reading: Reading,
+        strict: Strict,
         #[command(flatten)]
         output: Output,
     },
     /// Show what the signatures of images say, and whether it fits: the digests and the signatures, and with roots the chains.
-    #[command(mut_arg("mapped", hidden))]
     Verify {
         #[command(flatten)]
         files: Files,
@@ -293,7 +306,7 @@ pub enum Command {
         #[arg(long = "catalog", value_name = "FILE")]
         catalogs: Vec<PathBuf>,
         #[command(flatten)]
-        reading: Reading,
+        strict: Strict,
         #[command(flatten)]
         output: Output,
     },
@@ -305,6 +318,9 @@ pub enum Command {
         given: Given,
         #[command(flatten)]
         stacks: Stacks,
+        /// The registers of each frame.
+        #[arg(long)]
+        registers: bool,
         #[command(flatten)]
         output: Output,
     },
@@ -335,7 +351,6 @@ pub enum Command {
         reading: Reading,
     },
     /// Write an image with a certificate to a new file.
-    #[command(mut_arg("mapped", hidden))]
     Attach {
         /// The image.
         file: PathBuf,
@@ -347,20 +362,18 @@ pub enum Command {
         #[arg(long)]
         in_place: bool,
         #[command(flatten)]
-        reading: Reading,
+        strict: Strict,
     },
     /// Write an image without its certificates to a new file.
-    #[command(mut_arg("mapped", hidden))]
     Detach {
         /// The image.
         file: PathBuf,
         #[command(flatten)]
         to: Target,
         #[command(flatten)]
-        reading: Reading,
+        strict: Strict,
     },
     /// Write an image with other version information to a new file. What is not named stays as it is.
-    #[command(mut_arg("mapped", hidden))]
     SetVersion {
         /// The image.
         file: PathBuf,
@@ -371,10 +384,9 @@ pub enum Command {
         #[command(flatten)]
         strong_name: StrongName,
         #[command(flatten)]
-        reading: Reading,
+        strict: Strict,
     },
     /// Write an image with another manifest to a new file: in the place of that which Windows looks for, else of the first.
-    #[command(mut_arg("mapped", hidden))]
     SetManifest {
         /// The image.
         file: PathBuf,
@@ -388,10 +400,9 @@ pub enum Command {
         #[command(flatten)]
         strong_name: StrongName,
         #[command(flatten)]
-        reading: Reading,
+        strict: Strict,
     },
     /// Write an image with other icons to a new file: in the place of those of its first group of icons.
-    #[command(mut_arg("mapped", hidden))]
     SetIcon {
         /// The image.
         file: PathBuf,
@@ -405,10 +416,9 @@ pub enum Command {
         #[command(flatten)]
         strong_name: StrongName,
         #[command(flatten)]
-        reading: Reading,
+        strict: Strict,
     },
     /// Write an image with a resource that has the content of a file to a new file.
-    #[command(mut_arg("mapped", hidden))]
     SetResource {
         /// The image.
         file: PathBuf,
@@ -421,10 +431,9 @@ pub enum Command {
         #[command(flatten)]
         strong_name: StrongName,
         #[command(flatten)]
-        reading: Reading,
+        strict: Strict,
     },
     /// Write an image without a resource, or without several, to a new file.
-    #[command(mut_arg("mapped", hidden))]
     RemoveResource {
         /// The image.
         file: PathBuf,
@@ -435,10 +444,9 @@ pub enum Command {
         #[command(flatten)]
         strong_name: StrongName,
         #[command(flatten)]
-        reading: Reading,
+        strict: Strict,
     },
     /// Show the checksums of images and the right ones, or write an image with the right one.
-    #[command(mut_arg("mapped", hidden))]
     Checksum {
         #[command(flatten)]
         files: Files,
@@ -449,7 +457,7 @@ pub enum Command {
         #[arg(long, requires = "fix")]
         replace: bool,
         #[command(flatten)]
-        reading: Reading,
+        strict: Strict,
         #[command(flatten)]
         output: Output,
     },
@@ -462,9 +470,8 @@ pub enum Command {
         /// The PDB of the image, which has lines. Without it functions have the names of COFF symbols and exports.
         #[arg(long, value_name = "PDB")]
         pdb: Option<PathBuf>,
-        /// Refuse damaged headers where Windows may accept them.
-        #[arg(long)]
-        strict: bool,
+        #[command(flatten)]
+        strict: Strict,
     },
     /// Write a page of HTML that shows an image, or the stacks of a minidump, to a new file.
     Report {
@@ -558,19 +565,21 @@ pub struct Stacks {
     /// At most so many frames of each thread, 100 without it.
     #[arg(long, value_name = "N")]
     pub frames: Option<usize>,
-    /// The registers of each frame.
-    #[arg(long)]
-    pub registers: bool,
 }
 
 impl Stacks {
     pub fn asked(self, is_json: bool) -> crate::stack::Asked {
-        let Stacks { thread, frames, registers: has_registers } = self;
-        crate::stack::Asked { thread, frames: frames.unwrap_or(100), has_registers, is_json }
+        let Stacks { thread, frames } = self;
+        crate::stack::Asked { thread, frames: frames.unwrap_or(100), has_registers: false, is_json }
     }
 }
 
-/// The options that are of minidumps alone, and whether each is there. `--registers` is of no page.
+/// The options of a page that are of images alone, and whether each is there.
+pub fn of_images(reading: &Reading, hashing: &Hashing) -> [(&'static str, bool); 3] {
+    [("--strict", reading.strict.strict), ("--mapped", reading.mapped), ("--no-hashes", hashing.no_hashes)]
+}
+
+/// Those that are of minidumps alone.
 pub fn of_dumps(given: &Given, stacks: &Stacks) -> [(&'static str, bool); 4] {
     let (images, symbols) = (!given.images.is_empty(), !given.symbols.is_empty());
     [
@@ -678,13 +687,13 @@ pub fn files_and_parts(words: &[PathBuf], walk: Walk) -> (Files, Vec<Topic>) {
     let named = words.iter().skip(1).rev().map_while(|it| Topic::from_str(it.to_str()?, true).ok());
     let mut topics: Vec<Topic> = named.collect();
     topics.reverse();
-    (Files { files: words[..words.len() - topics.len()].to_vec(), walk }, topics)
+    (Files::of(words[..words.len() - topics.len()].to_vec(), walk), topics)
 }
 
 /// The words of `unwind` without `--all`: files, and an RVA last.
 pub fn files_and_rva(words: &[PathBuf], walk: Walk) -> Option<(Files, u32)> {
     let (last, files) = words.split_last().filter(|(_, files)| !files.is_empty())?;
-    Some((Files { files: files.to_vec(), walk }, rva(last.to_str()?).ok()?))
+    Some((Files::of(files.to_vec(), walk), rva(last.to_str()?).ok()?))
 }
 
 /// An RVA in hexadecimal.

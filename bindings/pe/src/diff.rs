@@ -6,8 +6,9 @@ mod regions;
 
 use crate::escape::escaped;
 use crate::facts::certificates::CertificateSigner;
+use crate::facts::hashes::sha256_of;
 use crate::facts::resources::Label;
-use crate::facts::{Facts, Name, Origin, Part, Refusal};
+use crate::facts::{Facts, Name, NotWhole, Origin, Part, Refusal};
 use crate::page::Style;
 use crate::tables;
 use pe_c::{Error, Image};
@@ -38,6 +39,9 @@ pub struct Differences {
     /// Why a file is refused. Then the bytes alone are compared, as one region.
     pub before_error: Option<Refusal>,
     pub after_error: Option<Refusal>,
+    /// The parts of each image that are not compared whole.
+    pub before_not_whole: Vec<NotWhole>,
+    pub after_not_whole: Vec<NotWhole>,
 }
 
 /// The rows of a part, by their names. Of several with one name each has its number, from 0 on.
@@ -104,10 +108,21 @@ fn delay_imports_of(facts: &Facts) -> Rows {
     rows
 }
 
+/// How many bytes of a forwarder stand in each row of its names, of which a hostile image may have many.
+const FORWARDER: usize = 512;
+
+/// Where a forwarder leads, or of a longer one its hash.
+fn forwarder_of(to: &Name<'_>) -> String {
+    match to.0.len() {
+        ..=FORWARDER => format!("to {to}"),
+        length => format!("to a name of {length} bytes, SHA-256 {}", &sha256_of(to.0)[..16]),
+    }
+}
+
 fn exports_of(facts: &Facts) -> Rows {
     let mut rows = Rows::default();
     for it in facts.exports.iter().filter_map(Part::present).flat_map(|it| &it.entries) {
-        let value = it.forwarder.as_ref().map_or(String::new(), |to| format!("to {to}"));
+        let value = it.forwarder.as_ref().map_or(String::new(), forwarder_of);
         let names: Vec<String> = it.names.iter().map(Name::to_string).collect();
         match names.as_slice() {
             [] => rows.put(format!("#{}", it.ordinal), value),
@@ -201,7 +216,13 @@ pub fn of(paths: [&Path; 2], images: [&Image<'_>; 2], [before, after]: [&Facts; 
     }
     let [one, other] = functions::of(images);
     compare("functions", &one, &other, &mut differences);
-    Differences { differences, regions: regions::changed(images, [before, after]), ..Differences::none(paths) }
+    Differences {
+        differences,
+        regions: regions::changed(images, [before, after]),
+        before_not_whole: before.not_whole(),
+        after_not_whole: after.not_whole(),
+        ..Differences::none(paths)
+    }
 }
 
 /// What differs between two files of which at least one is refused.
@@ -225,6 +246,8 @@ impl Differences {
             regions: Vec::new(),
             before_error: None,
             after_error: None,
+            before_not_whole: Vec::new(),
+            after_not_whole: Vec::new(),
         }
     }
 

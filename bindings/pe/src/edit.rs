@@ -248,15 +248,34 @@ fn set_in(
     Ok(())
 }
 
-/// The image with another manifest: in the place of that which Windows looks for, else of the first that is there.
+/// What is wrong with a file that is to be a manifest, as far as that is looked at.
+fn wrong_manifest(content: &[u8]) -> Option<&'static str> {
+    let units = |of: fn([u8; 2]) -> u16| content.chunks_exact(2).map(|it| of([it[0], it[1]])).collect::<Vec<u16>>();
+    let text = match content {
+        [0xFF, 0xFE, ..] => String::from_utf16(&units(u16::from_le_bytes)).ok(),
+        [0xFE, 0xFF, ..] => String::from_utf16(&units(u16::from_be_bytes)).ok(),
+        _ => String::from_utf8(content.to_vec()).ok(),
+    };
+    match text.as_deref().map(|it| it.trim_start_matches('\u{feff}').trim_start()) {
+        None => Some("it is not UTF-8, nor UTF-16 with its mark"),
+        Some(text) if !text.starts_with('<') => Some("it is no XML, which starts with <"),
+        Some(text) if !text.contains("assembly") => Some("it has no element assembly, which a manifest is"),
+        Some(_) => None,
+    }
+}
+
+/// The image with another manifest: in the place of that which Windows looks for, else of the first that is there. It is not read as
+/// XML; what it cannot be is warned of.
 pub fn set_manifest(
     paths: Paths<'_>,
     image: Result<Image<'_>, Error>,
     manifest: &Path,
     language: Option<u16>,
 ) -> Report {
-    deliver(paths, image, |image, editor| {
+    let mut wrong = None;
+    let report = deliver(paths, image, |image, editor| {
         let content = content_of(manifest)?;
+        wrong = wrong_manifest(&content);
         let kind = ResourceKey::Id(MANIFEST);
         let own = ResourceKey::Id(if image.info().characteristics & DLL == 0 { OF_PROGRAM } else { OF_DLL });
         let mut names = names_of(editor, &kind).into_iter().peekable();
@@ -264,7 +283,16 @@ pub fn set_manifest(
         let name = names.find(|it| *it == own).or(first).unwrap_or(own);
         let languages = languages_of(editor, &kind, &name, language);
         set_in(editor, (&kind, &name), &languages, &content)
-    })
+    });
+    with_wrong_manifest(report, manifest, wrong)
+}
+
+/// What is said of an image, and what is wrong with the manifest that was written.
+fn with_wrong_manifest(mut report: Report, manifest: &Path, wrong: Option<&str>) -> Report {
+    if let Some(why) = wrong.filter(|_| report.status == Status::Done) {
+        report.complaints += &complaint(manifest, format_args!("{why}: Windows may not start the image"));
+    }
+    report
 }
 
 /// The image with other icons in the place of those of its first group, which is the one that Windows shows.
@@ -301,14 +329,17 @@ fn keys_of(editor: &ResourceEditor<'_>, (kind, name): (&str, &str)) -> (Resource
     (kind, name)
 }
 
-/// The image with a resource of this content.
-pub fn set_resource(paths: Paths<'_>, image: Result<Image<'_>, Error>, which: &OneResource, content: &Path) -> Report {
-    deliver(paths, image, |_, editor| {
-        let content = content_of(content)?;
+/// The image with a resource of this content, which is warned of where it is to be a manifest and is none.
+pub fn set_resource(paths: Paths<'_>, image: Result<Image<'_>, Error>, which: &OneResource, file: &Path) -> Report {
+    let mut wrong = None;
+    let report = deliver(paths, image, |_, editor| {
+        let content = content_of(file)?;
         let (kind, name) = keys_of(editor, (&which.kind, &which.name));
+        wrong = wrong_manifest(&content).filter(|_| kind == ResourceKey::Id(MANIFEST));
         let languages = languages_of(editor, &kind, &name, which.language);
         set_in(editor, (&kind, &name), &languages, &content)
-    })
+    });
+    with_wrong_manifest(report, file, wrong)
 }
 
 /// The image without these resources: in one language, or in all. None is removed where one is not there.

@@ -314,11 +314,18 @@ fn in_file_name(name: ResourceName<'_>, named: Option<&'static str>) -> String {
 }
 
 fn plain(text: &str) -> String {
-    text.chars().take(CHARACTERS).map(|it| if it.is_alphanumeric() { it } else { '_' }).collect()
+    let mut plain = String::new();
+    for it in text.chars().map(|it| if it.is_alphanumeric() { it } else { '_' }) {
+        if plain.len() + it.len_utf8() > BYTES {
+            break;
+        }
+        plain.push(it);
+    }
+    plain
 }
 
-/// How many characters of a name stand in that of a file.
-const CHARACTERS: usize = 48;
+/// How many bytes of a name stand in that of a file, which has three, and 255 bytes at most.
+const BYTES: usize = 72;
 
 /// The names of files, and what they contain. Of several with one name each has its number.
 fn files_of<'a>(leaves: &[ResourceLeaf<'a>]) -> Vec<(String, Result<&'a [u8], Error>)> {
@@ -349,7 +356,10 @@ fn write_resources((path, image): (&Path, &Image<'_>), which: &Which, to: &Targe
         return Report::refused(path, "its resources share what they contain, and have more than 16 times its bytes");
     }
     match fs::create_dir(&to.to) {
-        Err(error) if !to.replace || !to.to.is_dir() => return Report::unread(&to.to, error),
+        Err(_) if !to.replace && to.to.is_dir() => {
+            return Report::unread(&to.to, "it exists; --replace writes into it")
+        }
+        Err(error) if !to.to.is_dir() => return Report::unread(&to.to, error),
         _ => (),
     }
     let mut report = Report::of("", Status::Done);
@@ -405,6 +415,6 @@ mod tests {
         assert_eq!(in_file_name(ResourceName::Id(16), Some("Version")), "version");
         assert_eq!(in_file_name(ResourceName::Id(0x409), None), "1033");
         assert_eq!(plain("../../etc/passwd\0\u{202e}"), "______etc_passwd__");
-        assert_eq!(plain(&"a".repeat(300)).len(), CHARACTERS);
+        assert_eq!([plain(&"a".repeat(300)).len(), plain(&"\u{6f22}".repeat(300)).len()], [BYTES, BYTES]);
     }
 }

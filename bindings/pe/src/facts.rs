@@ -598,6 +598,15 @@ pub fn both<A: Send, B: Send>(
     }
 }
 
+/// A part that is not whole where other commands use it.
+#[derive(Debug, Serialize)]
+pub struct NotWhole {
+    /// In words.
+    pub part: &'static str,
+    /// Null where the image has more of the part than is looked at.
+    pub error: Option<Refusal>,
+}
+
 /// What is said of a file.
 #[derive(Debug, Serialize)]
 pub struct Facts<'a> {
@@ -871,5 +880,17 @@ impl<'a> Facts<'a> {
 
     pub fn is_refused(&self) -> bool {
         !self.refusals().is_empty()
+    }
+
+    /// What a file is that is refused, after why.
+    pub fn said_of_kind(&self) -> String {
+        self.file_kind.filter(|_| self.error.is_some()).map_or(String::new(), |kind| format!("; it is {kind}"))
+    }
+
+    /// What is refused, and the parts of which more is in the image.
+    pub fn not_whole(&self) -> Vec<NotWhole> {
+        let refused = self.refusals().into_iter().map(|(part, it)| NotWhole { part, error: Some(it.clone()) });
+        let limited = self.limited().into_iter().map(|part| NotWhole { part, error: None });
+        refused.chain(limited).collect()
     }
 }

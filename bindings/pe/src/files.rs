@@ -5,8 +5,8 @@
 use crate::arguments::{Arguments, Files};
 use crate::facts::{counted, kind_of, Topic, CUT, OTHERS};
 use crate::new_file::Target;
-use crate::streams::{complain, complaint};
-use crate::system::{ask_for_large_pages, is_folder, is_loop, Progress};
+use crate::streams::{complain, complain_of_unread, complaint};
+use crate::system::{ask_for_large_pages, is_closed, is_folder, is_loop, Progress};
 use crate::Status;
 use clap::{CommandFactory, ValueEnum};
 use pe_c::{Error, Image, Mode};
@@ -85,13 +85,7 @@ pub fn deliver_written(
     if to.to == Path::new("-") {
         return write(out).map(|()| status);
     }
-    to.write_by(None, write).map_or_else(|error| Ok(unwritten(&to.to, &error)), |()| Ok(status))
-}
-
-/// Says why a file cannot be written.
-fn unwritten(path: &Path, error: &io::Error) -> Status {
-    complain(complaint(path, error));
-    Status::FileError
+    to.write_by(None, write).map_or_else(|error| Ok(unread(&to.to, error)), |()| Ok(status))
 }
 
 /// A file, and whether it is one of those below a folder.
@@ -222,7 +216,7 @@ pub fn below(folder: &Path) -> Vec<PathBuf> {
 /// Says why a folder cannot be listed.
 pub fn say_unlisted(folder: &Path) {
     if let Err(error) = paths_in(folder) {
-        complain(complaint(folder, error));
+        complain_of_unread(folder, &error);
     }
 }
 
@@ -257,11 +251,12 @@ static IS_READ: AtomicBool = AtomicBool::new(false);
 /// end, or do something when it is read.
 pub fn whole(path: &Path) -> io::Result<Vec<u8>> {
     if path == Path::new("-") {
+        let error = |why| Err(io::Error::new(io::ErrorKind::InvalidInput, why));
+        if is_closed(0) {
+            return error("it is closed");
+        }
         if IS_READ.swap(true, Ordering::Relaxed) {
-            return Err(io::Error::new(
-                io::ErrorKind::InvalidInput,
-                "standard input can be one file, and was read before",
-            ));
+            return error("standard input can be one file, and was read before");
         }
         let mut bytes = Vec::new();
         io::stdin().lock().read_to_end(&mut bytes)?;
@@ -322,7 +317,10 @@ pub fn each(named: &Files, out: &mut dyn Write, report: impl Fn(&Path, &[u8]) ->
             match report {
                 Ok(Ok(report)) => worst = worst.max(write(report, &mut has_head, out)?),
                 Ok(Err(kind)) => skipped.put_kind(&found.path, kind),
-                Err(error) => worst = worst.max(unread(&found.path, &error)),
+                Err(error) => {
+                    let hint = if named.is_one { String::new() } else { hint(&found.path, &error) };
+                    worst = worst.max(unread(&found.path, format_args!("{error}{hint}")));
+                }
             }
         }
         bar.add(some.len());
@@ -342,9 +340,9 @@ fn write(report: Report, has_head: &mut bool, out: &mut dyn Write) -> io::Result
     out.write_all(&report.text).map(|()| report.status)
 }
 
-/// Says why a file cannot be read.
-fn unread(path: &Path, error: &io::Error) -> Status {
-    complain(complaint(path, format_args!("{error}{}", hint(path, error))));
+/// Says why a file cannot be read or written.
+fn unread(path: &Path, why: impl Display) -> Status {
+    complain(complaint(path, why));
     Status::FileError
 }
 
@@ -356,19 +354,23 @@ pub fn one(
 ) -> io::Result<Status> {
     match whole(path) {
         Ok(bytes) => report(&bytes, out),
-        Err(error) => Ok(unread(path, &error)),
+        Err(error) => Ok(unread(path, error)),
     }
 }
 
-/// Says which of these files and folders are not there.
+/// Says which of these files and folders are not there, or are neither.
 pub fn are_there(paths: &[PathBuf]) -> Status {
-    let missing = paths.iter().filter_map(|path| Some((path, fs::metadata(path).err()?)));
-    missing.map(|(path, error)| unread(path, &error)).max().unwrap_or(Status::Done)
+    let why = |path: &PathBuf| match fs::metadata(path) {
+        Ok(it) if it.is_file() || it.is_dir() => None,
+        Ok(_) => Some("it is neither a file nor a folder".to_string()),
+        Err(error) => Some(error.to_string()),
+    };
+    paths.iter().filter_map(|path| Some(unread(path, why(path)?))).max().unwrap_or(Status::Done)
 }
 
 /// What was meant by a folder, or by the name of a file that is not there.
 fn hint(path: &Path, error: &io::Error) -> String {
-    if is_folder(error, path) {
+    if is_folder(error, path) && path != Path::new("-") {
         return "; -r reads the files below it".to_string();
     }
     if error.kind() != io::ErrorKind::NotFound {

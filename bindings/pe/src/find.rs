@@ -1,7 +1,7 @@
 //! Who imports or exports a name.
 
 use crate::escape::escaped;
-use crate::facts::{Facts, Name, Part};
+use crate::facts::{Facts, Name, NotWhole, Part};
 use serde::Serialize;
 
 /// Where a name was found.
@@ -23,6 +23,8 @@ pub struct Found<'a> {
     pub file: &'a str,
     pub file_hex: Option<&'a str>,
     pub matches: Vec<Match<'a>>,
+    /// What may have the word, and was not looked at.
+    pub not_whole: Vec<NotWhole>,
 }
 
 fn has(name: &Name, word: &str) -> bool {
@@ -67,7 +69,7 @@ pub fn matches_of<'a>(facts: &'a Facts<'a>, word: &str) -> Found<'a> {
         }));
     }
     let (file, file_hex) = (facts.file.as_str(), facts.file_hex.as_deref());
-    Found { json_version: facts.json_version, file, file_hex, matches }
+    Found { json_version: facts.json_version, file, file_hex, matches, not_whole: facts.not_whole() }
 }
 
 impl Found<'_> {

@@ -13,9 +13,8 @@ use crate::facts::version::Version;
 use crate::facts::{Facts, Part, Topic, Wanted};
 
 /// The parts that the columns are of.
-const PARTS: [Topic; 12] = [
+const PARTS: [Topic; 11] = [
     Topic::Headers,
-    Topic::Hardening,
     Topic::Hashes,
     Topic::Sections,
     Topic::Imports,
@@ -116,7 +115,7 @@ fn counts_of(facts: &Facts) -> Vec<Cell> {
 fn row_of(facts: &Facts) -> Vec<Cell> {
     let signers = facts.certificates.iter().flat_map(|it| it.entries()).filter_map(|it| it.signer.as_ref());
     let refused = facts.refusals();
-    let first = refused.first().map(|(part, refusal)| format!("{part}: {refusal}"));
+    let first = refused.first().map(|(part, refusal)| format!("{part}: {refusal}{}", facts.said_of_kind()));
     let own = vec![cell("file", &facts.file), cell("file_size", facts.file_size), ("error", first)];
     let limited: Vec<String> = facts.limited().into_iter().map(String::from).chain(facts.cut()).collect();
     let limited = Some(limited.join("; ")).filter(|it| !it.is_empty());

@@ -41,7 +41,7 @@ use facts::{Facts, Refusal, Topic, Wanted};
 use files::Report;
 use new_file::Target;
 use page::Style;
-use pe_c::{Error, Image, Mode, Placement};
+use pe_c::{Error, Image, Pdb, Placement};
 use serde::Serialize;
 use stack::missing::Stores;
 use std::io::{self, Write};
@@ -124,20 +124,14 @@ fn shown_whole(files: &Files, topics: &[Topic], how: How, out: &mut dyn Write) -
     files::each(files, out, |path, bytes| shown(path, bytes, how.reading, &wanted, said))
 }
 
+/// The commands that show parts of images.
 fn run_command(command: &Command, out: &mut dyn Write) -> io::Result<Status> {
     match command {
         Command::Show { words, csv, table, walk, reading, hashing, output } => {
             let table = csv.then_some(table.as_deref());
             show_parts((words, *walk), table, How::of(reading, hashing, output), out)
         }
-        Command::List { files, reading, hashing, .. } => {
-            let text = |facts: &Facts, _| {
-                let (head, row) = list::lines(facts);
-                Said { head, ..Said::from(row) }
-            };
-            let wanted = list::wanted(hashing.has_hashes());
-            files::each(files, out, |path, bytes| shown(path, bytes, reading, &wanted, text))
-        }
+        Command::List { files, reading, hashing, .. } => list_images(files, reading, hashing.has_hashes(), out),
         Command::Find { word, files, reading, output } => {
             find_word(word, files, How::without_hashes(reading, output), out)
         }
@@ -151,40 +145,29 @@ fn run_command(command: &Command, out: &mut dyn Write) -> io::Result<Status> {
         Command::Key { files, reading, hashing, output, .. } => {
             show_keys(files, How::of(reading, hashing, output), out)
         }
-        Command::Digest { files, reading, output } => {
-            refuse_mapped(reading, "a digest");
-            files::each(files, out, |path, bytes| {
-                of_image((path, bytes), reading, |image| digest::report(path, image, output.json))
-            })
+        Command::Unwind { words, all, walk, reading, output } => {
+            unwind_functions((words, *walk), *all, How::without_hashes(reading, output), out)
         }
-        Command::Verify { files, roots, system_roots, crls, catalogs, reading, output } => {
-            refuse_mapped(reading, "a signature");
-            let of_system = system_roots.then(verify::checked::roots_of_system);
-            let roots = roots.as_deref().or(of_system);
-            if roots.is_none() && !crls.is_empty() {
-                misused("--crl says what of the chains to --roots or --system-roots is revoked");
-            }
-            let Some(given) = given_to_verify(roots, crls, catalogs) else {
-                return Ok(Status::FileError);
-            };
-            files::each(files, out, |path, bytes| {
-                of_image((path, bytes), reading, |image| {
-                    let image = image.map_err(|error| refusal_with_kind(error, bytes, reading));
-                    verify::report(path, image, &given, output.json)
-                })
-            })
+        _ => run_other(command, out),
+    }
+}
+
+/// The commands that show what no part of an image is.
+fn run_other(command: &Command, out: &mut dyn Write) -> io::Result<Status> {
+    match command {
+        Command::Digest { files, strict, output } => {
+            each_image(files, &strict.reading(), out, |path, image| digest::report(path, image, output.json))
         }
-        Command::Stack { dump, given, stacks, output } => {
-            let (there, places, asked) = (given.are_there(), given.places(), stacks.asked(output.json));
+        Command::Verify { .. } => verify_images(command, out),
+        Command::Stack { dump, given, stacks, registers, output } => {
+            let asked = stack::Asked { has_registers: *registers, ..stacks.asked(output.json) };
+            let (there, places) = (given.are_there(), given.places());
             let status = files::one(dump, out, |bytes, out| stack::write(dump, bytes, &places, asked, out))?;
             Ok(if there == Status::Done { status } else { there })
         }
         Command::Pdb { file, rvas, lists, output } => {
             let asked = lists.asked(rvas, output.json);
             files::each(&Files::one(file), out, |path, bytes| pdb::report(path, bytes, asked))
-        }
-        Command::Unwind { words, all, walk, reading, output } => {
-            unwind_functions((words, *walk), *all, How::without_hashes(reading, output), out)
         }
         Command::Completions { shell } => {
             // It panics where what it writes to fails.
@@ -197,8 +180,42 @@ fn run_command(command: &Command, out: &mut dyn Write) -> io::Result<Status> {
     }
 }
 
+/// `pe list`: a row of each image.
+fn list_images(files: &Files, reading: &Reading, has_hashes: bool, out: &mut dyn Write) -> io::Result<Status> {
+    let text = |facts: &Facts, _| {
+        let (head, row) = list::lines(facts);
+        Said { head, ..Said::from(row) }
+    };
+    files::each(files, out, |path, bytes| shown(path, bytes, reading, &list::wanted(has_hashes), text))
+}
+
+/// `pe verify`, over what it is given.
+fn verify_images(command: &Command, out: &mut dyn Write) -> io::Result<Status> {
+    let Command::Verify { files, roots, system_roots, crls, catalogs, strict, output } = command else {
+        return Ok(Status::Done);
+    };
+    let of_system = system_roots.then(verify::checked::roots_of_system);
+    let roots = roots.as_deref().or(of_system);
+    if roots.is_none() && !crls.is_empty() {
+        misused("--crl says what of the chains to --roots or --system-roots is revoked");
+    }
+    let Some(given) = given_to_verify(roots, crls, catalogs) else {
+        return Ok(Status::FileError);
+    };
+    let reading = strict.reading();
+    files::each(files, out, |path, bytes| {
+        of_image((path, bytes), &reading, |image| {
+            let image = image.map_err(|error| refusal_with_kind(error, bytes, &reading));
+            verify::report(path, image, &given, output.json)
+        })
+    })
+}
+
 /// `pe key`: the paths on a symbol server.
 fn show_keys(files: &Files, how: How, out: &mut dyn Write) -> io::Result<Status> {
+    if !how.has_hashes && !how.is_json {
+        misused("--no-hashes leaves out the right checksum, which --json alone has here");
+    }
     let wanted = Wanted::parts(&[Topic::Headers, Topic::Debug], how.is_json && how.has_hashes);
     let text = |facts: &Facts, style| match how.is_json {
         true => json(facts).into(),
@@ -238,14 +255,12 @@ fn unwind_functions(words: (&[PathBuf], Walk), is_all: bool, how: How, out: &mut
     let is_last_a_file = words.last().is_some_and(|it| it.symlink_metadata().is_ok());
     let (files, rva) = match arguments::files_and_rva(words, walk) {
         Some(_) if is_all && !is_last_a_file => misused("--all is in place of an RVA"),
-        _ if is_all => (Files { files: words.to_vec(), walk }, None),
+        _ if is_all => (Files::of(words.to_vec(), walk), None),
         Some((files, rva)) => (files, Some(rva)),
         None => misused("an RVA in hexadecimal has to come after the files, or --all before them"),
     };
     let asked = unwind::Asked { rva, is_json: how.is_json, is_named: files.is_several() };
-    files::each(&files, out, |path, bytes| {
-        of_image((path, bytes), how.reading, |image| unwind::report(path, image, asked))
-    })
+    each_image(&files, how.reading, out, |path, image| unwind::report(path, image, asked))
 }
 
 /// What `pe verify` is given, which is read once. `None` where a file of it is refused, which is said.
@@ -289,7 +304,7 @@ fn refuse_extraction(part: ExtractedPart, which: &Which, to: &Target) {
         misused("resources are written to a folder, and none to standard output");
     }
     if let Some(option) = part.misused(which) {
-        misused(&format!("{option} does not say which {} is meant", part.name()));
+        misused(&format!("{option} is no option of the part `{}`", part.name()));
     }
 }
 
@@ -298,92 +313,87 @@ fn write_file(command: &Command, out: &mut dyn Write) -> io::Result<Status> {
     match command {
         Command::Extract { file, part, to, which, reading } => {
             refuse_extraction(*part, which, to);
-            files::each(&Files::one(file), out, |path, bytes| {
-                of_image((path, bytes), reading, |image| part.write_to((path, image), which, to))
-            })
+            each_image(&Files::one(file), reading, out, |path, image| part.write_to((path, image), which, to))
         }
-        Command::Attach { file, certificate, to, in_place, reading } => {
-            refuse_mapped(reading, "a certificate");
+        Command::Attach { file, certificate, to, in_place, strict } => {
             let placement = if *in_place { Placement::InPlace } else { Placement::After };
-            files::each(&Files::one(file), out, |path, bytes| {
-                of_image((path, bytes), reading, |image| sign::attach(path, image, certificate, placement, to))
-            })
+            let report = |path: &Path, image: Read<'_>| sign::attach(path, image, certificate, placement, to);
+            each_image(&Files::one(file), &strict.reading(), out, report)
         }
-        Command::Detach { file, to, reading } => {
-            refuse_mapped(reading, "a certificate");
-            files::each(&Files::one(file), out, |path, bytes| {
-                of_image((path, bytes), reading, |image| sign::detach(path, image, to))
-            })
+        Command::Detach { file, to, strict } => {
+            each_image(&Files::one(file), &strict.reading(), out, |path, image| sign::detach(path, image, to))
         }
         Command::Symbols { file, pdb, to, strict } => {
-            let mode = if *strict { Mode::Strict } else { Mode::Permissive };
-            files::each(&Files::one(file), out, |path, bytes| symbols::write(path, bytes, mode, pdb.as_deref(), to))
+            let mode = strict.reading().mode();
+            files::each(&Files::one(file), out, |path, bytes| {
+                let is_alone = pdb.is_none() && Pdb::parse(bytes).is_ok();
+                refuse_ignored([("--strict", strict.strict && is_alone)], "an image");
+                symbols::write(path, bytes, mode, pdb.as_deref(), to)
+            })
         }
-        Command::Checksum { files, fix, replace, reading, output } => {
-            refuse_mapped(reading, "a checksum");
+        Command::Checksum { files, fix, replace, strict, output } => {
             if fix.is_some() && files.is_several() {
                 misused("--fix takes one file, since it writes one");
             }
             let fix = fix.as_ref().map(|to| Target { to: to.clone(), replace: *replace });
-            files::each(files, out, |path, bytes| match &fix {
-                Some(to) => of_image((path, bytes), reading, |image| sign::fix(path, image, to)),
-                None => of_image((path, bytes), reading, |image| sign::checksum(path, image, output.json)),
+            each_image(files, &strict.reading(), out, |path, image| match &fix {
+                Some(to) => sign::fix(path, image, to),
+                None => sign::checksum(path, image, output.json),
             })
         }
-        Command::Report { file, to, given, stacks, reading, hashing } => {
-            if stacks.registers {
-                misused("a page has no registers: pe stack --registers shows them");
-            }
-            let wanted = Wanted::parts(&[], hashing.has_hashes());
-            let there = given.are_there();
-            let status = files::one(file, out, |bytes, out| match stack::is_dump(bytes) {
-                true => {
-                    refuse_ignored([("--strict", reading.strict), ("--mapped", reading.mapped)], "an image");
-                    html::dump::write_to((file, bytes), (&given.places(), stacks.asked(false)), (to, out))
-                }
-                false => {
-                    refuse_ignored(arguments::of_dumps(given, stacks), "a minidump");
-                    let image = parsed(bytes, reading).map_err(|error| refusal_of(error, bytes, reading));
-                    html::write_to((file, bytes), image, &wanted, (to, out))
-                }
-            })?;
-            Ok(status.max(there))
-        }
+        Command::Report { .. } => write_page(command, out),
         _ => edit_file(command, out),
     }
 }
 
+/// `pe report`: the page of an image, or of a minidump.
+fn write_page(command: &Command, out: &mut dyn Write) -> io::Result<Status> {
+    let Command::Report { file, to, given, stacks, reading, hashing } = command else {
+        return Ok(Status::Done);
+    };
+    let wanted = Wanted::parts(&[], hashing.has_hashes());
+    let there = given.are_there();
+    let status = files::one(file, out, |bytes, out| match stack::is_dump(bytes) {
+        true => {
+            refuse_ignored(arguments::of_images(reading, hashing), "an image");
+            html::dump::write_to((file, bytes), (&given.places(), stacks.asked(false)), (to, out))
+        }
+        false => {
+            refuse_ignored(arguments::of_dumps(given, stacks), "a minidump");
+            let image = parsed(bytes, reading).map_err(|error| refusal_of(error, bytes, reading));
+            html::write_to((file, bytes), image, &wanted, (to, out))
+        }
+    })?;
+    Ok(status.max(there))
+}
+
 /// The commands that write an image with other resources.
 fn edit_file(command: &Command, out: &mut dyn Write) -> io::Result<Status> {
-    let (Command::SetVersion { file, to, strong_name, reading, .. }
-    | Command::SetManifest { file, to, strong_name, reading, .. }
-    | Command::SetIcon { file, to, strong_name, reading, .. }
-    | Command::SetResource { file, to, strong_name, reading, .. }
-    | Command::RemoveResource { file, to, strong_name, reading, .. }) = command
+    let (Command::SetVersion { file, to, strong_name, strict, .. }
+    | Command::SetManifest { file, to, strong_name, strict, .. }
+    | Command::SetIcon { file, to, strong_name, strict, .. }
+    | Command::SetResource { file, to, strong_name, strict, .. }
+    | Command::RemoveResource { file, to, strong_name, strict, .. }) = command
     else {
         return Ok(Status::Done);
     };
-    refuse_mapped(reading, "a change of resources");
     if matches!(command, Command::SetVersion { version, .. } if version.is_empty()) {
         misused("nothing is new: --file-version, --product-version and --string say what");
     }
     if matches!(command, Command::RemoveResource { which, .. } if which.words.len() % 2 != 0) {
         misused("a resource has a type and a name");
     }
-    files::each(&Files::one(file), out, |path, bytes| {
-        let paths = (path, to);
-        of_image((path, bytes), reading, |image| match command {
-            _ if !strong_name.break_strong_name && image.as_ref().is_ok_and(edit::has_strong_name) => Report::refused(
-                path,
-                "it has a strong name (.NET), which a change breaks; --break-strong-name changes it all the same",
-            ),
-            Command::SetManifest { manifest, language, .. } => edit::set_manifest(paths, image, manifest, *language),
-            Command::SetIcon { icon, language, .. } => edit::set_icon(paths, image, icon, *language),
-            Command::SetResource { which, content, .. } => edit::set_resource(paths, image, which, content),
-            Command::RemoveResource { which, .. } => edit::remove_resources(paths, image, which),
-            Command::SetVersion { version, .. } => edit::set_version(paths, image, version),
-            _ => files::Report::of("", Status::Done),
-        })
+    each_image(&Files::one(file), &strict.reading(), out, |path, image| match command {
+        _ if !strong_name.break_strong_name && image.as_ref().is_ok_and(edit::has_strong_name) => Report::refused(
+            path,
+            "it has a strong name (.NET), which a change breaks; --break-strong-name changes it all the same",
+        ),
+        Command::SetManifest { manifest, language, .. } => edit::set_manifest((path, to), image, manifest, *language),
+        Command::SetIcon { icon, language, .. } => edit::set_icon((path, to), image, icon, *language),
+        Command::SetResource { which, content, .. } => edit::set_resource((path, to), image, which, content),
+        Command::RemoveResource { which, .. } => edit::remove_resources((path, to), image, which),
+        Command::SetVersion { version, .. } => edit::set_version((path, to), image, version),
+        _ => Report::of("", Status::Done),
     })
 }
 
@@ -391,13 +401,6 @@ fn edit_file(command: &Command, out: &mut dyn Write) -> io::Result<Status> {
 fn refuse_ignored<const N: usize>(options: [(&str, bool); N], of: &str) {
     if let Some((option, _)) = options.iter().find(|it| it.1) {
         misused(&format!("{option} is of {of}, and FILE is none"));
-    }
-}
-
-/// Ends where a module in memory is asked for what files alone have.
-fn refuse_mapped(reading: &Reading, what: &str) {
-    if reading.mapped {
-        misused(&format!("{what} covers a file, and --mapped is for modules as they were in memory"));
     }
 }
 
@@ -441,6 +444,9 @@ fn show_csv(
 }
 
 fn find_word(word: &str, files: &Files, how: How, out: &mut dyn Write) -> io::Result<Status> {
+    if word.is_empty() {
+        misused("WORD is empty, and so in every name");
+    }
     let wanted = Wanted::parts(&[Topic::Imports, Topic::DelayImports, Topic::Exports], how.has_hashes);
     let is_found = AtomicBool::new(false);
     let text = |facts: &Facts, _| {
@@ -536,11 +542,24 @@ fn is_no_image(error: Error) -> bool {
     [Error::BAD_MAGIC, Error::SHORT].contains(&error)
 }
 
+/// An image, or why it is refused.
+type Read<'a> = Result<Image<'a>, Error>;
+
+/// What a command without parts says of each file.
+fn each_image(
+    files: &Files,
+    reading: &Reading,
+    out: &mut dyn Write,
+    report: impl Fn(&Path, Read<'_>) -> Report + Sync,
+) -> io::Result<Status> {
+    files::each(files, out, |path, bytes| of_image((path, bytes), reading, |image| report(path, image)))
+}
+
 /// What a command without parts says of an image.
 fn of_image<'a>(
     (path, bytes): (&Path, &'a [u8]),
     reading: &Reading,
-    report: impl FnOnce(Result<Image<'a>, Error>) -> Report,
+    report: impl FnOnce(Read<'a>) -> Report,
 ) -> Report {
     let image = parsed(bytes, reading);
     let error = image.as_ref().err().copied();
@@ -571,6 +590,6 @@ fn json(facts: &impl Serialize) -> String {
 }
 
 /// The image in these bytes, or why they are refused.
-fn parsed<'a>(bytes: &'a [u8], reading: &Reading) -> Result<Image<'a>, Error> {
+fn parsed<'a>(bytes: &'a [u8], reading: &Reading) -> Read<'a> {
     Image::parse_as(bytes, reading.mode(), reading.layout())
 }

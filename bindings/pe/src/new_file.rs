@@ -57,13 +57,12 @@ impl Target {
 
     /// The name of the new file: of a link that is replaced, the file that it leads to.
     fn name(&self) -> io::Result<PathBuf> {
+        let error = |kind, why| Err(io::Error::new(kind, why));
         match (self.to.symlink_metadata(), self.replace) {
             (Err(_), _) => Ok(self.to.clone()),
-            (Ok(_), false) => Err(io::ErrorKind::AlreadyExists.into()),
-            (Ok(_), true) if fs::metadata(&self.to)?.is_file() => fs::canonicalize(&self.to),
-            (Ok(_), true) => {
-                Err(io::Error::new(io::ErrorKind::InvalidInput, "it is no regular file, and not replaced"))
-            }
+            (Ok(_), _) if !self.to.is_file() => error(io::ErrorKind::InvalidInput, "it exists, and is no regular file"),
+            (Ok(_), false) => error(io::ErrorKind::AlreadyExists, "it exists; --replace replaces it"),
+            (Ok(_), true) => fs::canonicalize(&self.to),
         }
     }
 }

@@ -125,7 +125,7 @@ fn hardening_of(hardening: &Hardening, page: &mut Page) {
     for (label, value) in tables::hardening(hardening) {
         page.line(format_args!("  {label:22}{value}"));
     }
-    hardening.said_of_refused().for_each(|it| page.line(format_args!("  {it}")));
+    hardening.said_of_unknown().for_each(|it| page.line(format_args!("  {it}")));
 }
 
 fn hashes_of(hashes: &Hashes, page: &mut Page) {
@@ -263,15 +263,14 @@ fn symbols_of(symbols: &List<Symbol>, page: &mut Page) {
 /// What hardening lacks of parts that are refused, as lines for standard error. Where all of them are wanted they say it.
 pub fn complaints_of_hardening(facts: &Facts) -> String {
     let are_there = facts.load_config.is_some() && facts.debug.is_some() && facts.certificates.is_some();
-    let said = facts.hardening.iter().filter(|_| !are_there).flat_map(|it| it.said_of_refused());
+    let said = facts.hardening.iter().filter(|_| !are_there).flat_map(|it| it.said_of_unknown());
     said.map(|it| format!("pe: {}: {it}\n", escaped(&facts.file))).collect()
 }
 
 /// What is refused, and of which parts the image has more than is looked at, as lines for standard error.
 pub fn complaints(facts: &Facts) -> String {
     let file = escaped(&facts.file);
-    let kind =
-        facts.file_kind.filter(|_| facts.error.is_some()).map_or(String::new(), |kind| format!("; it is {kind}"));
+    let kind = facts.said_of_kind();
     let refused = facts.refusals().into_iter().map(|(part, refusal)| format!("pe: {file}: {part}: {refusal}{kind}\n"));
     let limited =
         facts.limited().into_iter().map(|part| format!("pe: {file}: {part}: not whole: the image has more\n"));

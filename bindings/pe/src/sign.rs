@@ -7,7 +7,7 @@ use crate::files::{self, Report};
 use crate::new_file::Target;
 use crate::streams::complaint;
 use crate::Status;
-use pe_c::{Error, Image, Placement};
+use pe_c::{Error, Image, Placement, Signature};
 use serde::Serialize;
 use std::borrow::Cow;
 use std::path::Path;
@@ -38,6 +38,15 @@ fn deliver(made: Result<Vec<u8>, Error>, of: &Path, to: &Target) -> Report {
     }
 }
 
+/// What starts a file of PEM.
+const PEM: &[u8] = b"-----BEGIN ";
+
+/// What is wrong with what gets a header as signed data, as far as it is read.
+fn wrong_data(given: &[u8]) -> Option<String> {
+    let error = Signature::parse(given).err().filter(|_| matches!(entry_of(given), Cow::Owned(_)))?;
+    Some(format!("it is attached, and is no PKCS #7 signed data: {error}"))
+}
+
 pub fn attach(
     path: &Path,
     image: Result<Image<'_>, Error>,
@@ -49,12 +58,20 @@ pub fn attach(
         Ok(bytes) => bytes,
         Err(error) => return Report::unread(certificate, error),
     };
+    if given.starts_with(PEM) {
+        return Report::refused(certificate, "it is PEM, and not DER, which `openssl pkcs7 -outform DER` makes of it");
+    }
     match image.map(|it| (it.attach(&entry_of(&given), placement), has_its_certificates(&it))) {
         // What is refused of a certificate is that of the image itself, or the one that is given.
         Ok((Err(error), true)) if is_of_certificate(error, &given) => {
             Report::refused(certificate, Refusal::from(error))
         }
-        Ok((made, _)) => deliver(made, path, to),
+        Ok((made, _)) => {
+            let made = deliver(made, path, to);
+            let wrong = wrong_data(&given).filter(|_| made.status == Status::Done);
+            let said = wrong.map_or(String::new(), |it| complaint(certificate, it));
+            Report { complaints: made.complaints + &said, ..made }
+        }
         Err(error) => Report::refused(path, Refusal::from(error)),
     }
 }

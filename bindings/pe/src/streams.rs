@@ -8,14 +8,25 @@ use std::path::Path;
 use std::process::ExitCode;
 use std::sync::atomic::{AtomicBool, Ordering};
 
-/// Whether a line for standard error was lost.
-static IS_LOST: AtomicBool = AtomicBool::new(false);
+/// Whether a line for standard error was lost, or a file could not be read that is beside those of the run.
+static HAS_FAILED: AtomicBool = AtomicBool::new(false);
 
 /// Writes lines to standard error.
 pub fn complain(lines: impl Display) {
     let lines = lines.to_string();
     let is_written = lines.is_empty() || !system::is_closed(2) && io::stderr().write_all(lines.as_bytes()).is_ok();
-    IS_LOST.fetch_or(!is_written, Ordering::Relaxed);
+    HAS_FAILED.fetch_or(!is_written, Ordering::Relaxed);
+}
+
+/// Says why a file or a folder cannot be read that is beside those of the run: the status is that of an error of a file.
+pub fn complain_of_unread(path: &Path, error: &io::Error) {
+    complain(complaint(path, error));
+    fail();
+}
+
+/// The same where what is written says why.
+pub fn fail() {
+    HAS_FAILED.store(true, Ordering::Relaxed);
 }
 
 /// The line that says why a file is refused.
@@ -55,8 +66,8 @@ pub fn status_of(ended: io::Result<Status>) -> ExitCode {
         }
         Status::FileError
     });
-    let is_lost = IS_LOST.load(Ordering::Relaxed);
-    ExitCode::from(if is_lost { Status::FileError } else { status } as u8)
+    let has_failed = HAS_FAILED.load(Ordering::Relaxed);
+    ExitCode::from(if has_failed { Status::FileError } else { status } as u8)
 }
 
 /// Prints what clap says of the arguments, on standard output where it was asked for, and returns the exit status.

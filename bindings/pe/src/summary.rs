@@ -1,7 +1,7 @@
 //! An image in a screen of text.
 
 use crate::escape::escaped;
-use crate::facts::hardening::word;
+use crate::facts::hardening::{NO, UNKNOWN, YES};
 use crate::facts::headers::Headers;
 use crate::facts::sections::{self, Section};
 use crate::facts::{clr, count_of, counted, others, Facts, Part};
@@ -110,14 +110,13 @@ pub fn checksum_of(headers: &Headers) -> Option<String> {
 /// What an image is hardened by, and what it lacks, without what does not apply.
 fn hardening_of(facts: &Facts, page: &mut Page) {
     let Some(hardening) = &facts.hardening else { return };
-    let named = |wanted: bool| {
-        let rows = hardening.rows().into_iter().filter(|(_, value)| *value == Some(wanted));
-        let names: Vec<&str> = rows.map(|it| it.0).collect();
-        (!names.is_empty()).then(|| format!("{}: {}", word(Some(wanted)), names.join(", ")))
+    let named = |word: &str| {
+        let names: Vec<&str> = hardening.rows().into_iter().filter(|it| it.1 == word).map(|it| it.0).collect();
+        (!names.is_empty()).then(|| format!("{word}: {}", names.join(", ")))
     };
-    let words: Vec<String> = [true, false].into_iter().filter_map(named).collect();
+    let words: Vec<String> = [YES, NO, UNKNOWN].into_iter().filter_map(named).collect();
     page.row("hardening", words.join("; "));
-    hardening.said_of_refused().for_each(|it| page.row("", it));
+    hardening.said_of_unknown().for_each(|it| page.row("", it));
 }
 
 fn hashes_of(facts: &Facts, page: &mut Page) {
@@ -248,7 +247,7 @@ fn more_of(facts: &Facts, page: &mut Page) {
             let more = if it.is_limited { " and more" } else { "" };
             format!(", {}{more}", counted(it.entries.len(), "guarded function"))
         });
-        page.row("load config", format_args!("{} bytes{guarded}{flags}", config.size));
+        page.row("load config", format_args!("{} bytes{guarded}{flags}{}", config.size, config.said_of_hybrid()));
     }
     if let Some(clr) = facts.clr.as_ref().and_then(Part::present) {
         let version = clr.metadata.present().map_or(String::new(), |it| format!(", made for {}", it.version));

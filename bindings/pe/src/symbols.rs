@@ -35,7 +35,7 @@ struct SymbolFile {
 
 impl SymbolFile {
     fn complain(&mut self, part: &str, why: impl std::fmt::Display) {
-        self.complaints.push(format!("{}: {why}", escaped(part)));
+        self.complaints.push(complaint_of(part, why));
     }
 
     /// Writes a line.
@@ -43,6 +43,10 @@ impl SymbolFile {
         // Writing to a text never fails.
         let _ = writeln!(self.text, "{line}");
     }
+}
+
+fn complaint_of(part: &str, why: impl std::fmt::Display) -> String {
+    format!("{}: {why}", escaped(part))
 }
 
 /// A name as a line has it, on which nothing else of a file may stand.

@@ -10,7 +10,7 @@ use crate::facts::debug::{Debug, Entry, Pogo, VcFeatures};
 use crate::facts::exports::Exports;
 use crate::facts::functions::Functions;
 use crate::facts::guards::{Guards, Target};
-use crate::facts::hardening::{word, Hardening};
+use crate::facts::hardening::Hardening;
 use crate::facts::hashes::Hashes;
 use crate::facts::headers::{Directory, Headers};
 use crate::facts::imports::{self, Library};
@@ -208,7 +208,7 @@ pub fn dos_header(all: &AllHeaders) -> Table {
 }
 
 pub fn hardening(hardening: &Hardening) -> Vec<Row> {
-    hardening.rows().into_iter().map(|(name, value)| (name, word(value).to_string())).collect()
+    hardening.rows().into_iter().map(|(name, value)| (name, value.to_string())).collect()
 }
 
 pub fn hashes(hashes: &Hashes) -> Vec<Row> {

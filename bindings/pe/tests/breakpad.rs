@@ -74,12 +74,13 @@ fn a_symbol_file_has_functions_lines_and_unwinding() {
     assert_eq!(symbols(&[&exe, "--pdb", &pdb, "-"]), format!("{module}{code}{FUNCTIONS}{unwinding}"));
     // A PDB alone says nothing of unwinding.
     assert_eq!(symbols(&[&pdb, "-"]), format!("{module}{FUNCTIONS}"));
+    assert_eq!(run(&["symbols", "--strict", &pdb, "-"]).2, 2);
     // It is written whole, and replaces nothing.
     let out = folder.path("crash.sym");
     assert_eq!(run(&["symbols", &exe, &out, "--pdb", &pdb]), (String::new(), String::new(), 0));
     assert_eq!(fs::read_to_string(&out).unwrap(), format!("{module}{code}{FUNCTIONS}{unwinding}"));
     let (_, complaints, status) = run(&["symbols", &exe, &out, "--pdb", &pdb]);
-    assert!(complaints.ends_with("crash.sym: entity already exists\n") && status == 3, "{complaints}");
+    assert!(complaints.ends_with("crash.sym: it exists; --replace replaces it\n") && status == 3, "{complaints}");
 }
 
 /// Without a PDB functions have the names of COFF symbols and of exports. Without a function table these are public.

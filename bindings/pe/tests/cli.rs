@@ -39,7 +39,7 @@ fn exports_with_all_ordinals() {
     assert_eq!(
         json_of("exports", &made::with_exports())["exports"],
         json!({
-        "name": "made.dll", "name_lower": "made.dll", "ordinal_base": 5, "is_limited": false, "entries": [
+        "name": "made.dll", "name_lower": "made.dll", "ordinal_base": 5, "is_limited": false, "names_left_out": 0, "entries": [
             {"ordinal": 5, "rva": 0x1004, "names": ["second"], "forwarder": null},
             {"ordinal": 6, "rva": 0x9_0000, "names": ["first"], "forwarder": null},
             {"ordinal": 8, "rva": 0x1060, "names": [], "forwarder": "NTDLL.RtlFree"},
@@ -328,8 +328,15 @@ fn statuses() {
     assert_eq!(run(&["unwind", &image, "0x0x1"]).2, 2);
     let (_, error_text, status) = run(&[folder.0.to_str().unwrap()]);
     assert_eq!((error_text.ends_with("; -r reads the files below it\n"), status), (true, 3), "{error_text}");
+    // A command without -r does not speak of it.
+    let folder_name = folder.0.to_str().unwrap();
+    for words in [&["extract", folder_name, "manifest", "-"][..], &["pdb", folder_name], &["report", folder_name, "-"]]
+    {
+        let (_, error_text, status) = run(words);
+        assert_eq!((error_text.ends_with("Is a directory (os error 21)\n"), status), (true, 3), "{error_text}");
+    }
     let (out, error_text, status) = run(&["digest", "--mapped", &image]);
-    assert_eq!((out.as_str(), error_text.contains("a digest covers a file"), status), ("", true, 2));
+    assert_eq!((out.as_str(), error_text.contains("'--mapped'"), status), ("", true, 2));
     assert_eq!(run(&[]).2, 2);
     let (out, _, _) = run(&["--json", &short]);
     let all: Value = serde_json::from_str(&out).unwrap();
@@ -421,8 +428,8 @@ fn commands_take_several_files() {
 #[test]
 fn options_stand_where_they_do_something() {
     let folder = Folder::new("options");
-    let file = folder.file("a.exe", made::SMALL);
-    let commands: [&[&str]; 7] = [
+    let (file, dump) = (folder.file("a.exe", made::SMALL), folder.file("a.dmp", &made::dump()));
+    let commands: [&[&str]; 9] = [
         &["diff", &file, &file],
         &["find", "x", &file],
         &["unwind", "--all", &file],
@@ -430,12 +437,19 @@ fn options_stand_where_they_do_something() {
         &["extract", &file, "manifest", "-"],
         &["detach", &file, "-"],
         &["checksum", &file],
+        &["key", &file],
+        &["report", &dump, "-"],
     ];
     for command in commands {
         assert_eq!(run(&[command, &["--no-hashes"]].concat()).2, 2, "{command:?}");
     }
-    for command in [["show", file.as_str()].as_slice(), &["key", &file], &["report", &file, "-"]] {
+    for command in [["show", file.as_str()].as_slice(), &["key", "--json", &file], &["report", &file, "-"]] {
         assert_eq!(run(&[command, &["--no-hashes"]].concat()).2, 0, "{command:?}");
+    }
+    let more: [&[&str]; 4] =
+        [&["-v", &file], &["list", "-v", &file], &["report", "--registers", &dump, "-"], &["find", "", &file]];
+    for command in more {
+        assert_eq!(run(command).2, 2, "{command:?}");
     }
 }
 
@@ -643,7 +657,27 @@ fn the_man_page_has_each_command() {
     }
 }
 
-/// Help has the options that a command takes: one that it always refuses, and says why, is none of them.
+/// `./pe` at the top of the repository starts a file of another name.
+#[cfg(unix)]
+#[test]
+fn help_has_the_name_of_the_program() {
+    let folder = Folder::new("help-name");
+    let other = folder.0.join("built-0abf79c5");
+    std::os::unix::fs::symlink(env!("CARGO_BIN_EXE_pe"), &other).unwrap();
+    for words in [&[][..], &["--help"], &["show", "--help"], &["list"], &["--nonsense"], &["unwind", "a"]] {
+        let ran = Command::new(&other).args(words).output().unwrap();
+        let said = String::from_utf8([ran.stdout, ran.stderr].concat()).unwrap();
+        assert!(said.contains("Usage: pe ") && !said.contains("built-"), "{words:?}: {said}");
+    }
+}
+
+/// Whether fish completes an option of a command.
+fn is_completed(command: &str, option: &str) -> bool {
+    let (of, name) = (format!(" {command}\""), format!(" -l {option} "));
+    run(&["completions", "fish"]).0.lines().any(|it| it.contains(&of) && it.contains(&name))
+}
+
+/// Help and completions have the options that a command takes, and no other.
 #[test]
 fn help_does_not_offer_what_is_refused() {
     let folder = Folder::new("help-mapped");
@@ -662,11 +696,14 @@ fn help_does_not_offer_what_is_refused() {
     ];
     for words in refused {
         let (_, error, status) = run(&[words, &["--mapped"]].concat());
-        assert_eq!((error.contains("--mapped is for modules as they were in memory"), status), (true, 2), "{error}");
+        assert_eq!((error.contains("'--mapped'"), status), (true, 2), "{error}");
+        assert!(!is_completed(words[0], "mapped"), "{}", words[0]);
         let (help, _, status) = run(&[words[0], "--help"]);
         assert_eq!((help.contains("--strict"), help.contains("--mapped"), status), (true, false, 0), "{help}");
     }
     for command in ["show", "list", "find", "diff", "unwind", "key", "extract", "report"] {
-        assert!(run(&[command, "--help"]).0.contains("--mapped"), "{command}");
+        assert!(run(&[command, "--help"]).0.contains("--mapped") && is_completed(command, "mapped"), "{command}");
     }
+    assert!(!run(&["report", "--help"]).0.contains("--registers") && !is_completed("report", "registers"));
+    assert!(run(&["stack", "--help"]).0.contains("--registers") && is_completed("stack", "registers"));
 }

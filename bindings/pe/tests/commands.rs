@@ -263,7 +263,12 @@ fn certificates_are_attached_and_detached() {
     assert_eq!(fs::read(&same).unwrap(), bytes);
     // Signed data get a header of eight bytes.
     let data = folder.file("signature", &[0x30, 1, 2, 3, 4]);
-    assert_eq!(run(&["attach", &bare, &data, &signed]).2, 0);
+    let (out, error, status) = run(&["attach", &bare, &data, &signed]);
+    let why = format!("pe: {data}: it is attached, and is no PKCS #7 signed data: ");
+    assert_eq!((out.as_str(), error.starts_with(&why), status), ("", true, 0), "{error}");
+    let pem = folder.file("pem", b"-----BEGIN PKCS7-----\nMAECAw==\n-----END PKCS7-----\n");
+    let (out, error, status) = run(&["attach", &bare, &pem, "-"]);
+    assert_eq!((out.as_str(), error.contains("pem: it is PEM, and not DER"), status), ("", true, 1), "{error}");
     let short = folder.file("short.txt", b"short");
     assert_eq!(run(&["attach", &bare, &short, "-"]).1, format!("pe: {short}: truncated (SHORT)\n"));
     let said = json_of("attached", &fs::read(&signed).unwrap());
@@ -836,6 +841,7 @@ fn names_of_exports_that_are_left_out_are_said() {
     assert_eq!((complaints, status), (format!("pe: {file}: exports: {why}\n"), 1));
     assert!(run(&[&file]).0.contains(&format!("; {why}\n")));
     assert!(run(&["show", &file, "exports"]).0.ends_with(&format!("\n  {why}\n")));
+    assert!(run(&["show", "--json", &file, "exports"]).0.contains("\"names_left_out\":1"));
     assert!(run(&["report", &file, "-"]).0.contains(&format!("<dt>names</dt><dd>{why}</dd>")));
 }
 
@@ -893,6 +899,23 @@ fn differences_are_what_came_went_and_changed() {
     assert_eq!((&found["differences"], &found["regions"]), (&json!([]), &region));
     assert_eq!((&found["before_error"]["name"], &found["after_error"]), (&json!("SHORT"), &json!(null)));
     assert_eq!(run(&["diff", &one, folder.0.join("none").to_str().unwrap()]).2, 3);
+}
+
+/// A long name that an export leads to does not stand in the row of each of its names: in memory it would have 2 GB.
+#[test]
+fn many_names_of_a_forwarder_are_compared() {
+    let folder = Folder::new("diff-forwarder");
+    let (short, long) = (limited::names_of_one_forwarder(10_000, 20), limited::names_of_one_forwarder(10_000, 200_000));
+    let (one, other) = (folder.file("a.dll", &short), folder.file("b.dll", &long));
+    let found = parsed(&["diff", "--json", &one, &other]);
+    let rows = found["differences"].as_array().unwrap().iter().filter(|it| it["part"] == "exports");
+    let texts: Vec<&str> = rows.map(|it| it["after"].as_str().unwrap()).collect();
+    assert_eq!(texts.len(), 10_000);
+    // sha256sum says the start of it.
+    assert!(texts.iter().all(|it| *it == "to a name of 200000 bytes, SHA-256 4ad5b5be02ab83e6"), "{}", texts[0].len());
+    let is_export = |it: &&Value| it["part"] == "exports";
+    let first = found["differences"].as_array().unwrap().iter().find(is_export).unwrap();
+    assert_eq!(first["before"], format!("to a.{}", "b".repeat(18)));
 }
 
 /// What is shown of functions of images that differ in functions alone: entries of start and length, and their bytes, from 0x1000 on.
@@ -1055,7 +1078,7 @@ fn a_list_has_a_row_of_each_image() {
     let folder = Folder::new("list");
     let named = folder.file("a,\"b\x1b.dll", &made::with_resources());
     folder.file("b.exe", &made::with_imports());
-    folder.file("c.txt", b"no image");
+    let text = folder.file("c.txt", b"no image");
     folder.file("d.exe", &made::SMALL[..0x100]);
     let (out, complaints, status) = run(&["list", "--csv", "-r", folder.0.to_str().unwrap()]);
     let skipped = "pe: 2 files are no images, and skipped; by their start 1 DOS or truncated MZ file\n";
@@ -1073,6 +1096,7 @@ fn a_list_has_a_row_of_each_image() {
     );
     assert_eq!([cell(0, "signer"), cell(0, "pdb_key"), cell(1, "file_version")], ["", "", ""]);
     assert_eq!(run(&["list", "--no-hashes", &named]).0.lines().count(), 2);
+    assert!(run(&["list", &text]).0.contains(" (SHORT); it is a text,,"));
 }
 
 #[test]
@@ -1956,29 +1980,119 @@ fn a_truncated_file_says_how_many_sections_it_cuts() {
         .contains(&format!("<h2 id=warnings>1 warned of</h2><ul><li>{said}</li></ul>")));
 }
 
-#[test]
-fn hardening_says_which_part_is_refused() {
-    let (folder, mut data) = (Folder::new("hardening-refused"), made::with_load_config());
+/// An image whose headers ask for control flow guard, with the RVA of the directory with this index outside of the image.
+fn with_refused(mut data: Vec<u8>, index: usize) -> Vec<u8> {
     let optional = u32::from_le_bytes(data[60..64].try_into().unwrap()) as usize + 24;
     let directories = optional + if data[optional + 1] == 2 { 112 } else { 96 };
+    put(&mut data, optional + 70, &0x4000u16.to_le_bytes());
+    put(&mut data, directories + 8 * index, &[0x7FFF_0000u32, 100].map(u32::to_le_bytes).concat());
+    data
+}
+
+#[test]
+fn hardening_says_what_is_not_known() {
+    let (folder, said) =
+        (Folder::new("hardening-refused"), "load configuration: refused, so it is not known here: CFG");
     let says = |data: &[u8]| {
-        let (said, file) = ("load configuration: refused, so what it may say is a no here", folder.file("a.exe", data));
+        let file = folder.file("a.exe", data);
         [&["show", &file, "hardening"][..], &[&file], &["report", &file, "-"]].map(|it| run(it).0.contains(said))
     };
-    assert_eq!(says(&data), [false; 3]);
-    data[directories + 80..directories + 84].copy_from_slice(&0x7FFF_0000u32.to_le_bytes());
+    assert_eq!(says(&made::with_load_config()), [false; 3]);
+    let data = with_refused(made::with_load_config(), 10);
     assert_eq!(says(&data), [true; 3]);
     // JSON and CSV say it beside them, unless the parts themselves do.
     let file = folder.file("a.exe", &data);
-    let why = format!("pe: {file}: load configuration: refused, so what it may say is a no here\n");
+    assert!(run(&[&file]).0.contains("; not known: CFG\n"));
+    let why = format!("pe: {file}: {said}\n");
     for words in [&["--json", "--parts", "hardening", &file][..], &["show", "--csv", &file, "hardening"]] {
-        let (_, error, status) = run(words);
+        let (out, error, status) = run(words);
         assert_eq!((error, status), (why.clone(), 0), "{words:?}");
+        assert!(out.contains("\"cfg\":null") || out.contains("CFG,not known"), "{out}");
     }
     let all = "hardening,load-config,debug,certificates";
     assert_eq!([run(&["--json", &file]).1, run(&["--json", "--parts", all, &file]).1], ["", ""]);
     // Another part that is wanted does not speak for it.
     assert_eq!(run(&["--json", "--parts", "hardening,debug,certificates", &file]).1, why);
+    // Without the flag there is no control flow guard, whatever the load configuration says.
+    let mut data = data;
+    let optional = u32::from_le_bytes(data[60..64].try_into().unwrap()) as usize + 24;
+    put(&mut data, optional + 70, &[0, 0]);
+    assert_eq!(says(&data), [false; 3]);
+}
+
+#[test]
+fn what_refused_parts_would_say_of_hardening_is_null() {
+    let folder = Folder::new("hardening-null");
+    let hardening = |data: Vec<u8>, index| {
+        let file = folder.file("a.exe", &with_refused(data, index));
+        let said: Value = serde_json::from_str(&run(&["--json", &file]).0).unwrap();
+        ["cfg", "safe_seh", "cet", "signed"].map(|it| said["hardening"][it].clone())
+    };
+    let [no, null] = [json!(false), json!(null)];
+    let x86 = made::x86_dll();
+    // The load configuration, the debug data and the certificates, of x86 and of x64.
+    assert_eq!(hardening(x86.clone(), 10), [&null, &null, &no, &no].map(Value::clone));
+    assert_eq!(hardening(x86.clone(), 6), [&no, &no, &null, &no].map(Value::clone));
+    assert_eq!(hardening(x86, 4), [&no, &no, &no, &null].map(Value::clone));
+    assert_eq!(hardening(made::with_exports(), 10), [&null, &null, &no, &no].map(Value::clone));
+}
+
+/// The functions of ARM64EC code stand in tables to which `CHPEMetadataPointer` leads, at 200 of `IMAGE_LOAD_CONFIG_DIRECTORY64`.
+#[test]
+fn code_for_another_machine_is_not_said_to_be_read() {
+    let (folder, mut data) = (Folder::new("hybrid"), made::with_guards());
+    let said =
+        |data: &[u8]| run(&[&folder.file("a.dll", data)]).0.contains(", hybrid: what is for ARM64 alone is not read\n");
+    assert!(!said(&data));
+    put(&mut data, 0x400 + 200, &0x1_8000_1000u64.to_le_bytes());
+    assert!(said(&data));
+}
+
+/// What find and diff did not look at is in their JSON.
+#[test]
+fn what_is_not_looked_at_is_in_json() {
+    let folder = Folder::new("not-whole-json");
+    let (file, other) = (folder.file("a.exe", &with_refused(made::with_exports(), 1)), folder.file("b.exe", b"MZ"));
+    let json = |words: &[&str]| -> Value { serde_json::from_str(run(words).0.lines().next().unwrap()).unwrap() };
+    let found = json(&["find", "--json", "first", &file])["not_whole"].clone();
+    assert_eq!((&found[0]["part"], &found[0]["error"]["name"]), (&json!("imports"), &json!("UNMAPPED")), "{found}");
+    let found = json(&["find", "--json", "first", &other])["not_whole"].clone();
+    assert_eq!((&found[0]["part"], &found[0]["error"]["name"]), (&json!("image"), &json!("SHORT")), "{found}");
+    let whole = folder.file("c.exe", &made::with_exports());
+    assert_eq!(json(&["find", "--json", "first", &whole])["not_whole"], json!([]));
+    let found = json(&["diff", "--json", &file, &whole]);
+    assert_eq!((&found["before_not_whole"][0]["part"], &found["after_not_whole"]), (&json!("imports"), &json!([])));
+}
+
+/// Whoever sets another file than a manifest is told: Windows does not start an image with one that it cannot read.
+#[test]
+fn what_is_no_manifest_is_said() {
+    let folder = Folder::new("no-manifest");
+    let (file, out) = (folder.file("a.exe", &made::editable()), folder.0.join("b.exe").to_str().unwrap().to_string());
+    let utf16 = |text: &str| text.encode_utf16().flat_map(u16::to_le_bytes).collect::<Vec<u8>>();
+    let good = "<?xml version='1.0'?><assembly xmlns='urn:schemas-microsoft-com:asm.v1' manifestVersion='1.0'/>";
+    let cases: [(Vec<u8>, &str); 7] = [
+        (good.into(), ""),
+        (["\u{feff}", good].concat().into(), ""),
+        ([&[0xFF, 0xFE], &utf16(good)[..]].concat(), ""),
+        (vec![], "it is no XML, which starts with <"),
+        (b"\x7fELF".to_vec(), "it is no XML, which starts with <"),
+        (b"<html/>".to_vec(), "it has no element assembly, which a manifest is"),
+        (b"<assembly name='\xE9'/>".to_vec(), "it is not UTF-8, nor UTF-16 with its mark"),
+    ];
+    for (content, why) in cases {
+        let manifest = folder.file("a.manifest", &content);
+        let (_, error, status) = run(&["set-manifest", "--replace", &file, &out, &manifest]);
+        let said = format!("pe: {manifest}: {why}: Windows may not start the image\n");
+        let said = if why.is_empty() { String::new() } else { said };
+        assert_eq!((error, status), (said.clone(), 0));
+        let words = ["set-resource", "--replace", &file, &out];
+        assert_eq!(run(&[&words[..], &["manifest", "1", &manifest]].concat()).1, said);
+        assert_eq!(run(&[&words[..], &["raw data", "1", &manifest]].concat()).1, "");
+        assert_eq!(run(&["set-manifest", "--replace", &file, &out, &manifest]).2, 0);
+        assert_eq!(run(&["extract", "--replace", &out, "manifest", &manifest]).2, 0);
+        assert_eq!(fs::read(&manifest).unwrap(), content);
+    }
 }
 
 /// Exception data of another machine are there, and not read.

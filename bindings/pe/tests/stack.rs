@@ -406,14 +406,16 @@ fn folders_that_cannot_be_read_are_said() {
     let denied = "Permission denied (os error 13)";
     for (path, mode) in [("store", 0), ("store/a.pdb", 0), (&store, 0), ("store", 0o444), ("store/a.pdb", 0o444)] {
         let stack = ["stack", "--json", "a.dmp", "--symbols", "store"];
-        let said: Value = serde_json::from_str(&run_as_nobody(&folder, &[(path, mode)], &stack).0).unwrap();
+        let (out, _, status) = run_as_nobody(&folder, &[(path, mode)], &stack);
+        assert_eq!(status, 3, "{path} {mode:o}");
+        let said: Value = serde_json::from_str(&out).unwrap();
         let pdb = &said["modules"][0]["pdb"];
         assert_eq!((&pdb["state"], &pdb["reason"]), (&json!("not-read"), &json!(denied)), "{path} {mode:o}");
     }
     for path in ["store", "store/a.pdb", &store] {
         let key = ["key", "--missing", "a.dmp", "--symbols", "store"];
         let (out, complaints, status) = run_as_nobody(&folder, &[(path, 0)], &key);
-        assert_eq!((complaints, status), (format!("pe: {path}: {denied}\n"), 0));
+        assert_eq!((complaints, status), (format!("pe: {path}: {denied}\n"), 3));
         assert!(out.contains(&format!("a.pdb/{KEY}/a.pdb")), "{out}");
     }
     for command in [&["stack", "a.dmp"][..], &["key", "--missing", "a.dmp"]] {
@@ -469,10 +471,7 @@ fn a_file_of_images_that_cannot_be_read_is_said() {
     fs::create_dir(&images).unwrap();
     std::os::unix::fs::symlink("/proc/self/mem", images.join("a.dll")).unwrap();
     let (_, complaints, status) = run(&["stack", &dump, "--images", images.to_str().unwrap()]);
-    assert_eq!(
-        (complaints, status),
-        (format!("pe: {}/a.dll: Input/output error (os error 5)\n", images.display()), LOST)
-    );
+    assert_eq!((complaints, status), (format!("pe: {}/a.dll: Input/output error (os error 5)\n", images.display()), 3));
 }
 
 /// Of all images 2^20 section headers are read. These share their memory.
@@ -491,6 +490,26 @@ fn images_of_too_many_sections_are_said() {
         let [text, json] = [&[][..], &["--json"]].map(|more| run(&[&["stack", &dump], more].concat()).0);
         assert_eq!(text.contains("those of the modules have too many sections: some are not read"), is_limited);
         assert_eq!(serde_json::from_str::<Value>(&json).unwrap()["modules_is_limited"], is_limited);
+    }
+}
+
+/// What is named and cannot have an image or a PDB is said.
+#[cfg(unix)]
+#[test]
+fn what_is_named_and_is_no_image_is_said() {
+    let folder = Folder::new("stack-no-image");
+    let (dump, text) = (folder.file("a.dmp", &made::full_dump(made::X64)), folder.file("a.txt", &[b' '; 100]));
+    for command in [&["stack", "--json", &dump][..], &["key", "--missing", &dump]] {
+        let said = |option: &str, path: &str| {
+            let (_, complaints, status) = run(&[command, &[option, path]].concat());
+            (complaints, status)
+        };
+        let why = format!("pe: {text}: invalid magic number (BAD_MAGIC); it is a text\n");
+        assert_eq!(said("--images", &text).0, why);
+        for option in ["--images", "--symbols"] {
+            let why = "pe: /dev/null: it is neither a file nor a folder\n".to_string();
+            assert_eq!(said(option, "/dev/null"), (why, 3), "{command:?} {option}");
+        }
     }
 }
 

@@ -45,7 +45,7 @@ fn what_exists_is_replaced_only_where_that_is_asked_for() {
     let wanted = fs::read(&detached).unwrap();
     let (out, complaints, status) = run(&["detach", &image, &taken]);
     assert_eq!((out.as_str(), status), ("", 3));
-    assert!(complaints.starts_with(&format!("pe: {taken}: ")), "{complaints}");
+    assert_eq!(complaints, format!("pe: {taken}: it exists; --replace replaces it\n"));
     assert_eq!(fs::read(&taken).unwrap(), b"mine");
     assert_eq!(run(&["detach", "--replace", &image, &taken]), (String::new(), String::new(), 0));
     assert_eq!(fs::read(&taken).unwrap(), wanted);
@@ -55,8 +55,17 @@ fn what_exists_is_replaced_only_where_that_is_asked_for() {
     assert_eq!(run(&["detach", "--replace", &image, &link]).2, 0);
     assert!(fs::symlink_metadata(&link).unwrap().is_symlink());
     assert_eq!(fs::read(&image).unwrap(), wanted);
-    assert_eq!(run(&["detach", "--replace", &image, "/dev/null"]).2, 3);
+    for words in [&["detach", &image, "/dev/null"][..], &["detach", "--replace", &image, "/dev/null"]] {
+        let said = "pe: /dev/null: it exists, and is no regular file\n".to_string();
+        assert_eq!(run(words), (String::new(), said, 3));
+    }
     assert_eq!(names_in(&folder), ["a.exe", "detached", "link", "taken"]);
+    // Resources are files of a folder, which is new.
+    let (image, out) = (folder.file("b.exe", &made::editable()), path_in(&folder, "resources"));
+    let words = ["extract", &image, "resources", &out];
+    assert_eq!(run(&words), Default::default());
+    assert_eq!(run(&words).1, format!("pe: {out}: it exists; --replace writes into it\n"));
+    assert_eq!(run(&[&words[..], &["--replace"]].concat()), Default::default());
 }
 
 #[test]
@@ -118,6 +127,9 @@ fn streams_that_are_full_or_closed_are_an_error() {
         ("2>/dev/full", &["--nonsense"], 3),
         ("2>&-", &["diff", "--mapped", image, none], 3),
         (">&- 2>&-", &[image], 3),
+        // It is no empty file.
+        ("<&-", &["-"], 3),
+        ("<&-", &["stack", "-"], 3),
         // A warning that nobody can read.
         ("2>/dev/full", &["-r", folder.0.to_str().unwrap(), image], 3),
         // Nothing is lost of what says nothing.

@@ -114,6 +114,7 @@ class Lines(Room):
         self.assertIn("-r reads the files below it", run(self.room)[1])
         self.assertEqual(run()[2], 2)
         self.assertEqual(run("-j", "0", path)[2], 2)
+        self.assertEqual(run("-v", path)[2], 2)
         with open(path, "rb") as file:
             data = file.read()
         said = json.loads(run("-", input=data)[0])
@@ -129,6 +130,29 @@ class Lines(Room):
             sizes = [(it["file"], it["file_size"]) for it in map(json.loads, out.decode().splitlines())]
             self.assertEqual(sizes, [("-", len(data)), (path, len(data))], jobs)
             self.assertEqual((complaints, status), ("pe_c: -: standard input can be one file, and was read before\n", 3), jobs)
+
+    def test_a_line_by_itself_reads_no_standard_input(self):
+        """That of a worker is not that of who asks."""
+        code = ("import sys; from pe_c import scan; said = scan.line_of(scan.File('-', False, 0));"
+                "print([said.line, said.complaint, said.status, sys.stdin.read()])")
+        done = subprocess.run([sys.executable, "-c", code], input=b"MZ", capture_output=True, timeout=120, env={"PYTHONPATH": ":".join(sys.path)})
+        self.assertEqual(ast.literal_eval(done.stdout.decode()),
+                         ["", "-: standard input is that of another process, and not read here", 3, "MZ"])
+
+    def test_what_refused_parts_would_say_of_hardening_is_null(self):
+        """Of an image that asks for control flow guard: the load configuration, the debug data, the certificates."""
+        for index, wanted in ((10, [None, False, False]), (6, [False, None, False]), (4, [False, False, None]), (None, [False] * 3)):
+            data = bytearray(hostile.image(bytes(64), {} if index is None else {index: (0x7FFF0000, 100)}))
+            data[0x9E:0xA0] = (0x4000).to_bytes(2, "little")
+            found = pe_c.Image(data).facts()["hardening"]
+            self.assertEqual([found[it] for it in ("cfg", "cet", "signed")], wanted)
+
+    def test_names_of_exports_that_are_left_out(self):
+        with open(os.path.join(self.room, "exports.bin"), "rb") as file:
+            data = bytearray(file.read())
+        self.assertEqual(pe_c.Image(data).facts()["exports"]["names_left_out"], 0)
+        data[data.index(b"second\0") + 5] = 0xFF
+        self.assertEqual(pe_c.Image(data).facts()["exports"]["names_left_out"], 1)
 
     def test_options(self):
         path = os.path.join(self.room, "debug.bin")
@@ -211,6 +235,39 @@ class Streams(unittest.TestCase):
         for words in ((path,), ("scan", IMAGES), ("scan", "-j", "2", IMAGES)):
             self.assertEqual(self.said_by(">/dev/full", *words), ("", "pe_c: No space left on device\n", 3))
         self.assertEqual(self.said_by(">&-", path), ("", "pe_c: standard output is closed\n", 3))
+
+    def test_errors_that_nobody_can_read(self):
+        path = os.path.join(IMAGES, "functions.bin")
+        for words in (("absent",), ("scan", HERE), ("scan", "-j", "1", "absent", path)):
+            for redirected in ("2>/dev/full", "2>&-"):
+                out, complaints, status = self.said_by(redirected, *words)
+                self.assertEqual((bool(out), complaints, status), (path in words, "", 3), (redirected, words))
+        # Nothing is lost of what says nothing.
+        for redirected in ("2>/dev/full", "2>&-"):
+            self.assertEqual(self.said_by(redirected, path)[1:], ("", 0))
+
+    def test_a_file_that_memory_has_no_room_for(self):
+        """It costs its own line, and not those of others."""
+        path = os.path.join(IMAGES, "functions.bin")
+        with tempfile.NamedTemporaryFile() as large:
+            with open(path, "rb") as file:
+                large.write(file.read())
+            large.truncate(3 << 30)
+            large.flush()
+            words = ["sh", "-c", 'ulimit -v 2000000; exec "$@"', "sh", sys.executable, "-c", CODE, large.name, path]
+            done = subprocess.run(words, capture_output=True, timeout=120)
+        self.assertEqual([json.loads(it)["file"] for it in done.stdout.splitlines()], [path])
+        self.assertEqual((done.stderr.decode(), done.returncode), (f"pe_c: {large.name}: Cannot allocate memory\n", 3))
+
+    def test_who_interrupts_a_scan_sees_no_traceback(self):
+        """All processes get the signal of a terminal, and all of them end."""
+        for jobs in ("1", "2"):
+            words = [sys.executable, "-c", CODE, "scan", "-j", jobs, *[IMAGES] * 3000]
+            with subprocess.Popen(words, stdout=subprocess.PIPE, stderr=subprocess.PIPE, start_new_session=True) as child:
+                child.stdout.readline()
+                os.killpg(child.pid, signal.SIGINT)
+                _, complaints = child.communicate(timeout=120)
+            self.assertEqual((complaints, child.returncode), (b"", -signal.SIGINT))
 
     def test_input_that_is_closed(self):
         self.assertEqual(self.said_by("<&-", "-"), ("", "pe_c: -: Bad file descriptor\n", 3))

@@ -81,6 +81,17 @@ class Notebook(unittest.TestCase):
 
 
 class Pages(unittest.TestCase):
+    def test_a_page_is_of_the_mode_of_the_image(self):
+        with tempfile.TemporaryDirectory() as room:
+            program = os.path.join(room, "pe")
+            with open(program, "w") as file:
+                file.write('#!/bin/sh\necho "$*"\n')
+            os.chmod(program, 0o755)
+            for mode, options in ((pe_c.Mode.STRICT, ["--strict"]), (pe_c.Mode.PERMISSIVE, []),
+                                  (pe_c.Mode.PERMISSIVE | pe_c.Mode.MAPPED, ["--mapped"])):
+                words = pe_c.Image(hostile.imports(1, 1), mode).report(program).page.split()
+                self.assertEqual((words[0], words[1:-2], words[-1]), ("report", options, "-"))
+
     def test_a_large_page_is_refused(self):
         with tempfile.TemporaryDirectory() as room:
             program = os.path.join(room, "pe")

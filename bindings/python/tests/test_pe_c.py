@@ -291,6 +291,16 @@ class Values(unittest.TestCase):
         self.assertRegex(str(warning), "^a.efi: headers: file alignment 32: .* 512$")
         self.assertFalse([it for it in pe_c.Image(data, pe_c.Mode.MAPPED).warnings if it.kind is pe_c.WarningKind.ALIGNMENT])
 
+    def test_what_is_left_out_is_a_warning(self):
+        """An image whose last section the file cuts, and one of whose names of exports is no text."""
+        data = bytearray(bytes_of("exports"))
+        self.assertEqual(pe_c.Image(data).warnings, ())
+        data[data.index(b"second\0") + 5] = 0xFF
+        image = pe_c.Image(data[:-1], path="a.dll")
+        self.assertEqual([(it.kind, str(it), it.error) for it in image.warnings], [
+            (pe_c.WarningKind.LEFT_OUT, "a.dll: sections: 1 not whole: the file ends before they do", None),
+            (pe_c.WarningKind.LEFT_OUT, "a.dll: exports: 1 name left out: unmapped, or not UTF-8", None)])
+
     def test_a_directory_of_zeros_is_no_warning(self):
         zeros = pe_c.Image(hostile.image(bytes(64), {5: (hostile.RVA, 8)}))
         self.assertEqual((zeros.relocations, zeros.relocations.error, zeros.warnings), ((), None, ()))
@@ -305,7 +315,7 @@ class Values(unittest.TestCase):
         for cut in (data[:start], hostile.image(bytes(64), {5: (hostile.RVA, 8)})[:hostile.OFFSET + 4]):
             image = pe_c.Image(cut)
             self.assertEqual((image.relocations, image.relocations.error.kind), ((), Kind.SHORT))
-            self.assertEqual([(it.part, it.error.kind) for it in image.warnings], [("relocations", Kind.SHORT)])
+            self.assertEqual([(it.part, it.error.kind) for it in image.warnings if it.error], [("relocations", Kind.SHORT)])
 
     def test_a_damaged_record_of_the_debug_directory_is_a_warning(self):
         def warned(kind, offset):

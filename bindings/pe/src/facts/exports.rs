@@ -15,9 +15,9 @@ pub struct Exports<'a> {
     pub entries: Vec<Export<'a>>,
     /// Whether there are more names or entries, and what they share is too long to be shown as often.
     pub is_limited: bool,
-    /// How many names stand in no entry: they are unmapped, not UTF-8, or lead to an ordinal that is not used. For text.
-    #[serde(skip)]
-    pub names_left_out: usize,
+    /// How many names stand in no entry: they are unmapped, not UTF-8, or lead to an ordinal that is not used. Null where there are
+    /// more names or entries than are looked at.
+    pub names_left_out: Option<usize>,
 }
 
 field!(Exports<'_>, "exports");
@@ -38,9 +38,8 @@ impl Exports<'_> {
 
     /// Says how many names stand in no entry, if one does.
     pub fn left_out(&self) -> Option<String> {
-        let names = counted(self.names_left_out, "name");
-        (self.names_left_out > 0)
-            .then(|| format!("{names} left out: unmapped, not UTF-8, or of no ordinal that is used"))
+        let names = counted(self.names_left_out.filter(|it| *it > 0)?, "name");
+        Some(format!("{names} left out: unmapped, not UTF-8, or of no ordinal that is used"))
     }
 }
 
@@ -72,7 +71,7 @@ fn exports_of<'a>(image: &'a Image<'_>) -> Result<Option<Exports<'a>>, Error> {
     let name_lower = name.and_then(|it| it.lower());
     let shown = entries.iter().map(|it| it.names.len()).sum();
     let all = image.export_directory()?.map_or(0, |it| it.number_of_names as usize);
-    let names_left_out = if is_limited { 0 } else { all.saturating_sub(shown) };
+    let names_left_out = (!is_limited).then(|| all.saturating_sub(shown));
     Ok(Some(Exports { name, name_lower, ordinal_base: table.ordinal_base(), entries, is_limited, names_left_out }))
 }
 

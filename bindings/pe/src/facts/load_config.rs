@@ -38,6 +38,18 @@ pub struct LoadConfig {
 
 field!(LoadConfig, "load_config");
 
+impl LoadConfig {
+    /// What is said of an image that has code for ARM64 beside that for its machine (ARM64EC, ARM64X, CHPE), with tables of its own.
+    pub fn said_of_hybrid(&self) -> &'static str {
+        let is_hybrid = self.fields.0.iter().any(|it| it.0 == "CHPEMetadataPointer" && it.1.is_some_and(|it| it != 0));
+        if is_hybrid {
+            ", hybrid: what is for ARM64 alone is not read"
+        } else {
+            ""
+        }
+    }
+}
+
 /// Fields by their names in winnt.h, in its order.
 #[derive(Clone, Debug)]
 pub struct Fields(pub Vec<(&'static str, Option<u64>)>);

@@ -3,7 +3,7 @@
 
 use super::markup::Html;
 use crate::escape::escaped;
-use crate::facts::hardening::word;
+use crate::facts::hardening::{NO, YES};
 use crate::facts::{Facts, Part};
 use crate::summary::{built, checksum_of};
 
@@ -34,9 +34,10 @@ fn signature_of(facts: &Facts) -> Option<Row> {
         .find_map(|it| it.signer.as_ref())
         .map_or(String::new(), |it| format!(" by {}", escaped(&it.to_string())));
     Some(match (is_signed, entries.len()) {
-        (true, 1) => ("signature", format!("an entry{signer}, not verified"), ""),
-        (true, count) => ("signature", format!("{count} entries of certificates{signer}, not verified"), ""),
-        (false, _) => ("signature", "no entry".to_string(), ""),
+        (Some(true), 1) => ("signature", format!("an entry{signer}, not verified"), ""),
+        (Some(true), count) => ("signature", format!("{count} entries of certificates{signer}, not verified"), ""),
+        (Some(false), _) => ("signature", "no entry".to_string(), ""),
+        (None, _) => ("signature", "not known: the certificates are refused".to_string(), ""),
     })
 }
 
@@ -51,7 +52,7 @@ fn rows_of(facts: &Facts) -> Vec<Row> {
     let pdb = facts.debug.as_ref().and_then(|it| it.pdb.present());
     rows.extend(pdb.map(|it| ("PDB", format!("{}, key {}", it.name, it.key), "")));
     rows.extend(facts.hashes.as_ref().map(|it| ("SHA-256", it.sha256_hex.clone(), "")));
-    rows.extend(facts.hashes.as_ref().and_then(|it| Some(("imphash", it.imphash.clone()?, ""))));
+    rows.extend(facts.hashes.as_ref().and_then(|it| Some(("imphash", it.shown_imphash()?, ""))));
     rows
 }
 
@@ -63,14 +64,14 @@ fn hardening_of(facts: &Facts, html: &mut Html<'_>) {
     );
     for (name, value) in hardening.rows() {
         html.markup(match value {
-            Some(true) => "<li class=yes>",
-            Some(false) => "<li class=no>",
-            None => "<li class=none>",
+            YES => "<li class=yes>",
+            NO => "<li class=no>",
+            _ => "<li class=none>",
         });
-        html.text(name).markup(" <b>").text(word(value)).markup("</b></li>");
+        html.text(name).markup(" <b>").text(value).markup("</b></li>");
     }
     html.markup("</ul>");
-    for refused in hardening.said_of_refused() {
+    for refused in hardening.said_of_unknown() {
         html.markup("<p>").text(refused).markup("</p>");
     }
 }

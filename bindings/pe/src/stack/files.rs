@@ -2,8 +2,9 @@
 //! below the folders that the user names. Each is known by the time stamp and the size in its headers; of several that have the
 //! same, as builds without a time stamp may, by its name.
 
+use crate::facts::Refusal;
 use crate::files::{below, headers_of, whole};
-use crate::streams::{complain, complaint};
+use crate::streams::{complain, complain_of_unread, complaint};
 use pe_c::sys::DumpModule;
 use pe_c::{Image, Mode};
 use std::collections::BTreeMap;
@@ -18,17 +19,29 @@ pub struct Known(BTreeMap<Key, Vec<PathBuf>>);
 impl Known {
     /// Those of the files below folders.
     pub fn below(folders: &[PathBuf]) -> Known {
-        Known::of(folders.iter().flat_map(|folder| below(folder)))
+        Known::of(folders.iter().flat_map(|folder| below(folder)), folders)
     }
 
-    /// Reads the headers of each file. One that is no image is none of these, nor is one that cannot be read, which is said.
-    pub fn of(paths: impl IntoIterator<Item = PathBuf>) -> Known {
+    /// Reads the headers of each file. One that is no image is none of these, which is said of a file that is named; nor is one that
+    /// cannot be read, which is said.
+    pub fn of(paths: impl IntoIterator<Item = PathBuf>, named: &[PathBuf]) -> Known {
         let mut known: BTreeMap<Key, Vec<PathBuf>> = BTreeMap::new();
         for path in paths {
-            let headers = headers_of(&path).unwrap_or_else(|error| unread(&path, &error));
-            if let Ok(image) = Image::parse(&headers, Mode::Permissive) {
-                let info = image.info();
-                known.entry((info.time_date_stamp, info.size_of_image)).or_default().push(path);
+            let headers = match headers_of(&path) {
+                Ok(headers) => headers,
+                Err(error) => {
+                    complain_of_unread(&path, &error);
+                    continue;
+                }
+            };
+            match Image::parse(&headers, Mode::Permissive)
+                .map(|it| (it.info().time_date_stamp, it.info().size_of_image))
+            {
+                Ok(key) => known.entry(key).or_default().push(path),
+                Err(error) if named.contains(&path) => {
+                    complain(complaint(&path, Refusal::of_file(error, &headers, "pe FILE")));
+                }
+                Err(_) => (),
             }
         }
         Known(known)
@@ -59,7 +72,7 @@ impl Known {
 
 /// Says why a file cannot be read, in place of its bytes.
 fn unread(path: &Path, error: &std::io::Error) -> Vec<u8> {
-    complain(complaint(path, error));
+    complain_of_unread(path, error);
     Vec::new()
 }
 

@@ -44,7 +44,7 @@ impl Stores {
             folders.iter().for_each(|it| files::say_unlisted(it));
             paths.extend(files.iter().filter_map(|it| store_path(it, folder)));
         }
-        Stores { paths, places: Places { images: Known::of(of_images), symbols: SymbolFolders::none() } }
+        Stores { paths, places: Places { images: Known::of(of_images, images), symbols: SymbolFolders::none() } }
     }
 
     fn has(&self, path: &str) -> bool {

@@ -12,10 +12,12 @@ use super::told::{Frame, Function};
 use super::{modules, Loaded, Texts};
 use crate::facts::Refusal;
 use crate::pdb::{damaged_of, Damaged};
+use crate::streams::fail;
 use pe_c::{Dump, Image, Pdb, SymbolKey};
 use serde::Serialize;
 use std::collections::BTreeMap;
 use std::fs;
+use std::io;
 use std::path::{Path, PathBuf};
 
 /// How many bytes a PDB has at most that is read, and all of a dump.
@@ -262,7 +264,11 @@ impl PdbFiles<'_> {
             Some(Err(refusal)) => return Err(refused(refusal)),
             _ => (),
         }
-        let size = fs::metadata(path).map_err(|error| not_read(error.to_string()))?.len();
+        let unread = |error: io::Error| {
+            fail();
+            not_read(error.to_string())
+        };
+        let size = fs::metadata(path).map_err(unread)?.len();
         if size > MOST {
             return Err(not_read(format!("it has {size} bytes; at most {MOST} are read")));
         }
@@ -270,7 +276,7 @@ impl PdbFiles<'_> {
             not_read(format!("the PDB files of one dump that are read have at most {MOST_IN_ALL} bytes"))
         })?;
         let memory = std::mem::take(&mut self.memory);
-        let file = PdbFile::open(path, memory).map_err(|error| not_read(error.to_string()))?;
+        let file = PdbFile::open(path, memory).map_err(unread)?;
         if breakpad::is_symbol_file(file.bytes()) {
             return self.symbol_file(path, file, wanted);
         }

@@ -7,6 +7,7 @@
 
 use super::breakpad;
 use crate::files::paths_in;
+use crate::streams::fail;
 use std::cell::RefCell;
 use std::collections::BTreeMap;
 use std::env;
@@ -178,6 +179,9 @@ impl SymbolFolders {
             Err(error) if error.kind() == ErrorKind::NotFound => Ok(BTreeMap::new()),
             it => it.and_then(|_| paths_in(folder)).map(by_name).map_err(|error| error.to_string()),
         };
+        if listed.is_err() {
+            fail();
+        }
         let listing = Rc::new(listed);
         self.listings.borrow_mut().insert(folder.to_path_buf(), listing.clone());
         listing

@@ -4,9 +4,8 @@
 
 use super::inlined::{changes, Inlined, Names};
 use super::sites::{self, Sites};
-use super::{in_line, SymbolFile};
+use super::{complaint_of, in_line, SymbolFile};
 use crate::demangle::both_names;
-use crate::escape::escaped;
 use crate::facts::{counted, Refusal};
 use crate::pdb::{damaged_of, Left};
 use pe_c::{CodeAddress, Error, Image, Pdb, PdbLine, PdbLines, PdbModule, PdbSymbol, SourceNames};
@@ -19,6 +18,8 @@ const FUNCTION: u16 = 0x20;
 /// at least: a function of n records may have n such addresses.
 const READINGS: usize = 64;
 const LEAST_READ: usize = 1 << 30;
+/// What stands before the name of a module whose lines are refused.
+const LINES_OF: &str = "lines of ";
 
 /// A function, from its start to its end.
 struct Function {
@@ -65,6 +66,11 @@ fn one_at_each_start(mut found: Vec<Function>) -> Vec<Function> {
         }
     }
     kept
+}
+
+/// What is said of modules, or of their lines, as complaints of the modules.
+fn said_of_modules(file: &SymbolFile) -> BTreeSet<String> {
+    file.complaints.iter().map(|it| it.strip_prefix(LINES_OF).unwrap_or(it).to_string()).collect()
 }
 
 impl Functions {
@@ -151,9 +157,10 @@ impl Functions {
             let why = "to find them takes more readings of records than the file's bytes account for";
             file.complain("inlined functions", format_args!("those of {all} left out: {why}"));
         }
+        // A module whose lines are refused is named already.
+        let mut said = said_of_modules(file);
         for it in damaged_of(&symbolizer) {
-            // A module whose lines are refused is named already.
-            if !file.complaints.iter().any(|own| own.ends_with(&format!("{}: {}", escaped(&it.module), it.error))) {
+            if said.insert(complaint_of(&it.module, &it.error)) {
                 file.complain(&it.module, it.error);
             }
         }
@@ -174,7 +181,7 @@ impl Functions {
         refused: &mut impl FnMut(&str, Error),
     ) {
         let Some(names) = names else { return };
-        let part = format!("lines of {}", module.name);
+        let part = format!("{LINES_OF}{}", module.name);
         match pdb.lines(module, names) {
             Ok(PdbLines { lines, files, is_limited, .. }) => {
                 if is_limited {
@@ -319,4 +326,20 @@ fn symbol_address(image: &Image<'_>, symbol: &pe_c::SymbolEntry) -> Option<u32> 
     let is_function = symbol.kind == FUNCTION && CLASSES.contains(&symbol.storage_class);
     let section = image.sections().get(number).filter(|_| is_function)?;
     section.virtual_address.checked_add(symbol.value)
+}
+
+#[cfg(test)]
+mod tests {
+    use super::*;
+
+    /// A module is not taken for another one whose name ends as its own does.
+    #[test]
+    fn a_module_is_named_once() {
+        let mut file = SymbolFile::default();
+        file.complain("lines of ab.obj", "truncated");
+        file.complain("c.obj", "truncated");
+        let mut said = said_of_modules(&file);
+        let is_new = ["b.obj", "ab.obj", "c.obj", "b.obj"].map(|it| said.insert(complaint_of(it, "truncated")));
+        assert_eq!(is_new, [true, false, false, false]);
+    }
 }

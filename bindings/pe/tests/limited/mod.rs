@@ -128,6 +128,21 @@ pub fn forwarders_of_a_long_name(count: u32) -> Vec<u8> {
     made.image()
 }
 
+/// An image of one export with so many names, which leads to a name of so many bytes in another DLL.
+pub fn names_of_one_forwarder(count: u32, length: usize) -> Vec<u8> {
+    let mut made = made::Made::new(made::X64);
+    let name = made.put(b"f\0");
+    let names = made.put_words(&vec![name; count as usize]);
+    let ordinals = made.put(&vec![0; 2 * count as usize]);
+    // The only address is that of the text after the directory, which has both: so it is a forwarder.
+    let addresses = made.put(&[]);
+    made.put_words(&[addresses + 4 + 40]);
+    let directory = made.put_words(&[0, 0, 0, name, 1, 1, count, addresses, names, ordinals]);
+    made.put(&[&b"a."[..], &vec![b'b'; length - 2], &[0]].concat());
+    made.directory(made::EXPORTS, directory, 40 + length as u32);
+    made.image()
+}
+
 /// A tree of resources that has one directory of types, one of names and one of languages, each of `count` entries that lead to
 /// the same one.
 pub fn resources_of_shared_directories(count: u32) -> Vec<u8> {

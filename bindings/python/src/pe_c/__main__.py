@@ -5,6 +5,7 @@ from __future__ import annotations
 import argparse
 import concurrent.futures.process
 import os
+import signal
 import sys
 import time
 import typing
@@ -28,6 +29,8 @@ def arguments(words: list[str]) -> argparse.Namespace:
     if asked.jobs is not None and asked.jobs < 1:
         parser.error("-j takes 1 or more")
     asked.recursive = asked.recursive or is_scan
+    if asked.verbose and not asked.recursive:
+        parser.error("-v names what is skipped below folders, with -r or scan")
     asked.jobs = asked.jobs or (None if is_scan else 1)
     return asked
 
@@ -56,40 +59,74 @@ class Bar:
             self.out.flush()
 
 
-def run(words: list[str]) -> int:
-    asked = arguments(words)
-    if sys.stdout is None:
-        print("pe_c: standard output is closed", file=sys.stderr)
-        return FILE_ERROR
+class Complaints:
+    """Lines for standard error, and whether one was lost: it may be full or closed."""
+
+    is_lost = False
+
+    def add(self, text: object) -> None:
+        if sys.stderr is None:
+            self.is_lost = True
+            return
+        try:
+            print(f"pe_c: {text}", file=sys.stderr, flush=True)
+        except OSError:
+            let_go(sys.stderr)
+            self.is_lost = True
+
+
+def let_go(stream: typing.TextIO) -> None:
+    """Has what is left of a stream that takes no more go nowhere: Python would write it once more as it ends."""
+    os.dup2(os.open(os.devnull, os.O_WRONLY), stream.fileno())
+
+
+def written(asked: argparse.Namespace, complaints: Complaints) -> int:
+    """Writes the lines, and what is said beside them. Returns the status."""
     mode = (Mode.STRICT if asked.strict else Mode.PERMISSIVE) | (Mode.MAPPED if asked.mapped else Mode.STRICT)
-    bar = Bar(sys.stderr, asked.recursive and sys.stderr.isatty() and not sys.stdout.isatty())
+    is_watched = sys.stderr is not None and sys.stderr.isatty()
+    bar = Bar(sys.stderr, asked.recursive and is_watched and not sys.stdout.isatty())
     worst, skipped, cut, out = DONE, 0, 0, sys.stdout.buffer
+    found = scan(asked.paths, recursive=asked.recursive, jobs=asked.jobs, how=How(int(mode), not asked.no_hashes))
     try:
-        for said in scan(asked.paths, recursive=asked.recursive, jobs=asked.jobs, how=How(int(mode), not asked.no_hashes)):
+        for said in found:
             bar.add(said.size)
             out.write(said.line.encode())
             worst, skipped = max(worst, said.status), skipped + said.is_skipped
             cut += said.complaint.endswith(CUT)
             if said.complaint and (not said.is_skipped or asked.verbose):
                 bar.end()
-                print(f"pe_c: {said.complaint}", file=sys.stderr)
+                complaints.add(said.complaint)
         out.flush()
-    except OSError as error:
-        # Python would write what is left once more as it ends.
-        os.dup2(os.open(os.devnull, os.O_WRONLY), sys.stdout.fileno())
-        # Whoever read from a pipe that is broken has seen enough, as `head` has.
-        if not isinstance(error, BrokenPipeError):
-            print(f"pe_c: {error.strerror or error}", file=sys.stderr)
-        return FILE_ERROR
-    except concurrent.futures.process.BrokenProcessPool:
-        print("pe_c: a process ended early, as one that the system killed", file=sys.stderr)
-        return FILE_ERROR
     finally:
+        found.close()
         bar.end()
     if skipped:
         more = f"; by their start {cut} DOS or truncated MZ file{'' if cut == 1 else 's'}" if cut else ""
-        print(f"pe_c: {skipped} file{' is no image' if skipped == 1 else 's are no images'}, and skipped{more}", file=sys.stderr)
+        complaints.add(f"{skipped} file{' is no image' if skipped == 1 else 's are no images'}, and skipped{more}")
     return worst
+
+
+def run(words: list[str]) -> int:
+    asked, complaints = arguments(words), Complaints()
+    if sys.stdout is None:
+        complaints.add("standard output is closed")
+        return FILE_ERROR
+    try:
+        status = written(asked, complaints)
+    except OSError as error:
+        let_go(sys.stdout)
+        # Whoever read from a pipe that is broken has seen enough, as `head` has.
+        if not isinstance(error, BrokenPipeError):
+            complaints.add(error.strerror or error)
+        return FILE_ERROR
+    except KeyboardInterrupt:
+        # It ends as any program does that is interrupted.
+        signal.signal(signal.SIGINT, signal.SIG_DFL)
+        os.kill(os.getpid(), signal.SIGINT)
+    except concurrent.futures.process.BrokenProcessPool:
+        complaints.add("a process ended early, as one that the system killed")
+        return FILE_ERROR
+    return FILE_ERROR if complaints.is_lost else status
 
 
 if __name__ == "__main__":

@@ -62,8 +62,8 @@ class ResourceEditor:
             self.resources[place] = (it.code_page, bytes(it.content))
 
     def set(self, type: Key, name: Key, language: int, content: bytes) -> None:
-        """Puts a resource in place of the one that is there, or beside the others. An id is RT_ of winuser.h. Raises TypeError where the
-        content is no bytes."""
+        """Puts a resource in place of the one that is there, or beside the others. An id is RT_ of winuser.h; a name stands as it is given,
+        and Windows finds names in upper case alone. Raises TypeError where the content is no bytes."""
         code_page = self.resources.get((type, name, language), (0, b""))[0]
         # Of a number bytes() alone would make as many zeros.
         self.resources[type, name, language] = (code_page, bytes(memoryview(content)))

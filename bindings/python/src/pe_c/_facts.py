@@ -240,18 +240,23 @@ def overlay(image: Exact, info: _core.Headers) -> Facts | None:
 
 
 def hardening(image: Exact) -> Facts:
-    info, config = image.value("headers"), image.value("load_config")
-    extended = image.value("extended_dll_characteristics") or 0
-    aslr = bool(info.dll_characteristics & 0x40) and not info.characteristics & 1
+    """What is None does not apply, or the part that would say it is refused."""
+    info, (config, is_refused, _) = image.value("headers"), image.read("load_config")
+    extended, is_debug_refused, _ = image.read("extended_dll_characteristics")
+    certificates, is_list_refused, _ = image.read("certificates")
+    aslr, has_guards = bool(info.dll_characteristics & 0x40) and not info.characteristics & 1, info.dll_characteristics & 0x4000
+    has_cet, has_seh = info.machine in (0x14C, 0x8664), info.machine == 0x14C and not info.dll_characteristics & 0x400
+    is_guarded = bool(has_guards and config and (config.guard_flags or 0) & 0x100)
     has_table = bool(config and config.se_handler_table and config.se_handler_count)
+    is_signed = any(it.type == 2 for it in certificates or ())
     return {
         "aslr": aslr, "high_entropy_aslr": aslr and bool(info.dll_characteristics & 0x20) if info.width == 64 else None,
         "dep": bool(info.dll_characteristics & 0x100),
-        "cfg": bool(info.dll_characteristics & 0x4000) and bool(config and (config.guard_flags or 0) & 0x100),
-        "cet": bool(extended & 1) if info.machine in (0x14C, 0x8664) else None,
-        "safe_seh": has_table if info.machine == 0x14C and not info.dll_characteristics & 0x400 else None,
+        "cfg": None if has_guards and is_refused else is_guarded,
+        "cet": bool((extended or 0) & 1) if has_cet and not is_debug_refused else None,
+        "safe_seh": has_table if has_seh and not is_refused else None,
         "force_integrity": bool(info.dll_characteristics & 0x80),
-        "signed": any(it.type == 2 for it in image.read("certificates")[0] or ()),
+        "signed": None if is_list_refused and not is_signed else is_signed,
         "no_writable_code": all(it.characteristics & 0xA0000000 != 0xA0000000 for it in image.read("sections")[0])}
 
 
@@ -401,8 +406,11 @@ def exports(image: Exact) -> Facts:
         own = entries.setdefault(it.ordinal, {
             "ordinal": it.ordinal, "rva": it.rva, "names": [], "forwarder": it.forwarder}) if it.rva else {"names": []}
         own["names"] += [] if it.name is None else [it.name]
+    directory, shown = image.value("export_directory"), sum(len(it["names"]) for it in entries.values())
+    left_out = None if is_limited else max(0, (directory.number_of_names if directory else 0) - shown)
     return {"exports": {"name": table.name, "name_lower": lower(table.name), "ordinal_base": table.ordinal_base,
-                        "entries": [entries[it] for it in sorted(entries)], "is_limited": is_limited}, "exports_error": None}
+                        "entries": [entries[it] for it in sorted(entries)], "is_limited": is_limited,
+                        "names_left_out": left_out}, "exports_error": None}
 
 
 # ---- debug data

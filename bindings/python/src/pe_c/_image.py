@@ -559,7 +559,7 @@ class Image(Reader):
 
     @property
     def warnings(self) -> tuple[ImageWarning, ...]:
-        """What of the image is damaged, an error a part. Then what is no damage: the parts that are limited, and a file alignment
+        """What of the image is damaged, an error a part. Then the parts that are limited, what is left out, and a file alignment
         below 512. A directory of zeros is no warning. `symbols` and `signatures` are read when they are asked for alone, and have their
         own `error`."""
         def read() -> tuple[ImageWarning, ...]:
@@ -575,7 +575,7 @@ class Image(Reader):
             found += self._unmapped() + self._without_content()
             found += [ImageWarning(WarningKind.LIMITED, it, LIMITED, None, self.path)
                       for it in self.limited]
-            return tuple(found + self._alignment())
+            return tuple(found + self._left_out() + self._alignment())
         return self._once("warnings", read)
 
     def _unmapped(self) -> list[ImageWarning]:
@@ -596,6 +596,19 @@ class Image(Reader):
         error = error_of(found[0].content_result, "resources", self.path)
         text = f"{len(found)} without content, the first of type {found[0].type!r} and name {found[0].name!r}: {error.text}"
         return [ImageWarning(WarningKind.DAMAGED, "resources", text, error, self.path)]
+
+    def _left_out(self) -> list[ImageWarning]:
+        """Sections that the end of the file cuts, and names of exports that are in no row."""
+        def is_cut(it: Section) -> bool:
+            start, size = ((it.virtual_address, it.virtual_size) if self.headers.mode & Mode.MAPPED else
+                           (it.pointer_to_raw_data, it.size_of_raw_data))
+            return bool(size) and start + size > len(self.memory)
+        cut, exports = sum(map(is_cut, self.sections)), self.exports
+        directory = None if exports.error or exports.is_limited else self._kept_answer("export_directory")[0]
+        names = directory.number_of_names - sum(it.name is not None for it in exports) if directory else 0
+        said = [("sections", f"{cut} not whole: the file ends before they do")] if cut else []
+        said += [("exports", f"{names} name{'s' * (names > 1)} left out: unmapped, or not UTF-8")] if names > 0 else []
+        return [ImageWarning(WarningKind.LEFT_OUT, part, text, None, self.path) for part, text in said]
 
     def _alignment(self) -> list[ImageWarning]:
         headers = self.headers
@@ -634,8 +647,11 @@ class Image(Reader):
         return facts_of(self.memory, self.path or "", Mode(self.headers.mode), has_hashes)[0]
 
     def report(self, program: str = "pe") -> Report:
-        """The page of `pe report`, to be shown in a notebook. Raises OSError without that program, and where it fails."""
-        return Report.of(self.memory, self.path or "image", program)
+        """The page of `pe report`, in the mode of the image, to be shown in a notebook. Raises OSError without that program, and where it
+        fails."""
+        mode = self.headers.mode
+        options = ["--strict"] * (not mode & Mode.PERMISSIVE) + ["--mapped"] * bool(mode & Mode.MAPPED)
+        return Report.of(self.memory, self.path or "image", program, options)
 
     def _repr_html_(self) -> str:
         rows = "".join(f"<tr><td>{shown(it.name)}</td><td>0x{it.virtual_address:x}</td><td>{it.size_of_raw_data}</td>"

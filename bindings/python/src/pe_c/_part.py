@@ -57,6 +57,8 @@ class WarningKind(enum.Enum):
     """a part that has more rows than the file's bytes account for, as only hostile ones have"""
     ALIGNMENT = "alignment"
     """a file alignment below 512: other readers may find other bytes in the sections"""
+    LEFT_OUT = "left-out"
+    """what is in no row, or not in the file: names of exports, bytes of sections that the end of the file cuts"""
     SYMBOLS = "symbols"
     """a PDB that names nothing: it is not found, of another build, or not read; or one of code that was moved"""
 

@@ -19,12 +19,12 @@ class Report:
         self.page = page
 
     @classmethod
-    def of(cls, data: memoryview, path: str, program: str) -> Report:
+    def of(cls, data: memoryview, path: str, program: str, options: list[str]) -> Report:
         with tempfile.TemporaryDirectory() as room:
             name = os.path.join(room, os.path.basename(path) or "image")
             with open(name, "wb") as file:
                 file.write(data)
-            done = subprocess.run([program, "report", name, "-"], stdin=subprocess.DEVNULL, capture_output=True)
+            done = subprocess.run([program, "report", *options, name, "-"], stdin=subprocess.DEVNULL, capture_output=True)
         if done.returncode not in (0, 1) or not done.stdout:
             raise OSError(errno.EIO, done.stderr.decode("utf-8", "replace").strip() or "no page", program)
         if len(done.stdout) > MOST:

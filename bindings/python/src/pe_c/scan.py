@@ -5,7 +5,8 @@ processes.
         out.write(said.line)
 
 What comes out is in the order of the files, however many processes there are, and no more than a few hundred files are read ahead,
-so a million files take no more memory than some hundred. `line_of` is the same of one file, for those who have a cluster."""
+so a million files take no more memory than some hundred. `line_of` is the same of one file, for those who have a cluster: `-`, standard
+input, is no file there, since each process has its own."""
 from __future__ import annotations
 
 import collections
@@ -13,6 +14,7 @@ import concurrent.futures
 import errno
 import json
 import os
+import signal
 import stat
 import sys
 import typing
@@ -109,9 +111,11 @@ def _standard_input() -> bytes:
     return sys.stdin.buffer.read()
 
 
-def _content(file: File) -> bytes | None:
+def _content(file: File, reads_input: bool) -> bytes | None:
     """A file whole. Of one below a folder the start is read first: one that is no image is not read on."""
     if file.path == "-":
+        if not reads_input:
+            raise OSError(errno.EINVAL, "standard input is that of another process, and not read here")
         return _standard_input()
     mode = os.stat(file.path).st_mode
     if not stat.S_ISREG(mode) and not stat.S_ISDIR(mode):
@@ -132,7 +136,18 @@ def json_of(facts: dict[str, typing.Any]) -> str:
 
 
 def line_of(file: File, how: How = How()) -> Said:
-    """The line of a file. Raises nothing."""
+    """The line of a file. Raises nothing. Standard input, `-`, is read by `scan` alone."""
+    return _line_of(file, how, False)
+
+
+def _line_of(file: File, how: How, reads_input: bool) -> Said:
+    try:
+        return _said_of(file, how, reads_input)
+    except MemoryError:
+        return Said("", f"{shown_text(file.path)}: {os.strerror(errno.ENOMEM)}", FILE_ERROR, False, 0)
+
+
+def _said_of(file: File, how: How, reads_input: bool) -> Said:
     def skipped(why: str) -> Said:
         return Said("", f"{shown_text(file.path)}: skipped, {why}", DONE, True, file.size)
     try:
@@ -140,7 +155,7 @@ def line_of(file: File, how: How = How()) -> Said:
             return skipped("it is no regular file")
         if file.is_below and os.path.islink(file.path) and os.path.isdir(file.path):
             return skipped("it is no regular file")
-        data = _content(file)
+        data = _content(file, reads_input)
     except ValueError as error:
         # A path that no file has: with a NUL, or with a character that names of files can't have.
         return Said("", f"{shown_text(file.path)}: {error}", FILE_ERROR, False, 0)
@@ -163,7 +178,7 @@ def lines_of(batch: list[File], how: How) -> list[Said]:
 def _said_here(batch: list[File], how: How) -> concurrent.futures.Future[list[Said]]:
     """The lines of a batch with standard input, which other processes do not have: to them it is an empty file."""
     said: concurrent.futures.Future[list[Said]] = concurrent.futures.Future()
-    said.set_result(lines_of(batch, how))
+    said.set_result([_line_of(it, how, True) for it in batch])
     return said
 
 
@@ -181,19 +196,23 @@ def batches(found: typing.Iterable[File], size: int = BATCH_BYTES, count: int = 
         yield batch
 
 
-def scan(paths: AnyPaths, *, recursive: bool = True, jobs: int | None = None, how: How = How()) -> typing.Iterator[Said]:
+def scan(paths: AnyPaths, *, recursive: bool = True, jobs: int | None = None, how: How = How()) -> typing.Generator[Said, None, None]:
     """What is said of each file, in the order of the files, by so many processes: by default as many as the machine has."""
     jobs = jobs or len(os.sched_getaffinity(0))
     found = batches(files(paths, recursive))
     if jobs == 1:
         for batch in found:
-            yield from (line_of(it, how) for it in batch)
+            yield from (_line_of(it, how, True) for it in batch)
         return
-    with concurrent.futures.ProcessPoolExecutor(jobs) as pool:
+    # Who interrupts it interrupts this process, which lets the others go.
+    with concurrent.futures.ProcessPoolExecutor(jobs, None, signal.signal, (signal.SIGINT, signal.SIG_IGN)) as pool:
         waiting: collections.deque[concurrent.futures.Future[list[Said]]] = collections.deque()
-        for batch in found:
-            waiting.append(pool.submit(lines_of, batch, how) if "-" not in (it.path for it in batch) else _said_here(batch, how))
-            if len(waiting) > AHEAD * jobs:
+        try:
+            for batch in found:
+                waiting.append(pool.submit(lines_of, batch, how) if "-" not in (it.path for it in batch) else _said_here(batch, how))
+                if len(waiting) > AHEAD * jobs:
+                    yield from waiting.popleft().result()
+            while waiting:
                 yield from waiting.popleft().result()
-        while waiting:
-            yield from waiting.popleft().result()
+        finally:
+            pool.shutdown(cancel_futures=True)
