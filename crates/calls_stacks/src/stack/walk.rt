@@ -210,6 +210,28 @@ impl<'a> AddressRange for ModuleView<'a> {
     }
 }
 
+/// Whether the function table of each module lies in its bytes, and the modules are in ascending order and do not overlap: so
+/// nearly all are, which are tested in one pass. Out of line, as `have_tables`.
+#[inline(never)]
+fn are_in_order(views: &[ModuleView<'_>]) -> bool
+    ensures tables { IsTrue result → IsTrue (list_all has_table views.now) }
+    ensures ascending { IsTrue result → AreAscending view_base view_size views.now }
+{
+    // Of the module before.
+    let mut start = 0;
+    let mut size = 0;
+    for i in 0..views.len() {
+        let view = &views[i];
+        let next = view.base;
+        if !has_table(view) || next < start || next - start < size {
+            return false;
+        }
+        start = next;
+        size = view.size();
+    }
+    true
+}
+
 /// Whether the function table of each module lies in its bytes. Out of line: in line, a walk's call makes the error of each module
 /// before it tests it.
 #[inline(never)]
@@ -237,11 +259,12 @@ impl<'a> ViewedModules<'a> {
     pub fn new(views: &'a [ModuleView<'a>]) -> Result<ViewedModules<'a>>
         ensures { answer_by (λ m. m.views.now) result ≡ viewed views.entry.now }
     {
-        if !have_tables(views) {
+        let is_in_order = are_in_order(views);
+        if !is_in_order && !have_tables(views) {
             // Callers get the error's number alone.
             return Err(Error::Short { at: 0, needed: 0 });
         }
-        let is_ascending = first_overlap(views).is_none();
+        let is_ascending = is_in_order || first_overlap(views).is_none();
         Ok(ViewedModules {
             views,
             is_ascending,
