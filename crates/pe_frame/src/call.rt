@@ -87,7 +87,7 @@ fn is_operand_call(code: &[u8]) -> bool
 }
 
 /// Whether the bytes are a `call` by the distance of its target.
-fn is_near_call(code: &[u8]) -> bool
+pub(crate) fn is_near_call(code: &[u8]) -> bool
     ensures { result ≡ is_near_call code.now }
 {
     code.len() == SIZE_OF_CALL_REL32 as usize && code[0] == CALL_REL32

@@ -2,7 +2,7 @@
 //! ([Microsoft's page](https://learn.microsoft.com/cpp/build/exception-handling-x64#unwind-codes)). They are undone by their bytes,
 //! without what others take: neither the frame register nor an interrupt depends on them.
 
-ghost use Rattle.std.specs.Prelude.{ℕ, IfSome, None};
+ghost use Rattle.std.specs.Prelude.{◌<◌, ℕ, IfSome, None};
 ghost use Rattle.pe_frame.specs.InPlace.{changed};
 ghost use Rattle.pe_frame.specs.Survey.{IsFrequent, UndoesFirst};
 
@@ -26,7 +26,8 @@ const UWOP_ALLOC_SMALL: u8 = 2;
 /// The operation of the code at the start of the bytes, and its size, if it is a frequent one.
 #[inline(always)]
 fn frequent_code(bytes: &[u8]) -> Option<(UnwindOperation, usize)>
-    ensures { IfSome result (λ found. IsFrequent bytes.now found.0 found.1) }
+    ensures code { IfSome result (λ found. IsFrequent bytes.now found.0 found.1) }
+    ensures some { IfSome result (λ found. 0 < found.1) }
 {
     if bytes.len() < SIZE_OF_SLOT {
         return None;
@@ -71,10 +72,7 @@ pub(crate) fn undo_frequent<'a, M: Memory>(
         registers.old (changed result.left registers.new) }
 {
     let mut rest = codes;
-    for _ in 0..codes.len() {
-        let Some((operation, size)) = frequent_code(rest) else {
-            break;
-        };
+    while let Some((operation, size)) = frequent_code(rest) {
         rest = rest.split_at(size).1;
         if let Err(error) = undo(operation, base, registers, memory) {
             let left = Err(error);

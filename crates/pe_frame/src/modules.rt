@@ -9,7 +9,7 @@ ghost use Rattle.pe_lookup.specs.SectionIndexes.{sections_by};
 ghost use Rattle.pe_frame.specs.Modules.{bytes_or_none, module_base, module_size, module_at, map_of_module, code_alignment, code_at, code_in, follows_call, is_after_call_in, is_after_call, is_after_call_arm64_in, is_after_call_arm64, executes, is_executable, is_code_of, is_code_return, is_code_return_of, is_code_return_arm64, is_code_return_arm64_of, is_code, is_in_unknown, is_unknown, call_target, call_target_of};
 
 use crate::arm64::is_call_arm64;
-use crate::call::{SIZE_OF_CALL_REL32, is_call, near_target};
+use crate::call::{SIZE_OF_CALL_REL32, is_call, is_near_call, near_target};
 use pe_core::{
     ParseOptions, RangeEntry, RvaMap, SectionMap, SectionTable, find_offset, mapped_offset,
     slice_at,
@@ -179,8 +179,19 @@ impl<'a> Module<'a> {
         requires { address ≤ self.now.base + self.now.size }
         ensures { result ≡ is_after_call_in self.now address }
     {
-        let rva = self.rva_of(address);
-        self.follows_call(rva, CALL_SIZES[0]) || self.follows_any(rva, &CALL_SIZES)
+        self.is_after_near_call(address) || self.follows_any(self.rva_of(address), &CALL_SIZES)
+    }
+
+    /// Whether the five bytes before an address, which may be the end of the module, are a `call` by the distance of its target, as
+    /// those of nearly all calls are.
+    #[tactic(auto, unfolding(crate::specs::CallForms::is_call))]
+    #[inline(always)]
+    pub fn is_after_near_call(&self, address: u64) -> bool
+        requires { address ≤ self.now.base + self.now.size }
+        ensures { IsTrue result → IsTrue (is_after_call_in self.now address) }
+    {
+        let (size, rva) = (SIZE_OF_CALL_REL32, self.rva_of(address));
+        size <= rva && is_near_call(self.called_code(rva - size..rva))
     }
 
     /// Whether an address, which may be the end of the module, is one after a call on ARM64.

@@ -90,6 +90,14 @@ module _ {X : Type 0} (start size : X → ℕ) (xs : List X) where
       found_at (has_address start size a) xs (n - 1) x lt (λ k less. earlier a (n - 1) k x up less lt before) has
       ∙ ap (λ (y : X). Some y) (sym is)
 
+  -- any range that has it is the first
+  pub near_found : (a k : ℕ) (x : X) → AreAscending start size xs → k < length xs → x ≡ get_or xs k x → has_address start size a x ≡ true → find (has_address start size a) xs ≡ Some x
+  near_found a k x up lt is has =
+      let this : has_address start size a (get_or xs k x) ≡ true = subst (λ (y : X). has_address start size a y ≡ true) is has in
+      let before : start (get_or xs k x) ≤ a = subst (λ (y : X). start y ≤ a) is (is_within (start x) (size x) a has).0 in
+      found_at (has_address start size a) xs k x lt (λ i less. earlier a k i x up less lt before) this
+      ∙ ap (λ (y : X). Some y) (sym is)
+
   -- it ends at or before it
   pub range_missed : (a n : ℕ) (x : X) → AreAscending start size xs → IsCountUpTo start a xs n → (n ≡ 0 → ⊥) → x ≡ get_or xs (n - 1) x → start x + size x ≤ a → find (has_address start size a) xs ≡ None
   range_missed a n x up count some is ends =

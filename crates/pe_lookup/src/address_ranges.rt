@@ -7,6 +7,7 @@ ghost use Rattle.std.specs.Option.{option_map};
 ghost use Rattle.pe_lookup.specs.AddressRanges.{AreAscending, IsCountUpTo, Overlaps, has_address, start_by, started};
 
 use crate::bits::{bits_of, power_of_two};
+use std::cell::Cell;
 
 /// What lies at a range of addresses.
 pub trait AddressRange {
@@ -69,14 +70,14 @@ fn count_up_to<R: AddressRange>(ranges: &[R], address: u64) -> usize
     }
 }
 
-/// The range that has an address, by binary search.
+/// The range that has an address, if the last of so many does, which start at or before it.
 #[tactic(auto, using(crate::proofs::Lookups::last_starts, crate::proofs::Lookups::none_starts, crate::proofs::Lookups::range_found, crate::proofs::Lookups::range_missed))]
-pub fn range_with<R: AddressRange>(ranges: &[R], address: u64) -> Option<&R>
-    requires { AreAscending R.start_of R.size_of ranges.now }
+fn last_of<R: AddressRange>(ranges: &[R], count: usize, address: u64) -> Option<&R>
+    requires ascending { AreAscending R.start_of R.size_of ranges.now }
+    requires count { IsCountUpTo R.start_of address ranges.now count }
     ensures { option_map (λ r. r.now) result
         ≡ find (has_address R.start_of R.size_of address) ranges.now }
 {
-    let count = count_up_to(ranges, address);
     if count == 0 {
         return None;
     }
@@ -86,6 +87,36 @@ pub fn range_with<R: AddressRange>(ranges: &[R], address: u64) -> Option<&R>
     } else {
         None
     }
+}
+
+/// The range that has an address, by binary search.
+pub fn range_with<R: AddressRange>(ranges: &[R], address: u64) -> Option<&R>
+    requires { AreAscending R.start_of R.size_of ranges.now }
+    ensures { option_map (λ r. r.now) result
+        ≡ find (has_address R.start_of R.size_of address) ranges.now }
+{
+    last_of(ranges, count_up_to(ranges, address), address)
+}
+
+/// The same where addresses of one range follow one another: that with an index is asked first, which becomes the index of the last
+/// range that was found.
+#[tactic(auto, using(crate::proofs::Lookups::near_found))]
+pub fn range_near<'a, R: AddressRange>(
+    ranges: &'a [R],
+    near: &Cell<usize>,
+    address: u64,
+) -> Option<&'a R>
+    requires { AreAscending R.start_of R.size_of ranges.now }
+    ensures { option_map (λ r. r.now) result
+        ≡ find (has_address R.start_of R.size_of address) ranges.entry.now }
+{
+    let index = near.get();
+    if index < ranges.len() && has_address(&ranges[index], address) {
+        return Some(&ranges[index]);
+    }
+    let count = count_up_to(ranges, address);
+    near.set(count.saturating_sub(1));
+    last_of(ranges, count, address)
 }
 
 /// Whether there are so many ranges, and the last of them starts at or before an address.

@@ -8,7 +8,7 @@ mod section_index;
 mod section_search;
 
 pub use address_ranges::{
-    AddressRange, first_overlap, first_with, has_address, range_with, started,
+    AddressRange, first_overlap, first_with, has_address, range_near, range_with, started,
 };
 pub use bits::{bits_of, power_of_two};
 pub use section_index::{number_found, numbered, sections_by, start_by};

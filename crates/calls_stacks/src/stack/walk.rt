@@ -3,7 +3,7 @@
 //! https://learn.microsoft.com/cpp/build/exception-handling-x64
 
 ghost use Rattle.std.specs.Prelude.{◌≡◌, ◌≤◌, ◌<◌, ◌+◌, length, Some, IfSome, IsTrue, OnErr};
-ghost use Rattle.std.specs.List.{list_all};
+ghost use Rattle.std.specs.List.{find, list_all};
 ghost use Rattle.std.specs.Option.{option_map};
 ghost use Rattle.pe_core.specs.Refusals.{answer_by};
 ghost use Rattle.pe_lookup.specs.AddressRanges.{AreAscending, has_address};
@@ -24,8 +24,9 @@ use pe_frame::{
     Arm64StackFrame, CallSites, LoadedModules, Memory, Module, StackFrame, WalkEnd, WalkPosition,
     caller_in_module, caller_in_module_arm64, caller_outside, caller_outside_arm64,
 };
-use pe_lookup::{AddressRange, first_overlap, first_with};
+use pe_lookup::{AddressRange, first_overlap, first_with, range_near};
 use pe_unwind::ExceptionData;
+use std::cell::Cell;
 
 /// A module of a process on x64: an image, and the addresses where it is loaded. One whose image is not at hand has no bytes and no
 /// sections, and the size of its image.
@@ -117,7 +118,20 @@ fn module_with<'a>(view: &ModuleView<'a>, exceptions: Option<&'a ExceptionData<'
     }
 }
 
+/// Whether an address, which may be the end of a module, is one after a call in it by the distance of its target. Nearly all calls
+/// are such, and for one nothing is made of the module but what is read.
+#[inline(always)]
+fn ends_near_call_in(view: &ModuleView<'_>, address: u64) -> bool
+    requires table { IsTrue (has_table view.now) }
+    requires near { address ≤ view.now.base + view.now.image.image.now.size_of_image }
+    ensures { IsTrue result → IsTrue (is_after_call_of (Some (module_of view.now)) address) }
+{
+    let exceptions = exceptions_of(view);
+    module_with(view, exceptions.as_ref()).is_after_near_call(address)
+}
+
 /// Whether an address, which may be the end of a module, is one after a call in it.
+#[inline(never)]
 fn ends_call_in(view: &ModuleView<'_>, address: u64) -> bool
     requires table { IsTrue (has_table view.now) }
     requires near { address ≤ view.now.base + view.now.image.image.now.size_of_image }
@@ -196,6 +210,28 @@ impl<'a> AddressRange for ModuleView<'a> {
     }
 }
 
+/// Whether the function table of each module lies in its bytes, and the modules are in ascending order and do not overlap: so
+/// nearly all are, which are tested in one pass. Out of line, as `have_tables`.
+#[inline(never)]
+fn are_in_order(views: &[ModuleView<'_>]) -> bool
+    ensures tables { IsTrue result → IsTrue (list_all has_table views.now) }
+    ensures ascending { IsTrue result → AreAscending view_base view_size views.now }
+{
+    // Of the module before.
+    let mut start = 0;
+    let mut size = 0;
+    for i in 0..views.len() {
+        let view = &views[i];
+        let next = view.base;
+        if !has_table(view) || next < start || next - start < size {
+            return false;
+        }
+        start = next;
+        size = view.size();
+    }
+    true
+}
+
 /// Whether the function table of each module lies in its bytes. Out of line: in line, a walk's call makes the error of each module
 /// before it tests it.
 #[inline(never)]
@@ -206,11 +242,14 @@ fn have_tables(views: &[ModuleView<'_>]) -> bool
 }
 
 /// The modules that a caller passes.
-#[derive(Clone, Copy)]
+#[derive(Drop)]
 pub struct ViewedModules<'a> {
     views: &'a [ModuleView<'a>],
     /// Whether they are in ascending order and do not overlap.
     is_ascending: bool,
+    /// Then the index of the one that was found last: that of a return address is looked up for the call before it, and again
+    /// for its frame.
+    near: Cell<usize>,
     ghost ascending: { IsTrue is_ascending → AreAscending view_base view_size views.now },
     ghost tables: { IsTrue (list_all has_table views.now) },
 }
@@ -220,15 +259,29 @@ impl<'a> ViewedModules<'a> {
     pub fn new(views: &'a [ModuleView<'a>]) -> Result<ViewedModules<'a>>
         ensures { answer_by (λ m. m.views.now) result ≡ viewed views.entry.now }
     {
-        if !have_tables(views) {
+        let is_in_order = are_in_order(views);
+        if !is_in_order && !have_tables(views) {
             // Callers get the error's number alone.
             return Err(Error::Short { at: 0, needed: 0 });
         }
-        let is_ascending = first_overlap(views).is_none();
+        let is_ascending = is_in_order || first_overlap(views).is_none();
         Ok(ViewedModules {
             views,
             is_ascending,
+            near: Cell::new(0),
         })
+    }
+
+    /// The first view that has an address.
+    fn view_with(&self, address: u64) -> Option<&'a ModuleView<'a>>
+        ensures { option_map (λ v. v.now) result
+            ≡ find (has_address view_base view_size address) self.now.views.now }
+    {
+        if self.is_ascending {
+            range_near(self.views, &self.near, address)
+        } else {
+            first_with(self.views, false, address)
+        }
     }
 
     /// The first module that has an address.
@@ -240,7 +293,7 @@ impl<'a> ViewedModules<'a> {
         ensures has { IfSome result (λ v. IsTrue (has_address module_base module_size address (module_of v.now))) }
         ensures inside { IfSome result (λ v. address < v.now.base + v.now.image.image.now.size_of_image) }
     {
-        first_with(self.views, self.is_ascending, address)
+        self.view_with(address)
     }
 
     /// Makes a frame that of its caller, by the module that has its lookup address, or says why there is none: then it stays.
@@ -287,7 +340,7 @@ impl<'a> CallSites for ViewedModules<'a> {
 
     fn ends_call(&self, address: u64) -> bool {
         match self.find(address.saturating_sub(1)) {
-            Some(view) => ends_call_in(view, address),
+            Some(view) => ends_near_call_in(view, address) || ends_call_in(view, address),
             None => false,
         }
     }
