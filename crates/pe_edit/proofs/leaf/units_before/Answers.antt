@@ -1,6 +1,5 @@
 use Rattle.std.proofs.Common.{◌≡◌, ◌+◌, ◌-◌, ◌<◌, ◌∙◌, false, length, arith}
-use Rattle.std.specs.Prelude.{nat_lt}
-use Rattle.std.proofs.lemmas.Bool.Decides.{nat_tests}
+use Rattle.pe_edit.proofs.Cited.{nat_lt, nat_tests}
 use Rattle.pe_edit.proofs.Units.{first_test, second_ends, units_differ, units_equal}
 use Rattle.pe_edit.proofs.leaf.units_before.Goals as goal
 use Rattle.pe_edit.proofs.leaf.units_before.Goals.{then-loop-at-test+else-second-at-ge2, else-loop-at-test}

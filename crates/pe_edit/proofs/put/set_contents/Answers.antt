@@ -1,8 +1,7 @@
 use Rattle.std.proofs.Common.{arith}
 use Rattle.pe_edit.proofs.Contents.{all_contents_written, content_more, content_room}
 use Rattle.pe_edit.proofs.Writing.{nothing_written}
-use Rattle.pe_edit.specs.Views.{leaf_view, leaf_views}
-use Rattle.pe_edit.specs.Written.{contents}
+use Rattle.pe_edit.proofs.Cited.{leaf_view, leaf_views, contents}
 use Rattle.pe_edit.proofs.put.set_contents.Goals as goal
 
 pub loop-index-init : goal.loop-index-init

@@ -1,7 +1,5 @@
 use Rattle.std.proofs.Common.{rules, ℕ, ◌+◌, ◌<◌, ap, arith, refl}
-use Rattle.std.specs.Prelude.{length}
-use Rattle.pe_edit.specs.Views.{leaf_view, leaf_views}
-use Rattle.pe_edit.specs.Written.{padded_length}
+use Rattle.pe_edit.proofs.Cited.{length, leaf_view, leaf_views, padded_length}
 use Rattle.pe_edit.proofs.Contents.{all_data_written, data_more, data_room, data_small, no_data_written, size_small}
 use Rattle.pe_edit.proofs.put.set_data_entries.Goals as goal
 

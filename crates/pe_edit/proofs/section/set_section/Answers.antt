@@ -1,6 +1,5 @@
 use Rattle.std.proofs.Common.{rules, ◌<◌, ◌≤◌, ◌++◌, arith}
-use Rattle.pe_edit.specs.Views.{leaf_views}
-use Rattle.pe_edit.specs.Written.{contents, section_at}
+use Rattle.pe_edit.proofs.Cited.{leaf_views, contents, section_at}
 use Rattle.pe_edit.proofs.Composed.{after_entries, after_first, after_languages, after_names, after_type_names, after_types, at_0, at_1, at_2, at_3, data_fits, first, first_fits, languages_fit, languages_low, layout_is, names_before, room_1, room_2, room_3, room_4, room_5, room_6, room_7, room_8, stage_4, stage_5, stage_6, stage_7, stage_8, types_fit, types_low}
 use Rattle.pe_edit.proofs.Writing.{Written}
 use Rattle.pe_edit.proofs.section.set_section.Goals as goal
