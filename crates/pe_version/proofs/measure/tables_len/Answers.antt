@@ -1,7 +1,5 @@
 use Rattle.std.proofs.Common.{List, ℕ, Result, ap, ◌∙◌}
-use Rattle.std.proofs.lemmas.Result.{err_from_is_err_and}
-use Rattle.pe_version.specs.VersionRecords.{capped_length_of, table_of}
-use Rattle.pe_version.specs.VersionRefusals.{VersionRefusal}
+use Rattle.pe_version.proofs.Cited.{err_from_is_err_and, capped_length_of, table_of, VersionRefusal}
 use Rattle.pe_version.proofs.Measures.{all_measured, table_bytes_by, one_measured, one_unmeasured, table_tests_by, tables_by}
 use Rattle.pe_version.proofs.measure.tables_len.Goals as goal
 

@@ -1,6 +1,5 @@
 use Rattle.std.proofs.Common.{ℕ, ◌+◌, get_or, ap, sym, arith}
-use Rattle.pe_core.specs.Bytes.{bytes_of}
-use Rattle.pe_core.proofs.Splices.{length-bytes_of}
+use Rattle.pe_version.proofs.Cited.{bytes_of, length-bytes_of}
 use Rattle.pe_version.proofs.Heads.{length_numbers, put_more, put_none, put_room}
 use Rattle.pe_version.proofs.put.put_numbers.Goals as goal
 

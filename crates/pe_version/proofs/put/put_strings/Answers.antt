@@ -1,7 +1,5 @@
 use Rattle.std.proofs.Common.{◌+◌, ◌-◌, refl, arith}
-use Rattle.std.specs.Prelude.{codes}
-use Rattle.pe_version.specs.VersionRecords.{value_of}
-use Rattle.pe_version.specs.VersionValues.{Value, table_blocks, utf16}
+use Rattle.pe_version.proofs.Cited.{codes, value_of, Value, table_blocks, utf16}
 use Rattle.pe_version.proofs.Heads.{parent_put, tables_four}
 use Rattle.pe_version.proofs.Measures.{before_four}
 use Rattle.pe_version.proofs.put.put_strings.Goals as goal

@@ -1,7 +1,5 @@
 use Rattle.std.proofs.Common.{ℕ, ◌+◌, List, length, ap, sym, ◌∙◌, arith}
-use Rattle.pe_core.specs.Bytes.{splice}
-use Rattle.pe_version.specs.VersionRecords.{table_of}
-use Rattle.pe_version.specs.declared.record.TableRecord.{TableRecord}
+use Rattle.pe_version.proofs.Cited.{splice, table_of, TableRecord}
 use Rattle.pe_version.proofs.Calls.{padded_size}
 use Rattle.pe_version.proofs.Heads.{put_all, put_end, put_more, put_none, put_room, table_fits, table_whole}
 use Rattle.pe_version.proofs.Measures.{table_bytes_by, tables_bytes}

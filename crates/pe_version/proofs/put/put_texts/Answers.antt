@@ -1,7 +1,5 @@
 use Rattle.std.proofs.Common.{ℕ, ◌+◌, List, length, ap, sym, ◌∙◌, arith}
-use Rattle.pe_core.specs.Bytes.{splice}
-use Rattle.pe_version.specs.VersionRecords.{text_of}
-use Rattle.pe_version.specs.declared.record.StringRecord.{StringRecord}
+use Rattle.pe_version.proofs.Cited.{splice, text_of, StringRecord}
 use Rattle.pe_version.proofs.Calls.{padded_size}
 use Rattle.pe_version.proofs.Heads.{put_all, put_end, put_more, put_none, put_room, text_fits}
 use Rattle.pe_version.proofs.Measures.{bytes_by, texts_bytes}

@@ -1,7 +1,5 @@
 use Rattle.std.proofs.Common.{◌≡◌, ◌*◌, List, length, map, ap, arith}
-use Rattle.std.proofs.lemmas.List.{length-map}
-use Rattle.pe_resource.specs.declared.version_block.Translation.{Translation}
-use Rattle.pe_version.specs.VersionRecords.{pair_of}
+use Rattle.pe_version.proofs.Cited.{length-map, Translation, pair_of}
 use Rattle.pe_version.proofs.Heads.{variables_put, variables_short, variables_size}
 use Rattle.pe_version.proofs.put.put_variables.Goals as goal
 
@@ -10,20 +8,18 @@ put_pairs-requires c =
     let ps : List Translation = map pair_of c.args.translations.now in
     omega (arith, c.requires.room, variables_size ps c.requires.inner, length-map c.args.translations.now pair_of)
 
-pub put_head-requires-clause-size : goal.put_head-requires-clause-size
-put_head-requires-clause-size c =
-    let ps : List Translation = map pair_of c.args.translations.now in
-    omega (arith, variables_short ps c.requires.inner c.requires.outer, length-map c.args.translations.now pair_of)
-
-pub put_head-requires-clause-value : goal.put_head-requires-clause-value
-put_head-requires-clause-value c =
-    let ps : List Translation = map pair_of c.args.translations.now in
-    omega (arith, variables_short ps c.requires.inner c.requires.outer, length-map c.args.translations.now pair_of)
-
-pub put_head-requires-clause-room : goal.put_head-requires-clause-room
-put_head-requires-clause-room c =
-    let ps : List Translation = map pair_of c.args.translations.now in
-    omega (arith, c.requires.room, variables_size ps c.requires.inner, c.put_pairs.auto.out, ap length c.translation_key.ensures)
+pub put_head-requires : goal.put_head-requires
+put_head-requires c = record {
+  size =
+      let ps : List Translation = map pair_of c.args.translations.now in
+      omega (arith, variables_short ps c.requires.inner c.requires.outer, length-map c.args.translations.now pair_of);
+  value =
+      let ps : List Translation = map pair_of c.args.translations.now in
+      omega (arith, variables_short ps c.requires.inner c.requires.outer, length-map c.args.translations.now pair_of);
+  room =
+      let ps : List Translation = map pair_of c.args.translations.now in
+      omega (arith, c.requires.room, variables_size ps c.requires.inner, c.put_pairs.auto.out, ap length c.translation_key.ensures);
+}
 
 pub put_head-requires-2-clause-size : goal.put_head-requires-2-clause-size
 put_head-requires-2-clause-size c =

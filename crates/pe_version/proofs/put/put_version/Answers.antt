@@ -1,7 +1,5 @@
 use Rattle.std.proofs.Common.{List, ℕ, ap, length, ◌∙◌, arith}
-use Rattle.pe_core.specs.Bytes.{splice}
-use Rattle.pe_version.specs.VersionRecords.{value_of}
-use Rattle.pe_version.specs.VersionValues.{Value}
+use Rattle.pe_version.proofs.Cited.{splice, value_of, Value}
 use Rattle.pe_version.proofs.Heads.{PartsFit, length_numbers, parts_fit, root_length, root_size, version_put}
 use Rattle.pe_version.proofs.Measures.{length_fixed}
 use Rattle.pe_version.proofs.put.put_version.Goals as goal

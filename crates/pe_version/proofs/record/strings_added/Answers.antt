@@ -1,9 +1,6 @@
 use Rattle.std.proofs.Common.{◌≡◌, ℕ, ◌+◌, Bool, true, false, Option, Some, None, ap, sym, ◌∙◌}
-use Rattle.std.specs.Prelude.{if◌then◌else◌, nat_le}
+use Rattle.pe_version.proofs.Cited.{if◌then◌else◌, nat_le, total, all_within, one_added, one_too_many, sum_is, least_of_string}
 use Rattle.pe_edit.specs.RecordRefusals.{sum_within}
-use Rattle.pe_edit.specs.Written.{total}
-use Rattle.pe_edit.proofs.Records.{all_within, one_added, one_too_many, sum_is}
-use Rattle.pe_version.specs.VersionRecords.{least_of_string}
 use Rattle.pe_version.proofs.record.strings_added.Goals as goal
 
 -- A sum of the least bytes of blocks, by whether it is within a bound.
