@@ -45,23 +45,11 @@ pub stage_0 : (b : List ℕ) (l : Layout) (rva : ℕ) (xs : List Leaf) → lengt
 unfolding section_at
 stage_0 b l rva xs h = nothing_written b 0 (section_at l rva xs) (omega (arith, h))
 
-pub stage_1 : (b now next : List ℕ) (l : Layout) (rva : ℕ) (xs : List Leaf) → IsLayout l xs → Written b now 0 0 (section_at l rva xs) (first l xs ++ after_first l rva xs) →
-    next ≡ splice now 0 (directory_to (key_at levels.Types) (size_at levels.Types) l.type_names (2147483648 + l.types) (runs_of levels.Types xs)) → Written b next 0 l.types (section_at l rva xs) (after_first l rva xs)
-stage_1 b now next l rva xs is w e = grind (arith, more_written, types_are, length-directory_to)
-
 pub type_tables_by : (s p : ℕ) (xs : List Leaf) → directories_at levels.Names s p (runs_of levels.Types xs) ≡ type_tables s p (types_of xs)
 type_tables_by s p xs = ap (directories_at levels.Names s p) (types_are xs) ∙ type_tables_are s p (types_of xs)
 
 pub resource_tables_by : (p : ℕ) (xs : List Leaf) → directories_at levels.Languages 0 p (runs_of levels.Names xs) ≡ resource_tables p (resources_of xs)
 resource_tables_by p xs = ap (directories_at levels.Languages 0 p) (resources_are xs) ∙ resource_tables_are 0 p (resources_of xs) refl
-
-pub stage_2 : (b now next : List ℕ) (l : Layout) (rva : ℕ) (xs : List Leaf) → IsLayout l xs → Written b now 0 l.types (section_at l rva xs) (after_first l rva xs) →
-    next ≡ splice now l.types (directories_at levels.Names l.names (2147483648 + l.languages) (runs_of levels.Types xs)) → Written b next 0 l.languages (section_at l rva xs) (after_types l rva xs)
-stage_2 b now next l rva xs is w e = grind (arith, more_written, type_tables_by, length-type_tables)
-
-pub stage_3 : (b now next : List ℕ) (l : Layout) (rva : ℕ) (xs : List Leaf) → IsLayout l xs → Written b now 0 l.languages (section_at l rva xs) (after_types l rva xs) →
-    next ≡ splice now l.languages (directories_at levels.Languages 0 l.entries (runs_of levels.Names xs)) → Written b next 0 l.entries (section_at l rva xs) (after_languages l rva xs)
-stage_3 b now next l rva xs is w e = grind (arith, more_written, resource_tables_by, length-resource_tables)
 
 pub stage_4 : (b now next : List ℕ) (l : Layout) (rva : ℕ) (xs : List Leaf) → IsLayout l xs → Written b now 0 l.entries (section_at l rva xs) (after_languages l rva xs) →
     next ≡ splice now l.entries (data_entries (rva + l.contents) xs) → Written b next 0 l.type_names (section_at l rva xs) (after_entries l xs)
@@ -197,15 +185,17 @@ at_0 b l rva xs e r = stage_0 b l rva xs (omega (arith, r, ap length (section_is
 
 pub at_1 : (b b1 : List ℕ) (l : Layout) (rva : ℕ) (xs : List Leaf) → l ≡ layout_of xs → section_length xs ≤ length b →
     b1 ≡ splice b 0 (directory_to (key_at levels.Types) (size_at levels.Types) l.type_names (2147483648 + l.types) (runs_of levels.Types xs)) → Written b b1 0 l.types (section_at l rva xs) (after_first l rva xs)
-at_1 b b1 l rva xs e r h1 = stage_1 b b b1 l rva xs (layout_is l xs e) (at_0 b l rva xs e r) h1
+at_1 b b1 l rva xs e r h1 = grind (arith, more_written, types_are, length-directory_to, layout_is l xs e, at_0 b l rva xs e r)
 
 pub at_2 : (b b1 b2 : List ℕ) (l : Layout) (rva : ℕ) (xs : List Leaf) → l ≡ layout_of xs → section_length xs ≤ length b →
     b1 ≡ splice b 0 (directory_to (key_at levels.Types) (size_at levels.Types) l.type_names (2147483648 + l.types) (runs_of levels.Types xs)) →
     b2 ≡ splice b1 l.types (directories_at levels.Names l.names (2147483648 + l.languages) (runs_of levels.Types xs)) → Written b b2 0 l.languages (section_at l rva xs) (after_types l rva xs)
-at_2 b b1 b2 l rva xs e r h1 h2 = stage_2 b b1 b2 l rva xs (layout_is l xs e) (at_1 b b1 l rva xs e r h1) h2
+at_2 b b1 b2 l rva xs e r h1 h2 =
+    grind (arith, more_written, type_tables_by, length-type_tables, layout_is l xs e, at_1 b b1 l rva xs e r h1)
 
 pub at_3 : (b b1 b2 b3 : List ℕ) (l : Layout) (rva : ℕ) (xs : List Leaf) → l ≡ layout_of xs → section_length xs ≤ length b →
     b1 ≡ splice b 0 (directory_to (key_at levels.Types) (size_at levels.Types) l.type_names (2147483648 + l.types) (runs_of levels.Types xs)) →
     b2 ≡ splice b1 l.types (directories_at levels.Names l.names (2147483648 + l.languages) (runs_of levels.Types xs)) →
     b3 ≡ splice b2 l.languages (directories_at levels.Languages 0 l.entries (runs_of levels.Names xs)) → Written b b3 0 l.entries (section_at l rva xs) (after_languages l rva xs)
-at_3 b b1 b2 b3 l rva xs e r h1 h2 h3 = stage_3 b b2 b3 l rva xs (layout_is l xs e) (at_2 b b1 b2 l rva xs e r h1 h2) h3
+at_3 b b1 b2 b3 l rva xs e r h1 h2 h3 =
+    grind (arith, more_written, resource_tables_by, length-resource_tables, layout_is l xs e, at_2 b b1 b2 l rva xs e r h1 h2)

@@ -135,12 +135,10 @@ unfolding entries_to
 entries_map s p [] = refl
 entries_map s p (x ∷ xs) = ap (λ (l : List ℕ). bytes_of 4 x.language ++ (bytes_of 4 p ++ l)) (entries_map (s + 0) (p + 16) xs)
 
-directory_map : (s p : ℕ) (xs : List Leaf) → directory_to (key_at levels.Languages) (size_at levels.Languages) s p (map (λ x. (x, [])) xs) ≡ directory_to language_key entry_size s p xs
-unfolding directory_to
-directory_map s p xs = grind (arith, total_map, entries_map)
-
 language_directory : (p : ℕ) (xs : List Leaf) → directory_to (key_at levels.Languages) (size_at levels.Languages) 0 p (runs_of levels.Languages xs) ≡ directory_to language_key entry_size 0 p xs
-language_directory p xs = ap (directory_to (key_at levels.Languages) (size_at levels.Languages) 0 p) (alone xs) ∙ directory_map 0 p xs
+unfolding directory_to
+language_directory p xs =
+    ap (directory_to (key_at levels.Languages) (size_at levels.Languages) 0 p) (alone xs) ∙ grind (arith, total_map, entries_map)
 
 pub no_language_names : (xs : List Leaf) → names_total levels.Languages (runs_of levels.Languages xs) ≡ 0
 no_language_names xs = simp (alone xs, total_map (λ r. name_size (key_at levels.Languages r)) (λ x. (x, [])) xs, total_no_names xs)

@@ -1,12 +1,12 @@
 -- A leaf that is looked for in a section is the first with its keys of the runs.
 use Rattle.std.proofs.Common.{◌≡◌, ℕ, ◌+◌, ◌*◌, ◌<◌, ◌==◌, Bool, true, false, List, [], ◌∷◌, length, cond, Option, Some, None, Result, Ok, refl, ap, sym, ◌∙◌, subst, arith, length-append}
-use Rattle.pe_edit.proofs.Cited.{find, flat_map, false≢true, nat_tests, Short, outcome, ◌>>=◌, ResourceEntry, TreeRefusal, leaf_of}
-use Rattle.pe_edit.proofs.Cited.{name_units, table_below, entries, has_id, has_name, with_id, Layout, as_read, entries_below}
-use Rattle.pe_edit.proofs.Cited.{entries_of, found_language, found_leaf, found_name, found_type, has_key, is_key, with_key, key_by}
-use Rattle.pe_edit.proofs.Cited.{read_item, read_key, elements, Each, Fits, Id, Key, KeyFits, Leaf, LeafFits, directory_to}
-use Rattle.pe_edit.proofs.Cited.{entries_to, entry_size, key_eq, key_number, language_key, layout_of, name_bytes, name_key}
-use Rattle.pe_edit.proofs.Cited.{name_size, names, padded_size, resource_size, resource_tables, section, section_at, section_length}
-use Rattle.pe_edit.proofs.Cited.{total, type_key, type_size, type_tables, types_of}
+use Rattle.pe_edit.proofs.Cited.{find, flat_map, false≢true, nat_tests, ResourceEntry, TreeRefusal, leaf_of, name_units}
+use Rattle.pe_edit.proofs.Cited.{table_below, entries, has_id, has_name, with_id, Layout, as_read, entries_below, entries_of}
+use Rattle.pe_edit.proofs.Cited.{found_language, found_leaf, found_name, found_type, has_key, is_key, with_key, read_item, read_key}
+use Rattle.pe_edit.proofs.Cited.{elements, Each, Fits, Id, Key, KeyFits, Leaf, LeafFits, directory_to, entries_to, entry_size}
+use Rattle.pe_edit.proofs.Cited.{key_eq, key_number, language_key, layout_of, name_bytes, name_key, name_size, names, padded_size}
+use Rattle.pe_edit.proofs.Cited.{resource_size, resource_tables, section, section_at, section_length, total, type_key, type_size}
+use Rattle.pe_edit.proofs.Cited.{type_tables, types_of}
 use Rattle.pe_edit.proofs.Levels.{NamesStand, TypesStand, few_names, more_names, more_types, names_stand, some_name, total_16, total_no_names}
 use Rattle.pe_edit.proofs.Nested.{names_of, names_all}
 use Rattle.pe_edit.proofs.Reading.{DataStand, data_left, key_read, leaf_read}
@@ -34,9 +34,6 @@ language_at : (b : List ℕ) (rva : ℕ) (t n e : ResourceEntry) (u v : Bool) (f
     found_language b rva t n (cond u (Some e) f) ≡ as_read (cond v (Some x) g)
 language_at b rva t n e u v f x g h i j = grind (arith, false≢true)
 
-id_at : (m p l : ℕ) → m < 65536 → has_id l (record { name_or_id = m; offset_to_data_or_directory = p }) ≡ (m == l)
-id_at m p l h = grind (arith, nat_tests)
-
 languages_found : (b : List ℕ) (rva p a s l : ℕ) (t n : ResourceEntry) (kt kn : Key) (xs : List Leaf) →
     read_key b t ≡ Ok kt → read_key b n ≡ Ok kn → EachHas (λ x. x.resource_type) kt xs → EachHas (λ x. x.name) kn xs → Each LeafFits xs →
     p + 16 * length xs < 2147483648 → DataStand b rva p a xs →
@@ -46,7 +43,8 @@ languages_found b rva p a s l t n kt kn (x ∷ xs) h i et en f low d =
     let e : ResourceEntry = record { name_or_id = x.language; offset_to_data_or_directory = p } in
     let one : read_item b rva (leaf_of b t n e) ≡ Ok x =
     leaf_read b rva p a x t n e (h ∙ ap (λ (k : Key). Ok k) (sym et.0)) (i ∙ ap (λ (k : Key). Ok k) (sym en.0)) refl refl (omega (arith, low)) f.0.language d.0 in
-    language_at b rva t n e (has_id l e) (x.language == l) (with_id l (entry_list language_key entry_size (s + 0) (p + 16) xs)) x (in_languages l xs) (id_at x.language p l f.0.language) one
+    language_at b rva t n e (has_id l e) (x.language == l) (with_id l (entry_list language_key entry_size (s + 0) (p + 16) xs)) x
+    (in_languages l xs) (grind (arith, nat_tests, f.0.language)) one
     (languages_found b rva (p + 16) (a + padded_size x) (s + 0) l t n kt kn xs h i et.1 en.1 f.1 (omega (arith, low)) d.1)
 
 -- ---- names
@@ -142,12 +140,9 @@ found_in_runs rva xs kind name l f =
 
 -- ---- ids
 
-no_id_at : (d : Bool) (n : ℕ) (u : List ℕ) (e : ResourceEntry) → is_key (Id n) (outcome ((d, Short) ∷ []) (Some u) >>= λ v. Ok (key_by e v)) ≡ false
-no_id_at d n u e = grind arith
-
 id_key_at : (b : List ℕ) (n : ℕ) (e : ResourceEntry) (t : Bool) → has_name e ≡ t → has_key b (Id n) e ≡ has_id n e
 unfolding name_units
-id_key_at b n e t h = grind (arith, no_id_at, false≢true)
+id_key_at b n e t h = grind (arith, false≢true)
 
 -- a search by an id is that of pe_resource
 pub by_id : (b : List ℕ) (n : ℕ) (es : List ResourceEntry) → with_key b (Id n) es ≡ with_id n es

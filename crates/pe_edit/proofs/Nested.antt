@@ -1,5 +1,5 @@
 -- The resources of each type, one type after the other, are the resources.
-use Rattle.std.proofs.Common.{◌≡◌, ℕ, ◌+◌, ◌-◌, ◌*◌, ◌<◌, Bool, false, List, [], ◌∷◌, ◌++◌, length, take, drop, if◌then◌else◌, refl, ap, sym, ◌∙◌, arith, length-append}
+use Rattle.std.proofs.Common.{◌≡◌, ℕ, ◌+◌, ◌-◌, ◌*◌, ◌<◌, Bool, false, List, [], ◌∷◌, ◌++◌, length, take, drop, refl, ap, sym, ◌∙◌, arith, length-append}
 use Rattle.pe_edit.proofs.Cited.{flat_map, append_assoc, elements, in_front, runs, run_length, Leaf, total, names, name_key}
 use Rattle.pe_edit.proofs.Cited.{types_of, resources_of, same_type, same_resource, resource_tables, directory_to, language_key}
 use Rattle.pe_edit.proofs.Cited.{entry_size, key_eq, and_left}
@@ -15,12 +15,6 @@ front_append alike x rs zs h = grind arith
 alone : {X : Type 0} (alike : X → X → Bool) (x y : X) (ys : List X) → alike x y ≡ false → in_front alike x (runs alike (y ∷ ys)) ≡ (x, []) ∷ runs alike (y ∷ ys)
 alone alike x y ys h = grind (arith, first_run)
 
-nested_at : {X : Type 0} (fine : X → X → Bool) (test : Bool) (x y : X) (r ys : List X) (rest : List (X × List X)) → (test ≡ false → fine x y ≡ false) →
-    runs fine (y ∷ r) ++ flat_map (λ r. runs fine (elements r)) rest ≡ runs fine (y ∷ ys) →
-    flat_map (λ r. runs fine (elements r)) (if test then (x, y ∷ r) ∷ rest else (x, []) ∷ (y, r) ∷ rest) ≡ in_front fine x (runs fine (y ∷ ys))
-unfolding runs
-nested_at fine test x y r ys rest finer e = grind (arith, front_append, some_run, alone)
-
 pub nested : {X : Type 0} (alike fine : X → X → Bool) (xs : List X) → ((x y : X) → alike x y ≡ false → fine x y ≡ false) →
     flat_map (λ r. runs fine (elements r)) (runs alike xs) ≡ runs fine xs
 unfolding runs
@@ -34,7 +28,7 @@ nested {X} alike fine (x ∷ y ∷ ys) finer =
     let below : runs fine (y ∷ r) ++ flat_map (λ r. runs fine (elements r)) rest ≡ runs fine (y ∷ ys) =
     ap (flat_map (λ r. runs fine (elements r))) (sym e) ∙ nested alike fine (y ∷ ys) finer in
     ap (λ (l : List (X × List X)). flat_map (λ r. runs fine (elements r)) (in_front alike x l)) e
-    ∙ nested_at fine (alike x y) x y r ys rest (finer x y) below
+    ∙ grind (arith, front_append, some_run, alone, finer x y)
 
 -- ---- resources of types
 

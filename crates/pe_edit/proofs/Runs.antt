@@ -2,13 +2,10 @@
 use Rattle.std.proofs.Common.{◌-◌, take, drop, get_or, ◌≡◌, ℕ, zero, suc, ◌+◌, ◌<◌, ◌≤◌, Bool, true, false, List, [], ◌∷◌, ◌++◌, length, if◌then◌else◌, refl, ap, ◌∙◌, arith}
 use Rattle.pe_edit.proofs.Cited.{flat_map, drop_more, drop_all, elements, in_front, runs, run_length, Each}
 
-front : {X : Type 0} (alike : X → X → Bool) (x : X) (rs : List (X × List X)) → flat_map elements (in_front alike x rs) ≡ x ∷ flat_map elements rs
-front alike x rs = grind arith
-
 pub runs_all : {X : Type 0} (alike : X → X → Bool) (xs : List X) → flat_map elements (runs alike xs) ≡ xs
 unfolding runs
 runs_all alike [] = refl
-runs_all {X} alike (x ∷ xs) = front alike x (runs alike xs) ∙ ap (λ (l : List X). x ∷ l) (runs_all alike xs)
+runs_all {X} alike (x ∷ xs) = grind arith ∙ ap (λ (l : List X). x ∷ l) (runs_all alike xs)
 
 -- each element has this key
 abbrev pub EachHas : {X K : Type 0} → (X → K) → K → List X → Type 0
@@ -22,13 +19,10 @@ RunsAlike key (r ∷ rs) = EachHas key (key r.0) r.1 × RunsAlike key rs
 each_moved : {X K : Type 0} (key : X → K) (j k : K) (xs : List X) → j ≡ k → EachHas key j xs → EachHas key k xs
 each_moved key j k xs e h = grind arith
 
-alike_front : {X K : Type 0} (key : X → K) (alike : X → X → Bool) (x : X) (rs : List (X × List X)) → ((x y : X) → alike x y ≡ true → key x ≡ key y) → RunsAlike key rs → RunsAlike key (in_front alike x rs)
-alike_front key alike x rs same h = grind (arith, each_moved)
-
 pub runs_alike : {X K : Type 0} (key : X → K) (alike : X → X → Bool) (xs : List X) → ((x y : X) → alike x y ≡ true → key x ≡ key y) → RunsAlike key (runs alike xs)
 unfolding runs
 runs_alike key alike [] same = tt
-runs_alike key alike (x ∷ xs) same = alike_front key alike x (runs alike xs) same (runs_alike key alike xs same)
+runs_alike key alike (x ∷ xs) same = grind (arith, each_moved, runs_alike key alike xs same)
 
 fewer : {X : Type 0} (alike : X → X → Bool) (x : X) (rs : List (X × List X)) → length (in_front alike x rs) ≤ suc (length rs)
 fewer alike x rs = grind arith
@@ -38,13 +32,10 @@ unfolding runs
 count_of_runs alike [] = omega arith
 count_of_runs alike (x ∷ xs) = omega (arith, fewer alike x (runs alike xs), count_of_runs alike xs)
 
-some_at : {X : Type 0} (test : Bool) (x : X) (r : X × List X) (rs : List (X × List X)) → 0 < length (if test then (x, r.0 ∷ r.1) ∷ rs else (x, []) ∷ r ∷ rs)
-some_at test x r rs = grind arith
-
 -- a list with an element has a run
 pub some_run : {X : Type 0} (alike : X → X → Bool) (x : X) (xs : List X) → 0 < length (runs alike (x ∷ xs))
 unfolding runs
-some_run alike x xs = grind (arith, some_at)
+some_run alike x xs = grind arith
 
 -- ---- what is true of each
 
@@ -74,11 +65,6 @@ some_length alike x xs = grind arith
 pub take_front : {X : Type 0} (y : X) (zs : List X) (k : ℕ) → 0 < k → take k (y ∷ zs) ≡ y ∷ take (k - 1) zs
 take_front y zs k h = grind arith
 
-run_at : {X : Type 0} (alike : X → X → Bool) (test : Bool) (x y : X) (zs : List X) (k : ℕ) → 0 < k → runs alike (y ∷ zs) ≡ (y, take (k - 1) zs) ∷ runs alike (drop k (y ∷ zs)) →
-    (if test then (x, y ∷ take (k - 1) zs) ∷ runs alike (drop k (y ∷ zs)) else (x, []) ∷ (y, take (k - 1) zs) ∷ runs alike (drop k (y ∷ zs)))
-    ≡ (x, take ((if test then suc k else 1) - 1) (y ∷ zs)) ∷ runs alike (drop (if test then suc k else 1) (x ∷ y ∷ zs))
-run_at alike test x y zs k some e = grind (arith, take_front)
-
 -- it is the first of the runs
 pub first_run : {X : Type 0} (alike : X → X → Bool) (x : X) (xs : List X) → runs alike (x ∷ xs) ≡ (x, take (run_length alike (x ∷ xs) - 1) xs) ∷ runs alike (drop (run_length alike (x ∷ xs)) (x ∷ xs))
 unfolding runs run_length
@@ -86,7 +72,7 @@ first_run alike x [] = refl
 first_run {X} alike x (y ∷ zs) =
     let k : ℕ = run_length alike (y ∷ zs) in
     let e : runs alike (y ∷ zs) ≡ (y, take (k - 1) zs) ∷ runs alike (drop k (y ∷ zs)) = first_run alike y zs in
-    ap (in_front alike x) e ∙ run_at alike (alike x y) x y zs k (some_length alike y zs) e
+    ap (in_front alike x) e ∙ grind (arith, take_front, some_length alike y zs)
 
 -- the length of the first run of what is left, by the two elements in front
 length_by : {X : Type 0} (alike : X → X → Bool) (x y : X) (zs : List X) (test : Bool) → alike x y ≡ test → run_length alike (x ∷ y ∷ zs) ≡ (if test then suc (run_length alike (y ∷ zs)) else 1)
@@ -115,15 +101,11 @@ counts_all {X} alike xs n d h c =
     let one : run_length alike (drop (n - 1) xs) ≡ 1 = ap (run_length alike) rest in
     omega (arith, c.left, one, c.some)
 
--- the first run is inside
-inside_by : (test : Bool) (k n : ℕ) → k ≤ n → (if test then suc k else 1) ≤ suc n
-inside_by test k n h = grind arith
-
 pub run_inside : {X : Type 0} (alike : X → X → Bool) (xs : List X) → run_length alike xs ≤ length xs
 unfolding run_length
 run_inside alike [] = omega arith
 run_inside alike (x ∷ []) = omega arith
-run_inside alike (x ∷ y ∷ ys) = inside_by (alike x y) (run_length alike (y ∷ ys)) (length (y ∷ ys)) (run_inside alike (y ∷ ys))
+run_inside alike (x ∷ y ∷ ys) = grind (arith, run_inside alike (y ∷ ys))
 
 pub each_drop : {X : Type 0} (P : X → Type 0) (n : ℕ) (xs : List X) → Each P xs → Each P (drop n xs)
 each_drop P zero xs e = e

@@ -69,11 +69,8 @@ is_run_at level xs left run start n h e c r =
 pub run_fits : (level : Level) (xs r : List Leaf) (start : ℕ) → IsRunAt level xs start r → Each NamesFit xs → Each NamesFit r
 run_fits level xs r start k f = each_left NamesFit r (drop (start + length r) xs) (subst (λ (l : List Leaf). Each NamesFit l) k.left (each_drop NamesFit start xs f))
 
-key_of_run_fits : (level : Level) (r : List Leaf) → 0 < length r → Each NamesFit r → NameFits (key_of_run level r)
-key_of_run_fits level r h f = grind arith
-
 pub run_key_fits : (level : Level) (xs r : List Leaf) (start : ℕ) → IsRunAt level xs start r → Each NamesFit xs → NameFits (key_of_run level r)
-run_key_fits level xs r start k f = key_of_run_fits level r (omega (arith, ap length k.is)) (run_fits level xs r start k f)
+run_key_fits level xs r start k f = grind (arith, run_fits level xs r start k f)
 
 pub no_runs_at : (level : Level) (xs : List Leaf) (start : ℕ) → length xs ≤ start → runs_of level (drop start xs) ≡ []
 unfolding runs

@@ -16,17 +16,11 @@ not_below_itself : (us : List ℕ) → units_before us us ≡ false
 not_below_itself [] = refl
 not_below_itself (u ∷ us) = let t : (u == u) ≡ true = grind (arith, nat_tests) in rw t (not_below_itself us)
 
-not_before_itself : (k : Key) → key_before k k ≡ false
-not_before_itself k = grind (arith, nat_tests, not_below_itself)
-
 split : (u v : ℕ) (t : Bool) → (if u == v then t else nat_lt u v) ≡ true → ((u ≡ v) × (t ≡ true)) ⊎ (u < v)
 split u v t h = grind (arith, nat_tests)
 
 less : (u v : ℕ) (t : Bool) → u < v → (if u == v then t else nat_lt u v) ≡ true
 less u v t h = grind (arith, nat_tests)
-
-equal : (u v : ℕ) (t : Bool) → u ≡ v → t ≡ true → (if u == v then t else nat_lt u v) ≡ true
-equal u v t h i = grind (arith, nat_tests)
 
 units_then : (us vs ws : List ℕ) → units_before us vs ≡ true → units_before vs ws ≡ true → units_before us ws ≡ true
 units_then [] vs ws h i = grind (arith, false≢true)
@@ -36,7 +30,7 @@ units_then (u ∷ us) (v ∷ vs) (w ∷ ws) h i =
     ⊎_elim
     (λ (x : (u ≡ v) × (units_before us vs ≡ true)).
     ⊎_elim
-    (λ (y : (v ≡ w) × (units_before vs ws ≡ true)). equal u w (units_before us ws) (x.0 ∙ y.0) (units_then us vs ws x.1 y.1))
+    (λ (y : (v ≡ w) × (units_before vs ws ≡ true)). grind (arith, nat_tests, x.0 ∙ y.0, units_then us vs ws x.1 y.1))
     (λ (y : v < w). less u w (units_before us ws) (omega (arith, x.0, y)))
     (split v w (units_before vs ws) i))
     (λ (x : u < v).
@@ -90,17 +84,12 @@ none_later key k p (x ∷ xs) only f = ap (λ (t : Bool). cond t (Some x) (find 
 
 other_key : (j k : Key) (t : Bool) → key_eq k j ≡ t → key_before j k ≡ true → t ≡ false
 other_key j k false e h = refl
-other_key j k true e h = absurd (false≢true (sym (not_before_itself j) ∙ ap (key_before j) (sym (same_keys k j e)) ∙ h))
+other_key j k true e h =
+    absurd (false≢true (sym (grind (arith, nat_tests, not_below_itself)) ∙ ap (key_before j) (sym (same_keys k j e)) ∙ h))
 
 others : (key : Leaf → Key) (j : Key) (xs : List Leaf) → Each (λ y. key_before j (key y) ≡ true) xs → Each (λ y. key_eq (key y) j ≡ false) xs
 others key j [] f = tt
 others key j (x ∷ xs) f = (other_key j (key x) (key_eq (key x) j) refl f.0, others key j xs f.1)
-
--- x is alike the next, whose run it joins
-joined : (key : Leaf → Key) (k : Key) (p : Leaf → Bool) (x y : Leaf) (r ys : List Leaf) (rest : List (Leaf × List Leaf)) (t : Bool) → key_eq (key x) k ≡ t → key y ≡ key x →
-    ((x : Leaf) → key_eq (key x) k ≡ false → p x ≡ false) → find p (y ∷ ys) ≡ cond (key_eq (key y) k) (find p (y ∷ r)) (in_runs key k p rest) →
-    find p (x ∷ y ∷ ys) ≡ cond t (find p (x ∷ y ∷ r)) (in_runs key k p rest)
-joined key k p x y r ys rest t e same only h = grind arith
 
 -- x is a run of its own, and no later leaf has its key
 apart : (key : Leaf → Key) (k : Key) (p : Leaf → Bool) (x : Leaf) (ys : List Leaf) (more : Option Leaf) (t : Bool) → key_eq (key x) k ≡ t → Each (λ z. key_before (key x) (key z) ≡ true) ys →
@@ -116,7 +105,7 @@ found_at : (same : Leaf → Leaf → Bool) (key : Leaf → Key) (k : Key) (p : L
 found_at same key k p x y r ys rest c only h =
     ⊎_elim
     (λ (e : (same x y ≡ true) × (key y ≡ key x)).
-    joined key k p x y r ys rest (key_eq (key x) k) refl e.1 only h
+    grind (arith, e.1)
     ∙ ap (λ (b : Bool). in_runs key k p (if b then (x, y ∷ r) ∷ rest else (x, []) ∷ (y, r) ∷ rest)) (sym e.0))
     (λ (e : (same x y ≡ false) × (key_before (key x) (key y) ≡ true)).
     apart key k p x (y ∷ ys) (in_runs key k p ((y, r) ∷ rest)) (key_eq (key x) k) refl
@@ -158,9 +147,6 @@ types_climb (x ∷ y ∷ ys) h =
 abbrev NamesClimb : List (Leaf × List Leaf) → Type 0
 NamesClimb rs = Each (λ r. Climbs same_resource (λ x. x.name) (elements r)) rs
 
-names_climb_at : (x y : Leaf) (r : List Leaf) (rest : List (Leaf × List Leaf)) (t : Bool) → same_type x y ≡ t → leaf_before x y ≡ true → NamesClimb ((y, r) ∷ rest) → NamesClimb (if t then (x, y ∷ r) ∷ rest else (x, []) ∷ (y, r) ∷ rest)
-names_climb_at x y r rest t e h c = grind (arith, name_step_at)
-
 names_climb : (xs : List Leaf) → is_sorted xs ≡ true → NamesClimb (runs same_type xs)
 unfolding is_sorted runs
 names_climb [] h = tt
@@ -172,7 +158,7 @@ names_climb (x ∷ y ∷ ys) h =
     let e : runs same_type (y ∷ ys) ≡ (y, r) ∷ rest = first_run same_type y ys in
     let below : NamesClimb ((y, r) ∷ rest) = subst NamesClimb e (names_climb (y ∷ ys) (both (leaf_before x y) (is_sorted (y ∷ ys)) h).1) in
     subst (λ (l : List (Leaf × List Leaf)). NamesClimb (in_front same_type x l)) (sym e)
-    (names_climb_at x y r rest (same_type x y) refl (both (leaf_before x y) (is_sorted (y ∷ ys)) h).0 below)
+    (grind (arith, name_step_at, (both (leaf_before x y) (is_sorted (y ∷ ys)) h).0))
 
 -- ---- the search, level by level
 

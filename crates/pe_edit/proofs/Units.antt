@@ -30,16 +30,9 @@ pub units_equal : (b c : List ℕ) (i own other : ℕ) (all : Bool) → i + 2 �
     units_before (units (drop (i + 2) b)) (units (drop (i + 2) c)) ≡ all
 units_equal b c i own other all h j e f equal k = grind (arith, both_at)
 
--- the first text ends, and the second does not, or does
-pub first_ends : (b c : List ℕ) (i : ℕ) (all : Bool) → length b < i + 2 → i + 2 ≤ length c → units_before (units (drop i b)) (units (drop i c)) ≡ all → true ≡ all
-first_ends b c i all h j k = grind (arith, units_end, units_at)
-
-pub both_end : (b c : List ℕ) (i : ℕ) (all : Bool) → length b < i + 2 → length c < i + 2 → units_before (units (drop i b)) (units (drop i c)) ≡ all → false ≡ all
-both_end b c i all h j k = grind (arith, units_end)
-
 pub second_ends : (b c : List ℕ) (i : ℕ) (all : Bool) → i + 2 ≤ length b → length c < i + 2 → units_before (units (drop i b)) (units (drop i c)) ≡ all → false ≡ all
 second_ends b c i all h j k = grind (arith, units_at, units_end)
 
 -- the first text has ended: the result is whether the second has not
 pub first_test : (b c : List ℕ) (i : ℕ) (all : Bool) → length b < i + 2 → i ≤ length c → units_before (units (drop i b)) (units (drop i c)) ≡ all → nat_le 2 (length c - i) ≡ all
-first_test b c i all h j k = grind (arith, first_ends, nat_tests, both_end)
+first_test b c i all h j k = grind (arith, nat_tests, units_end, units_at)
