@@ -1,11 +1,11 @@
 -- Blocks that are written are read.
 use Rattle.std.proofs.Common.{◌≡◌, ℕ, zero, suc, ◌+◌, ◌-◌, ◌*◌, ◌/◌, ◌%◌, ◌<◌, ◌≤◌, ◌==◌, ◌||◌, ◌&&◌, Bool, true, false, List, [], ◌∷◌, ◌++◌, length, drop, map, replicate, Some, Result, Ok, if◌then◌else◌, refl, ap, sym, ◌∙◌, subst, arith, length-append}
 use Rattle.pe_version.proofs.Cited.{nat_le, length-replicate, append_assoc, append-nil, take_at, drop_at, drop_all, nil_from_length}
-use Rattle.pe_version.proofs.Cited.{nat_tests, le, bytes_of, range, holds, Short, outcome, length-bytes_of, Block, BlockRefusal}
-use Rattle.pe_version.proofs.Cited.{BelowHead, PastEnd, whole_block, own_bytes, blocks_end, first_block, then_blocks, blocks, units}
-use Rattle.pe_version.proofs.Cited.{before_zero, key_length, value_offset, up_to_four, Stands, whole, left, right, number, part}
-use Rattle.pe_version.proofs.Cited.{moved, rest_of_number, AllFit, BlockValue, Fits, NoZero, before_others, block_bytes}
-use Rattle.pe_version.proofs.Cited.{block_length, blocks_bytes, padded_block, read_block, type_number, value_length, value_start}
+use Rattle.pe_version.proofs.Cited.{nat_tests, le, bytes_of, range, holds, Short, outcome, length-bytes_of, BlockRefusal, BelowHead}
+use Rattle.pe_version.proofs.Cited.{PastEnd, whole_block, own_bytes, blocks_end, first_block, blocks, units, before_zero}
+use Rattle.pe_version.proofs.Cited.{key_length, value_offset, up_to_four, Stands, whole, left, right, number, part, moved}
+use Rattle.pe_version.proofs.Cited.{rest_of_number, AllFit, BlockValue, Fits, NoZero, before_others, block_bytes, block_length}
+use Rattle.pe_version.proofs.Cited.{blocks_bytes, padded_block, read_block, type_number, value_length, value_start}
 use Rattle.pe_resource.specs.VersionBlocks.{Image, block_of}
 use Rattle.pe_resource.proofs.BlockLists.{blocks_start}
 
@@ -174,7 +174,4 @@ first_read k more f =
 pub blocks_read : (ks : List BlockValue) → AllFit ks → blocks (blocks_bytes ks) ≡ map (λ k. Ok (read_block k)) ks
 unfolding blocks_bytes first_block
 blocks_read [] f = blocks_start []
-blocks_read (k ∷ ks) f =
-    blocks_start (padded_block k ++ blocks_bytes ks)
-    ∙ ap (then_blocks blocks) (first_read k (blocks_bytes ks) f.0)
-    ∙ ap (λ (l : List (Result Block BlockRefusal)). Ok (read_block k) ∷ l) (blocks_read ks f.1)
+blocks_read (k ∷ ks) f = grind (arith, blocks_start, first_read, blocks_read ks f.1)

@@ -1,5 +1,5 @@
 -- What the calls write and return.
-use Rattle.std.proofs.Common.{◌≡◌, ℕ, ◌+◌, ◌-◌, ◌<◌, ◌≤◌, Bool, true, false, List, [], ◌∷◌, ◌++◌, length, replicate, Result, Ok, Err, refl, ap, sym, ◌∙◌, arith, length-append}
+use Rattle.std.proofs.Common.{◌≡◌, ℕ, ◌+◌, ◌-◌, ◌<◌, ◌≤◌, Bool, true, false, List, [], ◌∷◌, ◌++◌, length, replicate, Result, Ok, Err, refl, ap, sym, ◌∙◌, arith, length-append, rules}
 use Rattle.pe_version.proofs.Cited.{nat_le, nat_tests, length-replicate, bytes_of, fit_at, splice, Refusal, WriteFit, outcome}
 use Rattle.pe_version.proofs.Cited.{length-bytes_of, splice-splice, up_to_four, Written, last_written, more_written}
 use Rattle.pe_version.proofs.Cited.{nothing_written, VersionRefusal, Image, block_of, block_tests, length_of, parts_of, written}
@@ -123,10 +123,7 @@ block_set k old n1 n2 n3 n4 n5 n6 n7 n8 room size e1 e2 e3 e4 e5 e6 e7 e8 =
     last_written old n7 n8 0 (children_start k) x1 x8 w7 e8
 
 pub room_inside : (k : BlockValue) (p : Parts) (old : List ℕ) (n : ℕ) (u : Unit {0}) → outcome (block_tests k) (parts_of k) ≡ Ok p → n ≡ up_to_four p.end → fit_at old 0 n ≡ Ok u → block_length k ≤ length old
-room_inside k p old n u e is h =
-    let held : nat_le (0 + n) (length old) ≡ true = fits_by (nat_le (0 + n) (length old)) u h in
-    let room : n ≤ length old = grind (arith, nat_tests, held) in
-    omega (arith, room, is, end_is k p e)
+room_inside k p old n u e is h = search (rules, arith, fits_by, nat_tests, end_is)
 
 -- the same by the parts that the code has
 pub block_set_by : (k : BlockValue) (p : Parts) (old n1 n2 n3 n4 n5 n6 n7 n8 : List ℕ) (v : ℕ) → p ≡ parts_of k → Fits k → block_length k ≤ length old → v ≡ value_length k →

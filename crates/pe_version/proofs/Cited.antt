@@ -15,7 +15,7 @@ pub use Rattle.pe_edit.proofs.Stands.{Stands, whole, left, right, number, part, 
 pub use Rattle.pe_edit.proofs.Writing.{Written, last_written, more_written, nothing_written, all_written, room_for}
 pub use Rattle.pe_edit.specs.Views.{part_of}
 unfoldable pub use Rattle.pe_edit.specs.Written.{total}
-pub use Rattle.pe_resource.specs.VersionBlocks.{Block, BlockRefusal, BelowHead, PastEnd, blocks_end, then_blocks, blocks, fixed_info_of_block, string_tables, translation_at, translations, version_block}
+pub use Rattle.pe_resource.specs.VersionBlocks.{Block, BlockRefusal, BelowHead, PastEnd, blocks_end, blocks, fixed_info_of_block, string_tables, translation_at, translations, version_block}
 unfoldable pub use Rattle.pe_resource.specs.VersionBlocks.{whole_block, own_bytes, first_block, children_with_key, translation_of_key, value_with_key}
 pub use Rattle.pe_resource.specs.VersionFields.{VersionView, file_strings, fixed_info_in, value_named, version_key}
 unfoldable pub use Rattle.pe_resource.specs.VersionFields.{fixed_info_at, fixed_info_of, version_in}
@@ -28,7 +28,7 @@ unfoldable pub use Rattle.pe_version.specs.VersionRecords.{head_bytes}
 pub use Rattle.pe_version.specs.VersionRefusals.{VersionRefusal, Image, block_of, block_tests, length_of, parts_of, written, TooLong, VersionReturns, key_fits, block_view}
 pub use Rattle.pe_version.specs.VersionStrings.{flat, flat_table, padded, text_with_name, texts_of}
 unfoldable pub use Rattle.pe_version.specs.VersionStrings.{flat_blocks}
-pub use Rattle.pe_version.specs.VersionValues.{TableValue, TextValue, Value, blocks_of_table, strings_block, table_block, table_blocks, text_block, text_blocks, translation_block, variables_block, parent, translation_bytes, utf16, key_of, IsPair, NumbersFit, TablesHavePairs, four_digits, hex_digit, AllPairs, FixedFits, TableRead, VersionRead, read_table, read_text, table_as_read}
+pub use Rattle.pe_version.specs.VersionValues.{TableValue, TextValue, Value, blocks_of_table, strings_block, table_block, table_blocks, text_block, text_blocks, translation_block, variables_block, parent, translation_bytes, utf16, key_of, IsPair, NumbersFit, TablesHavePairs, four_digits, hex_digit, AllPairs, FixedFits, VersionRead, read_table, read_text, table_as_read}
 unfoldable pub use Rattle.pe_version.specs.VersionValues.{all_blocks, root_block, version_of, fixed_bytes, as_read, read_root, version_read}
 pub use Rattle.pe_version.specs.WrittenBlocks.{AllFit, BlockValue, Fits, NoZero, before_others, block_length, read_block, type_number, value_length, value_start, children_start, padded_length}
 unfoldable pub use Rattle.pe_version.specs.WrittenBlocks.{block_bytes, blocks_bytes, padded_block}

@@ -1,12 +1,11 @@
 -- Version information that is written is read string by string.
-use Rattle.std.proofs.Common.{◌≡◌, ◌≢◌, ℕ, ◌+◌, ◌-◌, ◌%◌, List, [], ◌∷◌, ◌++◌, length, drop, map, replicate, Some, Result, Ok, refl, ap, sym, ◌∙◌, arith, length-append}
+use Rattle.std.proofs.Common.{◌≡◌, ◌≢◌, ℕ, ◌+◌, ◌-◌, ◌%◌, List, [], ◌∷◌, ◌++◌, length, drop, map, replicate, Some, Result, Ok, refl, ap, sym, ◌∙◌, arith, length-append, rules}
 use Rattle.pe_version.proofs.Cited.{flat_map, append_assoc, append-nil, drop-drop, drop_at, length-replicate, take_at, nat_tests}
 use Rattle.pe_version.proofs.Cited.{Refusal, VersionString, lengthened, string_and_next, strings, then_more, up_to_four}
 use Rattle.pe_version.proofs.Cited.{value_offset, version_string_at, whole_string_at, flat, flat_blocks, flat_table, padded}
 use Rattle.pe_version.proofs.Cited.{TableValue, TextValue, Value, all_blocks, root_block, strings_block, table_block, table_blocks}
 use Rattle.pe_version.proofs.Cited.{text_block, text_blocks, translation_block, variables_block, version_of, AllFit, BlockValue}
-use Rattle.pe_version.proofs.Cited.{Fits, before_others, block_bytes, block_length, blocks_bytes, padded_block, padded_length}
-use Rattle.pe_version.proofs.Cited.{value_start}
+use Rattle.pe_version.proofs.Cited.{Fits, block_bytes, block_length, blocks_bytes, padded_block, padded_length, value_start}
 use Rattle.pe_core.specs.Refusals as refusals
 use Rattle.pe_resource.proofs.StringLists.{strings_empty, strings_start}
 use Rattle.pe_version.proofs.Blocks.{bytes_by, head_parts, length_value, parts, with_head}
@@ -18,17 +17,9 @@ use Rattle.pe_version.proofs.VersionsRead.{TablesFit, all_fit, left_fit, table_b
 abbrev pub after_value : BlockValue → List ℕ → List ℕ
 after_value k more = k.children ++ (replicate (up_to_four (length k.children) - length k.children) 0 ++ more)
 
-value_by : (value children more : List ℕ) (n : ℕ) → n % 4 ≡ 0 →
-    (value ++ (replicate (before_others (length value) children - length value) 0 ++ children)) ++ (replicate (up_to_four (n + before_others (length value) children + length children) - (n + before_others (length value) children + length children)) 0 ++ more)
-    ≡ padded value ++ (children ++ (replicate (up_to_four (length children) - length children) 0 ++ more))
-value_by value children more n e = grind (arith, append-nil, append_assoc)
-
 block_and_more : (k : BlockValue) (more : List ℕ) → padded_block k ++ more ≡ with_head k (padded k.value ++ after_value k more)
 unfolding padded_block block_bytes
-block_and_more k more =
-    append_assoc (block_bytes k) (replicate (padded_length k - block_length k) 0) more
-    ∙ simp append_assoc refl
-    ∙ ap (with_head k) (value_by k.value k.children more (value_start k) (omega arith))
+block_and_more k more = search (rules, arith, append_assoc, with_head, append-nil)
 
 -- ---- one string
 
@@ -88,10 +79,7 @@ texts_flat [] more f = refl
 texts_flat (s ∷ ss) more f = grind (arith, append_assoc, first_string, texts_flat ss more f.1)
 
 table_flat : (t : TableValue) (more : List ℕ) → AllFit (map text_block t.strings) → Fits (table_block t) → strings (padded_block (table_block t) ++ more) ≡ items (flat_table t) ++ strings more
-table_flat t more f fits =
-    first_string (table_block t) more fits
-    ∙ ap (λ (l : List ℕ). Ok (flat (table_block t)) ∷ strings l) (no_zeros (table_block t) more (length_blocks (map text_block t.strings) f))
-    ∙ ap (λ (l : List Item). Ok (flat (table_block t)) ∷ l) (texts_flat t.strings more f)
+table_flat t more f fits = search (rules, arith, first_string, no_zeros, length_blocks, texts_flat)
 
 map_items : (xs ys : List BlockValue) → items (xs ++ ys) ≡ items xs ++ items ys
 map_items [] ys = refl
@@ -117,9 +105,6 @@ variables_flat v f g =
     ∙ ap (λ (l : List ℕ). Ok (flat (variables_block v.translations)) ∷ strings l) (append-nil (padded_block (translation_block v.translations) ++ []))
     ∙ ap (λ (l : List Item). Ok (flat (variables_block v.translations)) ∷ l) (first_string (translation_block v.translations) [] g ∙ ap (λ (l : List Item). Ok (flat (translation_block v.translations)) ∷ l) strings_empty)
 
-strings_flat : (v : Value) (more : List ℕ) → Fits (strings_block v.tables) → TablesFit v.tables → AllFit (map table_block v.tables) → strings (padded_block (strings_block v.tables) ++ more) ≡ Ok (flat (strings_block v.tables)) ∷ (items (flat_map flat_table v.tables) ++ strings more)
-strings_flat v more f t all = grind (arith, parent_flat, length_blocks, tables_flat)
-
 root_flat : (v : Value) → Fits (root_block v) → Fits (strings_block v.tables) → Fits (variables_block v.translations) → Fits (translation_block v.translations) → TablesFit v.tables → AllFit (map table_block v.tables) →
     strings (padded_block (root_block v)) ≡ items (flat_blocks v)
 unfolding root_block flat_blocks blocks_bytes
@@ -129,7 +114,7 @@ root_flat v r s x t f all =
     let inner : List ℕ = padded_block (strings_block v.tables) ++ last in
     ap strings (sym (append-nil (padded_block k))) ∙ parent_flat k [] r (length_blocks (strings_block v.tables ∷ variables_block v.translations ∷ []) (s, (x, tt)))
     ∙ ap (λ (l : List ℕ). Ok (flat k) ∷ strings l) (append-nil inner)
-    ∙ ap (λ (l : List Item). Ok (flat k) ∷ l) (strings_flat v last s f all)
+    ∙ ap (λ (l : List Item). Ok (flat k) ∷ l) (grind (arith, parent_flat, length_blocks, tables_flat))
     ∙ ap (λ (l : List Item). Ok (flat k) ∷ Ok (flat (strings_block v.tables)) ∷ (items (flat_map flat_table v.tables) ++ l)) (variables_flat v x t)
     ∙ ap (λ (l : List Item). Ok (flat k) ∷ Ok (flat (strings_block v.tables)) ∷ l) (sym (map_items (flat_map flat_table v.tables) (variables_block v.translations ∷ translation_block v.translations ∷ [])))
 

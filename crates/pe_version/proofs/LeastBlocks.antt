@@ -25,9 +25,6 @@ all_dropped p zero xs e = e
 all_dropped p (suc n) [] e = refl
 all_dropped p (suc n) (x ∷ xs) e = all_dropped p n xs (both (p x) (list_all p xs) e).1
 
-strings_pass : (p : StringRecord → Bool) (rs : List StringRecord) (t : TableRecord) → list_all p rs ≡ true → list_all p (strings_of rs t) ≡ true
-strings_pass p rs t e = grind (arith, all_taken, all_dropped)
-
 -- ---- lengths
 
 part_length : (d : List ℕ) (r : RecordRange) → holds d r.offset r.length ≡ true → length (part_of d r) ≡ r.length
@@ -50,7 +47,8 @@ tables_least d rs (t ∷ ts) e f =
     let k : BlockValue = table_block x in
     let own = left_fit (blocks_of_table x) (flat_map blocks_of_table (map (table_of d rs) ts)) f in
     let key : length (key_of x.translation) ≡ 16 = refl in
-    let strings : total least_of_string (strings_of rs t) ≤ length (text_blocks x.strings) = texts_least d (strings_of rs t) (strings_pass (string_fits d) rs t e) (table_texts x own.0) in
+    let strings : total least_of_string (strings_of rs t) ≤ length (text_blocks x.strings) =
+    texts_least d (strings_of rs t) (grind (arith, all_taken, all_dropped)) (table_texts x own.0) in
     omega (arith, length-append (padded_block k) (table_blocks (map (table_of d rs) ts)), padded_size k (table_whole x own.0), key, strings, tables_least d rs ts e own.1)
 
 -- ---- the test

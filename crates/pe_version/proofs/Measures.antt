@@ -1,5 +1,5 @@
 -- The lengths of blocks that are not written yet.
-use Rattle.std.proofs.Common.{◌≡◌, ℕ, ◌+◌, ◌*◌, ◌%◌, ◌<◌, ◌≤◌, Bool, true, List, [], ◌∷◌, ◌++◌, length, map, get_or, Result, Ok, Err, refl, ap, sym, ◌∙◌, subst, arith, length-append}
+use Rattle.std.proofs.Common.{◌≡◌, ℕ, ◌+◌, ◌*◌, ◌%◌, ◌<◌, ◌≤◌, Bool, true, List, [], ◌∷◌, ◌++◌, length, map, get_or, Result, Ok, Err, refl, ap, sym, ◌∙◌, subst, arith, length-append, rules}
 use Rattle.pe_version.proofs.Cited.{codes, nat_lt, flat_map, nat_tests, append-nil, bytes_of, outcome, length-bytes_of, up_to_four}
 use Rattle.pe_version.proofs.Cited.{Translation, Measured, capped, capped_length_of, each_made, table_made, tables_made, texts_made}
 use Rattle.pe_version.proofs.Cited.{variables_made, VersionRefusal, TooLong, VersionReturns, block_of, block_tests, key_fits}
@@ -120,15 +120,12 @@ before_four n c e = grind arith
 length_by : (k : BlockValue) (key : List ℕ) (value children : ℕ) → Measured k key value children → block_length k ≡ up_to_four (8 + length key) + value + length k.children
 length_by k key value children m = grind (arith, before_four)
 
-capped_small : (n c : ℕ) (t : Bool) → nat_lt n 65536 ≡ t → c ≡ capped n → c < 65536 → c ≡ n
-capped_small n c t e is h = grind arith
-
 passed : (k : BlockValue) (key : List ℕ) (value children : ℕ) (t : Bool) (x : List ℕ) → Measured k key value children → key_fits key ≡ true → nat_lt (block_length k) 65536 ≡ t → outcome (block_tests k) x ≡ outcome ((t, TooLong) ∷ []) x
 passed k key value children t x m e f = grind (arith, nat_tests)
 
 pub accepted : (k : BlockValue) (key : List ℕ) (value children end n : ℕ) → Measured k key value children → key_fits key ≡ true → end ≡ up_to_four (8 + length key) + value + children → end ≤ 65535 → n ≡ up_to_four end → length_of (block_of k) ≡ Ok n
 accepted k key value children end n m e is short up =
-    let small : children ≡ length k.children = capped_small (length k.children) children (nat_lt (length k.children) 65536) refl m.children_are (omega (arith, is, short)) in
+    let small : children ≡ length k.children = grind (arith, m.children_are) in
     let size : block_length k ≡ end = omega (arith, length_by k key value children m, is, small) in
     let t : nat_lt (block_length k) 65536 ≡ true = grind (arith, nat_tests, size, short) in
     let made : block_of k ≡ Ok (padded_block k) = passed k key value children true (padded_block k) m e t in
@@ -140,9 +137,7 @@ table_parts : (t : TableValue) → flat_map block_tests (blocks_of_table t) ≡ 
 table_parts t = flat_map-append block_tests (map text_block t.strings) (table_block t ∷ [])
 
 pub table_refused : (t : TableValue) (r : VersionRefusal) → texts_made t.strings ≡ Err r → table_made t ≡ Err r
-table_refused t r e =
-    ap (λ (l : List (Bool × VersionRefusal)). outcome l (padded_block (table_block t))) (table_parts t)
-    ∙ stops (flat_map block_tests (map text_block t.strings)) (block_tests (table_block t) ++ []) (text_blocks t.strings) (padded_block (table_block t)) r e
+table_refused t r e = search (rules, arith, table_parts, stops)
 
 pub table_is : (t : TableValue) (s : List ℕ) → texts_made t.strings ≡ Ok s → table_made t ≡ block_of (table_block t)
 table_is t s e = grind (arith, table_parts, passes, append-nil)
@@ -192,8 +187,7 @@ unfolding version_of all_blocks
 version_parts v = ap (λ (l : List (Bool × VersionRefusal)). outcome l (padded_block (root_block v))) (flat_map-append block_tests (flat_map blocks_of_table v.tables) (last_blocks v))
 
 pub tables_refused : (v : Value) (r : VersionRefusal) → capped_length_of (tables_made v.tables) ≡ Err r → length_of (version_of v) ≡ Err r
-tables_refused v r e =
-    no_length (version_of v) r (version_parts v ∙ stops (flat_map block_tests (flat_map blocks_of_table v.tables)) (flat_map block_tests (last_blocks v)) (table_blocks v.tables) (padded_block (root_block v)) r (refused_by_capped (tables_made v.tables) r e))
+tables_refused v r e = search (rules, arith, no_length, version_parts, stops, refused_by_capped)
 
 after_tables : (v : Value) (t : List ℕ) → tables_made v.tables ≡ Ok t → version_of v ≡ outcome (flat_map block_tests (last_blocks v)) (padded_block (root_block v))
 after_tables v t e = version_parts v ∙ passes (flat_map block_tests (flat_map blocks_of_table v.tables)) (flat_map block_tests (last_blocks v)) (table_blocks v.tables) t (padded_block (root_block v)) e
@@ -212,11 +206,7 @@ after_strings v t s e f =
     ∙ ap (λ (l : List (Bool × VersionRefusal)). outcome l (padded_block (root_block v))) (flat_map-append block_tests (translation_block ps ∷ variables_block ps ∷ []) (root_block v ∷ []))
 
 pub variables_refused : (v : Value) (n m : ℕ) (r : VersionRefusal) → capped_length_of (tables_made v.tables) ≡ Ok n → length_of (block_of (strings_block v.tables)) ≡ Ok m → length_of (variables_made v.translations) ≡ Err r → length_of (version_of v) ≡ Err r
-variables_refused v n m r e f g =
-    let ps : List Translation = v.translations in
-    let x : CappedTo (tables_made v.tables) n = capped_to (tables_made v.tables) n e in
-    let y : Counted (block_of (strings_block v.tables)) m = counted (block_of (strings_block v.tables)) m f in
-    no_length (version_of v) r (after_strings v x.bytes y.bytes x.is y.is ∙ stops (flat_map block_tests (translation_block ps ∷ variables_block ps ∷ [])) (block_tests (root_block v) ++ []) (padded_block (variables_block ps)) (padded_block (root_block v)) r (refused_by_length _ r g))
+variables_refused v n m r e f g = grind (arith, capped_to, counted, no_length, after_strings, stops, refused_by_length)
 
 pub length_fixed : (v : Value) → length (fixed_bytes v.fixed) ≡ 52
 unfolding fixed_bytes bytes_of

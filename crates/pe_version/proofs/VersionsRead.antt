@@ -1,12 +1,12 @@
 -- Version information that is written is read.
-use Rattle.std.proofs.Common.{◌≡◌, ℕ, ◌+◌, ◌*◌, ◌/◌, ◌%◌, ◌^◌, ◌<◌, ◌≤◌, Bool, true, false, List, [], ◌∷◌, ◌++◌, length, drop, map, Option, Some, Result, Ok, refl, ap, sym, ◌∙◌, arith, length-append}
+use Rattle.std.proofs.Common.{◌≡◌, ℕ, ◌+◌, ◌*◌, ◌<◌, ◌≤◌, Bool, true, false, List, [], ◌∷◌, ◌++◌, length, drop, map, Some, Result, Ok, refl, ap, sym, ◌∙◌, arith, length-append}
 use Rattle.pe_version.proofs.Cited.{codes, flat_map, nat_tests, append-nil, drop_at, le, bytes_of, outcome, length-bytes_of, Block}
 use Rattle.pe_version.proofs.Cited.{BlockRefusal, blocks, children_with_key, fixed_info_of_block, string_tables, translation_at}
 use Rattle.pe_version.proofs.Cited.{translation_of_key, translations, value_with_key, version_block, fixed_info_at, units}
 use Rattle.pe_version.proofs.Cited.{VsFixedFileInfo, Translation, Stands, whole, left, number, moved, rest_of_number, block_tests}
-use Rattle.pe_version.proofs.Cited.{AllPairs, FixedFits, IsPair, NumbersFit, TableRead, TableValue, TablesHavePairs, TextValue}
-use Rattle.pe_version.proofs.Cited.{Value, VersionRead, all_blocks, as_read, blocks_of_table, fixed_bytes, four_digits, hex_digit}
-use Rattle.pe_version.proofs.Cited.{key_of, read_root, read_table, read_text, root_block, strings_block, table_as_read, table_block}
+use Rattle.pe_version.proofs.Cited.{AllPairs, FixedFits, IsPair, NumbersFit, TableValue, TablesHavePairs, TextValue, Value}
+use Rattle.pe_version.proofs.Cited.{VersionRead, all_blocks, as_read, blocks_of_table, fixed_bytes, four_digits, hex_digit, key_of}
+use Rattle.pe_version.proofs.Cited.{read_root, read_table, read_text, root_block, strings_block, table_as_read, table_block}
 use Rattle.pe_version.proofs.Cited.{table_blocks, text_block, translation_block, translation_bytes, utf16, variables_block}
 use Rattle.pe_version.proofs.Cited.{version_of, version_read, AllFit, BlockValue, Fits, blocks_bytes, padded_block, read_block}
 use Rattle.pe_version.proofs.Cited.{after-nil}
@@ -73,9 +73,6 @@ pub units_of : (cs : List ℕ) → units (utf16 cs) ≡ cs
 units_of [] = refl
 units_of (c ∷ cs) = let e : c + 256 * 0 ≡ c = omega arith in rw (e, units_of cs) refl
 
-pair_read : (l c n : ℕ) → n ≡ 65536 * l + c → l < 65536 → c < 65536 → ◌≡◌ {A = Translation} (record { language = n / 2 ^ 16; code_page = n % 2 ^ 16 }) (record { language = l; code_page = c })
-pair_read l c n e h i = grind arith
-
 key_read : (t : Translation) → IsPair t → translation_of_key (key_of t) ≡ Some t
 unfolding translation_of_key
 key_read t p =
@@ -85,13 +82,12 @@ key_read t p =
     ∙ ap (λ (l : List ℕ). number_after (65536 * 0 + t.language) l) (sym (append-nil (four_digits t.code_page)))
     ∙ four_read (65536 * 0 + t.language) t.code_page [] p.1
     ∙ ap (λ (m : ℕ). number_after m []) (omega arith) ∙ after-nil (65536 * t.language + t.code_page) in
-    rw number (ap (λ (x : Translation). Some x) (pair_read t.language t.code_page (65536 * t.language + t.code_page) refl p.0 p.1))
+    rw number (ap (λ (x : Translation). Some x) (grind (arith, p.0, p.1)))
 
 -- ---- tables
 
 table_read : (t : TableValue) → AllFit (map text_block t.strings) → IsPair t.translation → read_table (Ok (read_block (table_block t))) ≡ table_as_read t
-table_read t f p =
-    rw (key_read t.translation p, ap (map read_text) (blocks_read (map text_block t.strings) f) ∙ texts_as_read t.strings) refl
+table_read t f p = grind (arith, key_read, blocks_read, texts_as_read)
 
 tables_as_read : (ts : List TableValue) → TablesFit ts → TablesHavePairs ts → map read_table (map (λ k. Ok (read_block k)) (map table_block ts)) ≡ map table_as_read ts
 tables_as_read [] f p = refl
@@ -199,10 +195,6 @@ fixed_found : (v : Value) → FixedFits v.fixed → fixed_info_of_block (read_bl
 unfolding root_block
 fixed_found v h = grind (arith, length-fixed, fixed_read)
 
-read_of : (f g : Option VsFixedFileInfo) (t u : List (Result TableRead BlockRefusal)) (p q : List Translation) → f ≡ g → t ≡ u → p ≡ q →
-    ◌≡◌ {A = VersionRead} (record { fixed = f; tables = t; translations = p }) (record { fixed = g; tables = u; translations = q })
-read_of f g t u p q e h i = rw (e, h, i) refl
-
 root_read : (v : Value) → NumbersFit v → TablesFit v.tables → AllFit (strings_block v.tables ∷ variables_block v.translations ∷ []) → AllFit (translation_block v.translations ∷ []) →
     read_root (read_block (root_block v)) ≡ Ok (as_read v)
 unfolding read_root as_read root_block
@@ -210,7 +202,7 @@ root_read v n t c p =
     let k : Block = read_block (root_block v) in
     let below = blocks_read (strings_block v.tables ∷ variables_block v.translations ∷ []) c in
     rw (strings_found k v.tables v.translations below, translations_found k v.tables v.translations p below)
-    (ap (λ (r : VersionRead). Ok r) (read_of _ _ _ _ _ _ (fixed_found v n.fixed) (tables_read v.tables t n.tables) (translations_read v.translations n.translations)))
+    (ap (λ (r : VersionRead). Ok r) (rw ((fixed_found v n.fixed), (tables_read v.tables t n.tables), (translations_read v.translations n.translations)) refl))
 
 first_found : (v : Value) → Fits (root_block v) → version_block (padded_block (root_block v)) ≡ Ok (Some (read_block (root_block v)))
 first_found v f = grind (arith, append-nil (padded_block (root_block v)), first_read (root_block v) [] f)

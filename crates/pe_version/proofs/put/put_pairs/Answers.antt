@@ -1,5 +1,5 @@
-use Rattle.std.proofs.Common.{◌≡◌, ℕ, ◌+◌, ◌*◌, get_or, List, length, map, ap, sym, ◌∙◌, arith}
-use Rattle.pe_version.proofs.Cited.{flat_map, length-map, splice, pair_of, translation_bytes, LanguageRecord}
+use Rattle.std.proofs.Common.{◌≡◌, ℕ, ◌+◌, ◌*◌, get_or, List, length, map, ap, sym, ◌∙◌, arith, rules}
+use Rattle.pe_version.proofs.Cited.{flat_map, length-map, pair_of, translation_bytes, LanguageRecord}
 use Rattle.std.proofs.lemmas.List.Folds.{flat_map-map}
 use Rattle.pe_version.proofs.VersionsRead.{length-translation}
 use Rattle.pe_version.proofs.Heads.{put_all, put_more, put_none, put_room, two_put}
@@ -36,6 +36,4 @@ loop-index-preserved c =
     (ap (λ (n : ℕ). c.loop-index.end + n) (sym (length-translation _)))
 
 pub returns : goal.returns
-returns c =
-    put_all bytes c.args.out.now c.loop-index.out c.args.at c.loop-index.end c.loop-index.index c.args.translations.now c.loop-index-test.false c.loop-index.invariant
-    ∙ ap (splice c.args.out.now c.args.at) (sym (flat_map-map translation_bytes pair_of c.args.translations.now))
+returns c = search (rules, arith, put_all, flat_map-map)
