@@ -38,7 +38,7 @@ pub use Rattle.pe_directories.specs.BaseRelocations.{block_view, page_of}
 pub use Rattle.pe_edit.proofs.SectionRead.{length_of_section, section_read, is_layout, parts_stand}
 pub use Rattle.pe_edit.proofs.Stands.{Stands, left, number, part, right}
 pub use Rattle.pe_edit.proofs.Tests.{passes, section_fits, section_is, section_is_sorted, accepted_fit}
-pub use Rattle.pe_edit.specs.EditRefusals.{section_of, EditRefusal, length_of}
+pub use Rattle.pe_edit.specs.EditRefusals.{section_of, EditRefusal}
 pub use Rattle.pe_edit.specs.Reread.{first_entries, leaves_in, read_item}
 unfoldable pub use Rattle.pe_edit.specs.Reread.{read_leaf}
 pub use Rattle.pe_edit.specs.Views.{leaf_views}

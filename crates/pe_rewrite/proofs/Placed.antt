@@ -2,12 +2,12 @@
 use Rattle.std.proofs.Common.{◌≡◌, ℕ, ◌+◌, ◌^◌, ◌%◌, ◌<◌, ◌≤◌, ◌==◌, ◌&&◌, Bool, true, List, [], ◌∷◌, length, Some, Result, Ok, ap, sym, ◌∙◌, subst, arith}
 use Rattle.pe_rewrite.proofs.Cited.{nat_le, nat_lt, is_power_of_two, position_or_len, nat_tests, passes_at_first, HeaderView}
 use Rattle.pe_rewrite.proofs.Cited.{OptionalHeaderView, outcome, ◌>>=◌, raw_end, sections_offset, SectionTable, get_or-each}
-use Rattle.pe_rewrite.proofs.Cited.{length-each, length_of, section_of, Accepted, Leaf, section, length_of_section, passes}
-use Rattle.pe_rewrite.proofs.Cited.{section_fits, section_is, section_is_sorted, directories_end, Lies, edited_file, in_place}
-use Rattle.pe_rewrite.proofs.Cited.{debug_apart, debug_entries, directory_at, has_data, header_tests, headers_end, index_of}
-use Rattle.pe_rewrite.proofs.Cited.{is_absent, is_alone, length_at, place_at, place_of, section_header, section_headers}
-use Rattle.pe_rewrite.proofs.Cited.{section_tests, sections_apart, symbols_apart, target_by, target_of, RewriteRefusal, NoSection}
-use Rattle.pe_rewrite.proofs.Cited.{Place, Target, wide, passed, value_is, both}
+use Rattle.pe_rewrite.proofs.Cited.{length-each, section_of, Accepted, Leaf, section, length_of_section, passes, section_fits}
+use Rattle.pe_rewrite.proofs.Cited.{section_is, section_is_sorted, directories_end, Lies, edited_file, in_place, debug_apart}
+use Rattle.pe_rewrite.proofs.Cited.{debug_entries, directory_at, has_data, header_tests, headers_end, index_of, is_absent, is_alone}
+use Rattle.pe_rewrite.proofs.Cited.{length_at, place_at, place_of, section_header, section_headers, section_tests, sections_apart}
+use Rattle.pe_rewrite.proofs.Cited.{symbols_apart, target_by, target_of, RewriteRefusal, NoSection, Place, Target, wide, passed}
+use Rattle.pe_rewrite.proofs.Cited.{value_is, both}
 use Rattle.pe_rewrite.proofs.Results.{first_ok}
 
 -- ---- the steps

@@ -1,5 +1,5 @@
 -- The bytes of a file with room for resources: what stays, what moves, and what is written.
-use Rattle.std.proofs.Common.{◌≡◌, ℕ, ◌+◌, ◌-◌, ◌^◌, ◌<◌, ◌≤◌, List, [], ◌∷◌, ◌++◌, length, get_or, take, drop, refl, sym, ◌∙◌, subst, arith, length-append}
+use Rattle.std.proofs.Common.{◌≡◌, ℕ, ◌+◌, ◌^◌, ◌<◌, ◌≤◌, List, [], ◌∷◌, ◌++◌, length, get_or, take, drop, refl, sym, ◌∙◌, subst, arith, length-append}
 use Rattle.pe_rewrite.proofs.Cited.{get_or_append_left, get_or-append_right, get_or-drop, get_or-take, length-replicate}
 use Rattle.pe_rewrite.proofs.Cited.{length-take-le, bytes_of, le, splice, HeaderView, section_table, spell_section, SectionTable}
 use Rattle.pe_rewrite.proofs.Cited.{le-same, length-bytes_of, length-splice, Stands, left, number, part, right, range_below}

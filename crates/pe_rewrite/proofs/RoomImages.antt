@@ -84,10 +84,6 @@ pub bytes_before : (b : List ℕ) (h : HeaderView) (xs : List Leaf) (m : Room) (
 bytes_before b h xs m f k small e i lt over =
     let y : IsMoved b h xs m f = is_moved b h xs m f small e i in
     let p : ℕ = h.dos_header.pe_pointer in
-    let in_raw : Bool = nat_le m.place.section.pointer_to_raw_data k && nat_lt k (m.place.section.pointer_to_raw_data + m.place.section.size_of_raw_data) in
-    let in_row : Bool = nat_le (m.place.row + 8) k && nat_lt k (m.place.row + 8 + 4) in
-    let in_entry : Bool = nat_le m.place.entry k && nat_lt k (m.place.entry + 8) in
-    let in_sum : Bool = nat_le (p + 88) k && nat_lt k (p + 88 + 4) in
     let apart = or_parts (is_pointer m.debug k) _ over in
     let s = six_of (nat_le (p + 6) k && nat_lt k (p + 6 + 2)) (nat_le (p + 12) k && nat_lt k (p + 12 + 4)) (nat_le (p + 32) k && nat_lt k (p + 32 + 4)) (nat_le (p + 80) k && nat_lt k (p + 80 + 4)) (nat_le m.place.row k && nat_lt k (m.place.row + 40)) (is_written h m.place k) apart.1 in
     let c : List ℕ = with_pointers m b in

@@ -1,5 +1,5 @@
 -- What stays of a file whose resources change, and what is read of what was written.
-use Rattle.std.proofs.Common.{◌≡◌, ℕ, ◌+◌, ◌-◌, ◌^◌, ◌<◌, ◌≤◌, ◌&&◌, false, List, [], ◌∷◌, length, get_or, take, drop, refl, sym, ◌∙◌, subst, arith}
+use Rattle.std.proofs.Common.{◌≡◌, ℕ, ◌+◌, ◌^◌, ◌<◌, ◌≤◌, ◌&&◌, false, List, [], ◌∷◌, length, get_or, take, drop, refl, sym, ◌∙◌, subst, arith}
 use Rattle.pe_rewrite.proofs.Cited.{nat_le, nat_lt, nat_tests, length-take-le, bytes_of, le, splice, HeaderView, le-same}
 use Rattle.pe_rewrite.proofs.Cited.{get_or-splice, length-bytes_of, length-splice, Lies, changed, is_written, resource_changes}
 use Rattle.pe_rewrite.proofs.Cited.{sum_of, with_resources, with_sum, Place}

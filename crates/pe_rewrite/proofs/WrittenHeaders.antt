@@ -3,9 +3,9 @@ use Rattle.std.proofs.Common.{◌≡◌, ℕ, ◌+◌, ◌*◌, ◌^◌, ◌<◌
 use Rattle.pe_rewrite.proofs.Cited.{nat_le, nat_lt, slice_range, if◌then◌else◌, bytes_of, le, range, splice, HeaderView}
 use Rattle.pe_rewrite.proofs.Cited.{OptionalHeaderView, directories_offset, header_at, data_directory, section_table}
 use Rattle.pe_rewrite.proofs.Cited.{sections_offset, ParseMode, le-same, length-bytes_of, length-splice, Leaf, section}
-use Rattle.pe_rewrite.proofs.Cited.{length_of_section, directories_end, directories_end_after, range_below, range_past}
-use Rattle.pe_rewrite.proofs.Cited.{headers_change, same_range, Lies, edited_file, filled, grown_size, sum_of, with_resources}
-use Rattle.pe_rewrite.proofs.Cited.{with_sum, section_header, edited_headers, entry_of, resized, Place, Target}
+use Rattle.pe_rewrite.proofs.Cited.{length_of_section, range_below, range_past, headers_change, same_range, Lies, edited_file}
+use Rattle.pe_rewrite.proofs.Cited.{filled, grown_size, sum_of, with_resources, with_sum, section_header, edited_headers, entry_of}
+use Rattle.pe_rewrite.proofs.Cited.{resized, Place, Target}
 use Rattle.pe_sign.specs.Checksum.{checksum_of}
 use Rattle.pe_sign.proofs.Agreement.{agree_splice, in_field, sum_same}
 use Rattle.pe_rewrite.proofs.Placed.{Made, Placed, place_lies, place_made}
@@ -135,7 +135,6 @@ header_edited mode b h xs p e x =
     let q : ℕ = h.dos_header.pe_pointer in
     let room : q + 92 ≤ length g = omega (arith, resources_length h p r b l m.size, sum_inside h p (length b) l) in
     let at : p.entry ≡ q + 24 + directories_offset (o.standard_fields.magic == 0x20B) + 8 * 2 = ap (λ (y : Place). y.entry) (sym x.value) ∙ ap (λ (t : Target). t.entry) (sym x.of.value) in
-    let end : directories_end h ≡ q + 24 + directories_offset (o.standard_fields.magic == 0x20B) + 8 * length o.data_directories = ap (directories_end_after q) x.of.some in
     headers_change (edited_file h p xs b) b mode h o 2 p.entry (entry_of p) e x.of.some at
     (grind (arith, edited_size, before, field_stays, range_below, range_past, after, m.size, x.headers.directories))
     (entry_read h p r b l m.size (small_place p xs m))

@@ -50,7 +50,6 @@ pub maps_resources : (b : List ℕ) (h : HeaderView) (xs : List Leaf) (p : Place
 maps_resources b h xs p alignment i a small d power sector apart from to =
     let f : ℕ → SectionTable = section_header (edited_file h p xs b) h in
     let own : f i ≡ resized (grown_size p) p.section = own_row b h xs p i small d in
-    let to_raw : a < p.section.virtual_address + p.section.size_of_raw_data = omega (arith, to, d.lies.room) in
     let grown : p.length ≤ grown_size p = omega arith in
     let at : raw_start p.section ≡ p.section.pointer_to_raw_data = grind (arith, nat_tests) in
     let offset : a - (f i).virtual_address + raw_start (f i) ≡ p.section.pointer_to_raw_data + (a - p.section.virtual_address) =

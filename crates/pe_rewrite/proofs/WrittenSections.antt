@@ -2,9 +2,9 @@
 use Rattle.std.proofs.Common.{◌≡◌, ℕ, ◌+◌, ◌*◌, ◌^◌, ◌<◌, ◌≤◌, ◌≢◌, ◌==◌, ◌&&◌, ◌||◌, Bool, true, false, List, length, get_or, set, Option, Some, None, refl, ap, sym, ◌∙◌, ⊎_elim, arith}
 use Rattle.pe_rewrite.proofs.Cited.{nat_le, nat_lt, if◌then◌else◌, is_power_of_two, list_all, cases_lt, nat_tests, HeaderView}
 use Rattle.pe_rewrite.proofs.Cited.{section_table, each, covers, offset_by, offset_of, raw_start, rounded_up, raw_end}
-use Rattle.pe_rewrite.proofs.Cited.{sections_offset, SectionTable, positive, Leaf, section, one_set, one_fails, range_below}
-use Rattle.pe_rewrite.proofs.Cited.{range_past, Lies, edited_file, grown_size, is_written, data_apart, headers_end, is_apart}
-use Rattle.pe_rewrite.proofs.Cited.{is_outside, pages_end, section_header, section_headers, sections_apart, resized, Place, both}
+use Rattle.pe_rewrite.proofs.Cited.{sections_offset, SectionTable, positive, Leaf, one_set, one_fails, range_below, range_past}
+use Rattle.pe_rewrite.proofs.Cited.{Lies, edited_file, grown_size, is_written, data_apart, headers_end, is_apart, is_outside}
+use Rattle.pe_rewrite.proofs.Cited.{pages_end, section_header, section_headers, sections_apart, resized, Place, both}
 use Rattle.pe_rewrite.proofs.Mapped.{Covered, Found, by_each, covered_end, covered_of, covers_none, first_some, found_each, maps_alike, offset_none}
 use Rattle.pe_rewrite.proofs.Placed.{Made, Placed, place_lies, place_made}
 use Rattle.pe_rewrite.proofs.Stays.{byte_stays, number_stays}

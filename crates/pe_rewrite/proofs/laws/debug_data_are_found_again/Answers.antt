@@ -1,4 +1,4 @@
-use Rattle.std.proofs.Common.{◌≡◌, ℕ, ◌+◌, ◌*◌, ◌/◌, ◌%◌, ◌^◌, ◌<◌, ◌≤◌, ◌==◌, ◌&&◌, ◌||◌, ◌⊎◌, inl, inr, true, false, List, length, get_or, slice_range, Some, Ok, refl, ap, sym, ◌∙◌, subst, ⊎_elim, arith}
+use Rattle.std.proofs.Common.{◌≡◌, ℕ, ◌+◌, ◌*◌, ◌/◌, ◌%◌, ◌^◌, ◌<◌, ◌≤◌, ◌||◌, ◌⊎◌, inl, inr, true, List, length, get_or, slice_range, Some, Ok, refl, ap, sym, ◌∙◌, ⊎_elim, arith}
 use Rattle.pe_rewrite.proofs.Cited.{nat_le, nat_tests, ext_get_or, places, AreBytes, le, range, HeaderView, OptionalHeaderView}
 use Rattle.pe_rewrite.proofs.Cited.{section_map, raw_end, ParseOptions, SectionTable, le-same, le_small, Leaf, debug_entry_at}
 use Rattle.pe_rewrite.proofs.Cited.{range_below, range_past, Lies, in_place, debug_apart, debug_data_apart, directory_at}
@@ -41,17 +41,7 @@ same_ranges f b p n size same =
 -- ---- where the entries lie
 
 entries_beside : (b : List ℕ) (h : HeaderView) (s : SectionTable) (d : DebugEntries) → entries_apart b h s d ≡ true → 0 < d.count → Beside h s d.offset (d.offset + 28 * d.count)
-entries_beside b h s d e some =
-    let none : (d.count == 0) ≡ false = grind (arith, nat_tests, some) in
-    let end : ℕ = d.offset + 28 * d.count in
-    let lie = lie_by (d.count == 0) (nat_le (headers_end h) d.offset) (nat_le end s.pointer_to_raw_data || (nat_le (raw_end s) d.offset && nat_le end (length b))) e none in
-    let start : headers_end h ≤ d.offset = grind (arith, nat_tests, lie.0) in (
-      start,
-      ⊎_elim
-          (λ (before : nat_le end s.pointer_to_raw_data ≡ true). let less : end ≤ s.pointer_to_raw_data = grind (arith, nat_tests, before) in inl less)
-          (λ (after : (nat_le (raw_end s) d.offset && nat_le end (length b)) ≡ true). let more : nat_le (raw_end s) d.offset ≡ true = (both (nat_le (raw_end s) d.offset) _ after).0 in let past : raw_end s ≤ d.offset = grind (arith, nat_tests, more) in inr past)
-          (or_of (nat_le end s.pointer_to_raw_data) (nat_le (raw_end s) d.offset && nat_le end (length b)) lie.1),
-    )
+entries_beside b h s d e some = grind (arith, nat_tests, lie_by, both, or_of)
 
 data_beside : (b : List ℕ) (h : HeaderView) (s : SectionTable) (e : ℕ) → debug_data_apart b s e ≡ true → headers_end h ≤ le b (e + 24) 4 → Beside h s (le b (e + 24) 4) (le b (e + 24) 4 + le b (e + 16) 4)
 data_beside b h s e apart from =
@@ -100,8 +90,7 @@ data_same b h xs p f d k y apart lt from =
 
 apart_there : (o : ParseOptions) (b : List ℕ) (h : HeaderView) (p : Place) (x : DebugApart b h p) (w : OptionalHeaderView) (q : ℕ) → h.optional_header ≡ Some w → o.resolve_rva ≡ true →
     section_map o (section_headers b h) w.windows_fields.file_alignment (directory_at w 6).virtual_address ≡ Some q → debug_apart b h p.section (entries_at q (directory_at w 6)) ≡ true
-apart_there o b h p x w q some resolves there =
-    subst (λ (d : DebugEntries). debug_apart b h p.section d ≡ true) (entries_there o b h x.target x.of w q some resolves there) x.apart
+apart_there o b h p x w q some resolves there = grind (arith, entries_there)
 
 entry_in_place : (o : ParseOptions) (b : List ℕ) (h : HeaderView) (xs : List Leaf) (p : Place) (f : List ℕ) (w : OptionalHeaderView) (q k : ℕ) → place_of b h xs ≡ Ok p → in_place b h xs ≡ Ok f → h.optional_header ≡ Some w → o.resolve_rva ≡ true →
     section_map o (section_headers b h) w.windows_fields.file_alignment (directory_at w 6).virtual_address ≡ Some q → k < (directory_at w 6).size / 28 → debug_entry_at 0 f (q + 28 * k) ≡ debug_entry_at 0 b (q + 28 * k)
