@@ -4,7 +4,6 @@ use Rattle.pe_image.proofs.Cited.{option_map, Vec, Refusal, Memory, ReturnsAs, R
 use Rattle.pe_image.proofs.Cited.{ParseMode, ParseOptions, SectionTable, IsResource, resource_view, ResourceData, ListingStarts}
 use Rattle.pe_image.proofs.Cited.{Lists, ReturnsResources, MemoryOnlyIf, Lacks, memory_never}
 use Rattle.pe_core.specs.Modes.{none_if_refused, none_if_error}
-use Rattle.pe_core.specs.declared.error.Error.TheVariants as errors
 use Rattle.pe_records.specs.declared.certificate_table.AttributeCertificate.{AttributeCertificate}
 
 -- where what the definition returns is known, allocation failure apart

@@ -21,7 +21,7 @@ pub use Rattle.pe_core.proofs.Steps.{then_then, not_both, given, same_inside}
 pub use Rattle.pe_core.specs.Bytes.{holds, range, bytes_of, record_at, AreBytes, put}
 unfoldable pub use Rattle.pe_core.specs.Bytes.{splice, le}
 pub use Rattle.pe_core.specs.Gathered.{all_or_refusal, with_rest, up_to_none}
-pub use Rattle.pe_core.specs.Header.{HeaderView, OptionalHeaderView, optional_header, optional_header_at, header_view, optional_header_view}
+pub use Rattle.pe_core.specs.Header.{HeaderView, OptionalHeaderView, optional_header_at, header_view, optional_header_view}
 unfoldable pub use Rattle.pe_core.specs.Header.{header_at, header_tests, optional_header_tests, header}
 pub use Rattle.pe_core.specs.Imports.{AreLibraries, ImportRecordView, ImportView, entry_size, EntryView, import_entry_at, import_record_view, name_or_refusal, import_data_at, is_last, lookup_at, lookups_at, lookups_rva}
 unfoldable pub use Rattle.pe_core.specs.Imports.{import_records, import_entries, import_of, imports, import_record, import_record_at, lookup_entries}

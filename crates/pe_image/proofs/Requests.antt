@@ -5,7 +5,6 @@ use Rattle.pe_image.proofs.Cited.{sections_of, section_map, DataDirectory, Error
 use Rattle.pe_image.proofs.Cited.{export_data_of, import_data_of, layout_of, AsksForMemory, HasCertificates, HasExports, HasImports}
 use Rattle.pe_image.proofs.Cited.{MemoryOnlyIf, Layout}
 use Rattle.pe_core.specs.Exports.{ExportDataView}
-use Rattle.pe_core.specs.declared.error.Error.TheVariants as errors
 use Rattle.pe_image.proofs.SectionsFirst.{headers_of_core}
 
 -- ---- section headers

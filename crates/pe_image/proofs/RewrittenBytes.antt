@@ -2,18 +2,18 @@
 use Rattle.std.proofs.Common.{◌≡◌, ℕ, zero, suc, ◌+◌, ◌-◌, ◌*◌, ◌%◌, ◌<◌, ◌≤◌, ◌||◌, ◌⊎◌, inl, inr, Bool, true, false, cond, nat_le, Result, Ok, Err, List, [], ◌∷◌, ◌++◌, length, get_or, replicate, Option, Some, None, refl, ap, sym, ◌∙◌, subst, arith, rules}
 use Rattle.pe_image.proofs.Cited.{filter, max, slice_index, slice_range, unwrap_or, ◌==◌, last_or, nat_tests, places}
 use Rattle.pe_image.proofs.Cited.{length-replicate, inside_if_held, AreBytes, le, bytes_of, holds, range, HeaderView}
-use Rattle.pe_image.proofs.Cited.{OptionalHeaderView, header, header_at, header_tests, optional_header, optional_header_tests}
-use Rattle.pe_image.proofs.Cited.{optional_header_at, is_permissive, dos_header, coff_header, section_table, Refusal, Short}
-use Rattle.pe_image.proofs.Cited.{BadMagic, HeaderPointer, WriteFit, WriteOverlap, WriteSection, outcome, raw_end, sections_of}
-use Rattle.pe_image.proofs.Cited.{sections_offset, spell_dos, spell_coff, spell_optional, spell_section, DataDirectory, ParseMode}
-use Rattle.pe_image.proofs.Cited.{ParseOptions, SectionTable, CertificateView, certificate_at, certificate, certificate_tests}
-use Rattle.pe_image.proofs.Cited.{certificates_at, IsListing, is_revision, is_type, revision_number, revision_of, type_number}
-use Rattle.pe_image.proofs.Cited.{type_of, spell_certificate, written_length, StandFrom, is_listing, unplaced, CoreView, core_of}
-use Rattle.pe_image.proofs.Cited.{field, given_value, ImageView, before_resources, IsAfterCore, IsImage, directory, Piece}
-use Rattle.pe_image.proofs.Cited.{EndsInZeros, all_fit, has_byte, byte_after, overlay, piece, all_certificate_pieces}
-use Rattle.pe_image.proofs.Cited.{all_section_pieces, certificate_pieces, header_pieces, in_a_row, lacking, section_pieces}
-use Rattle.pe_image.proofs.Cited.{AreAligned, all_in_source, certificate_directory, clash_free, image_by, image_end, image_pieces}
-use Rattle.pe_image.proofs.Cited.{image_tests, image_written, padded_pieces, whole_by, whole_written, get_or-each, length-each}
+use Rattle.pe_image.proofs.Cited.{OptionalHeaderView, header, header_at, header_tests, optional_header_tests, optional_header_at}
+use Rattle.pe_image.proofs.Cited.{is_permissive, dos_header, coff_header, section_table, Refusal, Short, BadMagic, HeaderPointer}
+use Rattle.pe_image.proofs.Cited.{WriteFit, WriteOverlap, WriteSection, outcome, raw_end, sections_of, sections_offset, spell_dos}
+use Rattle.pe_image.proofs.Cited.{spell_coff, spell_optional, spell_section, DataDirectory, ParseMode, ParseOptions, SectionTable}
+use Rattle.pe_image.proofs.Cited.{CertificateView, certificate_at, certificate, certificate_tests, certificates_at, IsListing}
+use Rattle.pe_image.proofs.Cited.{is_revision, is_type, revision_number, revision_of, type_number, type_of, spell_certificate}
+use Rattle.pe_image.proofs.Cited.{written_length, StandFrom, is_listing, unplaced, CoreView, core_of, field, given_value, ImageView}
+use Rattle.pe_image.proofs.Cited.{before_resources, IsAfterCore, IsImage, directory, Piece, EndsInZeros, all_fit, has_byte}
+use Rattle.pe_image.proofs.Cited.{byte_after, overlay, piece, all_certificate_pieces, all_section_pieces, certificate_pieces}
+use Rattle.pe_image.proofs.Cited.{header_pieces, in_a_row, lacking, section_pieces, AreAligned, all_in_source}
+use Rattle.pe_image.proofs.Cited.{certificate_directory, clash_free, image_by, image_end, image_pieces, image_tests, image_written}
+use Rattle.pe_image.proofs.Cited.{padded_pieces, whole_by, whole_written, get_or-each, length-each}
 use Rattle.pe_core.proofs.NumberBytes.{bytes_of-le, range_join}
 use Rattle.pe_core.proofs.SpelledOptional.{spelled_optional}
 use Rattle.pe_core.proofs.SpelledRecords.{spelled_dos, spelled_coff, spelled_section}

@@ -1,12 +1,12 @@
 -- The first refusal among imports is the first among those whose entries no record before has.
 use Rattle.std.proofs.Common.{◌≡◌, ◌≢◌, ℕ, zero, suc, ◌+◌, ◌-◌, ◌*◌, ◌/◌, ◌<◌, ◌≤◌, Bool, false, List, [], ◌∷◌, ◌++◌, map, length, get_or, take, replicate, Option, Some, None, Result, Ok, Err, refl, sym, ap, subst, ◌∙◌, arith, ⊎_elim, rules}
 use Rattle.std.specs.Borrow.{Bor}
-use Rattle.pe_image.proofs.Cited.{max, slice_index, slice_range, slice_set, if◌then◌else◌, IsOk, cases_lt, flat_map-append}
-use Rattle.pe_image.proofs.Cited.{append-nil, get_or-map, get_or-replicate, get_or-set_other, get_or-set_same, get_or_past}
-use Rattle.pe_image.proofs.Cited.{length-map, length-replicate, length-set, map-append, places, take_all, take_more, each_same}
-use Rattle.pe_image.proofs.Cited.{length_range, le, range, all_or_refusal, with_rest, EntryView, ImportRecordView, ImportView}
-use Rattle.pe_image.proofs.Cited.{import_entries, import_entry_at, import_of, import_record_view, imports, entry_size, Refusal}
-use Rattle.pe_image.proofs.Cited.{◌>>=◌, each, AllStand, StandsAt, counts_after, entries_left, if_listed, list_offset, tested}
+use Rattle.pe_image.proofs.Cited.{max, slice_index, slice_range, slice_set, IsOk, cases_lt, flat_map-append, append-nil, get_or-map}
+use Rattle.pe_image.proofs.Cited.{get_or-replicate, get_or-set_other, get_or-set_same, get_or_past, length-map, length-replicate}
+use Rattle.pe_image.proofs.Cited.{length-set, map-append, places, take_all, take_more, each_same, length_range, le, range}
+use Rattle.pe_image.proofs.Cited.{all_or_refusal, with_rest, EntryView, ImportRecordView, ImportView, import_entries}
+use Rattle.pe_image.proofs.Cited.{import_entry_at, import_of, import_record_view, imports, entry_size, Refusal, ◌>>=◌, each}
+use Rattle.pe_image.proofs.Cited.{AllStand, StandsAt, counts_after, entries_left, if_listed, list_offset, tested}
 use Rattle.std.proofs.lemmas.Nat.{column_fits, div-mul-add}
 use Rattle.pe_core.proofs.EntryLists.{some_size}
 use Rattle.pe_image.proofs.StandingLists.{le_of_range}
@@ -38,12 +38,6 @@ passed r s h = grind arith
 once_passed : (r s t : Tested) → (IsOk r → s ≡ t) → (r >>= λ u. s) ≡ (r >>= λ u. t)
 once_passed r s t h = grind arith
 
-accepted_one : (r : Result ImportView Refusal) → IsOk r → tests (r ∷ []) ≡ Ok []
-accepted_one r h = grind arith
-
-one_accepted : (r : Result ImportView Refusal) → IsOk (tests (r ∷ [])) → IsOk r
-one_accepted r h = grind arith
-
 -- ---- of entries in a row
 
 abbrev Read : Type 0
@@ -64,7 +58,7 @@ shortened F f d (suc n) h =
     ap (run F f) more
     ∙ one_last F f (d + n)
     ∙ ap (λ (r : Tested). r >>= λ u. tests (F (f (d + n)) ∷ [])) (shortened F f d n (λ k from lt. h k from (omega (arith, lt))))
-    ∙ ap (λ (r : Tested). run F f d >>= λ u. r) (accepted_one (F (f (d + n))) (h (d + n) (omega arith) (omega arith)))
+    ∙ ap (λ (r : Tested). run F f d >>= λ u. r) (grind (arith, h (d + n) (omega arith) (omega arith)))
     ∙ settled (all_or_refusal (map F (each f d)))
 
 each_accepted : (F : Read) (f : ℕ → EntryView) (n : ℕ) → IsOk (run F f n) → (k : ℕ) → k < n → IsOk (F (f k))
@@ -73,7 +67,7 @@ each_accepted F f (suc n) h k lt =
     let parts = passed (run F f n) (tests (F (f n) ∷ [])) (subst (λ (r : Tested). IsOk r) (one_last F f n) h) in
     ⊎_elim
     (λ (l : k < n). each_accepted F f n parts.0 k l)
-    (λ (g : n ≤ k). let same : n ≡ k = omega (arith, lt, g) in subst (λ (i : ℕ). IsOk (F (f i))) same (one_accepted (F (f n)) parts.1))
+    (λ (g : n ≤ k). let same : n ≡ k = omega (arith, lt, g) in subst (λ (i : ℕ). IsOk (F (f i))) same (grind (arith, parts.1)))
     (cases_lt k n)
 
 -- ---- an entry's number decides whether its import is refused
@@ -132,15 +126,11 @@ pub record Reduced (offset : ℕ → Option ℕ) (w : ℕ) (b : List ℕ) (recor
 pub reduced-start : (offset : ℕ → Option ℕ) (w : ℕ) (b counts : List ℕ) (n : ℕ) → counts ≡ replicate n 0 → n ≡ length b + 1 → Reduced offset w b [] [] counts
 reduced-start offset w b counts n is many = grind (arith, length-replicate, get_or-replicate, get_or_past, cases_lt)
 
--- entry k of a list, from its end
-from_end : (w p n k end : ℕ) → k ≤ n → end ≡ p + w * n → end - w * (n - k) ≡ p + w * k
-from_end w p n k end few is = grind arith
-
 entry_there : (w : ℕ) (b : List ℕ) (p n k end : ℕ) (r : ImportRecordView) → p + w * n ≤ length b → r.lookups ≡ range b p (w * n) → end ≡ p + w * n → k < n
     → (import_entry_at w r k).entry ≡ le b (end - w * (n - k)) w
 entry_there w b p n k end r inside same is lt =
     ap (λ (l : List ℕ). le l (w * k) w) same ∙ le_of_range b p (w * n) (w * k) w inside (column_fits w k w n lt (omega arith))
-    ∙ ap (λ (q : ℕ). le b q w) (sym (from_end w p n k end (omega (arith, lt)) is))
+    ∙ ap (λ (q : ℕ). le b q w) (sym (grind arith))
 
 -- one more record whose list stands at an offset
 listed_there : (offset : ℕ → Option ℕ) (w : ℕ) (b : List ℕ) (records kept : List ImportRecordView) (counts : List ℕ) (r short : ImportRecordView) (p n : ℕ) → 0 < w

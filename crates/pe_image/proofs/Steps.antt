@@ -1,7 +1,6 @@
 -- Tests before a value, and facts that are to be shown by the kind of a refusal.
 use Rattle.std.proofs.Common.{◌≡◌, Bool, true, [], ◌∷◌, Result, Ok, Err, arith}
 use Rattle.pe_image.proofs.Cited.{Refusal, WriteFit, UnlessMemory, IfMemory, outcome, ◌>>=◌, Error}
-use Rattle.pe_core.specs.declared.error.Error.TheVariants as errors
 
 pub refused_test : {X : Type 0} (t : Result (Unit {0}) Refusal) (x : X) (e : Refusal) → (t >>= λ u. Ok x) ≡ Err e → t ≡ Err e
 refused_test t x e h = grind arith

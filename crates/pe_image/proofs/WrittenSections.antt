@@ -96,9 +96,6 @@ in_next b unit offset (s ∷ after) q i h =
     (λ e. has_piece_left (section_pieces b unit offset s) (all_section_pieces b unit (offset + 40) after) q
     (in_data b unit offset s q (and_left _ _ i) (rw e at h)))
 
-in_covered : (b : List ℕ) (unit : Option ℕ) (offset : ℕ) (s : SectionTable) (after : List SectionTable) (q : ℕ) → all_in_source b after ≡ true → in_range (covered unit s after) q ≡ true → has_piece q (all_section_pieces b unit offset after) ≡ true
-in_covered b unit offset s after q i h = grind (arith, by_cases, nat_tests, in_next)
-
 -- ---- later pieces leave the same
 
 -- bytes that differ where later pieces cover them alone are the same after these
@@ -120,7 +117,7 @@ later_sections now b unit offset s after i h k =
     let l : length (put_in_turn now parts) ≡ length now = length-put parts now j in
     let m : length (put_in_turn now whole) ≡ length now = length-put whole now h in
     same_later (all_section_pieces b unit (offset + 40) after) (put_in_turn now parts) (put_in_turn now whole) (in_range c) (l ∙ sym m) (rw m k)
-    (λ q e. in_covered b unit (offset + 40) s after q i e)
+    (λ q e. grind (arith, by_cases, nat_tests, in_next))
     (λ q e. get_or-put parts now q j ∙ (byte_of_section c b unit offset s q (get_or now q 0) e ∙ sym (get_or-put whole now q h)))
 
 -- the pieces of a section fit exactly if its data, its header and its zeros do

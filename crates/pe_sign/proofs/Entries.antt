@@ -1,9 +1,9 @@
 -- The entry of the certificate directory is read again where it was written.
-use Rattle.std.proofs.Common.{◌≡◌, ℕ, ◌+◌, ◌-◌, ◌^◌, ◌<◌, ◌≤◌, Bool, List, length, Result, Ok, Err, ap, sym, ◌∙◌, subst, arith}
+use Rattle.std.proofs.Common.{◌≡◌, ℕ, ◌+◌, ◌^◌, ◌<◌, ◌≤◌, Bool, List, length, Result, Ok, Err, ap, sym, ◌∙◌, subst, arith}
 use Rattle.pe_sign.proofs.Cited.{nat_tests, le, bytes_of, splice, HeaderView, outcome, ◌>>=◌, DataDirectory, changeable_parts}
 use Rattle.pe_sign.proofs.Cited.{attach_tests, table_start, entry_to, with_entry, with_checksum, with_both_fields, joined_file}
-use Rattle.pe_sign.proofs.Cited.{attached_file, attached_of, FitsWith, checksum_of, left_out_of, SignRefusal, Placement, LeftOut}
-use Rattle.pe_sign.proofs.Cited.{le-same, get_or-splice, length-splice, length-bytes_of}
+use Rattle.pe_sign.proofs.Cited.{attached_file, attached_of, FitsWith, left_out_of, SignRefusal, Placement, LeftOut, le-same}
+use Rattle.pe_sign.proofs.Cited.{get_or-splice, length-splice, length-bytes_of}
 use Rattle.pe_sign.proofs.Detaching.{read_again}
 use Rattle.pe_sign.proofs.Digests.{Holds, holds_joined, start_inside}
 use Rattle.pe_sign.proofs.Tests.{other_value, certified_fits}
@@ -25,15 +25,7 @@ pub record Reads (b : List ℕ) (p : ℕ) (entry : DataDirectory) : Type 0 where
 pub reads_fields : (l : LeftOut) (row : DataDirectory) (b : List ℕ) → Holds l (length b) → l.checksum.offset + 4 ≤ l.directory_entry.offset → row.virtual_address < 256 ^ 4 → row.size < 256 ^ 4 →
     Reads (with_both_fields l row b) l.directory_entry.offset row
 unfolding with_checksum with_entry
-reads_fields l row b h apart i j =
-    let x : List ℕ = with_entry l row b in
-    let p : ℕ = l.directory_entry.offset in
-    let size : length x ≡ length b = length-entry l row b h.entry in
-    let r : Reads x p row = grind (arith, length-splice, length-bytes_of, le_before, read_again, h.entry) in
-    record {
-      offset = le_after x l.checksum.offset p (checksum_of x l.checksum.offset) (omega (arith, size, h.checksum)) apart ∙ r.offset;
-      size = le_after x l.checksum.offset (p + 4) (checksum_of x l.checksum.offset) (omega (arith, size, h.checksum)) (omega (arith, apart)) ∙ r.size;
-    }
+reads_fields l row b h apart i j = grind (arith, length-entry, length-splice, length-bytes_of, le_before, read_again, le_after)
 
 abbrev pub IsApart : {R : Type 0} → Result LeftOut R → Type 0
 IsApart (Ok l) = l.directory_entry.length ≡ 8 → l.checksum.offset + 4 ≤ l.directory_entry.offset

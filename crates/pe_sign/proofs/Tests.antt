@@ -1,5 +1,5 @@
 -- Tests before a value.
-use Rattle.std.proofs.Common.{◌≡◌, ℕ, ◌+◌, ◌≤◌, ◌==◌, ◌||◌, Bool, true, cond, List, [], ◌∷◌, ◌++◌, length, drop, Result, Ok, Err, refl, ap, ◌∙◌, arith}
+use Rattle.std.proofs.Common.{◌≡◌, ℕ, ◌+◌, ◌≤◌, ◌==◌, ◌||◌, Bool, true, List, [], ◌∷◌, ◌++◌, length, drop, Result, Ok, Err, refl, ap, ◌∙◌, arith}
 use Rattle.pe_sign.proofs.Cited.{not, nat_le, nat_lt, if◌then◌else◌, nat_tests, le, fit_at, Refusal, WriteFit, outcome, ◌>>=◌}
 use Rattle.pe_sign.proofs.Cited.{rounded_up, sections_offset, HeaderView, is_signed, unsigned_length, kept_length, headers_end_by}
 use Rattle.pe_sign.proofs.Cited.{sections_end_by, layout_tests, changeable_parts, attach_tests, is_aligned, attached_of}
@@ -44,9 +44,6 @@ parts_of_image b h l e = first_and_tests (left_out_of h) (layout_tests b h) l e
 implied : (s t : Bool) → (not s || t) ≡ true → s ≡ true → t ≡ true
 implied s t h i = grind arith
 
-not_past : (s : Bool) (o n : ℕ) → o ≤ n → cond s o n ≤ n
-not_past s o n h = grind arith
-
 pub image_fits : (b : List ℕ) (h : HeaderView) (l : LeftOut) → changeable_parts b h ≡ Ok l → Fits l (length b)
 image_fits b h l e =
     let n : ℕ = length b in
@@ -62,7 +59,7 @@ image_fits b h l e =
       entry_size = grind (arith, nat_tests, one.0);
       checksum = grind (arith, nat_tests, four.0);
       entry = grind (arith, nat_tests, four.0);
-      inside = not_past (is_signed l) l.certificates.offset n (omega arith);
+      inside = grind arith;
       table_end = λ s. let t = implied (is_signed l) (nat_le n end) three.0 s in grind (arith, nat_tests, t, within);
     }
 

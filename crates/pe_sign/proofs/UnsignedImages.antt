@@ -3,7 +3,7 @@ use Rattle.std.proofs.Common.{rules, ◌≡◌, ℕ, ◌+◌, ◌*◌, ◌%◌, 
 use Rattle.pe_sign.proofs.Cited.{not, slice_index_or, if◌then◌else◌, nat_tests, append-nil, places, same_lists, AreBytes, le}
 use Rattle.pe_sign.proofs.Cited.{bytes_of, splice, absent_directory, kept, HeaderView, directories_offset, header, header_at}
 use Rattle.pe_sign.proofs.Cited.{is_pe32_plus, optional_header, coff_header, data_directory, dos_header, windows_fields_32}
-use Rattle.pe_sign.proofs.Cited.{windows_fields_64, rows, sections_offset, DataDirectory, ParseMode, get_or-each, length-each}
+use Rattle.pe_sign.proofs.Cited.{windows_fields_64, sections_offset, DataDirectory, ParseMode, get_or-each, length-each}
 use Rattle.pe_sign.proofs.Cited.{bytes_of-le, attached_of, detached_of, is_signed, padded, with_both_fields, with_checksum}
 use Rattle.pe_sign.proofs.Cited.{with_entry, Fits, checksum_of, certificates_range, left_out_of, directories_end, Placement}
 use Rattle.pe_sign.proofs.Cited.{LeftOut}

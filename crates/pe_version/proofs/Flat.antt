@@ -6,7 +6,6 @@ use Rattle.pe_version.proofs.Cited.{value_offset, version_string_at, whole_strin
 use Rattle.pe_version.proofs.Cited.{TableValue, TextValue, Value, all_blocks, root_block, strings_block, table_block, table_blocks}
 use Rattle.pe_version.proofs.Cited.{text_block, text_blocks, translation_block, variables_block, version_of, AllFit, BlockValue}
 use Rattle.pe_version.proofs.Cited.{Fits, block_bytes, block_length, blocks_bytes, padded_block, padded_length, value_start}
-use Rattle.pe_core.specs.Refusals as refusals
 use Rattle.pe_resource.proofs.StringLists.{strings_empty, strings_start}
 use Rattle.pe_version.proofs.Blocks.{bytes_by, head_parts, length_value, parts, with_head}
 use Rattle.pe_version.proofs.VersionsRead.{TablesFit, all_fit, left_fit, table_blocks_fit, tables_fit, value_is}
@@ -16,10 +15,6 @@ use Rattle.pe_version.proofs.VersionsRead.{TablesFit, all_fit, left_fit, table_b
 -- after the value with its zeros come the blocks, with zeros, and what follows
 abbrev pub after_value : BlockValue → List ℕ → List ℕ
 after_value k more = k.children ++ (replicate (up_to_four (length k.children) - length k.children) 0 ++ more)
-
-block_and_more : (k : BlockValue) (more : List ℕ) → padded_block k ++ more ≡ with_head k (padded k.value ++ after_value k more)
-unfolding padded_block block_bytes
-block_and_more k more = search (rules, arith, append_assoc, with_head, append-nil)
 
 -- ---- one string
 
@@ -39,13 +34,15 @@ some_bytes k tail f e =
 
 -- a block is a string, and then come those in it and those after it
 pub first_string : (k : BlockValue) (more : List ℕ) → Fits k → strings (padded_block k ++ more) ≡ Ok (flat k) ∷ strings (after_value k more)
+unfolding padded_block block_bytes
 first_string k more f =
     let rest : List ℕ = after_value k more in
     let tail : List ℕ = padded k.value ++ rest in
     let b : List ℕ = with_head k tail in
     let v : ℕ = up_to_four (length k.value) in
     let left : drop (value_start k + v) b ≡ rest = ap (λ (n : ℕ). drop n b) (omega arith) ∙ sym (drop-drop v (value_start k) b) ∙ ap (drop v) (head_parts k tail f).rest ∙ drop_at (padded k.value) rest v (length_padded k.value) in
-    ap strings (block_and_more k more) ∙ strings_start b (some_bytes k tail f) ∙ ap (then_more strings b) (string_first k rest f) ∙ ap (λ (l : List ℕ). Ok (flat k) ∷ strings l) left
+    ap strings (search (rules, arith, append_assoc, with_head, append-nil)) ∙ strings_start b (some_bytes k tail f)
+    ∙ ap (then_more strings b) (string_first k rest f) ∙ ap (λ (l : List ℕ). Ok (flat k) ∷ strings l) left
 
 -- ---- blocks one after the other
 

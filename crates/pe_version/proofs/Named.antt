@@ -1,18 +1,17 @@
 -- What `VersionInfo` finds by its names in version information that is written.
-use Rattle.std.proofs.Common.{◌≡◌, ◌≢◌, ℕ, ◌+◌, ◌-◌, ◌*◌, ◌%◌, ◌<◌, ◌==◌, ◌↔◌, Bool, true, false, List, [], ◌∷◌, ◌++◌, length, map, Option, Some, None, Result, Ok, IsTrue, if◌then◌else◌, refl, ap, sym, ◌∙◌, arith, rules}
+use Rattle.std.proofs.Common.{◌≡◌, ◌≢◌, ℕ, ◌+◌, ◌*◌, ◌%◌, ◌<◌, ◌==◌, ◌↔◌, Bool, true, false, List, [], ◌∷◌, ◌++◌, length, map, Option, Some, None, Result, Ok, IsTrue, if◌then◌else◌, refl, ap, sym, ◌∙◌, arith, rules}
 use Rattle.pe_version.proofs.Cited.{codes, nat_lt, flat_map, list_all, nat_tests, append-nil, append_assoc, Refusal, Short, outcome}
 use Rattle.pe_version.proofs.Cited.{VersionView, file_strings, fixed_info_in, fixed_info_of, value_named, version_in, version_key}
-use Rattle.pe_version.proofs.Cited.{IsPlain, VersionString, all_read, before_zero, is_name, is_plain, key_length, read, strings}
-use Rattle.pe_version.proofs.Cited.{text, units, VsFixedFileInfo, Translation, flat, flat_blocks, flat_table, padded}
-use Rattle.pe_version.proofs.Cited.{text_with_name, texts_of, IsPair, NumbersFit, TableValue, TablesHavePairs, TextValue, Value}
-use Rattle.pe_version.proofs.Cited.{fixed_bytes, four_digits, root_block, strings_block, table_block, text_block, translation_block}
-use Rattle.pe_version.proofs.Cited.{utf16, variables_block, version_of, BlockValue, NoZero}
+use Rattle.pe_version.proofs.Cited.{IsPlain, VersionString, all_read, before_zero, is_name, is_plain, key_length, read, text, units}
+use Rattle.pe_version.proofs.Cited.{VsFixedFileInfo, flat, flat_blocks, flat_table, padded, text_with_name, texts_of, IsPair}
+use Rattle.pe_version.proofs.Cited.{NumbersFit, TableValue, TablesHavePairs, TextValue, Value, fixed_bytes, four_digits, root_block}
+use Rattle.pe_version.proofs.Cited.{strings_block, table_block, text_block, translation_block, utf16, variables_block, version_of}
+use Rattle.pe_version.proofs.Cited.{BlockValue, NoZero}
 use Rattle.std.specs.Option.{option_map}
 use Rattle.std.specs.Str.{bytes_eq}
 use Rattle.std.proofs.lemmas.Slice.Eq.{bytes_eq-Decides}
 use Rattle.pe_resource.specs.VersionStrings.{value_of}
 use Rattle.pe_resource.specs.declared.version.VersionName.{VersionName}
-use Rattle.pe_resource.specs.declared.version.VersionName.TheVariants as names
 use Rattle.pe_core.proofs.Equality.{both}
 use Rattle.pe_resource.proofs.Names.{name_whole}
 use Rattle.pe_version.proofs.Blocks.{units_length}
@@ -76,11 +75,10 @@ other_by xs ys t e ne = grind (arith, bytes_eq-Decides)
 digit_by : (t : Bool) (d : ℕ) → d < 16 → ((if t then 48 + d else 55 + d) < 111) × ((if t then 48 + d else 55 + d) ≢ 0)
 digit_by t d h = grind arith
 
-digits_other : (n : VersionName) (t : Translation) → bytes_eq (four_digits t.language ++ four_digits t.code_page) (version_key n) ≡ false
-digits_other n t = search (rules, arith, other_by, digit_by)
-
 table_other : (n : VersionName) (t : TableValue) → IsPair t.translation → is_name (version_key n) (text (table_block t).key) ≡ false
-table_other n t p = other_key (four_digits t.translation.language ++ four_digits t.translation.code_page) (version_key n) (grind (arith, digit_by)) (plain_name n) (digits_other n t.translation)
+table_other n t p =
+    other_key (four_digits t.translation.language ++ four_digits t.translation.code_page) (version_key n) (grind (arith, digit_by))
+    (plain_name n) (search (rules, arith, other_by, digit_by))
 
 -- ---- the first with a name
 

@@ -1,4 +1,4 @@
-use Rattle.std.proofs.Common.{◌-◌, arith, rules}
+use Rattle.std.proofs.Common.{arith, rules}
 use Rattle.pe_version.proofs.Heads.{parent_put, tables_four}
 use Rattle.pe_version.proofs.Measures.{before_four}
 use Rattle.pe_version.proofs.put.put_strings.Goals as goal

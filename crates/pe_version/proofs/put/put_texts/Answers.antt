@@ -1,4 +1,4 @@
-use Rattle.std.proofs.Common.{ℕ, ◌+◌, length, ap, sym, ◌∙◌, arith, rules}
+use Rattle.std.proofs.Common.{ℕ, ◌+◌, ap, sym, ◌∙◌, arith, rules}
 use Rattle.pe_version.proofs.Cited.{text_of, StringRecord}
 use Rattle.pe_version.proofs.Calls.{padded_size}
 use Rattle.pe_version.proofs.Heads.{put_all, put_end, put_more, put_none, put_room, text_fits}
