@@ -1,5 +1,5 @@
 -- The three levels that are written are read.
-use Rattle.std.proofs.Common.{◌≡◌, ℕ, ◌+◌, ◌*◌, ◌<◌, ◌≤◌, true, false, List, [], ◌∷◌, ◌++◌, length, map, Result, Ok, refl, ap, sym, ◌∙◌, subst, arith, length-append}
+use Rattle.std.proofs.Common.{◌≡◌, ℕ, ◌+◌, ◌*◌, ◌<◌, ◌≤◌, true, List, [], ◌∷◌, ◌++◌, length, map, Result, Ok, refl, ap, sym, ◌∙◌, subst, arith, length-append}
 use Rattle.pe_edit.proofs.Cited.{flat_map, map-append, false≢true, nat_tests, length-bytes_of, ResourceEntry, TreeRefusal, in_table}
 use Rattle.pe_edit.proofs.Cited.{table_below, leaf_of, leaves_of_name, leaves_of_type, tree_leaves, entries, elements, Key, Leaf}
 use Rattle.pe_edit.proofs.Cited.{Each, total, name_size, name_bytes, names, key_number, KeyFits, LeafFits, padded_size, entries_to}

@@ -1,5 +1,5 @@
 -- A leaf that is looked for in a section is the first with its keys of the runs.
-use Rattle.std.proofs.Common.{◌≡◌, ℕ, ◌+◌, ◌*◌, ◌<◌, ◌==◌, Bool, true, false, List, [], ◌∷◌, length, cond, Option, Some, None, Result, Ok, refl, ap, sym, ◌∙◌, subst, arith, length-append}
+use Rattle.std.proofs.Common.{◌≡◌, ℕ, ◌+◌, ◌*◌, ◌<◌, ◌==◌, Bool, List, [], ◌∷◌, length, cond, Option, Some, None, Result, Ok, refl, ap, sym, ◌∙◌, subst, arith, length-append}
 use Rattle.pe_edit.proofs.Cited.{find, flat_map, false≢true, nat_tests, ResourceEntry, TreeRefusal, leaf_of, name_units}
 use Rattle.pe_edit.proofs.Cited.{table_below, entries, has_id, has_name, with_id, Layout, as_read, entries_below, entries_of}
 use Rattle.pe_edit.proofs.Cited.{found_language, found_leaf, found_name, found_type, has_key, is_key, with_key, read_item, read_key}

@@ -6,7 +6,6 @@ use Rattle.pe_edit.proofs.Cited.{Each, total, name_size, name_bytes, key_number,
 use Rattle.pe_edit.proofs.Cited.{data_entries, contents, key_by, read_key, read_content, read_leaf, read_item}
 use Rattle.pe_resource.specs.declared.content.ResourceDataEntry.{ResourceDataEntry}
 use Rattle.pe_resource.specs.Contents.{data_entry_at}
-use Rattle.pe_resource.specs.Leaves as trees
 use Rattle.pe_edit.proofs.Stands.{Stands, left, right, number, part, inside, moved, rest_of_number}
 
 -- ---- keys

@@ -2,7 +2,6 @@
 use Rattle.std.proofs.Common.{◌≡◌, ℕ, ◌+◌, ◌-◌, ◌<◌, ◌≤◌, Bool, true, false, List, [], ◌∷◌, ◌++◌, length, take, drop, get_or, ap, sym, ◌∙◌, subst, arith, length-drop}
 use Rattle.pe_edit.proofs.Cited.{drop_more, drop_all, drop-drop, length-take-le, take-append-drop, Level, IsRunAt, alike}
 use Rattle.pe_edit.proofs.Cited.{key_of_run, runs_of, run_length, runs, no_leaf, Each, Leaf, NameFits, NamesFit}
-use Rattle.pe_edit.specs.declared.level.Level.TheVariants as levels
 use Rattle.pe_edit.proofs.Runs.{Counts, counts_more, counts_end, counts_all, first_run, some_length, run_inside, take_front, each_drop, each_left}
 
 -- the leaf with an index, and those after it

@@ -1,5 +1,5 @@
 use Rattle.std.proofs.Common.{rules, ℕ, ◌+◌, ◌<◌, ap, arith, refl}
-use Rattle.pe_edit.proofs.Cited.{size_of_run, key_view, leaf_views, name_size}
+use Rattle.pe_edit.proofs.Cited.{size_of_run, key_view, leaf_views}
 use Rattle.pe_edit.proofs.Entries.{all_entries_written, cursor_after, entry_name, entry_part, entry_room, no_entries_written}
 use Rattle.pe_edit.proofs.RunsAt.{run_fits}
 use Rattle.pe_edit.proofs.Turns.{entries_turn}
