@@ -44,7 +44,7 @@ first_listed b w n e h =
     ∙ ap (λ (k : ℕ). certificates_from b (w.offset + w.length) k w.offset) e
     ∙ some_from b (w.offset + w.length) n w.offset (omega arith)
     ∙ same_more (certificates_from b (w.offset + w.length) n) (λ next. listed b (walk_from w next)) (certificate_at b w.offset)
-    (λ c next given. let further : w.offset < next = next_above b w.offset c next given in (grind (arith, nat_tests, enough, at_range, none_from)))
+    (λ c next given. let further : w.offset < next = next_above b w.offset c next given in grind (arith, nat_tests, enough, at_range, none_from))
 
 -- a walk that is not at its end lists the certificate at its offset, and then what it lists from the next offset on
 pub steps_list : (b : List ℕ) (w : Range) → w.length ≢ 0 → holds b w.offset w.length ≡ true → listed b w ≡ first_and (λ next. listed b (walk_from w next)) (certificate_at b w.offset)

@@ -71,7 +71,7 @@ rows_first f (x ∷ rows) (suc n) k few same =
 all_kept : (rows : List DataDirectory) → length rows ≤ 16 → take (length rows) (all_directories rows) ≡ rows
 all_kept rows few =
     rows_first (λ i. or_absent (present rows i)) rows 16 0 few
-    (λ j below. let at : 0 + j ≡ j = omega arith in ap (λ (i : ℕ). or_absent (present rows i)) at ∙ (grind (arith, nat_tests)))
+    (λ j below. let at : 0 + j ≡ j = omega arith in ap (λ (i : ℕ). or_absent (present rows i)) at ∙ grind (arith, nat_tests))
 
 few_by : (b : List ℕ) (p : ℕ) (o : OptionalHeaderView) (none : Bool) → (if none then None else Some (optional_header b p)) ≡ Some o → length o.data_directories ≤ 16
 unfolding optional_header

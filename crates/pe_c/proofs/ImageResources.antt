@@ -140,7 +140,7 @@ tree_by b image sections d p r h first stands are =
       is_content 16 content version.1.1,
       subst (IsVersionAt b content) (sym of_version) (version_at b content (λ c is. content_within map b d.bytes version.1.1.0 c (sym is ∙ version.1.1.2))),
       is_content 24 manifest.0 manifest.1,
-      ap (λ (x : Result ResourceView Refusal). x >>= λ y. Ok (Some y)) (are.4 ∙ ap (resources_with d are.0) manifest.2) ∙ (grind (arith, stands.itself, stands.its_entries)),
+      ap (λ (x : Result ResourceView Refusal). x >>= λ y. Ok (Some y)) (are.4 ∙ ap (resources_with d are.0) manifest.2) ∙ grind (arith, stands.itself, stands.its_entries),
     )
 
 -- what the call returns where the directory is there

@@ -138,7 +138,7 @@ maps_but_one resolve alignment f g m n i a count le same own old =
     let last : i ≡ n = omega (arith, ge, le) in
     let all : m ≡ suc n = omega (arith, count, last) in
     ap (λ (j : ℕ). offset_of resolve alignment (each f j) a) all
-    ∙ (grind (arith, by_each, first_each, ap (λ (j : ℕ). offset_by alignment a (f j)) (sym last) ∙ own))
+    ∙ grind (arith, by_each, first_each, ap (λ (j : ℕ). offset_by alignment a (f j)) (sym last) ∙ own)
     ∙ maps_alike resolve alignment f g n a (λ k small. same k small (omega (arith, small, last))))
     (cases_lt i n)
 

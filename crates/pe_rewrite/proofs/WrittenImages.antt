@@ -59,7 +59,7 @@ maps_resources b h xs p alignment i a small d power sector apart from to =
     (λ k lt other.
     let free : data_apart alignment h (section_header b h i) (section_header b h k) ≡ true = each_apart b h alignment i k apart lt other in
     ap (covers alignment a) (other_row b h xs p i k d lt other)
-    ∙ (grind (arith, nat_tests, covers_none, apart_if, pages_by, ap (λ (s : SectionTable). data_apart alignment h s (section_header b h k)) (sym d.section) ∙ free)))
+    ∙ grind (arith, nat_tests, covers_none, apart_if, pages_by, ap (λ (s : SectionTable). data_apart alignment h s (section_header b h k)) (sym d.section) ∙ free))
     ∙ ap (λ (n : ℕ). Some n) offset
 
 -- ---- ranges of the resources
